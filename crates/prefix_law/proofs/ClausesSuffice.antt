@@ -1,0 +1,91 @@
+use Rattle.std.proofs.Common.{◌≡◌, inl, inr, ℕ, ◌<◌, ◌≤◌, List, refl, ◌∙◌, ap, sym, subst, arith, Some}
+use Rattle.std.proofs.lemmas.Option.{same_Some}
+use Rattle.prefix_law.specs.Changes.{Rules, replay}
+use Rattle.prefix_law.specs.Promises.{Choice, Leaves, BeginsTrim, Answer, Answer.Idle, Answer.More, Answer.Done, Answer.NoMemory, Answer.DiskFault, BeginsWrite, HiveSays}
+use Rattle.prefix_law.specs.Life.{ops_in}
+use Rattle.prefix_law.specs.Kept.{HiveFits, EngineFits, State, IsKept}
+use Rattle.prefix_law.specs.Steps.{AllStay}
+use Rattle.prefix_law.specs.Calls.{JournalStep, TrimStep, FlusherStep, MemoryFits}
+use Rattle.prefix_law.proofs.OnePrefix.{ops_split}
+use Rattle.prefix_law.proofs.Replays.{replay_on}
+use Rattle.prefix_law.proofs.KeepFiles.{only_leaves}
+use Rattle.prefix_law.proofs.KeepSteps.{moved, one_file, step_batch, step_settle, step_trim}
+
+module _ {T Op : Type 0} (r : Rules T Op) (most hives : ℕ) where
+  -- absorbing up to any number not above the durable one
+  pub absorbed : (s : State T Op) (i : ℕ) (memory : T × ℕ) (upto : ℕ) (t : T) → MemoryFits r s i memory → memory.1 ≤ upto → upto ≤ s.durable → replay r (ops_in s.life i memory.1 upto) memory.0 ≡ Some t → MemoryFits r s i (t, upto)
+  absorbed s i memory upto t fits low high h = record {
+    fits = record {
+      not_above = high;
+      tree = sym (replay_on r (ops_in s.life i memory.1 upto) (ops_in s.life i upto s.durable) memory.0 t h)
+          ∙ ap (λ (os : List Op). replay r os memory.0) (sym (ops_split s.life i memory.1 upto s.durable low high)) ∙ fits.fits.tree;
+    };
+    higher = omega (arith, fits.higher, low);
+  }
+
+  same_state : (old new : State T Op) → IsKept r most hives old → new.life ≡ old.life → new.durable ≡ old.durable → new.journal ≡ old.journal → AllStay hives old.files new.files → IsKept r most hives new
+  same_state old new kept a b c d = moved r most hives old new old.life old.durable old.journal a b c d kept
+
+  pub journal_step : (answer : Answer) (old new : State T Op) → IsKept r most hives old → JournalStep hives answer old new → IsKept r most hives new
+  journal_step Idle old new kept step = same_state old new kept step.life step.durable step.journal.2 step.files
+  journal_step NoMemory old new kept step = same_state old new kept step.life step.durable step.journal.1 step.files
+  journal_step Done old new kept step = step_settle r most hives old new kept (record { life = step.life; journal = step.journal; durable = step.durable; files = step.files })
+  journal_step More old new kept step = elim (step.journal) as (λ z. IsKept r most hives new) [
+    | inl b ↦ step_batch r most hives old new kept (record { life = step.life; durable = step.durable; journal = b; files = step.files })
+    | inr b ↦ same_state old new kept step.life step.durable b.1 step.files
+  ]
+  journal_step DiskFault old new kept step = elim (step.journal) as (λ z. IsKept r most hives new) [
+    | inl b ↦ step_batch r most hives old new kept (record { life = step.life; durable = step.durable; journal = b; files = step.files })
+    | inr b ↦ same_state old new kept step.life step.durable b step.files
+  ]
+
+  begun_trim : (answer : Answer) (old new : State T Op) → IsKept r most hives old → TrimStep hives answer old new → new.durable ≡ old.durable → BeginsTrim old.journal new.journal → IsKept r most hives new
+  begun_trim answer old new kept step same b = let may = step.may b.0 in
+      step_trim r most hives old new kept (record { spells = may.0; may = may.1; life = step.life; durable = same; journal = b; files = step.files })
+
+  pub trim_step : (answer : Answer) (old new : State T Op) → IsKept r most hives old → TrimStep hives answer old new → IsKept r most hives new
+  trim_step Idle old new kept step = absurd step.journal
+  trim_step NoMemory old new kept step = absurd step.journal
+  trim_step Done old new kept step = step_settle r most hives old new kept (record { life = step.life; journal = step.journal; durable = step.durable; files = step.files })
+  trim_step More old new kept step = begun_trim More old new kept step step.durable step.journal
+  trim_step DiskFault old new kept step = elim (step.journal) as (λ z. IsKept r most hives new) [
+    | inl b ↦ begun_trim DiskFault old new kept step step.durable b
+    | inr b ↦ same_state old new kept step.life step.durable b step.files
+  ]
+
+  -- what a FlusherStep may make of its hive
+  hive_moves : (answer : Answer) (hive : ℕ) (memory : T × ℕ) (old new : State T Op) → IsKept r most hives old → FlusherStep r hives answer hive memory old new → hive < hives
+      → ((old.files hive).now.1 ≤ (new.files hive).now.1) × ((x : T × ℕ) → Leaves (new.files hive) x → HiveFits r old.life old.durable hive x × ((new.files hive).now.1 ≤ x.1))
+  hive_moves answer hive memory old new kept step lt = by_answer answer step.file
+    where
+      stay : new.files hive ≡ old.files hive → ((old.files hive).now.1 ≤ (new.files hive).now.1) × ((x : T × ℕ) → Leaves (new.files hive) x → HiveFits r old.life old.durable hive x × ((new.files hive).now.1 ≤ x.1))
+      stay p = (omega (arith, ap (λ (c : Choice (T × ℕ)). c.now.1) p), λ x left. (kept.hive_fits hive lt x (subst (λ c. Leaves c x) p left), subst (λ (c : Choice (T × ℕ)). c.now.1 ≤ x.1) (sym p) (kept.rises hive lt x (subst (λ c. Leaves c x) p left))))
+
+      of_begun : (x : T × ℕ) → Leaves (record { now = (old.files hive).now; next = Some memory }) x → HiveFits r old.life old.durable hive x × ((old.files hive).now.1 ≤ x.1)
+      of_begun x (inl p) = subst (λ y. HiveFits r old.life old.durable hive y × ((old.files hive).now.1 ≤ y.1)) (sym p) (kept.hive_fits hive lt (old.files hive).now (inl refl), omega arith)
+      of_begun x (inr p) = subst (λ y. HiveFits r old.life old.durable hive y × ((old.files hive).now.1 ≤ y.1)) (same_Some _ _ p) ((step.fits lt).fits, (step.fits lt).higher)
+
+      begins : BeginsWrite memory (old.files hive) (new.files hive) → ((old.files hive).now.1 ≤ (new.files hive).now.1) × ((x : T × ℕ) → Leaves (new.files hive) x → HiveFits r old.life old.durable hive x × ((new.files hive).now.1 ≤ x.1))
+      begins b = (omega (arith, ap (λ (c : Choice (T × ℕ)). c.now.1) b.1), λ x left. subst (λ (c : Choice (T × ℕ)). HiveFits r old.life old.durable hive x × (c.now.1 ≤ x.1)) (sym b.1) (of_begun x (subst (λ c. Leaves c x) b.1 left)))
+
+      by_answer : (a : Answer) → HiveSays memory a (old.files hive) (new.files hive) → ((old.files hive).now.1 ≤ (new.files hive).now.1) × ((x : T × ℕ) → Leaves (new.files hive) x → HiveFits r old.life old.durable hive x × ((new.files hive).now.1 ≤ x.1))
+      by_answer Idle b = absurd b
+      by_answer NoMemory b = stay b.1
+      by_answer More (inl b) = begins b
+      by_answer More (inr b) = stay b.1
+      by_answer DiskFault (inl b) = begins b
+      by_answer DiskFault (inr b) = stay b
+      by_answer Done b = (
+        subst (λ (c : Choice (T × ℕ)). (old.files hive).now.1 ≤ c.now.1) (sym b.2) (kept.rises hive lt b.0 (inr b.1)),
+        λ x left. let e = only_leaves b.0 x (subst (λ c. Leaves c x) b.2 left) in
+            (subst (HiveFits r old.life old.durable hive) (sym e) (kept.hive_fits hive lt b.0 (inr b.1)), omega (arith, ap (λ (c : Choice (T × ℕ)). c.now.1) b.2, ap (λ (y : T × ℕ). y.1) e)),
+      )
+
+  pub flusher_step : (answer : Answer) (hive : ℕ) (memory : T × ℕ) (old new : State T Op) → IsKept r most hives old → FlusherStep r hives answer hive memory old new → IsKept r most hives new
+  flusher_step answer hive memory old new kept step =
+      subst (λ l. EngineFits r most hives l new.durable new.journal new.files) (sym step.life)
+      (subst (λ d. EngineFits r most hives old.life d new.journal new.files) (sym step.durable)
+      (subst (λ j. EngineFits r most hives old.life old.durable j new.files) (sym step.journal)
+      (one_file r most hives old.life old.durable old.journal old.files new.files kept hive step.others
+      (λ lt. (hive_moves answer hive memory old new kept step lt).0)
+      (λ lt. (hive_moves answer hive memory old new kept step lt).1))))

@@ -1,0 +1,10 @@
+pub mod Lists
+pub mod Replays
+pub mod OnePrefix
+pub mod KeepFiles
+pub mod KeepLife
+pub mod KeepSteps
+pub mod ClausesSuffice
+pub mod OfFiles
+pub mod HiveByHive
+pub mod EachMoment

@@ -1,0 +1,10 @@
+use Rattle.prefix_law.proofs.ClausesSuffice.{journal_step, trim_step, flusher_step, absorbed}
+use Rattle.prefix_law.proofs.clauses_suffice.Goals as goal
+
+pub returns : goal.returns
+returns g c = record {
+  journal = λ r most hives answer old new kept step. journal_step r most hives answer old new kept step;
+  trim = λ r most hives answer old new kept step. trim_step r most hives answer old new kept step;
+  flusher = λ r most hives answer hive memory old new kept step. flusher_step r most hives answer hive memory old new kept step;
+  absorb = λ r s i memory upto t fits low high h. absorbed r 0 0 s i memory upto t fits low high h;
+}

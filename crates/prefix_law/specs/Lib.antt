@@ -1,0 +1,11 @@
+pub mod Changes
+pub mod AllHives
+pub mod Promises
+pub mod Recovery
+pub mod Life
+pub mod Kept
+pub mod Steps
+pub mod Lives
+pub mod Calls
+pub mod Files
+pub mod Moments

@@ -1,0 +1,40 @@
+-- Crashes, openings, and whole lists of lives.
+use Rattle.std.specs.Prelude.{◌≡◌, ◌⊎◌, ℕ, ◌<◌, ◌≤◌, List, [], ◌∷◌}
+use Rattle.std.specs.List.{AllByRecursion}
+use Rattle.prefix_law.specs.Changes.{Rules}
+use Rattle.prefix_law.specs.Promises.{Leaves, settled, Spelled}
+use Rattle.prefix_law.specs.Recovery.{Recovers}
+use Rattle.prefix_law.specs.Life.{last_number, tree_at, opened_life}
+use Rattle.prefix_law.specs.Kept.{State}
+use Rattle.prefix_law.specs.Steps.{AllStay, Step}
+
+-- A crash, and an opening of what it left: of the journal and of each hive something that it might leave, and then any number and trees that are recovered from these. Whether the crash came in a step, between two,
+-- inside an opening or inside a repair makes no difference here: each leaves what the choices say.
+pub record Reopens {T Op : Type 0} (rules : Rules T Op) (most hives : ℕ) (old new : State T Op) : Type 0 where
+  pub n : ℕ
+  pub trees : ℕ → T
+  pub spelled : Spelled Op
+  pub held : ℕ → T × ℕ
+  pub left : Leaves old.journal spelled
+  pub each : (i : ℕ) → i < hives → Leaves (old.files i) (held i)
+  pub found : Recovers rules most hives spelled held n trees
+  pub life : new.life ≡ opened_life n trees spelled
+  pub durable : new.durable ≡ n
+  pub journal : new.journal ≡ settled spelled
+  pub files : AllStay hives (λ i. settled (held i)) new.files
+
+-- The new life begins at a number that is not below the old durable one and not above the last accepted one, with the old life's trees after that number.
+pub record GoesOn {T Op : Type 0} (rules : Rules T Op) (hives : ℕ) (old new : State T Op) : Type 0 where
+  pub no_loss : old.durable ≤ new.durable
+  pub no_more : new.durable ≤ last_number old.life
+  pub trees : (i : ℕ) → i < hives → new.life.trees i ≡ tree_at rules old.life new.durable i
+
+-- Steps of the protocol and openings after crashes, one after another, in any order.
+abbrev pub Runs : {T Op : Type 0} → Rules T Op → ℕ → ℕ → State T Op → List (State T Op) → Type 0
+Runs rules most hives s [] = Unit {0}
+Runs rules most hives s (t ∷ ts) = (Step rules most hives s t ⊎ Reopens rules most hives s t) × Runs rules most hives t ts
+
+-- No durable number is lost: each is at most all later ones.
+abbrev pub OnlyRises : {T Op : Type 0} → List (State T Op) → Type 0
+OnlyRises [] = Unit {0}
+OnlyRises (s ∷ ts) = AllByRecursion (λ t. s.durable ≤ t.durable) ts × OnlyRises ts
