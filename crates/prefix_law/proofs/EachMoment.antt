@@ -1,3 +1,4 @@
+-- From the promises at each boundary to the files of each moment.
 use Rattle.std.proofs.Common.{◌≡◌, inl, inr, ℕ, ◌+◌, ◌*◌, ◌≤◌, List, [], ◌∷◌, sym, subst, arith, Option, Some, Bool, IsTrue}
 use Rattle.std.specs.List.{AllByRecursion}
 use Rattle.std.proofs.lemmas.Bool.{cases_eq}
@@ -9,27 +10,36 @@ use Rattle.prefix_law.specs.Moments.{Boundary, PromisesHold, Trace, end_of, AtSo
 use Rattle.prefix_law.proofs.OfFiles.{files_prefix}
 
 -- each moment of a trace is that of a boundary
-moment_of : {T Op : Type 0} (P : Boundary T Op → Type 0) (b : Boundary T Op) (bs : List (Boundary T Op)) → Trace b bs → AllByRecursion P (b ∷ bs) → (k : ℕ) → b.clock ≤ k → k ≤ end_of b bs → AtSome (λ c. P c × (c.clock ≡ k)) (b ∷ bs)
-moment_of P b [] trace all k low high = inl (all.0, omega (arith, low, high))
-moment_of P b (c ∷ cs) trace all k low high = elim (cases_eq b.clock k) as (λ z. AtSome (λ c. P c × (c.clock ≡ k)) (b ∷ c ∷ cs)) [
-  | inl e ↦ inl (all.0, e)
+moment_of : {T Op : Type 0} (P : Boundary T Op → Type 0) (b : Boundary T Op) (bs : List (Boundary T Op)) → Trace b bs → AllByRecursion P (b ∷ bs) → (k : ℕ) → b.clock ≤ k → k ≤ end_of b bs
+    → AtSome (λ c. (c.clock ≡ k) × P c) (b ∷ bs)
+moment_of P b [] trace all k low high = inl (omega (arith, low, high), all.0)
+moment_of P b (c ∷ cs) trace all k low high = elim (cases_eq b.clock k) as (λ z. AtSome (λ c. (c.clock ≡ k) × P c) (b ∷ c ∷ cs)) [
+  | inl e ↦ inl (e, all.0)
   | inr ne ↦ inr (moment_of P c cs trace.1 all.1 k (omega (arith, low, ne, trace.0)) high)
 ]
 
-at_some : {T Op : Type 0} (P Q : Boundary T Op → Type 0) → ((b : Boundary T Op) → P b → Q b) → (bs : List (Boundary T Op)) → AtSome P bs → AtSome Q bs
-at_some {T = T} {Op = Op} P Q go [] x = elim x [ ]
-at_some P Q go (b ∷ bs) (inl p) = inl (go b p)
-at_some P Q go (b ∷ bs) (inr p) = inr (at_some P Q go bs p)
+module _ {T Op : Type 0} (r : Rules T Op) (spelled : List ℕ → Option (Spelled Op)) (held : List ℕ → List ℕ → Option (T × ℕ)) (most hives : ℕ) (may_leave : ℕ → ℕ → List ℕ → Bool) (files : ℕ → List ℕ) (k : ℕ) (left : LeftAt may_leave k files) where
+  -- at a boundary of that moment the files are a prefix
+  boundary_prefix : (c : Boundary T Op) → IsKept r most hives c.state × PromisesHold spelled held hives may_leave c → c.clock ≡ k
+      → FilesPrefix r (λ c j. spelled c ≡ Some j) (λ p l x. held p l ≡ Some x) most hives c.state.life c.state.durable files
+  boundary_prefix c both same =
+      files_prefix r (λ c j. spelled c ≡ Some j) (λ p l x. held p l ≡ Some x) most hives c.state both.0 (λ b. IsTrue (may_leave c.clock 0 b)) both.1.journal
+      (λ i b. IsTrue (may_leave c.clock (1 + 2 * i) b)) (λ i b. IsTrue (may_leave c.clock (2 + 2 * i) b)) both.1.files files (now 0) (λ i lt. (now (1 + 2 * i), now (2 + 2 * i)))
+    where
+      now : (f : ℕ) → IsTrue (may_leave c.clock f (files f))
+      now f = subst (λ m. IsTrue (may_leave m f (files f))) (sym same) (left f)
 
-pub run_prefix : {T Op : Type 0} (r : Rules T Op) (spelled : List ℕ → Option (Spelled Op)) (held : List ℕ → List ℕ → Option (T × ℕ)) (most hives : ℕ) (may_leave : ℕ → ℕ → List ℕ → Bool)
-    → (b : Boundary T Op) (bs : List (Boundary T Op)) → Trace b bs → AllByRecursion (λ c. IsKept r most hives c.state × PromisesHold spelled held hives may_leave c) (b ∷ bs)
-    → (files : ℕ → List ℕ) (k : ℕ) → b.clock ≤ k → k ≤ end_of b bs → LeftAt may_leave k files
-    → AtSome (λ c. FilesPrefix r (λ c j. spelled c ≡ Some j) (λ p l x. held p l ≡ Some x) most hives c.state.life c.state.durable files) (b ∷ bs)
-run_prefix {T = T} {Op = Op} r spelled held most hives may_leave b bs trace all files k low high left =
-    at_some (λ c. (IsKept r most hives c.state × PromisesHold spelled held hives may_leave c) × (c.clock ≡ k)) (λ c. FilesPrefix r (λ c j. spelled c ≡ Some j) (λ p l x. held p l ≡ Some x) most hives c.state.life c.state.durable files)
-    at (b ∷ bs) (moment_of (λ c. IsKept r most hives c.state × PromisesHold spelled held hives may_leave c) b bs trace all k low high)
-  where
-    at : (c : Boundary T Op) → (IsKept r most hives c.state × PromisesHold spelled held hives may_leave c) × (c.clock ≡ k) → FilesPrefix r (λ c j. spelled c ≡ Some j) (λ p l x. held p l ≡ Some x) most hives c.state.life c.state.durable files
-    at c h = let now : (f : ℕ) → IsTrue (may_leave c.clock f (files f)) = λ f. subst (λ m. IsTrue (may_leave m f (files f))) (sym h.1) (left f) in
-        files_prefix r (λ c j. spelled c ≡ Some j) (λ p l x. held p l ≡ Some x) most hives c.state h.0.0 (λ b. IsTrue (may_leave c.clock 0 b)) h.0.1.journal
-        (λ i b. IsTrue (may_leave c.clock (1 + 2 * i) b)) (λ i b. IsTrue (may_leave c.clock (2 + 2 * i) b)) h.0.1.files files (now 0) (λ i lt. (now (1 + 2 * i), now (2 + 2 * i)))
+  at_some : (bs : List (Boundary T Op)) → AtSome (λ c. (c.clock ≡ k) × (IsKept r most hives c.state × PromisesHold spelled held hives may_leave c)) bs
+      → AtSome (λ c. (c.clock ≡ k) × FilesPrefix r (λ c j. spelled c ≡ Some j) (λ p l x. held p l ≡ Some x) most hives c.state.life c.state.durable files) bs
+  at_some [] x = elim x [ ]
+  at_some (c ∷ cs) (inl p) = inl (p.0, boundary_prefix c p.1 p.0)
+  at_some (c ∷ cs) (inr p) = inr (at_some cs p)
+
+  pub some_prefix : (b : Boundary T Op) (bs : List (Boundary T Op)) → Trace b bs → AllByRecursion (λ c. IsKept r most hives c.state × PromisesHold spelled held hives may_leave c) (b ∷ bs) → b.clock ≤ k → k ≤ end_of b bs
+      → AtSome (λ c. (c.clock ≡ k) × FilesPrefix r (λ c j. spelled c ≡ Some j) (λ p l x. held p l ≡ Some x) most hives c.state.life c.state.durable files) (b ∷ bs)
+  some_prefix b bs trace all low high = at_some (b ∷ bs) (moment_of (λ c. IsKept r most hives c.state × PromisesHold spelled held hives may_leave c) b bs trace all k low high)
+
+  pub every_prefix : (bs : List (Boundary T Op)) → AllByRecursion (λ c. IsKept r most hives c.state × PromisesHold spelled held hives may_leave c) bs
+      → AllByRecursion (λ c. c.clock ≡ k → FilesPrefix r (λ c j. spelled c ≡ Some j) (λ p l x. held p l ≡ Some x) most hives c.state.life c.state.durable files) bs
+  every_prefix [] all = tt
+  every_prefix (c ∷ cs) all = (λ same. boundary_prefix c all.0 same, every_prefix cs all.1)

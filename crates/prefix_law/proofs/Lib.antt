@@ -5,6 +5,7 @@ pub mod KeepFiles
 pub mod KeepLife
 pub mod KeepSteps
 pub mod ClausesSuffice
+pub mod MemoryCounts
 pub mod OfFiles
 pub mod HiveByHive
 pub mod EachMoment

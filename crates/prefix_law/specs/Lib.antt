@@ -7,5 +7,6 @@ pub mod Kept
 pub mod Steps
 pub mod Lives
 pub mod Calls
+pub mod Memory
 pub mod Files
 pub mod Moments

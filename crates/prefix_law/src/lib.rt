@@ -10,7 +10,7 @@
 //! - `Changes`, `AllHives`: elements (accepted changes), and what replaying them makes of one tree or of all;
 //! - `Promises`: what the journal and the hive files promise of the disk, and what each of their calls says. These are the words that their own contracts cite;
 //! - `Recovery`, `Life`, `Kept`: what an opening recovers, one life, and the invariant that an engine keeps;
-//! - `Steps`, `Lives`, `Calls`: the protocol, crashes and openings, and one call each;
+//! - `Steps`, `Lives`, `Calls`, `Memory`: the protocol, crashes and openings, one call each, and what a hive has in memory;
 //! - `Files`, `Moments`: the same said of files, and of each moment of a run.
 #![tactic(auto)]
 
@@ -25,6 +25,7 @@ ghost use Rattle.prefix_law.specs.Kept.{State, IsKept, IsPrefix, IsSafe, opened_
 ghost use Rattle.prefix_law.specs.Steps.{Step};
 ghost use Rattle.prefix_law.specs.Lives.{Reopens, GoesOn, Runs, OnlyRises};
 ghost use Rattle.prefix_law.specs.Calls.{JournalStep, TrimStep, FlusherStep, MemoryFits};
+ghost use Rattle.prefix_law.specs.Memory.{with_memory, IsOfMemory, Remembers, Absorbs, MemoryStep};
 ghost use Rattle.prefix_law.specs.Files.{FilesRecover, FilesPrefix};
 ghost use Rattle.prefix_law.specs.Moments.{Boundary, PromisesHold, Trace, end_of, AtSome, LeftAt};
 
@@ -76,6 +77,20 @@ pub fn clauses_suffice<T, Op>()
         replay r (ops_in s.life i memory.1 upto) memory.0 ≡ Some t → MemoryFits r s i (t, upto) }
 {}
 
+/// What a hive has in memory may count as on its way to its files at all times: an engine that keeps its invariant in this form need not speak of its hives' memory beside it, for then accepted changes, batches, trims and
+/// folds keep what memory needs as well.
+///
+/// - `leaves`: nothing that a crash may leave of a hive's files is lost from sight by it.
+/// - `remembers`: memory that fits may begin to count.
+/// - `absorbs`: a hive may absorb, up to any number that is not below its memory's and not above the durable one.
+/// - `flushes`: a flush step of such a hive keeps the invariant, at each of its answers.
+pub fn memory_counts<T, Op>()
+    ensures leaves { (file : Choice (T × ℕ)) (memory : T × ℕ) → IsOfMemory file memory → (x : T × ℕ) → Leaves file x → Leaves (with_memory file memory) x }
+    ensures remembers { (r : Rules T Op) (most hives : ℕ) (memory : ℕ → T × ℕ) (old new : State T Op) → IsKept r most hives old → Remembers r hives memory old new → IsKept r most hives new }
+    ensures absorbs { (r : Rules T Op) (most hives : ℕ) (old new : State T Op) → IsKept r most hives old → Absorbs r hives old new → IsKept r most hives new }
+    ensures flushes { (r : Rules T Op) (most hives : ℕ) (answer : Answer) (old new : State T Op) → IsKept r most hives old → MemoryStep hives answer old new → IsKept r most hives new }
+{}
+
 /// What holds of all trees at once holds hive by hive.
 ///
 /// - `tree`: the i-th of the trees after a list of elements is what the elements' operations on hive i make of the i-th tree.
@@ -100,11 +115,18 @@ pub fn of_files<T, Op>()
         FilesRecover r (λ c j. spelled c ≡ Some j) (λ p l x. held p l ≡ Some x) most hives files m us → (n ≡ m) × ((i : ℕ) → i < hives → ts i ≡ us i) }
 {}
 
-/// Each moment of a run: where each event makes at most one device call, and the invariant and the promises hold at each boundary between two events, the files that a crash leaves at any moment from the start to the end,
-/// each for itself, stand for one prefix of the state at one of the boundaries.
+/// Each moment of a run: each event makes at most one device call, and the invariant and the promises hold at each boundary between two events. Take the files that a crash leaves at any moment from the start to the end, each
+/// for itself.
+///
+/// - `some`: that moment is the moment of some boundary, and the files stand for one prefix of the state there.
+/// - `every`: they do so at every boundary of that moment, the last one among them, so that no event answered before the crash is passed over.
 pub fn each_moment<T, Op>()
-    ensures { (r : Rules T Op) (spelled : List ℕ → Option (Spelled Op)) (held : List ℕ → List ℕ → Option (T × ℕ)) (most hives : ℕ) (may_leave : ℕ → ℕ → List ℕ → Bool)
+    ensures some { (r : Rules T Op) (spelled : List ℕ → Option (Spelled Op)) (held : List ℕ → List ℕ → Option (T × ℕ)) (most hives : ℕ) (may_leave : ℕ → ℕ → List ℕ → Bool)
         (b : Boundary T Op) (bs : List (Boundary T Op)) → Trace b bs → AllByRecursion (λ c. IsKept r most hives c.state × PromisesHold spelled held hives may_leave c) (b ∷ bs) →
         (files : ℕ → List ℕ) (k : ℕ) → b.clock ≤ k → k ≤ end_of b bs → LeftAt may_leave k files →
-        AtSome (λ c. FilesPrefix r (λ c j. spelled c ≡ Some j) (λ p l x. held p l ≡ Some x) most hives c.state.life c.state.durable files) (b ∷ bs) }
+        AtSome (λ c. (c.clock ≡ k) × FilesPrefix r (λ c j. spelled c ≡ Some j) (λ p l x. held p l ≡ Some x) most hives c.state.life c.state.durable files) (b ∷ bs) }
+    ensures every { (r : Rules T Op) (spelled : List ℕ → Option (Spelled Op)) (held : List ℕ → List ℕ → Option (T × ℕ)) (most hives : ℕ) (may_leave : ℕ → ℕ → List ℕ → Bool)
+        (bs : List (Boundary T Op)) → AllByRecursion (λ c. IsKept r most hives c.state × PromisesHold spelled held hives may_leave c) bs →
+        (files : ℕ → List ℕ) (k : ℕ) → LeftAt may_leave k files →
+        AllByRecursion (λ c. c.clock ≡ k → FilesPrefix r (λ c j. spelled c ≡ Some j) (λ p l x. held p l ≡ Some x) most hives c.state.life c.state.durable files) bs }
 {}
