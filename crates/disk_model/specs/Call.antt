@@ -1,0 +1,21 @@
+-- What each call of a disk does, whichever call it is.
+use Rattle.std.specs.Prelude.{◌≡◌, ◌≢◌, ℕ, ◌+◌, ◌-◌, ◌≤◌, min, List, length, take, drop, Result, MatchResult}
+use Rattle.disk_model.specs.FileState.{FileState}
+
+-- one moment goes by, and what was before stays as it was
+pub record Passes (old_states new_states : ℕ → ℕ → FileState) (old_clock new_clock : ℕ) : Type 0 where
+  pub clock : new_clock ≡ old_clock + 1
+  pub past : (k f : ℕ) → k ≤ old_clock → new_states k f ≡ old_states k f
+
+-- every file but this one is as before
+abbrev pub KeepsOthers : ℕ → (ℕ → FileState) → (ℕ → FileState) → Type 0
+KeepsOthers file old new = (f : ℕ) → f ≢ file → new f ≡ old f
+
+-- the number of failures goes up by one where the call failed, and stays where it didn't
+abbrev pub CountsFailure : {T E : Type 0} → Result T E → ℕ → ℕ → Type 0
+CountsFailure result old new = MatchResult result (λ _. new ≡ old) (λ _. new ≡ old + 1)
+
+-- so many bytes of the file from this offset on stand at the buffer's front: as many as there are, and as there is place for
+pub record Reads (offset : ℕ) (seen old_buffer new_buffer : List ℕ) (count : ℕ) : Type 0 where
+  pub all : count ≡ min (length seen - offset) (length old_buffer)
+  pub bytes : take count new_buffer ≡ take count (drop offset seen)

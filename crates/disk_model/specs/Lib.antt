@@ -1,0 +1,4 @@
+pub mod Call
+pub mod Crash
+pub mod FileState
+pub mod Sector

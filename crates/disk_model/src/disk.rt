@@ -1,0 +1,71 @@
+//! The disk as everything above sees it. What it promises is what a crash may leave, and nothing about when it fails.
+ghost use Rattle.std.specs.Prelude.{◌≡◌, ◌↔◌, ℕ, ◌<◌, ◌≤◌, length, IfOk, OnOk, OnErr};
+ghost use Rattle.disk_model.specs.FileState.{FileState, Writes, MayWrite, Cuts, MayCut, Syncs};
+ghost use Rattle.disk_model.specs.Call.{Passes, KeepsOthers, CountsFailure, Reads};
+
+/// The device failed in this call.
+#[derive(Clone, Copy, Debug, PartialEq, Eq)]
+pub struct Failed;
+
+/// Files by number. A file that was never written is empty.
+///
+/// Each call, also one that reads or fails, is one moment of the disk's clock. After a call that failed the disk may be
+/// used further; what a failed write or cut has done is any part of it.
+pub trait Disk {
+    /// The state of each file at each moment: first the moment, then the file.
+    ghost state_at: { Self → ℕ → ℕ → FileState };
+
+    /// The present moment, as the number of calls so far.
+    ghost clock: { Self → ℕ };
+
+    /// How many calls have failed.
+    ghost failures: { Self → ℕ };
+
+    /// The device does what this contract says of bytes. It is a premise for a real device, which no proof can give.
+    ghost faithful: { Self → Type 0 };
+
+    /// The length of a file in bytes.
+    fn len(&mut self, file: u32) -> Result<u64, Failed>
+        ensures len { IfOk result (λ n. faithful self.old → n ≡ length (state_at self.old (clock self.old) file).seen) }
+        ensures same { (f : ℕ) → state_at self.new (clock self.new) f ≡ state_at self.old (clock self.old) f }
+        ensures time { Passes (state_at self.old) (state_at self.new) (clock self.old) (clock self.new) }
+        ensures failures { CountsFailure result (failures self.old) (failures self.new) }
+        ensures faithful { faithful self.old ↔ faithful self.new };
+
+    /// Reads from an offset in bytes on into the front of `buffer`, and answers how many bytes there were.
+    fn read(&mut self, file: u32, offset: u64, buffer: &mut [u8]) -> Result<usize, Failed>
+        ensures count { IfOk result (λ n. n ≤ length buffer.old) }
+        ensures read { IfOk result (λ n. faithful self.old → Reads offset (state_at self.old (clock self.old) file).seen buffer.old buffer.new n) }
+        ensures same { (f : ℕ) → state_at self.new (clock self.new) f ≡ state_at self.old (clock self.old) f }
+        ensures time { Passes (state_at self.old) (state_at self.new) (clock self.old) (clock self.new) }
+        ensures failures { CountsFailure result (failures self.old) (failures self.new) }
+        ensures faithful { faithful self.old ↔ faithful self.new };
+
+    /// Writes at an offset in bytes. Past the end the file gets longer, with zeros between. Until a sync a crash may leave
+    /// any bytes in the range.
+    fn write_at(&mut self, file: u32, offset: u64, bytes: &[u8]) -> Result<(), Failed>
+        ensures written { OnOk result (faithful self.old → Writes offset bytes.now (state_at self.old (clock self.old) file) (state_at self.new (clock self.new) file)) }
+        ensures failed { OnErr result (faithful self.old → MayWrite offset bytes.now (state_at self.old (clock self.old) file) (state_at self.new (clock self.new) file)) }
+        ensures others { KeepsOthers file (state_at self.old (clock self.old)) (state_at self.new (clock self.new)) }
+        ensures time { Passes (state_at self.old) (state_at self.new) (clock self.old) (clock self.new) }
+        ensures failures { CountsFailure result (failures self.old) (failures self.new) }
+        ensures faithful { faithful self.old ↔ faithful self.new };
+
+    /// Makes a file `len` bytes long: cuts it, or puts zeros behind it.
+    fn cut(&mut self, file: u32, len: u64) -> Result<(), Failed>
+        ensures cut { OnOk result (faithful self.old → Cuts len (state_at self.old (clock self.old) file) (state_at self.new (clock self.new) file)) }
+        ensures failed { OnErr result (faithful self.old → MayCut len (state_at self.old (clock self.old) file) (state_at self.new (clock self.new) file)) }
+        ensures others { KeepsOthers file (state_at self.old (clock self.old)) (state_at self.new (clock self.new)) }
+        ensures time { Passes (state_at self.old) (state_at self.new) (clock self.old) (clock self.new) }
+        ensures failures { CountsFailure result (failures self.old) (failures self.new) }
+        ensures faithful { faithful self.old ↔ faithful self.new };
+
+    /// After it a crash leaves what a read gives. A sync that failed keeps nothing: what was on its way still is.
+    fn sync(&mut self, file: u32) -> Result<(), Failed>
+        ensures synced { OnOk result (faithful self.old → Syncs (state_at self.old (clock self.old) file) (state_at self.new (clock self.new) file)) }
+        ensures failed { OnErr result (faithful self.old → state_at self.new (clock self.new) file ≡ state_at self.old (clock self.old) file) }
+        ensures others { KeepsOthers file (state_at self.old (clock self.old)) (state_at self.new (clock self.new)) }
+        ensures time { Passes (state_at self.old) (state_at self.new) (clock self.old) (clock self.new) }
+        ensures failures { CountsFailure result (failures self.old) (failures self.new) }
+        ensures faithful { faithful self.old ↔ faithful self.new };
+}
