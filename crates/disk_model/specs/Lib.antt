@@ -1,4 +1,6 @@
 pub mod Call
 pub mod Crash
 pub mod FileState
+pub mod MemFile
+pub mod Plan
 pub mod Sector

@@ -2,5 +2,8 @@
 #![tactic(auto)]
 
 mod disk;
+mod mem_file;
+mod plan;
 
 pub use disk::{Disk, Failed};
+pub use plan::Plan;

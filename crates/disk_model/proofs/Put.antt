@@ -1,0 +1,40 @@
+-- What `resized` and `put` leave, byte by byte.
+use Rattle.std.proofs.Common.{◌≡◌, ℕ, ◌+◌, ◌-◌, ◌<◌, ◌≤◌, max, List, [], ◌∷◌, ◌++◌, length, get_or, take, drop, replicate, refl, sym, ◌∙◌, ap, arith, rules, length-append, length-take, length-drop, append_assoc}
+use Rattle.std.proofs.lemmas.List.{places, same_lists, length-replicate, take_all, drop_all, append-nil, take_at, drop_at, take-append-le, get_or_append_left, get_or-append_right, get_or-take, get_or-drop, get_or_past}
+use Rattle.std.proofs.lemmas.Grind.{common_steps}
+use Rattle.disk_model.specs.FileState.{resized, put, Covers}
+
+pub length-resized : (file : List ℕ) (n : ℕ) → length (resized file n) ≡ n
+length-resized file n = omega (arith, length-append (take n file) (replicate (n - length file) 0), length-take n file, length-replicate {A = ℕ} (n - length file) 0)
+
+-- cut to its own length a list is as it was
+pub resized_same : (file : List ℕ) (n : ℕ) → n ≡ length file → resized file n ≡ file
+resized_same file n is =
+    let none : n - length file ≡ 0 = omega arith in
+    ap (λ (k : ℕ). take n file ++ replicate k 0) none ∙ append-nil (take n file) ∙ take_all n file (omega arith)
+
+pub get_or-resized : (file : List ℕ) (n p d : ℕ) → p < n → p < length file → get_or (resized file n) p d ≡ get_or file p d
+get_or-resized file n p d in_n in_file = grind (arith, places)
+
+pub put_some : (file bytes : List ℕ) (offset : ℕ) → 0 < length bytes → put file offset bytes ≡ resized file offset ++ bytes ++ drop (offset + length bytes) file
+put_some file [] offset some = absurd (omega arith)
+put_some file (byte ∷ bytes) offset some = refl
+
+take-resized : (file : List ℕ) (n m : ℕ) → m ≤ n → take m (resized file n) ≡ resized file m
+take-resized file n m le = same_lists _ _ (omega (arith, length-take m (resized file n), length-resized file n, length-resized file m)) (λ k d h. grind (arith, places))
+
+-- past an offset nothing is changed by zeros up to it
+drop-resized : (file : List ℕ) (n : ℕ) → drop n (resized file (max (length file) n)) ≡ drop n file
+drop-resized file n =
+    let m = max (length file) n in
+    same_lists _ _ (omega (arith, length-drop n (resized file m), length-drop n file, length-resized file m))
+    (λ k d h. let le : n + k < length file = omega (arith, length-drop n (resized file m), length-resized file m) in
+    get_or-drop n (resized file m) k d ∙ get_or-resized file m (n + k) d (omega arith) le ∙ sym (get_or-drop n file k d))
+
+-- the bytes pasted over a file that is long enough for them
+pub paste_over : (file bytes : List ℕ) (offset : ℕ) → 0 < length bytes
+    → let long = resized file (max (length file) (offset + length bytes)) in take offset long ++ bytes ++ drop (offset + length bytes) long ≡ put file offset bytes
+paste_over file bytes offset some =
+    ap (λ (l : List ℕ). l ++ bytes ++ drop (offset + length bytes) (resized file (max (length file) (offset + length bytes)))) (take-resized file _ offset (omega arith))
+    ∙ ap (λ (l : List ℕ). resized file offset ++ bytes ++ l) (drop-resized file (offset + length bytes))
+    ∙ sym (put_some file bytes offset some)

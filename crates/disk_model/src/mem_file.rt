@@ -1,0 +1,129 @@
+//! One file in memory, with what a crash needs to know of it.
+ghost use Rattle.std.specs.Prelude.{◌≡◌, ◌+◌, [], ◌++◌, ◌<◌, ◌≤◌, max, length, take, drop, OnOk, OnErr};
+ghost use Rattle.disk_model.specs.FileState.{at_rest, put, resized, Writes, Cuts, Syncs};
+
+use std::alloc::{AllocError, Global};
+use std::snapshot::Snapshot;
+
+/// One write since the last sync, by its place. Its bytes are read off what the file held after it.
+#[derive(Drop)]
+pub(crate) struct Written {
+    pub offset: usize,
+    pub len: usize,
+    pub after: Snapshot<Vec<u8>>,
+}
+
+/// What a read gives, what was there at the last sync, and what was written and which lengths were had since.
+#[derive(Drop)]
+pub(crate) struct MemFile {
+    pub seen: Vec<u8>,
+    pub synced: Vec<u8>,
+    /// The oldest first.
+    pub written: Vec<Written>,
+    pub least: usize,
+    pub greatest: usize,
+}
+
+impl MemFile {
+    ghost use Rattle.disk_model.specs.MemFile.{file_state};
+
+    /// A file that was never written.
+    pub fn new(alloc: Global) -> MemFile
+        ensures { file_state result ≡ at_rest [] }
+    {
+        MemFile {
+            seen: Vec::new(alloc),
+            synced: Vec::new(alloc),
+            written: Vec::new(alloc),
+            least: 0,
+            greatest: 0,
+        }
+    }
+
+    pub fn write(&mut self, offset: u64, bytes: &[u8]) -> Result<(), AllocError>
+        ensures done { OnOk result (Writes offset bytes.now (file_state self.old) (file_state self.new)) }
+        ensures failed { OnErr result (file_state self.new ≡ file_state self.old) }
+    {
+        let offset = offset as usize;
+        self.written.reserve(1)?;
+        overwrite(&mut self.seen, offset, bytes)?;
+        self.greatest = self.greatest.max(self.seen.len());
+        self.written.push(Written {
+            offset,
+            len: bytes.len(),
+            after: Snapshot::of(&self.seen),
+        })?;
+        Ok(())
+    }
+
+    pub fn cut(&mut self, len: u64) -> Result<(), AllocError>
+        ensures done { OnOk result (Cuts len (file_state self.old) (file_state self.new)) }
+        ensures failed { OnErr result (file_state self.new ≡ file_state self.old) }
+    {
+        let len = len as usize;
+        lengthen(&mut self.seen, len)?;
+        self.least = self.least.min(len);
+        self.greatest = self.greatest.max(len);
+        Ok(())
+    }
+
+    pub fn sync(&mut self) -> Result<(), AllocError>
+        ensures done { OnOk result (Syncs (file_state self.old) (file_state self.new)) }
+        ensures failed { OnErr result (file_state self.new ≡ file_state self.old) }
+    {
+        replace(&mut self.synced, &self.seen)?;
+        self.written.clear();
+        self.least = self.seen.len();
+        self.greatest = self.seen.len();
+        Ok(())
+    }
+}
+
+/// Makes the bytes this long: cut at the end, or with zeros behind them.
+fn lengthen(bytes: &mut Vec<u8>, len: usize) -> Result<(), AllocError>
+    ensures done { OnOk result (bytes.new.items ≡ resized bytes.old.items len) }
+    ensures failed { OnErr result (bytes.new.items ≡ bytes.old.items) }
+{
+    bytes.resize(len, 0)
+}
+
+/// Makes the file long enough to reach an offset, with zeros behind it.
+fn reach(file: &mut Vec<u8>, end: usize) -> Result<(), AllocError>
+    ensures done { OnOk result (file.new.items ≡ resized file.old.items (max (length file.old.items) end)) }
+    ensures failed { OnErr result (file.new.items ≡ file.old.items) }
+{
+    if file.len() < end {
+        lengthen(file, end)?;
+    }
+    Ok(())
+}
+
+#[tactic(auto, using(crate::proofs::Put::paste_over))]
+fn overwrite(file: &mut Vec<u8>, offset: usize, bytes: &[u8]) -> Result<(), AllocError>
+    ensures done { OnOk result (file.new.items ≡ put file.old.items offset bytes.now) }
+    ensures failed { OnErr result (file.new.items ≡ file.old.items) }
+{
+    if bytes.is_empty() {
+        return Ok(());
+    }
+    let end = offset.checked_add(bytes.len()).ok_or(AllocError)?;
+    reach(file, end)?;
+    paste(file, offset, bytes);
+    Ok(())
+}
+
+fn paste(file: &mut Vec<u8>, offset: usize, bytes: &[u8])
+    requires { offset + length bytes.now ≤ length file.old.items }
+    ensures { file.new.items ≡ take offset file.old.items ++ bytes.now ++ drop (offset + length bytes.now) file.old.items }
+{
+    file[offset..offset + bytes.len()].copy_from_slice(bytes);
+}
+
+fn replace(file: &mut Vec<u8>, bytes: &[u8]) -> Result<(), AllocError>
+    ensures done { OnOk result (file.new.items ≡ bytes.now) }
+    ensures failed { OnErr result (file.new.items ≡ file.old.items) }
+{
+    file.reserve(bytes.len().saturating_sub(file.len()))?;
+    file.clear();
+    file.extend_from_slice(bytes)
+}
