@@ -9,3 +9,4 @@ pub mod MemoryCounts
 pub mod OfFiles
 pub mod HiveByHive
 pub mod EachMoment
+pub mod WrongExamples

@@ -10,3 +10,4 @@ pub mod Calls
 pub mod Memory
 pub mod Files
 pub mod Moments
+pub mod WrongProtocols

@@ -11,7 +11,8 @@
 //! - `Promises`: what the journal and the hive files promise of the disk, and what each of their calls says. These are the words that their own contracts cite;
 //! - `Recovery`, `Life`, `Kept`: what an opening recovers, one life, and the invariant that an engine keeps;
 //! - `Steps`, `Lives`, `Calls`, `Memory`: the protocol, crashes and openings, one call each, and what a hive has in memory;
-//! - `Files`, `Moments`: the same said of files, and of each moment of a run.
+//! - `Files`, `Moments`: the same said of files, and of each moment of a run;
+//! - `WrongProtocols`: nine protocols that are nearly right, and how each breaks.
 #![tactic(auto)]
 
 ghost use Rattle.std.specs.Prelude.{[], ◌≡◌, ◌≤◌, ◌<◌, ◌+◌, ◌∷◌, ◌*◌, ◌⊎◌, ℕ, Some, None, Bool, IsTrue, List, Option, slice_get, option_map};
@@ -28,6 +29,7 @@ ghost use Rattle.prefix_law.specs.Calls.{JournalStep, TrimStep, FlusherStep, Mem
 ghost use Rattle.prefix_law.specs.Memory.{with_memory, IsOfMemory, Remembers, Absorbs, MemoryStep};
 ghost use Rattle.prefix_law.specs.Files.{FilesRecover, FilesPrefix};
 ghost use Rattle.prefix_law.specs.Moments.{Boundary, PromisesHold, Trace, end_of, AtSome, LeftAt};
+ghost use Rattle.prefix_law.specs.WrongProtocols.{marks, Breaks, FlushesPending, TrimsAfterOne, TrimsByFirst, TrimsByMemory, EmptyBreaks, ReplayingAllBreaks, FlushesUnderLess, BatchesSkipping, CountsEarly};
 
 /// One prefix is recovered, and only one.
 ///
@@ -129,4 +131,27 @@ pub fn each_moment<T, Op>()
         (bs : List (Boundary T Op)) → AllByRecursion (λ c. IsKept r most hives c.state × PromisesHold spelled held hives may_leave c) bs →
         (files : ℕ → List ℕ) (k : ℕ) → LeftAt may_leave k files →
         AllByRecursion (λ c. c.clock ≡ k → FilesPrefix r (λ c j. spelled c ≡ Some j) (λ p l x. held p l ≡ Some x) most hives c.state.life c.state.durable files) bs }
+{}
+
+/// Nine protocols that are nearly right break the law, each on a store of two hives with at most three changes. Each clause gives a state that has the invariant and one wrong step from it (in `empty_element`, right steps behind
+/// it), after which a crash may leave what stands for no prefix; `replays_what_is_held` is about an opening.
+///
+/// - `absorbs_pending`: a hive flushes what is not durable, under its number.
+/// - `trims_after_one`, `trims_by_first`, `trims_by_memory`: a trim begins once one hive has what the journal spells of it; once those have it that the first spelled element names; once each has it, be it by a flush
+///   that is on its way.
+/// - `empty_element`: an element with no operation is accepted.
+/// - `replays_what_is_held`: an opening replays all spelled elements, on what hives hold of them already.
+/// - `flushes_under_less`: a hive flushes the durable elements, under a lower number.
+/// - `batch_skips`: a batch begins behind the first pending element.
+/// - `counts_early`: elements count as durable when their batch begins.
+pub fn wrong_protocols()
+    ensures absorbs_pending { Breaks (FlushesPending marks 2) }
+    ensures trims_after_one { Breaks (TrimsAfterOne 2) }
+    ensures trims_by_first { Breaks (TrimsByFirst 2) }
+    ensures trims_by_memory { Breaks (TrimsByMemory 2) }
+    ensures empty_element { EmptyBreaks }
+    ensures replays_what_is_held { ReplayingAllBreaks }
+    ensures flushes_under_less { Breaks (FlushesUnderLess marks 2) }
+    ensures batch_skips { Breaks (BatchesSkipping 2) }
+    ensures counts_early { Breaks (CountsEarly 2) }
 {}
