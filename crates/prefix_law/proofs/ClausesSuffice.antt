@@ -1,12 +1,13 @@
-use Rattle.std.proofs.Common.{◌≡◌, inl, inr, ℕ, ◌<◌, ◌≤◌, List, refl, ◌∙◌, ap, sym, subst, arith, Some}
+use Rattle.std.proofs.Common.{◌≡◌, inl, inr, ℕ, ◌<◌, ◌≤◌, List, [], refl, ◌↔◌, ◌∙◌, ap, sym, subst, arith, Some}
 use Rattle.std.proofs.lemmas.Option.{same_Some}
-use Rattle.prefix_law.specs.Changes.{Rules, replay}
+use Rattle.prefix_law.specs.Changes.{Rules, ops_on, replay}
 use Rattle.prefix_law.specs.Promises.{Choice, Leaves, BeginsTrim, Answer, Answer.Idle, Answer.More, Answer.Done, Answer.NoMemory, Answer.DiskFault, BeginsWrite, HiveSays}
+use Rattle.prefix_law.specs.Recovery.{above}
 use Rattle.prefix_law.specs.Life.{ops_in}
 use Rattle.prefix_law.specs.Kept.{HiveFits, EngineFits, State, IsKept}
-use Rattle.prefix_law.specs.Steps.{AllStay}
+use Rattle.prefix_law.specs.Steps.{AllStay, MayTrim}
 use Rattle.prefix_law.specs.Calls.{JournalStep, TrimStep, FlusherStep, MemoryFits}
-use Rattle.prefix_law.proofs.OnePrefix.{ops_split}
+use Rattle.prefix_law.proofs.OnePrefix.{ops_split, ops_above}
 use Rattle.prefix_law.proofs.Replays.{replay_on}
 use Rattle.prefix_law.proofs.KeepFiles.{only_leaves}
 use Rattle.prefix_law.proofs.KeepSteps.{moved, one_file, step_batch, step_settle, step_trim}
@@ -22,6 +23,16 @@ module _ {T Op : Type 0} (r : Rules T Op) (most hives : ℕ) where
     };
     higher = omega (arith, fits.higher, low);
   }
+
+  -- where a hive stands, what the journal spells above it is what it lacks of the durable elements
+  lacks : (s : State T Op) → IsKept r most hives s → (i : ℕ) → i < hives → ops_on i (above (s.files i).now.1 s.journal.now) ≡ ops_in s.life i (s.files i).now.1 s.durable
+  lacks s kept i lt =
+      ops_above s.life s.durable i (s.files i).now.1 (s.files i).now.1 s.journal.now.below s.journal.now.elements (kept.journal_fits s.journal.now (inl refl)) (kept.covered s.journal.now (inl refl) i lt) (omega arith)
+          (kept.hive_fits i lt (s.files i).now (inl refl)).not_above
+      ∙ ap (ops_in s.life i (s.files i).now.1) kept.ends
+
+  pub trim_test : (s : State T Op) → IsKept r most hives s → MayTrim hives s ↔ ((i : ℕ) → i < hives → ops_in s.life i (s.files i).now.1 s.durable ≡ [])
+  trim_test s kept = (λ may i lt. sym (lacks s kept i lt) ∙ may i lt, λ held i lt. lacks s kept i lt ∙ held i lt)
 
   same_state : (old new : State T Op) → IsKept r most hives old → new.life ≡ old.life → new.durable ≡ old.durable → new.journal ≡ old.journal → AllStay hives old.files new.files → IsKept r most hives new
   same_state old new kept a b c d = moved r most hives old new old.life old.durable old.journal a b c d kept

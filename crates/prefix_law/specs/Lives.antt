@@ -34,6 +34,11 @@ abbrev pub Runs : {T Op : Type 0} → Rules T Op → ℕ → ℕ → State T Op 
 Runs rules most hives s [] = Unit {0}
 Runs rules most hives s (t ∷ ts) = (Step rules most hives s t ⊎ Reopens rules most hives s t) × Runs rules most hives t ts
 
+-- In such a list, each opening goes on from the state before it.
+abbrev pub OpeningsGoOn : {T Op : Type 0} → Rules T Op → ℕ → ℕ → State T Op → List (State T Op) → Type 0
+OpeningsGoOn rules most hives s [] = Unit {0}
+OpeningsGoOn rules most hives s (t ∷ ts) = (Step rules most hives s t ⊎ GoesOn rules hives s t) × OpeningsGoOn rules most hives t ts
+
 -- No durable number is lost: each is at most all later ones.
 abbrev pub OnlyRises : {T Op : Type 0} → List (State T Op) → Type 0
 OnlyRises [] = Unit {0}

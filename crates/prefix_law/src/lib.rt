@@ -15,7 +15,7 @@
 //! - `WrongProtocols`: nine protocols that are nearly right, and how each breaks.
 #![tactic(auto)]
 
-ghost use Rattle.std.specs.Prelude.{[], ◌≡◌, ◌≤◌, ◌<◌, ◌+◌, ◌∷◌, ◌*◌, ◌⊎◌, ℕ, Some, None, Bool, IsTrue, List, Option, slice_get, option_map};
+ghost use Rattle.std.specs.Prelude.{[], ◌≡◌, ◌≤◌, ◌<◌, ◌+◌, ◌∷◌, ◌*◌, ◌⊎◌, ◌↔◌, ℕ, Some, None, Bool, IsTrue, List, Option, slice_get, option_map};
 ghost use Rattle.std.specs.List.{AllByRecursion};
 ghost use Rattle.prefix_law.specs.Changes.{Rules, Element, on_hive, ops_on, replay, applied};
 ghost use Rattle.prefix_law.specs.AllHives.{after_elements, run_element};
@@ -23,8 +23,8 @@ ghost use Rattle.prefix_law.specs.Promises.{Choice, Leaves, Spelled, nothing, An
 ghost use Rattle.prefix_law.specs.Recovery.{Recovers};
 ghost use Rattle.prefix_law.specs.Life.{NamesHive, ops_in};
 ghost use Rattle.prefix_law.specs.Kept.{State, IsKept, IsPrefix, IsSafe, opened_state};
-ghost use Rattle.prefix_law.specs.Steps.{Step};
-ghost use Rattle.prefix_law.specs.Lives.{Reopens, GoesOn, Runs, OnlyRises};
+ghost use Rattle.prefix_law.specs.Steps.{MayTrim, Step};
+ghost use Rattle.prefix_law.specs.Lives.{Reopens, GoesOn, Runs, OpeningsGoOn, OnlyRises};
 ghost use Rattle.prefix_law.specs.Calls.{JournalStep, TrimStep, FlusherStep, MemoryFits};
 ghost use Rattle.prefix_law.specs.Memory.{with_memory, IsOfMemory, Remembers, Absorbs, MemoryStep};
 ghost use Rattle.prefix_law.specs.Files.{FilesRecover, FilesPrefix};
@@ -60,21 +60,27 @@ pub fn kept<T, Op>()
 
 /// Over any list of steps, crashes and openings, in any order:
 ///
+/// - `keeps`: each state has the invariant;
 /// - `safe`: whatever a crash leaves in any state stands for one prefix;
+/// - `goes_on`: each life that opens begins at a number that is not below the durable one of the life before it and not above its last one, with that life's trees after the number;
 /// - `rises`: no durable number is below an earlier one, so nothing that was durable is ever lost.
 pub fn lives<T, Op>()
+    ensures keeps { (r : Rules T Op) (most hives : ℕ) (s : State T Op) → IsKept r most hives s → (ts : List (State T Op)) → Runs r most hives s ts → AllByRecursion (IsKept r most hives) (s ∷ ts) }
     ensures safe { (r : Rules T Op) (most hives : ℕ) (s : State T Op) → IsKept r most hives s → (ts : List (State T Op)) → Runs r most hives s ts → AllByRecursion (IsSafe r most hives) (s ∷ ts) }
+    ensures goes_on { (r : Rules T Op) (most hives : ℕ) (s : State T Op) → IsKept r most hives s → (ts : List (State T Op)) → Runs r most hives s ts → OpeningsGoOn r most hives s ts }
     ensures rises { (r : Rules T Op) (most hives : ℕ) (s : State T Op) → IsKept r most hives s → (ts : List (State T Op)) → Runs r most hives s ts → OnlyRises (s ∷ ts) }
 {}
 
 /// What the calls of the journal and of a hive's files promise is enough for the engine, at each of their answers, refusals among them.
 ///
 /// - `journal`, `trim`, `flusher`: an engine's call of a batch step, a trim step or a flush step keeps the invariant.
+/// - `trim_test`: a trim may begin exactly where no hive, by what surely stands of it, lacks an operation of a durable element.
 /// - `absorb`: what a hive has in memory goes on fitting as it absorbs the elements up to any number that is not below its own and not above the durable one.
 pub fn clauses_suffice<T, Op>()
     ensures journal { (r : Rules T Op) (most hives : ℕ) (answer : Answer) (old new : State T Op) → IsKept r most hives old → JournalStep hives answer old new → IsKept r most hives new }
     ensures trim { (r : Rules T Op) (most hives : ℕ) (answer : Answer) (old new : State T Op) → IsKept r most hives old → TrimStep hives answer old new → IsKept r most hives new }
     ensures flusher { (r : Rules T Op) (most hives : ℕ) (answer : Answer) (hive : ℕ) (memory : T × ℕ) (old new : State T Op) → IsKept r most hives old → FlusherStep r hives answer hive memory old new → IsKept r most hives new }
+    ensures trim_test { (r : Rules T Op) (most hives : ℕ) (s : State T Op) → IsKept r most hives s → MayTrim hives s ↔ ((i : ℕ) → i < hives → ops_in s.life i (s.files i).now.1 s.durable ≡ []) }
     ensures absorb { (r : Rules T Op) (s : State T Op) (i : ℕ) (memory : T × ℕ) (upto : ℕ) (t : T) → MemoryFits r s i memory → memory.1 ≤ upto → upto ≤ s.durable →
         replay r (ops_in s.life i memory.1 upto) memory.0 ≡ Some t → MemoryFits r s i (t, upto) }
 {}

@@ -1,4 +1,4 @@
-use Rattle.prefix_law.proofs.ClausesSuffice.{journal_step, trim_step, flusher_step, absorbed}
+use Rattle.prefix_law.proofs.ClausesSuffice.{journal_step, trim_step, flusher_step, trim_test, absorbed}
 use Rattle.prefix_law.proofs.clauses_suffice.Goals as goal
 
 pub returns : goal.returns
@@ -6,5 +6,6 @@ returns g c = record {
   journal = λ r most hives answer old new kept step. journal_step r most hives answer old new kept step;
   trim = λ r most hives answer old new kept step. trim_step r most hives answer old new kept step;
   flusher = λ r most hives answer hive memory old new kept step. flusher_step r most hives answer hive memory old new kept step;
+  trim_test = λ r most hives s kept. trim_test r most hives s kept;
   absorb = λ r s i memory upto t fits low high h. absorbed r 0 0 s i memory upto t fits low high h;
 }
