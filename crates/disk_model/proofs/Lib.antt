@@ -1,1 +1,4 @@
+pub mod Files
+pub mod Moments
 pub mod Put
+pub mod Steps

@@ -1,8 +1,7 @@
 -- What `resized` and `put` leave, byte by byte.
-use Rattle.std.proofs.Common.{◌≡◌, ℕ, ◌+◌, ◌-◌, ◌<◌, ◌≤◌, max, List, [], ◌∷◌, ◌++◌, length, get_or, take, drop, replicate, refl, sym, ◌∙◌, ap, arith, rules, length-append, length-take, length-drop, append_assoc}
-use Rattle.std.proofs.lemmas.List.{places, same_lists, length-replicate, take_all, drop_all, append-nil, take_at, drop_at, take-append-le, get_or_append_left, get_or-append_right, get_or-take, get_or-drop, get_or_past}
-use Rattle.std.proofs.lemmas.Grind.{common_steps}
-use Rattle.disk_model.specs.FileState.{resized, put, Covers}
+use Rattle.std.proofs.Common.{◌≡◌, ℕ, ◌+◌, ◌-◌, ◌<◌, ◌≤◌, max, List, [], ◌∷◌, ◌++◌, length, get_or, take, drop, replicate, refl, sym, ◌∙◌, ap, arith, length-append, length-take, length-drop}
+use Rattle.std.proofs.lemmas.List.{places, same_lists, length-replicate, take_all, append-nil, get_or-drop}
+use Rattle.disk_model.specs.FileState.{resized, put}
 
 pub length-resized : (file : List ℕ) (n : ℕ) → length (resized file n) ≡ n
 length-resized file n = omega (arith, length-append (take n file) (replicate (n - length file) 0), length-take n file, length-replicate {A = ℕ} (n - length file) 0)

@@ -3,9 +3,17 @@ ghost use Rattle.std.specs.Prelude.{◌≡◌, ◌↔◌, ℕ, ◌<◌, ◌≤�
 ghost use Rattle.disk_model.specs.FileState.{FileState, Writes, MayWrite, Cuts, MayCut, Syncs};
 ghost use Rattle.disk_model.specs.Call.{Passes, KeepsOthers, CountsFailure, Reads};
 
+use std::alloc::AllocError;
+
 /// The device failed in this call.
 #[derive(Clone, Copy, Debug, PartialEq, Eq)]
 pub struct Failed;
+
+impl From<AllocError> for Failed {
+    fn from(_: AllocError) -> Failed {
+        Failed
+    }
+}
 
 /// Files by number. A file that was never written is empty.
 ///

@@ -2,8 +2,11 @@
 #![tactic(auto)]
 
 mod disk;
+mod mem_disk;
 mod mem_file;
+mod past;
 mod plan;
 
 pub use disk::{Disk, Failed};
+pub use mem_disk::{FILES, MemDisk};
 pub use plan::Plan;

@@ -1,0 +1,210 @@
+//! Files in memory, as a disk. It fails as a plan says, and where it finds no memory.
+ghost use Rattle.std.specs.Prelude.{◌≡◌, ℕ, ◌≤◌, length, OnOk, OnErr, IsErr};
+ghost use Rattle.disk_model.specs.FileState.{Writes, MayWrite, Cuts, MayCut, Syncs};
+ghost use Rattle.disk_model.specs.Call.{KeepsOthers, Reads};
+ghost use Rattle.disk_model.specs.MemFile.{state_of};
+
+use crate::mem_file::MemFile;
+use crate::past::Past;
+use crate::plan::{Fate, Plan};
+use crate::{Disk, Failed};
+use std::alloc::{AllocError, Global};
+use std::snapshot::Snapshot;
+use std::sync::Arc;
+
+/// The files that a disk in memory holds have numbers below this. Others read as empty, and a write or a cut of one fails.
+pub const FILES: u32 = 64;
+
+/// What a failed call of it does: a write and a cut are done where the plan stops the disk, and else nothing is.
+#[derive(Drop)]
+pub struct MemDisk {
+    files: Vec<MemFile>,
+    past: Past,
+    plan: Arc<Plan>,
+}
+
+impl MemDisk {
+    ghost use Rattle.disk_model.specs.MemDisk.{states, failed_calls, earlier};
+
+    /// A disk whose files were never written. `plan` may be changed while the disk is used.
+    pub fn new(alloc: Global, plan: Arc<Plan>) -> MemDisk {
+        MemDisk {
+            files: Vec::new(alloc),
+            past: Past::Begun,
+            plan,
+        }
+    }
+}
+
+// So many files are there then, and the state of each is as before.
+#[tactic(auto, using(crate::proofs::Files::state_of_push))]
+fn make_up_to(files: &mut Vec<MemFile>, count: usize) -> Result<(), AllocError>
+    ensures made { OnOk result (count ≤ length files.new.items) }
+    ensures same { (f : ℕ) → state_of files.new.items f ≡ state_of files.old.items f }
+{
+    let alloc = *files.allocator();
+    for _made in files.len()..count {
+        files.push(MemFile::new(alloc))?;
+    }
+    Ok(())
+}
+
+#[tactic(auto, using(crate::proofs::Files::one_changed))]
+fn write(files: &mut Vec<MemFile>, file: u32, offset: u64, bytes: &[u8]) -> Result<(), Failed>
+    ensures done { OnOk result (Writes offset bytes.now (state_of files.old.items file) (state_of files.new.items file)) }
+    ensures failed { OnErr result (state_of files.new.items file ≡ state_of files.old.items file) }
+    ensures others { KeepsOthers file (state_of files.old.items) (state_of files.new.items) }
+{
+    if file >= FILES {
+        return Err(Failed);
+    }
+    let number = file as usize;
+    make_up_to(files, number + 1)?;
+    files[number].write(offset, bytes)?;
+    Ok(())
+}
+
+/// The write at which the disk stops.
+fn write_and_fail(
+    files: &mut Vec<MemFile>,
+    file: u32,
+    offset: u64,
+    bytes: &[u8],
+) -> Result<(), Failed>
+    ensures fails { IsErr result }
+    ensures written { MayWrite offset bytes.now (state_of files.old.items file) (state_of files.new.items file) }
+    ensures others { KeepsOthers file (state_of files.old.items) (state_of files.new.items) }
+{
+    let _ = write(files, file, offset, bytes);
+    Err(Failed)
+}
+
+#[tactic(auto, using(crate::proofs::Files::one_changed))]
+fn cut(files: &mut Vec<MemFile>, file: u32, len: u64) -> Result<(), Failed>
+    ensures done { OnOk result (Cuts len (state_of files.old.items file) (state_of files.new.items file)) }
+    ensures failed { OnErr result (state_of files.new.items file ≡ state_of files.old.items file) }
+    ensures others { KeepsOthers file (state_of files.old.items) (state_of files.new.items) }
+{
+    if file >= FILES {
+        return Err(Failed);
+    }
+    let number = file as usize;
+    make_up_to(files, number + 1)?;
+    files[number].cut(len)?;
+    Ok(())
+}
+
+/// The cut at which the disk stops.
+fn cut_and_fail(files: &mut Vec<MemFile>, file: u32, len: u64) -> Result<(), Failed>
+    ensures fails { IsErr result }
+    ensures cut { MayCut len (state_of files.old.items file) (state_of files.new.items file) }
+    ensures others { KeepsOthers file (state_of files.old.items) (state_of files.new.items) }
+{
+    let _ = cut(files, file, len);
+    Err(Failed)
+}
+
+#[tactic(auto, using(crate::proofs::Files::one_changed))]
+fn sync(files: &mut Vec<MemFile>, file: u32) -> Result<(), Failed>
+    ensures done { OnOk result (Syncs (state_of files.old.items file) (state_of files.new.items file)) }
+    ensures failed { OnErr result (state_of files.new.items file ≡ state_of files.old.items file) }
+    ensures others { KeepsOthers file (state_of files.old.items) (state_of files.new.items) }
+{
+    let number = file as usize;
+    if number < files.len() {
+        files[number].sync()?;
+    }
+    Ok(())
+}
+
+impl Disk for MemDisk {
+    ghost use Rattle.disk_model.specs.MemDisk.{states, failed_calls, earlier};
+
+    ghost state_at = { λ d. states d.past d.files.items };
+
+    ghost clock = { λ d. length (earlier d.past) };
+
+    ghost failures = { λ d. failed_calls d.past };
+
+    ghost faithful = { λ _. Unit {0} };
+
+    #[tactic(auto, using(crate::proofs::Moments::one_moment))]
+    fn len(&mut self, file: u32) -> Result<u64, Failed> {
+        let before = Snapshot::of(&self.files);
+        let result = match self.plan.next(false) {
+            Fate::Succeeds => Ok(bytes_of(&self.files, file).len() as u64),
+            Fate::Stops | Fate::Fails => Err(Failed),
+        };
+        self.past.then(before, result.is_err());
+        result
+    }
+
+    #[tactic(auto, using(crate::proofs::Moments::one_moment))]
+    fn read(&mut self, file: u32, offset: u64, buffer: &mut [u8]) -> Result<usize, Failed> {
+        let before = Snapshot::of(&self.files);
+        let result = match self.plan.next(false) {
+            Fate::Succeeds => Ok(read(bytes_of(&self.files, file), offset, buffer)),
+            Fate::Stops | Fate::Fails => Err(Failed),
+        };
+        self.past.then(before, result.is_err());
+        result
+    }
+
+    #[tactic(auto, using(crate::proofs::Moments::one_moment))]
+    fn write_at(&mut self, file: u32, offset: u64, bytes: &[u8]) -> Result<(), Failed> {
+        let before = Snapshot::of(&self.files);
+        let result = match self.plan.next(true) {
+            Fate::Succeeds => write(&mut self.files, file, offset, bytes),
+            Fate::Stops => write_and_fail(&mut self.files, file, offset, bytes),
+            Fate::Fails => Err(Failed),
+        };
+        self.past.then(before, result.is_err());
+        result
+    }
+
+    #[tactic(auto, using(crate::proofs::Moments::one_moment))]
+    fn cut(&mut self, file: u32, len: u64) -> Result<(), Failed> {
+        let before = Snapshot::of(&self.files);
+        let result = match self.plan.next(true) {
+            Fate::Succeeds => cut(&mut self.files, file, len),
+            Fate::Stops => cut_and_fail(&mut self.files, file, len),
+            Fate::Fails => Err(Failed),
+        };
+        self.past.then(before, result.is_err());
+        result
+    }
+
+    #[tactic(auto, using(crate::proofs::Moments::one_moment))]
+    fn sync(&mut self, file: u32) -> Result<(), Failed> {
+        let before = Snapshot::of(&self.files);
+        let result = match self.plan.next(true) {
+            Fate::Succeeds => sync(&mut self.files, file),
+            Fate::Stops | Fate::Fails => Err(Failed),
+        };
+        self.past.then(before, result.is_err());
+        result
+    }
+}
+
+/// What a read gives of a file; nothing of one that was never written.
+fn bytes_of(files: &Vec<MemFile>, file: u32) -> &[u8]
+    ensures { result.now ≡ (state_of files.now.items file).seen }
+{
+    match files.get(file as usize) {
+        Some(file) => &file.seen,
+        None => &[],
+    }
+}
+
+fn read(seen: &[u8], offset: u64, buffer: &mut [u8]) -> usize
+    ensures count { result ≤ length buffer.old }
+    ensures bytes { Reads offset seen.now buffer.old buffer.new result }
+{
+    let offset = offset as usize;
+    if offset >= seen.len() {
+        return 0;
+    }
+    let count = buffer.len().min(seen.len() - offset);
+    buffer[..count].copy_from_slice(&seen[offset..offset + count]);
+    count
+}
