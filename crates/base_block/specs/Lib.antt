@@ -1,0 +1,4 @@
+pub mod Numbers
+pub mod Sums
+pub mod Layout
+pub mod Judgements

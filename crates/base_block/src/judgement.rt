@@ -1,0 +1,80 @@
+//! Whether a base block may be used. A block is judged only where it is used: that of a clean primary
+//! file, or that of the log which an unclean one is repaired from.
+
+ghost use Rattle.std.specs.Prelude.{◌≡◌, ◌↔◌, IsOk, IfErr, IsTrue};
+ghost use Rattle.base_block.specs.Judgements.{IsPrimary, IsLog, IsUsable, IsBinsSize, IsOfProfile, PrimaryRefused};
+
+use crate::block::{BaseBlock, FILE_FORMAT, MAJOR_VERSION, MINOR_VERSION};
+use crate::fields::{FileType, Signature};
+use reg_names::limits::MOST_BINS_BYTES;
+use reg_names::{Cause, Refusal};
+
+// bins data come in bins of this many bytes, or of multiples of it
+const BIN_BYTES: u32 = 4096;
+
+impl BaseBlock {
+    /// Judges the block of a primary file that is used. Refused with `HiveDamaged` of hive 0 with the
+    /// cause `BadBase` where the signature isn't `regf` or the bins size is 0 or no multiple of 4,096,
+    /// with `Unsupported` where a version, the format or the type is outside the profile (1.5, format 1,
+    /// type 0), and with `TooLarge` where the bins size is over the limit. Where several of these hold,
+    /// one of them is told.
+    pub fn judge_primary(&self) -> Result<(), Refusal>
+        ensures ok { IsOk result ↔ IsPrimary self.now }
+        ensures why { IfErr result (PrimaryRefused self.now) }
+    {
+        if self.signature != Signature::REGF || !self.has_bins_size() {
+            return Err(Refusal::HiveDamaged {
+                hive: 0,
+                cause: Cause::BadBase,
+            });
+        }
+        if !self.is_of_profile() || self.file_type != FileType::PRIMARY {
+            return Err(Refusal::Unsupported);
+        }
+        if self.bins_size as usize > MOST_BINS_BYTES {
+            return Err(Refusal::TooLarge);
+        }
+        Ok(())
+    }
+
+    /// Judges the block of a log that is used. Refused with `HiveDamaged` of hive 0 with the cause
+    /// `BadLog` alone: where the sum is wrong or the numbers differ, where the signature, a version or the
+    /// format isn't the profile's, where the type is neither 1 nor 2, and where the bins size is 0, no
+    /// multiple of 4,096 or over the limit.
+    pub fn judge_log(&self) -> Result<(), Refusal>
+        ensures ok { IsOk result ↔ IsLog self.now }
+        ensures why { IfErr result (λ e. e ≡ Refusal.HiveDamaged 0 Cause.BadLog) }
+    {
+        if self.is_usable() && self.is_clean() && self.file_type.is_log() {
+            return Ok(());
+        }
+        Err(Refusal::HiveDamaged {
+            hive: 0,
+            cause: Cause::BadLog,
+        })
+    }
+
+    // whether the signature, the versions, the format and the bins size are those of a block that is used
+    fn is_usable(&self) -> bool
+        ensures { IsTrue result ↔ IsUsable self.now }
+    {
+        self.signature == Signature::REGF
+            && self.is_of_profile()
+            && self.has_bins_size()
+            && self.bins_size as usize <= MOST_BINS_BYTES
+    }
+
+    // whether the versions and the format are the profile's
+    fn is_of_profile(&self) -> bool
+        ensures { IsTrue result ↔ IsOfProfile self.now }
+    {
+        self.major == MAJOR_VERSION && self.minor == MINOR_VERSION && self.format == FILE_FORMAT
+    }
+
+    // whether the bins size is a multiple of 4,096 and not 0
+    fn has_bins_size(&self) -> bool
+        ensures { IsTrue result ↔ IsBinsSize self.now.bins_size }
+    {
+        self.bins_size.is_multiple_of(BIN_BYTES) && self.bins_size != 0
+    }
+}

@@ -1,0 +1,41 @@
+//! The sum that a base block ends with.
+
+ghost use Rattle.std.specs.Prelude.{◌≡◌, ◌≤◌, length};
+ghost use Rattle.base_block.specs.Sums.{sum_of, xor_of_words, stored_sum};
+
+use byteorder::{ByteOrder, LittleEndian};
+
+// words of 32 bits that are summed
+const WORDS: usize = 127;
+
+/// The sum of the first 508 bytes of a base block: the XOR of their 127 little-endian words, with two
+/// exceptions, 0xffff_fffe for 0xffff_ffff and 1 for 0.
+pub fn sum(bytes: &[u8; 508]) -> u32
+    ensures { result ≡ sum_of bytes.now }
+{
+    sum_of_front(bytes)
+}
+
+#[tactic(auto, unfolding(crate::specs::Sums::sum_of))]
+/// The same of the first 508 bytes of a sector.
+pub(crate) fn sum_of_front(bytes: &[u8]) -> u32
+    requires { 508 ≤ length bytes.now }
+    ensures { result ≡ sum_of bytes.now }
+{
+    let mut xor = 0;
+    for i in 0..WORDS {
+        xor ^= LittleEndian::read_u32(&bytes[4 * i..]);
+    }
+    stored(xor)
+}
+
+// The XOR as it is stored: neither all ones nor 0.
+fn stored(xor: u32) -> u32
+    ensures { result ≡ stored_sum xor }
+{
+    match xor {
+        0xffff_ffff => 0xffff_fffe,
+        0 => 1,
+        _ => xor,
+    }
+}
