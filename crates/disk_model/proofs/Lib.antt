@@ -1,4 +1,5 @@
 pub mod Files
 pub mod Moments
 pub mod Put
+pub mod Sound
 pub mod Steps

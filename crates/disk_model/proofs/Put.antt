@@ -1,7 +1,8 @@
 -- What `resized` and `put` leave, byte by byte.
-use Rattle.std.proofs.Common.{◌≡◌, ℕ, ◌+◌, ◌-◌, ◌<◌, ◌≤◌, max, List, [], ◌∷◌, ◌++◌, length, get_or, take, drop, replicate, refl, sym, ◌∙◌, ap, arith, length-append, length-take, length-drop}
-use Rattle.std.proofs.lemmas.List.{places, same_lists, length-replicate, take_all, append-nil, get_or-drop}
-use Rattle.disk_model.specs.FileState.{resized, put}
+use Rattle.std.proofs.Common.{⊎_elim, ◌≡◌, ℕ, ◌+◌, ◌-◌, ◌<◌, ◌≤◌, max, List, [], ◌∷◌, ◌++◌, length, get_or, take, drop, replicate, refl, sym, ◌∙◌, ap, arith, length-append, length-take, length-drop}
+use Rattle.std.proofs.lemmas.List.{places, same_lists, length-replicate, take_all, append-nil, get_or-drop, get_or_append_left, get_or-append_right}
+use Rattle.std.proofs.lemmas.Bool.{cases_lt}
+use Rattle.disk_model.specs.FileState.{resized, put, Covers}
 
 pub length-resized : (file : List ℕ) (n : ℕ) → length (resized file n) ≡ n
 length-resized file n = omega (arith, length-append (take n file) (replicate (n - length file) 0), length-take n file, length-replicate {A = ℕ} (n - length file) 0)
@@ -37,3 +38,26 @@ paste_over file bytes offset some =
     ap (λ (l : List ℕ). l ++ bytes ++ drop (offset + length bytes) (resized file (max (length file) (offset + length bytes)))) (take-resized file _ offset (omega arith))
     ∙ ap (λ (l : List ℕ). resized file offset ++ bytes ++ l) (drop-resized file (offset + length bytes))
     ∙ sym (put_some file bytes offset some)
+
+-- a byte outside the range stays
+pub get_or-put_outside : (file : List ℕ) (offset : ℕ) (bytes : List ℕ) (p : ℕ) → p < length file → (Covers (record { from = offset; bytes = bytes }) p → ⊥)
+    → get_or (put file offset bytes) p 0 ≡ get_or file p 0
+get_or-put_outside file offset [] p in_file out = refl
+get_or-put_outside file offset (byte ∷ bytes) p in_file out = ⊎_elim before (λ from. behind from (⊎_elim (λ lt. absurd (out (from, lt))) (λ le. le) (cases_lt p (offset + length (byte ∷ bytes))))) (cases_lt p offset)
+  where
+    before : p < offset → get_or (put file offset (byte ∷ bytes)) p 0 ≡ get_or file p 0
+    before lt =
+        let front : length (resized file offset) ≡ offset = length-resized file offset in
+        let long : length (resized file offset ++ byte ∷ bytes) ≡ offset + length (byte ∷ bytes) = omega (arith, length-append (resized file offset) (byte ∷ bytes)) in
+        get_or_append_left (resized file offset ++ byte ∷ bytes) (drop (offset + length (byte ∷ bytes)) file) 0 p (omega arith)
+        ∙ get_or_append_left (resized file offset) (byte ∷ bytes) 0 p (omega arith)
+        ∙ get_or-resized file offset p 0 lt in_file
+
+    behind : offset ≤ p → offset + length (byte ∷ bytes) ≤ p → get_or (put file offset (byte ∷ bytes)) p 0 ≡ get_or file p 0
+    behind from past =
+        let end = offset + length (byte ∷ bytes) in
+        let long : length (resized file offset ++ byte ∷ bytes) ≡ end = omega (arith, length-append (resized file offset) (byte ∷ bytes), length-resized file offset) in
+        let back : end + (p - end) ≡ p = omega arith in
+        get_or-append_right (resized file offset ++ byte ∷ bytes) (drop end file) end p 0 long past
+        ∙ get_or-drop end file (p - end) 0
+        ∙ ap (λ (i : ℕ). get_or file i 0) back

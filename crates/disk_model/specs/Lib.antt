@@ -3,5 +3,7 @@ pub mod Crash
 pub mod FileState
 pub mod MemDisk
 pub mod MemFile
+pub mod MemSound
 pub mod Plan
 pub mod Sector
+pub mod Written

@@ -1,6 +1,6 @@
 //! The disk as everything above sees it. What it promises is what a crash may leave, and nothing about when it fails.
 ghost use Rattle.std.specs.Prelude.{◌≡◌, ◌↔◌, ℕ, ◌<◌, ◌≤◌, length, IfOk, OnOk, OnErr};
-ghost use Rattle.disk_model.specs.FileState.{FileState, Writes, MayWrite, Cuts, MayCut, Syncs};
+ghost use Rattle.disk_model.specs.FileState.{FileState, Writes, MayWrite, Cuts, MayCut, Syncs, IsSound};
 ghost use Rattle.disk_model.specs.Call.{Passes, KeepsOthers, CountsFailure, Reads};
 
 use std::alloc::AllocError;
@@ -76,4 +76,7 @@ pub trait Disk {
         ensures time { Passes (state_at self.old) (state_at self.new) (clock self.old) (clock self.new) }
         ensures failures { CountsFailure result (failures self.old) (failures self.new) }
         ensures faithful { faithful self.old ↔ faithful self.new };
+
+    /// What a read gives is one of the contents that a crash may leave.
+    ghost sound: { (disk : Self) (k f : ℕ) → faithful disk → k ≤ clock disk → IsSound (state_at disk k f) };
 }

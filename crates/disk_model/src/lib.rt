@@ -6,6 +6,7 @@ mod mem_disk;
 mod mem_file;
 mod past;
 mod plan;
+mod written;
 
 pub use disk::{Disk, Failed};
 pub use mem_disk::{FILES, MemDisk};

@@ -119,6 +119,7 @@ fn sync(files: &mut Vec<MemFile>, file: u32) -> Result<(), Failed>
 
 impl Disk for MemDisk {
     ghost use Rattle.disk_model.specs.MemDisk.{states, failed_calls, earlier};
+    ghost use Rattle.disk_model.specs.MemSound.{sound-states};
 
     ghost state_at = { λ d. states d.past d.files.items };
 
@@ -127,6 +128,8 @@ impl Disk for MemDisk {
     ghost failures = { λ d. failed_calls d.past };
 
     ghost faithful = { λ _. Unit {0} };
+
+    ghost sound = { λ d k f _ _. sound-states d.past d.files.items k f };
 
     #[tactic(auto, using(crate::proofs::Moments::one_moment))]
     fn len(&mut self, file: u32) -> Result<u64, Failed> {

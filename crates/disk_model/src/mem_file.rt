@@ -1,17 +1,11 @@
 //! One file in memory, with what a crash needs to know of it.
 ghost use Rattle.std.specs.Prelude.{◌≡◌, ◌+◌, [], ◌++◌, ◌<◌, ◌≤◌, max, length, take, drop, OnOk, OnErr};
-ghost use Rattle.disk_model.specs.FileState.{at_rest, put, resized, Writes, Cuts, Syncs};
+ghost use Rattle.disk_model.specs.FileState.{at_rest, put, resized, Writes, Cuts, Syncs, IsSound};
+ghost use Rattle.disk_model.specs.Written.{file_of};
 
+use crate::written::Written;
 use std::alloc::{AllocError, Global};
 use std::snapshot::Snapshot;
-
-/// One write since the last sync, by its place. Its bytes are read off what the file held after it.
-#[derive(Drop)]
-pub(crate) struct Written {
-    pub offset: usize,
-    pub len: usize,
-    pub after: Snapshot<Vec<u8>>,
-}
 
 /// What a read gives, what was there at the last sync, and what was written and which lengths were had since.
 #[derive(Drop)]
@@ -22,6 +16,7 @@ pub(crate) struct MemFile {
     pub written: Vec<Written>,
     pub least: usize,
     pub greatest: usize,
+    ghost sound: { IsSound (file_of synced.items seen.items written.items least greatest) },
 }
 
 impl MemFile {
@@ -48,11 +43,11 @@ impl MemFile {
         self.written.reserve(1)?;
         overwrite(&mut self.seen, offset, bytes)?;
         self.greatest = self.greatest.max(self.seen.len());
-        self.written.push(Written {
+        self.written.push_reserved(Written {
             offset,
             len: bytes.len(),
             after: Snapshot::of(&self.seen),
-        })?;
+        });
         Ok(())
     }
 

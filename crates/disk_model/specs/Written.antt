@@ -1,0 +1,12 @@
+-- What a file in memory keeps, as its state.
+use Rattle.std.specs.Prelude.{ℕ, List, map, reverse, take, drop}
+use Rattle.disk_model.specs.FileState.{Range, FileState}
+use Rattle.disk_model.specs.declared.written.Written.{Written}
+
+-- a write's bytes are those that the file had at its place once it was done
+abbrev pub range_of : Written → Range
+range_of written = record { from = written.offset; bytes = take written.len (drop written.offset written.after.value.items) }
+
+-- the bytes at the last sync, those that a read gives, the writes since, the oldest first, and the least and the greatest length
+abbrev pub file_of : List ℕ → List ℕ → List Written → ℕ → ℕ → FileState
+file_of synced seen written least greatest = record { synced = synced; seen = seen; ranges = reverse (map range_of written); least = least; greatest = greatest }

@@ -1,0 +1,10 @@
+//! A write to a file in memory that no sync has put on the disk yet.
+use std::snapshot::Snapshot;
+
+/// The place of one write. Its bytes are read off what the file held after it.
+#[derive(Drop)]
+pub(crate) struct Written {
+    pub offset: usize,
+    pub len: usize,
+    pub after: Snapshot<Vec<u8>>,
+}
