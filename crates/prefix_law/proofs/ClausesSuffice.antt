@@ -14,7 +14,8 @@ use Rattle.prefix_law.proofs.KeepSteps.{moved, one_file, step_batch, step_settle
 
 module _ {T Op : Type 0} (r : Rules T Op) (most hives : ℕ) where
   -- absorbing up to any number not above the durable one
-  pub absorbed : (s : State T Op) (i : ℕ) (memory : T × ℕ) (upto : ℕ) (t : T) → MemoryFits r s i memory → memory.1 ≤ upto → upto ≤ s.durable → replay r (ops_in s.life i memory.1 upto) memory.0 ≡ Some t → MemoryFits r s i (t, upto)
+  pub absorbed : (s : State T Op) (i : ℕ) (memory : T × ℕ) (upto : ℕ) (t : T) → MemoryFits r s i memory → memory.1 ≤ upto → upto ≤ s.durable
+      → replay r (ops_in s.life i memory.1 upto) memory.0 ≡ Some t → MemoryFits r s i (t, upto)
   absorbed s i memory upto t fits low high h = record {
     fits = record {
       not_above = high;
@@ -25,16 +26,19 @@ module _ {T Op : Type 0} (r : Rules T Op) (most hives : ℕ) where
   }
 
   -- where a hive stands, what the journal spells above it is what it lacks of the durable elements
-  lacks : (s : State T Op) → IsKept r most hives s → (i : ℕ) → i < hives → ops_on i (above (s.files i).now.1 s.journal.now) ≡ ops_in s.life i (s.files i).now.1 s.durable
+  lacks : (s : State T Op) → IsKept r most hives s → (i : ℕ) → i < hives
+      → ops_on i (above (s.files i).now.1 s.journal.now) ≡ ops_in s.life i (s.files i).now.1 s.durable
   lacks s kept i lt =
       ops_above s.life s.durable i (s.files i).now.1 (s.files i).now.1 s.journal.now.below s.journal.now.elements (kept.journal_fits s.journal.now (inl refl)) (kept.covered s.journal.now (inl refl) i lt) (omega arith)
-          (kept.hive_fits i lt (s.files i).now (inl refl)).not_above
+      (kept.hive_fits i lt (s.files i).now (inl refl)).not_above
       ∙ ap (ops_in s.life i (s.files i).now.1) kept.ends
 
-  pub trim_test : (s : State T Op) → IsKept r most hives s → MayTrim hives s ↔ ((i : ℕ) → i < hives → ops_in s.life i (s.files i).now.1 s.durable ≡ [])
+  pub trim_test : (s : State T Op) → IsKept r most hives s
+      → MayTrim hives s ↔ ((i : ℕ) → i < hives → ops_in s.life i (s.files i).now.1 s.durable ≡ [])
   trim_test s kept = (λ may i lt. sym (lacks s kept i lt) ∙ may i lt, λ held i lt. lacks s kept i lt ∙ held i lt)
 
-  same_state : (old new : State T Op) → IsKept r most hives old → new.life ≡ old.life → new.durable ≡ old.durable → new.journal ≡ old.journal → AllStay hives old.files new.files → IsKept r most hives new
+  same_state : (old new : State T Op) → IsKept r most hives old → new.life ≡ old.life → new.durable ≡ old.durable → new.journal ≡ old.journal
+      → AllStay hives old.files new.files → IsKept r most hives new
   same_state old new kept a b c d = moved r most hives old new old.life old.durable old.journal a b c d kept
 
   pub journal_step : (answer : Answer) (old new : State T Op) → IsKept r most hives old → JournalStep hives answer old new → IsKept r most hives new
@@ -50,7 +54,8 @@ module _ {T Op : Type 0} (r : Rules T Op) (most hives : ℕ) where
     | inr b ↦ same_state old new kept step.life step.durable b step.files
   ]
 
-  begun_trim : (answer : Answer) (old new : State T Op) → IsKept r most hives old → TrimStep hives answer old new → new.durable ≡ old.durable → BeginsTrim old.journal new.journal → IsKept r most hives new
+  begun_trim : (answer : Answer) (old new : State T Op) → IsKept r most hives old → TrimStep hives answer old new → new.durable ≡ old.durable
+      → BeginsTrim old.journal new.journal → IsKept r most hives new
   begun_trim answer old new kept step same b = let may = step.may b.0 in
       step_trim r most hives old new kept (record { spells = may.0; may = may.1; life = step.life; durable = same; journal = b; files = step.files })
 
@@ -65,21 +70,26 @@ module _ {T Op : Type 0} (r : Rules T Op) (most hives : ℕ) where
   ]
 
   -- what a FlusherStep may make of its hive
-  hive_moves : (answer : Answer) (hive : ℕ) (memory : T × ℕ) (old new : State T Op) → IsKept r most hives old → FlusherStep r hives answer hive memory old new → hive < hives
+  hive_moves : (answer : Answer) (hive : ℕ) (memory : T × ℕ) (old new : State T Op) → IsKept r most hives old
+      → FlusherStep r hives answer hive memory old new → hive < hives
       → ((old.files hive).now.1 ≤ (new.files hive).now.1) × ((x : T × ℕ) → Leaves (new.files hive) x → HiveFits r old.life old.durable hive x × ((new.files hive).now.1 ≤ x.1))
   hive_moves answer hive memory old new kept step lt = by_answer answer step.file
     where
-      stay : new.files hive ≡ old.files hive → ((old.files hive).now.1 ≤ (new.files hive).now.1) × ((x : T × ℕ) → Leaves (new.files hive) x → HiveFits r old.life old.durable hive x × ((new.files hive).now.1 ≤ x.1))
+      stay : new.files hive ≡ old.files hive
+          → ((old.files hive).now.1 ≤ (new.files hive).now.1) × ((x : T × ℕ) → Leaves (new.files hive) x → HiveFits r old.life old.durable hive x × ((new.files hive).now.1 ≤ x.1))
       stay p = (omega (arith, ap (λ (c : Choice (T × ℕ)). c.now.1) p), λ x left. (kept.hive_fits hive lt x (subst (λ c. Leaves c x) p left), subst (λ (c : Choice (T × ℕ)). c.now.1 ≤ x.1) (sym p) (kept.rises hive lt x (subst (λ c. Leaves c x) p left))))
 
-      of_begun : (x : T × ℕ) → Leaves (record { now = (old.files hive).now; next = Some memory }) x → HiveFits r old.life old.durable hive x × ((old.files hive).now.1 ≤ x.1)
+      of_begun : (x : T × ℕ) → Leaves (record { now = (old.files hive).now; next = Some memory }) x
+          → HiveFits r old.life old.durable hive x × ((old.files hive).now.1 ≤ x.1)
       of_begun x (inl p) = subst (λ y. HiveFits r old.life old.durable hive y × ((old.files hive).now.1 ≤ y.1)) (sym p) (kept.hive_fits hive lt (old.files hive).now (inl refl), omega arith)
       of_begun x (inr p) = subst (λ y. HiveFits r old.life old.durable hive y × ((old.files hive).now.1 ≤ y.1)) (same_Some _ _ p) ((step.fits lt).fits, (step.fits lt).higher)
 
-      begins : BeginsWrite memory (old.files hive) (new.files hive) → ((old.files hive).now.1 ≤ (new.files hive).now.1) × ((x : T × ℕ) → Leaves (new.files hive) x → HiveFits r old.life old.durable hive x × ((new.files hive).now.1 ≤ x.1))
+      begins : BeginsWrite memory (old.files hive) (new.files hive)
+          → ((old.files hive).now.1 ≤ (new.files hive).now.1) × ((x : T × ℕ) → Leaves (new.files hive) x → HiveFits r old.life old.durable hive x × ((new.files hive).now.1 ≤ x.1))
       begins b = (omega (arith, ap (λ (c : Choice (T × ℕ)). c.now.1) b.1), λ x left. subst (λ (c : Choice (T × ℕ)). HiveFits r old.life old.durable hive x × (c.now.1 ≤ x.1)) (sym b.1) (of_begun x (subst (λ c. Leaves c x) b.1 left)))
 
-      by_answer : (a : Answer) → HiveSays memory a (old.files hive) (new.files hive) → ((old.files hive).now.1 ≤ (new.files hive).now.1) × ((x : T × ℕ) → Leaves (new.files hive) x → HiveFits r old.life old.durable hive x × ((new.files hive).now.1 ≤ x.1))
+      by_answer : (a : Answer) → HiveSays memory a (old.files hive) (new.files hive)
+          → ((old.files hive).now.1 ≤ (new.files hive).now.1) × ((x : T × ℕ) → Leaves (new.files hive) x → HiveFits r old.life old.durable hive x × ((new.files hive).now.1 ≤ x.1))
       by_answer Idle b = absurd b
       by_answer NoMemory b = stay b.1
       by_answer More (inl b) = begins b
@@ -92,7 +102,8 @@ module _ {T Op : Type 0} (r : Rules T Op) (most hives : ℕ) where
             (subst (HiveFits r old.life old.durable hive) (sym e) (kept.hive_fits hive lt b.0 (inr b.1)), omega (arith, ap (λ (c : Choice (T × ℕ)). c.now.1) b.2, ap (λ (y : T × ℕ). y.1) e)),
       )
 
-  pub flusher_step : (answer : Answer) (hive : ℕ) (memory : T × ℕ) (old new : State T Op) → IsKept r most hives old → FlusherStep r hives answer hive memory old new → IsKept r most hives new
+  pub flusher_step : (answer : Answer) (hive : ℕ) (memory : T × ℕ) (old new : State T Op) → IsKept r most hives old
+      → FlusherStep r hives answer hive memory old new → IsKept r most hives new
   flusher_step answer hive memory old new kept step =
       subst (λ l. EngineFits r most hives l new.durable new.journal new.files) (sym step.life)
       (subst (λ d. EngineFits r most hives old.life d new.journal new.files) (sym step.durable)

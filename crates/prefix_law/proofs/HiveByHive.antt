@@ -34,7 +34,8 @@ map_id None = refl
 map_id (Some a) = refl
 
 module _ {T Op : Type 0} (r : Rules T Op) where
-  pub after_element_at : (i : ℕ) (ps : Element Op) (ts : List T) → slice_get (after_element r ps ts) i ≡ option_map (applied r (on_hive i ps)) (slice_get ts i)
+  pub after_element_at : (i : ℕ) (ps : Element Op) (ts : List T)
+      → slice_get (after_element r ps ts) i ≡ option_map (applied r (on_hive i ps)) (slice_get ts i)
   after_element_at i [] ts = map_id (slice_get ts i)
   after_element_at i (p ∷ ps) ts = after_element_at i ps (changed_at (r.apply p.1) ts p.0) ∙ elim (cases_eq p.0 i) as (λ z. option_map (applied r (on_hive i ps)) (slice_get (changed_at (r.apply p.1) ts p.0) i) ≡ option_map (applied r (on_hive i (p ∷ ps))) (slice_get ts i)) [
     | inl e ↦ ap (option_map (applied r (on_hive i ps))) (subst (λ k. slice_get (changed_at (r.apply p.1) ts p.0) k ≡ option_map (r.apply p.1) (slice_get ts k)) e (changed_same (r.apply p.1) ts p.0))
@@ -42,7 +43,8 @@ module _ {T Op : Type 0} (r : Rules T Op) where
     | inr e ↦ ap (option_map (applied r (on_hive i ps))) (changed_other (r.apply p.1) ts p.0 i e) ∙ ap (λ (os : List Op). option_map (applied r os) (slice_get ts i)) (sym (on_other i p ps e))
   ]
 
-  pub after_elements_at : (i : ℕ) (es : List (Element Op)) (ts : List T) → slice_get (after_elements r es ts) i ≡ option_map (applied r (ops_on i es)) (slice_get ts i)
+  pub after_elements_at : (i : ℕ) (es : List (Element Op)) (ts : List T)
+      → slice_get (after_elements r es ts) i ≡ option_map (applied r (ops_on i es)) (slice_get ts i)
   after_elements_at i [] ts = map_id (slice_get ts i)
   after_elements_at i (e ∷ es) ts = after_elements_at i es (after_element r e ts) ∙ ap (option_map (applied r (ops_on i es))) (after_element_at i e ts)
       ∙ map_map (applied r (on_hive i e)) (applied r (ops_on i es)) (slice_get ts i) ∙ one (slice_get ts i)
@@ -57,7 +59,8 @@ was_legal false o u h = absurd (none-some u h)
 
 module _ {T Op : Type 0} (r : Rules T Op) where
   -- what is legal in the list of trees is legal hive by hive
-  pub legal_at : (i : ℕ) (ps : Element Op) (ts us : List T) (t : T) → run_element r ps ts ≡ Some us → slice_get ts i ≡ Some t → replay r (on_hive i ps) t ≡ Some (applied r (on_hive i ps) t)
+  pub legal_at : (i : ℕ) (ps : Element Op) (ts us : List T) (t : T) → run_element r ps ts ≡ Some us → slice_get ts i ≡ Some t
+      → replay r (on_hive i ps) t ≡ Some (applied r (on_hive i ps) t)
   legal_at i [] ts us t h at = refl
   legal_at i (p ∷ ps) ts us t h at = elim (cases_eq p.0 i) as (λ z. replay r (on_hive i (p ∷ ps)) t ≡ Some (applied r (on_hive i (p ∷ ps)) t)) [
     | inl e ↦ subst (λ os. replay r os t ≡ Some (applied r os t)) (sym (on_same i p ps e))
@@ -71,5 +74,6 @@ module _ {T Op : Type 0} (r : Rules T Op) where
       legal_here : p.0 ≡ i → r.legal p.1 t ≡ true
       legal_here e = sym (ap (legal_there r p.1) (ap (slice_get ts) e ∙ at)) ∙ step.0
 
-      first : r.legal p.1 t ≡ true → replay r (on_hive i ps) (r.apply p.1 t) ≡ Some (applied r (on_hive i ps) (r.apply p.1 t)) → replay r (p.1 ∷ on_hive i ps) t ≡ Some (applied r (p.1 ∷ on_hive i ps) t)
+      first : r.legal p.1 t ≡ true → replay r (on_hive i ps) (r.apply p.1 t) ≡ Some (applied r (on_hive i ps) (r.apply p.1 t))
+          → replay r (p.1 ∷ on_hive i ps) t ≡ Some (applied r (p.1 ∷ on_hive i ps) t)
       first b q = ap (λ z. cond z (replay r (on_hive i ps) (r.apply p.1 t)) None) b ∙ q

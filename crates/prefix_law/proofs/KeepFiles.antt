@@ -27,7 +27,8 @@ pub floor_full : {Op : Type 0} (durable below : ℕ) (es : List (Element Op)) �
 floor_full durable below [] h = absurd (omega (arith, h))
 floor_full durable below (e ∷ es) h = refl
 
-pub part_length : {T Op : Type 0} (life : Life T Op) (lo hi : ℕ) → life.base ≤ lo → lo ≤ hi → hi ≤ last_number life → length (elements_in life lo hi) ≡ hi - lo
+pub part_length : {T Op : Type 0} (life : Life T Op) (lo hi : ℕ) → life.base ≤ lo → lo ≤ hi → hi ≤ last_number life
+    → length (elements_in life lo hi) ≡ hi - lo
 part_length life lo hi a b c = rw (length-drop (lo - life.base) (take (hi - life.base) (known_elements life))) rw (length-take (hi - life.base) (known_elements life)) rw (length-append life.opened life.accepted) (omega (arith, a, b, c))
 
 pub only_leaves : {X : Type 0} (s x : X) → Leaves (record { now = s; next = None }) x → x ≡ s
@@ -44,7 +45,8 @@ last_named hives e [] all = (all.0.0, all.0.1, λ n h. at n h)
     at (suc n) h = omega arith
 last_named hives e (f ∷ es) all = let l = last_named hives f es all.1 in (l.0, l.1, λ n h. at l.0 l.2 n h)
   where
-    at : (i : ℕ) → ((n : ℕ) → ops_on i (drop n (f ∷ es)) ≡ [] → length (f ∷ es) ≤ n) → (n : ℕ) → ops_on i (drop n (e ∷ f ∷ es)) ≡ [] → length (e ∷ f ∷ es) ≤ n
+    at : (i : ℕ) → ((n : ℕ) → ops_on i (drop n (f ∷ es)) ≡ [] → length (f ∷ es) ≤ n) → (n : ℕ) → ops_on i (drop n (e ∷ f ∷ es)) ≡ []
+        → length (e ∷ f ∷ es) ≤ n
     at i low zero h = absurd (omega (arith, low 0 (second_nil (on_hive i e) (ops_on i (f ∷ es)) h)))
     at i low (suc n) h = omega (arith, low n h)
 
@@ -66,7 +68,8 @@ module _ {T Op : Type 0} (r : Rules T Op) (most hives : ℕ) (life : Life T Op) 
   }
 
   -- what a flush that begins now gives
-  pub flushed_fits : (i : ℕ) → i < hives → (t : T) → replay r (ops_in life i (files i).now.1 durable) (files i).now.0 ≡ Some t → HiveFits r life durable i (t, durable)
+  pub flushed_fits : (i : ℕ) → i < hives → (t : T) → replay r (ops_in life i (files i).now.1 durable) (files i).now.0 ≡ Some t
+      → HiveFits r life durable i (t, durable)
   flushed_fits i lt t h = record {
     not_above = omega arith;
     tree = rw (ap (ops_on i) (seg_none (known_elements life) (durable - life.base) (durable - life.base) (omega arith))) (sym h ∙ (engine.hive_fits i lt (files i).now (inl refl)).tree);
@@ -105,7 +108,9 @@ module _ {T Op : Type 0} (r : Rules T Op) (most hives : ℕ) (life : Life T Op) 
         piece = rw end rw same_floor (ap (λ (es : List (Element Op)). es ++ elements_in life durable (durable + m)) (old_fits.piece ∙ ap (elements_in life (floor durable journal.now)) engine.ends) ∙ sym (part_split life (floor durable journal.now) durable (durable + m) (omega (arith, engine.ends)) (omega arith)));
       }
 
-      by_choice : (P : Spelled Op → Type 0) → P journal.now → P (record { below = floor durable journal.now; elements = journal.now.elements ++ elements_in life durable (durable + m) }) → (s : Spelled Op)
+      by_choice : (P : Spelled Op → Type 0) → P journal.now
+          → P (record { below = floor durable journal.now; elements = journal.now.elements ++ elements_in life durable (durable + m) })
+          → (s : Spelled Op)
           → Leaves (record { now = journal.now; next = Some (record { below = floor durable journal.now; elements = journal.now.elements ++ elements_in life durable (durable + m) }) }) s → P s
       by_choice P a b s (inl p) = subst P (sym p) a
       by_choice P a b s (inr p) = subst P (same_Some _ _ p) b

@@ -13,14 +13,17 @@ use Rattle.prefix_law.proofs.Replays.{ops_on-append, replay_on, applied-append}
 use Rattle.prefix_law.proofs.KeepFiles.{only_leaves}
 
 -- what was known stands where it stood
-pub part_grows : {T Op : Type 0} (life : Life T Op) (e : Element Op) (lo hi : ℕ) → hi ≤ last_number life → elements_in (with_accepted life e) lo hi ≡ elements_in life lo hi
+pub part_grows : {T Op : Type 0} (life : Life T Op) (e : Element Op) (lo hi : ℕ) → hi ≤ last_number life
+    → elements_in (with_accepted life e) lo hi ≡ elements_in life lo hi
 part_grows life e lo hi a = ap (drop (lo - life.base)) (ap (take (hi - life.base)) (sym (append_assoc life.opened life.accepted (e ∷ []))) ∙ take-append-le (hi - life.base) (known_elements life) (e ∷ []) (omega (arith, a, length-append life.opened life.accepted)))
 
-pub tree_grows : {T Op : Type 0} (r : Rules T Op) (life : Life T Op) (e : Element Op) (n i : ℕ) → n ≤ last_number life → tree_at r (with_accepted life e) n i ≡ tree_at r life n i
+pub tree_grows : {T Op : Type 0} (r : Rules T Op) (life : Life T Op) (e : Element Op) (n i : ℕ) → n ≤ last_number life
+    → tree_at r (with_accepted life e) n i ≡ tree_at r life n i
 tree_grows r life e n i a = ap (λ (es : List (List _)). applied r (ops_on i es) (life.trees i)) (take-append-le (n - opened_number life) life.accepted (e ∷ []) (omega (arith, a)))
 
 module _ {T Op : Type 0} (r : Rules T Op) (most hives : ℕ) where
-  pub keep_accept : (life : Life T Op) (durable : ℕ) (journal : Choice (Spelled Op)) (files : ℕ → Choice (T × ℕ)) → EngineFits r most hives life durable journal files
+  pub keep_accept : (life : Life T Op) (durable : ℕ) (journal : Choice (Spelled Op)) (files : ℕ → Choice (T × ℕ))
+      → EngineFits r most hives life durable journal files
       → (e : Element Op) → last_number life < most → NamesHive hives e
       → ((i : ℕ) → i < hives → replay r (on_hive i e) (tree_at r life (last_number life) i) ≡ Some (applied r (on_hive i e) (tree_at r life (last_number life) i)))
       → ((i : ℕ) → i < hives → IsTrue (r.stands i (last_number life + 1) (applied r (on_hive i e) (tree_at r life (last_number life) i))))
@@ -64,7 +67,8 @@ module _ {T Op : Type 0} (r : Rules T Op) (most hives : ℕ) where
       new_tree i = ap (λ (es : List (Element Op)). applied r (ops_on i es) (life.trees i)) (take_all ((last_number life + 1) - opened_number life) (life.accepted ++ e ∷ []) (omega (arith, longer)))
           ∙ ap (λ (os : List Op). applied r os (life.trees i)) (ops i) ∙ applied-append r (ops_on i life.accepted) (on_hive i e) (life.trees i) ∙ ap (applied r (on_hive i e)) (sym (now_is i))
 
-      all_stand : (n : ℕ) → opened_number life ≤ n → n ≤ last_number (with_accepted life e) → (i : ℕ) → i < hives → IsTrue (r.stands i n (tree_at r (with_accepted life e) n i))
+      all_stand : (n : ℕ) → opened_number life ≤ n → n ≤ last_number (with_accepted life e) → (i : ℕ) → i < hives
+          → IsTrue (r.stands i n (tree_at r (with_accepted life e) n i))
       all_stand n low high i lt = elim (le_or_le n (last_number life)) as (λ z. IsTrue (r.stands i n (tree_at r (with_accepted life e) n i))) [
         | inl le ↦ subst (λ t. IsTrue (r.stands i n t)) (sym (tree_grows r life e n i le)) (engine.fits.stands n low le i lt)
         | inr ge ↦ elim (cases_eq n (last_number life)) as (λ z. IsTrue (r.stands i n (tree_at r (with_accepted life e) n i))) [
@@ -79,7 +83,9 @@ module _ {T Op : Type 0} (r : Rules T Op) (most hives : ℕ) where
           (replay_on r (ops_on i life.accepted) (on_hive i e) (life.trees i) (applied r (ops_on i life.accepted) (life.trees i)) (engine.fits.legal i lt)
           ∙ subst (λ t. replay r (on_hive i e) t ≡ Some (applied r (on_hive i e) t)) (now_is i) (legal i lt))
 
-  pub keep_fold : (life : Life T Op) (durable : ℕ) (journal : Choice (Spelled Op)) (files : ℕ → Choice (T × ℕ)) → EngineFits r most hives life durable journal files → durable ≡ last_number life → EngineFits r most hives (folded_life r life) durable journal files
+  pub keep_fold : (life : Life T Op) (durable : ℕ) (journal : Choice (Spelled Op)) (files : ℕ → Choice (T × ℕ))
+      → EngineFits r most hives life durable journal files → durable ≡ last_number life
+      → EngineFits r most hives (folded_life r life) durable journal files
   keep_fold life durable journal files engine all = record {
     fits = record {
       from_opened = omega (arith, all, long);
@@ -115,11 +121,13 @@ module _ {T Op : Type 0} (r : Rules T Op) (most hives : ℕ) where
       trees i = ap (λ n. tree_at r life n i) all ∙ sym (ap (λ (l : List (Element Op)). applied r (ops_on i l) (tree_at r life (last_number life) i)) (take_nil {A = Element Op} (durable - opened_number (folded_life r life))))
 
       -- only the last number is left, and its trees are as they were
-      stand : (n : ℕ) → opened_number (folded_life r life) ≤ n → n ≤ last_number (folded_life r life) → (i : ℕ) → i < hives → IsTrue (r.stands i n (tree_at r (folded_life r life) n i))
+      stand : (n : ℕ) → opened_number (folded_life r life) ≤ n → n ≤ last_number (folded_life r life) → (i : ℕ) → i < hives
+          → IsTrue (r.stands i n (tree_at r (folded_life r life) n i))
       stand n low high i lt = subst (λ m. IsTrue (r.stands i m (tree_at r (folded_life r life) m i))) (all ∙ omega (arith, low, high, long))
           (subst (λ t. IsTrue (r.stands i durable t)) (trees i) (engine.fits.stands durable engine.fits.from_opened engine.fits.to_last i lt))
 
-  end_is_last : (durable below n : ℕ) (numbers : ℕ → ℕ) (es : List (Element Op)) → IsLastNumber hives numbers below es n → floor_of n below es + length es ≡ n
+  end_is_last : (durable below n : ℕ) (numbers : ℕ → ℕ) (es : List (Element Op)) → IsLastNumber hives numbers below es n
+      → floor_of n below es + length es ≡ n
   end_is_last durable below n numbers [] h = omega arith
   end_is_last durable below n numbers (e ∷ es) h = sym h
 
@@ -128,12 +136,14 @@ module _ {T Op : Type 0} (r : Rules T Op) (most hives : ℕ) where
   opened_ops below n k i [] h = ap (ops_on i) (ap (drop (k - n)) (take_nil {A = Element Op} (n - n)) ∙ drop_nil {A = Element Op} (k - n) ∙ sym (drop_nil {A = Element Op} (k - below)))
   opened_ops below n k i (e ∷ es) h = ap (λ (l : List (Element Op)). ops_on i (drop (k - below) l)) (take_all (n - below) ((e ∷ es) ++ []) (omega (arith, h, length-append (e ∷ es) [])) ∙ append-nil (e ∷ es))
 
-  carried_at : (below n : ℕ) (numbers : ℕ → ℕ) (es : List (Element Op)) → IsLastNumber hives numbers below es n → es ≡ [] → (i : ℕ) × (i < hives) × (numbers i ≡ n)
+  carried_at : (below n : ℕ) (numbers : ℕ → ℕ) (es : List (Element Op)) → IsLastNumber hives numbers below es n → es ≡ []
+      → (i : ℕ) × (i < hives) × (numbers i ≡ n)
   carried_at below n numbers [] h none = h
   carried_at below n numbers (e ∷ es) h none = absurd (omega (arith, ap length none))
 
   -- what was recovered begins a life
-  pub begin : (s : Spelled Op) (held : ℕ → T × ℕ) (n : ℕ) (trees : ℕ → T) → Recovers r most hives s held n trees → AllByRecursion (NamesHive hives) s.elements
+  pub begin : (s : Spelled Op) (held : ℕ → T × ℕ) (n : ℕ) (trees : ℕ → T) → Recovers r most hives s held n trees
+      → AllByRecursion (NamesHive hives) s.elements
       → EngineFits r most hives (opened_life n trees s) n (settled s) (λ i. settled (held i))
   begin s held n trees found named = record {
     fits = record {

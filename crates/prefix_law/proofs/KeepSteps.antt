@@ -16,19 +16,22 @@ use Rattle.prefix_law.proofs.KeepFiles.{only_leaves, ends_nil, keep_files, keep_
 use Rattle.prefix_law.proofs.KeepLife.{keep_fold, keep_accept, begin}
 
 -- what is pending is the known part past the durable number
-pending_part : {T Op : Type 0} (s : State T Op) (m : ℕ) → opened_number s.life ≤ s.durable → take m (pending_elements s) ≡ elements_in s.life s.durable (s.durable + m)
+pending_part : {T Op : Type 0} (s : State T Op) (m : ℕ) → opened_number s.life ≤ s.durable
+    → take m (pending_elements s) ≡ elements_in s.life s.durable (s.durable + m)
 pending_part s m a = sym (part_accepted s.life s.durable (s.durable + m) a (omega arith)
     ∙ (let p : (s.durable + m) - opened_number s.life ≡ (s.durable - opened_number s.life) + m = omega (arith, a) in rw p (drop-take (s.durable - opened_number s.life) m s.life.accepted)))
 
 module _ {T Op : Type 0} (r : Rules T Op) (most hives : ℕ) where
   -- the same hives, told one by one
-  same_files : (life : Life T Op) (durable : ℕ) (journal : Choice (Spelled Op)) (old new : ℕ → Choice (T × ℕ)) → EngineFits r most hives life durable journal old → AllStay hives old new → EngineFits r most hives life durable journal new
+  same_files : (life : Life T Op) (durable : ℕ) (journal : Choice (Spelled Op)) (old new : ℕ → Choice (T × ℕ))
+      → EngineFits r most hives life durable journal old → AllStay hives old new → EngineFits r most hives life durable journal new
   same_files life durable journal old new engine same = keep_files r most hives life durable journal old engine new
       (λ i lt. omega (arith, ap (λ (c : Choice (T × ℕ)). c.now.1) (same i lt)))
       (λ i lt x left. engine.hive_fits i lt x (subst (λ c. Leaves c x) (same i lt) left))
       (λ i lt x left. subst (λ (c : Choice (T × ℕ)). c.now.1 ≤ x.1) (sym (same i lt)) (engine.rises i lt x (subst (λ c. Leaves c x) (same i lt) left)))
 
-  pub moved : (old : State T Op) (new : State T Op) (life : Life T Op) (durable : ℕ) (journal : Choice (Spelled Op)) → new.life ≡ life → new.durable ≡ durable → new.journal ≡ journal → AllStay hives old.files new.files
+  pub moved : (old : State T Op) (new : State T Op) (life : Life T Op) (durable : ℕ) (journal : Choice (Spelled Op)) → new.life ≡ life
+      → new.durable ≡ durable → new.journal ≡ journal → AllStay hives old.files new.files
       → EngineFits r most hives life durable journal old.files → IsKept r most hives new
   moved old new life durable journal a b c same engine =
       subst (λ l. EngineFits r most hives l new.durable new.journal new.files) (sym a)
@@ -53,8 +56,10 @@ module _ {T Op : Type 0} (r : Rules T Op) (most hives : ℕ) where
       moved old new old.life old.durable new.journal step.life step.durable refl step.files
       (subst (λ j. EngineFits r most hives old.life old.durable j old.files) (sym b.1) (keep_trim r most hives old.life old.durable old.journal old.files engine step.spells.0 step.spells.1 step.spells.2 step.may))
 
-  settle : (life : Life T Op) (durable : ℕ) (journal : Choice (Spelled Op)) (files : ℕ → Choice (T × ℕ)) → EngineFits r most hives life durable journal files → (below : ℕ) (es : List (Element Op))
-      → journal.next ≡ Some (record { below = below; elements = es }) → EngineFits r most hives life (floor_of durable below es + length es) (settled (record { below = below; elements = es })) files
+  settle : (life : Life T Op) (durable : ℕ) (journal : Choice (Spelled Op)) (files : ℕ → Choice (T × ℕ))
+      → EngineFits r most hives life durable journal files → (below : ℕ) (es : List (Element Op))
+      → journal.next ≡ Some (record { below = below; elements = es })
+      → EngineFits r most hives life (floor_of durable below es + length es) (settled (record { below = below; elements = es })) files
   settle life durable journal files engine below [] is = subst (λ d. EngineFits r most hives life d (settled (record { below = below; elements = [] })) files) (sym (ends_nil {Op = Op} durable below [] refl)) (keep_trimmed r most hives life durable journal files engine (record { below = below; elements = [] }) is refl)
   settle life durable journal files engine below (e ∷ es) is = keep_durable r most hives life durable journal files engine (record { below = below; elements = e ∷ es }) e es is refl
 
@@ -63,7 +68,8 @@ module _ {T Op : Type 0} (r : Rules T Op) (most hives : ℕ) where
       moved old new old.life (top old.durable b.0) (settled b.0) step.life (step.durable ∙ ap (λ (c : Choice (Spelled Op)). top old.durable c.now) b.2) b.2 step.files
       (settle old.life old.durable old.journal old.files engine b.0.below b.0.elements b.1)
 
-  pub one_file : (life : Life T Op) (durable : ℕ) (journal : Choice (Spelled Op)) (old new : ℕ → Choice (T × ℕ)) → EngineFits r most hives life durable journal old → (i : ℕ) → OthersStay hives i old new
+  pub one_file : (life : Life T Op) (durable : ℕ) (journal : Choice (Spelled Op)) (old new : ℕ → Choice (T × ℕ))
+      → EngineFits r most hives life durable journal old → (i : ℕ) → OthersStay hives i old new
       → (i < hives → (old i).now.1 ≤ (new i).now.1)
       → (i < hives → (x : T × ℕ) → Leaves (new i) x → HiveFits r life durable i x × ((new i).now.1 ≤ x.1))
       → EngineFits r most hives life durable journal new
@@ -90,7 +96,8 @@ module _ {T Op : Type 0} (r : Rules T Op) (most hives : ℕ) where
       begun : Choice (T × ℕ)
       begun = record { now = (old.files step.hive).now; next = Some (step.file.0, old.durable) }
 
-      of_hive : step.hive < hives → (x : T × ℕ) → Leaves (record { now = (old.files step.hive).now; next = Some (step.file.0, old.durable) }) x → HiveFits r old.life old.durable step.hive x × ((old.files step.hive).now.1 ≤ x.1)
+      of_hive : step.hive < hives → (x : T × ℕ) → Leaves (record { now = (old.files step.hive).now; next = Some (step.file.0, old.durable) }) x
+          → HiveFits r old.life old.durable step.hive x × ((old.files step.hive).now.1 ≤ x.1)
       of_hive lt x (inl p) = subst (λ y. HiveFits r old.life old.durable step.hive y × ((old.files step.hive).now.1 ≤ y.1)) (sym p) (engine.hive_fits step.hive lt (old.files step.hive).now (inl refl), omega arith)
       of_hive lt x (inr p) = subst (λ y. HiveFits r old.life old.durable step.hive y × ((old.files step.hive).now.1 ≤ y.1)) (same_Some _ _ p)
           (flushed_fits r most hives old.life old.durable old.journal old.files engine step.hive lt step.file.0 step.file.2, (engine.hive_fits step.hive lt (old.files step.hive).now (inl refl)).not_above)
@@ -148,11 +155,13 @@ module _ {T Op : Type 0} (r : Rules T Op) (most hives : ℕ) where
   one_keeps s t engine (inr step) = reopens_keeps s t engine step
 
   -- and so does any list of them
-  pub runs_keep : (s : State T Op) → IsKept r most hives s → (ts : List (State T Op)) → Runs r most hives s ts → AllByRecursion (IsKept r most hives) (s ∷ ts)
+  pub runs_keep : (s : State T Op) → IsKept r most hives s → (ts : List (State T Op)) → Runs r most hives s ts
+      → AllByRecursion (IsKept r most hives) (s ∷ ts)
   runs_keep s engine [] run = (engine, tt)
   runs_keep s engine (t ∷ ts) run = (engine, runs_keep t (one_keeps s t engine run.0) ts run.1)
 
-  pub runs_safe : (s : State T Op) → IsKept r most hives s → (ts : List (State T Op)) → Runs r most hives s ts → AllByRecursion (IsSafe r most hives) (s ∷ ts)
+  pub runs_safe : (s : State T Op) → IsKept r most hives s → (ts : List (State T Op)) → Runs r most hives s ts
+      → AllByRecursion (IsSafe r most hives) (s ∷ ts)
   runs_safe s engine [] run = (safe s engine, tt)
   runs_safe s engine (t ∷ ts) run = (safe s engine, runs_safe t (one_keeps s t engine run.0) ts run.1)
 
@@ -183,11 +192,13 @@ module _ {T Op : Type 0} (r : Rules T Op) (most hives : ℕ) where
       let le : s.durable ≤ t.durable = elim (run.0) as (λ z. s.durable ≤ t.durable) [ inl a ↦ step_rises s t engine a | inr b ↦ (reopens_goes s t engine b).no_loss ] in
       ((le, all_above s.durable t.durable le ts rest.0), rest)
 
-  pub begun : (spelled : Spelled Op) (held : ℕ → T × ℕ) (n : ℕ) (trees : ℕ → T) → Recovers r most hives spelled held n trees → AllByRecursion (NamesHive hives) spelled.elements → IsKept r most hives (opened_state n trees spelled held)
+  pub begun : (spelled : Spelled Op) (held : ℕ → T × ℕ) (n : ℕ) (trees : ℕ → T) → Recovers r most hives spelled held n trees
+      → AllByRecursion (NamesHive hives) spelled.elements → IsKept r most hives (opened_state n trees spelled held)
   begun spelled held n trees found named = begin r most hives spelled held n trees found named
 
   -- a created store
-  pub fresh : 0 < hives → (trees : ℕ → T) → ((i : ℕ) → i < hives → IsTrue (r.stands i 0 (trees i))) → IsKept r most hives (opened_state 0 trees nothing (λ i. (trees i, 0)))
+  pub fresh : 0 < hives → (trees : ℕ → T) → ((i : ℕ) → i < hives → IsTrue (r.stands i 0 (trees i)))
+      → IsKept r most hives (opened_state 0 trees nothing (λ i. (trees i, 0)))
   fresh some trees stand = begun nothing (λ i. (trees i, 0)) 0 trees (record {
     last = (0, some, refl);
     limit = omega arith;

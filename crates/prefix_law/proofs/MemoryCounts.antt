@@ -12,13 +12,15 @@ use Rattle.prefix_law.proofs.KeepFiles.{keep_files}
 use Rattle.prefix_law.proofs.KeepSteps.{moved, one_file}
 use Rattle.prefix_law.proofs.ClausesSuffice.{absorbed}
 
-pub left_with_memory : {X : Type 0} (file : Choice X) (memory : X) → IsOfMemory file memory → (x : X) → Leaves file x → Leaves (with_memory file memory) x
+pub left_with_memory : {X : Type 0} (file : Choice X) (memory : X) → IsOfMemory file memory → (x : X) → Leaves file x
+    → Leaves (with_memory file memory) x
 left_with_memory file memory own x (inl p) = inl p
 left_with_memory file memory (inl none) x (inr p) = absurd (none-some x (sym none ∙ p))
 left_with_memory file memory (inr some) x (inr p) = inr (sym some ∙ p)
 
 -- what stands after a flush step is what stood, or the memory
-stands_after : {T : Type 0} (memory : T × ℕ) (answer : Answer) (file written : Choice (T × ℕ)) → IsOfMemory file memory → HiveSays memory answer file written → (written.now ≡ file.now) ⊎ (written.now ≡ memory)
+stands_after : {T : Type 0} (memory : T × ℕ) (answer : Answer) (file written : Choice (T × ℕ)) → IsOfMemory file memory
+    → HiveSays memory answer file written → (written.now ≡ file.now) ⊎ (written.now ≡ memory)
 stands_after memory Idle file written own says = absurd says
 stands_after memory NoMemory file written own says = inl (ap (λ (c : Choice _). c.now) says.1)
 stands_after memory More file written own (inl b) = inl (ap (λ (c : Choice _). c.now) b.1)
@@ -30,7 +32,8 @@ stands_after memory Done file written (inr some) says = inr (ap (λ (c : Choice 
 
 module _ {T Op : Type 0} (r : Rules T Op) (most hives : ℕ) where
   -- what a choice of these two leaves fits
-  two_fit : (life : Life T Op) (durable hive : ℕ) (file : Choice (T × ℕ)) (x m : T × ℕ) → file ≡ record { now = x; next = Some m } → HiveFits r life durable hive x → HiveFits r life durable hive m → x.1 ≤ m.1
+  two_fit : (life : Life T Op) (durable hive : ℕ) (file : Choice (T × ℕ)) (x m : T × ℕ) → file ≡ record { now = x; next = Some m }
+      → HiveFits r life durable hive x → HiveFits r life durable hive m → x.1 ≤ m.1
       → (y : T × ℕ) → Leaves file y → HiveFits r life durable hive y × (file.now.1 ≤ y.1)
   two_fit life durable hive file x m is a b le y left = subst (λ (c : Choice (T × ℕ)). HiveFits r life durable hive y × (c.now.1 ≤ y.1)) (sym is) (by_choice (subst (λ c. Leaves c y) is left))
     where
@@ -43,11 +46,13 @@ module _ {T Op : Type 0} (r : Rules T Op) (most hives : ℕ) where
       moved r most hives (record { life = old.life; durable = old.durable; journal = old.journal; files = λ i. with_memory (old.files i) (memory i) }) new old.life old.durable old.journal step.life step.durable step.journal step.files
       (keep_files r most hives old.life old.durable old.journal old.files kept (λ i. with_memory (old.files i) (memory i)) (λ i lt. omega arith) (λ i lt x left. (both i lt x left).0) (λ i lt x left. (both i lt x left).1))
     where
-      both : (i : ℕ) → i < hives → (x : T × ℕ) → Leaves (with_memory (old.files i) (memory i)) x → HiveFits r old.life old.durable i x × ((old.files i).now.1 ≤ x.1)
+      both : (i : ℕ) → i < hives → (x : T × ℕ) → Leaves (with_memory (old.files i) (memory i)) x
+          → HiveFits r old.life old.durable i x × ((old.files i).now.1 ≤ x.1)
       both i lt x left = two_fit old.life old.durable i (with_memory (old.files i) (memory i)) (old.files i).now (memory i) refl (kept.hive_fits i lt (old.files i).now (inl refl)) (step.fits i lt).fits (step.fits i lt).higher x left
 
   -- one hive with another memory, or with its memory standing
-  one_memory : (old new : State T Op) → IsKept r most hives old → (hive : ℕ) (x m : T × ℕ) → new.files hive ≡ record { now = x; next = Some m } → new.life ≡ old.life → new.durable ≡ old.durable → new.journal ≡ old.journal → OthersStay hives hive old.files new.files
+  one_memory : (old new : State T Op) → IsKept r most hives old → (hive : ℕ) (x m : T × ℕ) → new.files hive ≡ record { now = x; next = Some m }
+      → new.life ≡ old.life → new.durable ≡ old.durable → new.journal ≡ old.journal → OthersStay hives hive old.files new.files
       → (hive < hives → HiveFits r old.life old.durable hive x × HiveFits r old.life old.durable hive m × (x.1 ≤ m.1) × ((old.files hive).now.1 ≤ x.1)) → IsKept r most hives new
   one_memory old new kept hive x m is life durable journal others fits =
       subst (λ l. EngineFits r most hives l new.durable new.journal new.files) (sym life)
@@ -58,7 +63,8 @@ module _ {T Op : Type 0} (r : Rules T Op) (most hives : ℕ) where
       (λ lt y left. let f = fits lt in two_fit old.life old.durable hive (new.files hive) x m is f.0 f.1 f.2 y left))))
 
   -- what memory counts as on its way fits
-  memory_fits : (s : State T Op) → IsKept r most hives s → (hive : ℕ) → hive < hives → (file : Choice (T × ℕ)) (memory : T × ℕ) → s.files hive ≡ with_memory file memory → MemoryFits r s hive memory × HiveFits r s.life s.durable hive file.now
+  memory_fits : (s : State T Op) → IsKept r most hives s → (hive : ℕ) → hive < hives → (file : Choice (T × ℕ)) (memory : T × ℕ)
+      → s.files hive ≡ with_memory file memory → MemoryFits r s hive memory × HiveFits r s.life s.durable hive file.now
   memory_fits s kept hive lt file memory is = (
     record { fits = kept.hive_fits hive lt memory in_memory; higher = kept.rises hive lt memory in_memory },
     kept.hive_fits hive lt file.now (inl (sym (ap (λ (c : Choice (T × ℕ)). c.now) is))),

@@ -8,7 +8,8 @@ ops_on-append i [] ys = refl
 ops_on-append i (x ∷ xs) ys = rw (ops_on-append i xs ys) (sym (append_assoc (on_hive i x) (ops_on i xs) (ops_on i ys)))
 
 -- a step that leads somewhere was legal
-some_if : {T U : Type 0} (b : Bool) (o : Option T) (u : T) (P : Option U → Type 0) (p : Option U) → cond b o None ≡ Some u → (o ≡ Some u → P p) → P (cond b p None)
+some_if : {T U : Type 0} (b : Bool) (o : Option T) (u : T) (P : Option U → Type 0) (p : Option U) → cond b o None ≡ Some u → (o ≡ Some u → P p)
+    → P (cond b p None)
 some_if true o u P p h go = go h
 some_if false o u P p h go = absurd (none-some u h)
 
@@ -30,5 +31,6 @@ module _ {T Op : Type 0} (r : Rules T Op) where
   replay_back xs ys t u h = sym (replay_on xs ys t (applied r xs t) (replay_front xs ys t u h)) ∙ h
 
   -- of three parts that are legal together, the second is, from where the first leads
-  pub replay_middle : (xs ys zs : List Op) (t u : T) → replay r ((xs ++ ys) ++ zs) t ≡ Some u → replay r ys (applied r xs t) ≡ Some (applied r (xs ++ ys) t)
+  pub replay_middle : (xs ys zs : List Op) (t u : T) → replay r ((xs ++ ys) ++ zs) t ≡ Some u
+      → replay r ys (applied r xs t) ≡ Some (applied r (xs ++ ys) t)
   replay_middle xs ys zs t u h = replay_back xs ys t (applied r (xs ++ ys) t) (replay_front (xs ++ ys) zs t u h)

@@ -3,7 +3,7 @@ use Rattle.std.proofs.Common.{◌≡◌, ◌⊎◌, inl, inr, ℕ, zero, suc, �
 use Rattle.std.proofs.lemmas.Option.{same_Some}
 use Rattle.std.specs.List.{AllByRecursion}
 use Rattle.prefix_law.specs.Changes.{Element, on_hive, ops_on, replay, applied}
-use Rattle.prefix_law.specs.Promises.{Choice, Leaves, Spelled, nothing, settled}
+use Rattle.prefix_law.specs.Promises.{Choice, under_way, Leaves, Spelled, nothing, settled}
 use Rattle.prefix_law.specs.Recovery.{above, IsLastNumber}
 use Rattle.prefix_law.specs.Life.{Life, last_number, tree_at, with_accepted, NamesHive}
 use Rattle.prefix_law.specs.Kept.{State, IsKept, IsPrefix, opened_state}
@@ -55,7 +55,8 @@ names_second m = (1, omega arith, m, [], refl)
 abbrev with_change : State (List ℕ) ℕ → Element ℕ → State (List ℕ) ℕ
 with_change s e = record { life = with_accepted s.life e; durable = s.durable; journal = s.journal; files = s.files }
 
-with_change_kept : (s : State (List ℕ) ℕ) (e : Element ℕ) → last_number s.life < 3 → NamesHive 2 e → IsKept marks 3 2 s → IsKept marks 3 2 (with_change s e)
+with_change_kept : (s : State (List ℕ) ℕ) (e : Element ℕ) → last_number s.life < 3 → NamesHive 2 e → IsKept marks 3 2 s
+    → IsKept marks 3 2 (with_change s e)
 with_change_kept s e room names kept = step_keeps marks 3 2 s (with_change s e) kept (inl (record {
   element = e;
   room = room;
@@ -86,7 +87,8 @@ accepted_three_kept =
 abbrev opened_with : ℕ → List (Element ℕ) → (ℕ → List ℕ × ℕ) → State (List ℕ) ℕ
 opened_with n es held = opened_state n (λ i. applied marks (ops_on i (above (held i).1 (record { below = 0; elements = es }))) (held i).0) (record { below = 0; elements = es }) held
 
-opened_kept : (n : ℕ) (es : List (Element ℕ)) (held : ℕ → List ℕ × ℕ) → IsLastNumber 2 (λ i. (held i).1) 0 es n → n ≤ 3 → ((i : ℕ) → i < 2 → (held i).1 ≤ n) → AllByRecursion (NamesHive 2) es → IsKept marks 3 2 (opened_with n es held)
+opened_kept : (n : ℕ) (es : List (Element ℕ)) (held : ℕ → List ℕ × ℕ) → IsLastNumber 2 (λ i. (held i).1) 0 es n → n ≤ 3
+    → ((i : ℕ) → i < 2 → (held i).1 ≤ n) → AllByRecursion (NamesHive 2) es → IsKept marks 3 2 (opened_with n es held)
 opened_kept n es held last limit low named = begun marks 3 2 (record { below = 0; elements = es }) held n (λ i. applied marks (ops_on i (above (held i).1 (record { below = 0; elements = es }))) (held i).0) (record {
   last = last;
   limit = limit;
@@ -102,7 +104,8 @@ late_three_kept : (held : ℕ → List ℕ × ℕ) → (held 0).1 ≤ 3 → (hel
 late_three_kept held a b = opened_kept 3 late_three held refl (omega arith) (each_of_two (λ i. (held i).1 ≤ 3) a b) (names_first 1, (names_second 2, (names_second 3, tt)))
 
 -- a prefix has trees of the right length
-same_length : (life : Life (List ℕ) ℕ) (durable : ℕ) (s : Spelled ℕ) (held : ℕ → List ℕ × ℕ) (p : IsPrefix marks 3 2 life durable s held) (m i : ℕ) → i < 2 → p.0 ≡ m
+same_length : (life : Life (List ℕ) ℕ) (durable : ℕ) (s : Spelled ℕ) (held : ℕ → List ℕ × ℕ) (p : IsPrefix marks 3 2 life durable s held) (m i : ℕ)
+    → i < 2 → p.0 ≡ m
     → length (applied marks (ops_on i (above (held i).1 s)) (held i).0) ≡ length (tree_at marks life m i)
 same_length life durable s held p m i lt same = ap length (same_Some _ _ (sym (all_legal (ops_on i (above (held i).1 s)) (held i).0) ∙ p.3.tree i lt ∙ ap (λ n. Some (tree_at marks life n i)) same))
 
@@ -113,12 +116,9 @@ with_journal s journal = record { life = s.life; durable = s.durable; journal = 
 abbrev with_files : State (List ℕ) ℕ → (ℕ → Choice (List ℕ × ℕ)) → State (List ℕ) ℕ
 with_files s files = record { life = s.life; durable = s.durable; journal = s.journal; files = files }
 
--- a value stands, and another is on its way
-abbrev then : {X : Type 0} → X → X → Choice X
-then a b = record { now = a; next = Some b }
-
 -- what each of two hives may leave
-two_left : (files : ℕ → Choice (List ℕ × ℕ)) (held : ℕ → List ℕ × ℕ) → Leaves (files 0) (held 0) → Leaves (files 1) (held 1) → (i : ℕ) → i < 2 → Leaves (files i) (held i)
+two_left : (files : ℕ → Choice (List ℕ × ℕ)) (held : ℕ → List ℕ × ℕ) → Leaves (files 0) (held 0) → Leaves (files 1) (held 1) → (i : ℕ) → i < 2
+    → Leaves (files i) (held i)
 two_left files held = each_of_two (λ i. Leaves (files i) (held i))
 
 -- no number of a hive is the last one's, where both are lower
@@ -127,7 +127,7 @@ too_low held n a b l = let lt = each_of_two (λ i. (held i).1 < n) a b l.0 l.1 i
 
 -- The second hive flushes change 2, which is not durable, under number 3. A crash leaves the flush and no journal: change 1 is nowhere.
 abbrev flushing_pending : State (List ℕ) ℕ
-flushing_pending = with_files accepted_three (pair (settled ([], 0)) (then ([], 0) (2 ∷ [], 3)))
+flushing_pending = with_files accepted_three (pair (settled ([], 0)) (under_way ([], 0) (2 ∷ [], 3)))
 
 pub flushes_pending : Breaks (FlushesPending marks 2)
 flushes_pending = (
@@ -143,7 +143,7 @@ flushes_pending = (
 
 -- The first hive flushes changes 1 and 3 under number 1. A crash leaves the flush and the journal: change 3 is replayed twice.
 abbrev flushing_under_less : State (List ℕ) ℕ
-flushing_under_less = with_files (opened_with 3 three (λ i. ([], 0))) (pair (then ([], 0) (3 ∷ 1 ∷ [], 1)) (settled ([], 0)))
+flushing_under_less = with_files (opened_with 3 three (λ i. ([], 0))) (pair (under_way ([], 0) (3 ∷ 1 ∷ [], 1)) (settled ([], 0)))
 
 pub flushes_under_less : Breaks (FlushesUnderLess marks 2)
 flushes_under_less = (
@@ -164,7 +164,7 @@ after_one = opened_with 3 three (pair (3 ∷ 1 ∷ [], 3) ([], 0))
 pub trims_after_one : Breaks (TrimsAfterOne 2)
 trims_after_one = (
   after_one,
-  with_journal after_one (then after_one.journal.now nothing),
+  with_journal after_one (under_way after_one.journal.now nothing),
   three_kept (pair (3 ∷ 1 ∷ [], 3) ([], 0)) (omega arith) (omega arith),
   ((refl, λ j lt. refl), refl, (refl, refl), (0, omega arith, refl)),
   λ safe. broken (safe nothing (inr refl) (pair (3 ∷ 1 ∷ [], 3) ([], 0)) (two_left after_one.files (pair (3 ∷ 1 ∷ [], 3) ([], 0)) (inl refl) (inl refl))),
@@ -180,13 +180,14 @@ by_first = opened_with 3 late_three (pair (1 ∷ [], 1) ([], 0))
 pub trims_by_first : Breaks (TrimsByFirst 2)
 trims_by_first = (
   by_first,
-  with_journal by_first (then by_first.journal.now nothing),
+  with_journal by_first (under_way by_first.journal.now nothing),
   late_three_kept (pair (1 ∷ [], 1) ([], 0)) (omega arith) (omega arith),
   ((refl, λ j lt. refl), refl, (refl, refl), (change 0 1, change 1 2 ∷ change 1 3 ∷ [], refl, may)),
   λ safe. broken (safe nothing (inr refl) (pair (1 ∷ [], 1) ([], 0)) (two_left by_first.files (pair (1 ∷ [], 1) ([], 0)) (inl refl) (inl refl))),
 )
   where
-    may : (i : ℕ) → i < 2 → (o : ℕ) (os : List ℕ) → on_hive i (change 0 1) ≡ o ∷ os → ops_on i (above (by_first.files i).now.1 by_first.journal.now) ≡ []
+    may : (i : ℕ) → i < 2 → (o : ℕ) (os : List ℕ) → on_hive i (change 0 1) ≡ o ∷ os
+        → ops_on i (above (by_first.files i).now.1 by_first.journal.now) ≡ []
     may = each_of_two (λ i. (o : ℕ) (os : List ℕ) → on_hive i (change 0 1) ≡ o ∷ os → ops_on i (above (by_first.files i).now.1 by_first.journal.now) ≡ []) (λ o os h. refl) (λ o os h. absurd (omega (arith, ap length h)))
 
     broken : IsPrefix marks 3 2 by_first.life 3 nothing (pair (1 ∷ [], 1) ([], 0)) → ⊥
@@ -197,7 +198,7 @@ abbrev before_flush : State (List ℕ) ℕ
 before_flush = opened_with 3 late_three (pair (1 ∷ [], 3) ([], 0))
 
 abbrev by_memory : State (List ℕ) ℕ
-by_memory = with_files before_flush (pair (settled (1 ∷ [], 3)) (then ([], 0) (3 ∷ 2 ∷ [], 3)))
+by_memory = with_files before_flush (pair (settled (1 ∷ [], 3)) (under_way ([], 0) (3 ∷ 2 ∷ [], 3)))
 
 by_memory_kept : IsKept marks 3 2 by_memory
 by_memory_kept = step_keeps marks 3 2 before_flush by_memory (late_three_kept (pair (1 ∷ [], 3) ([], 0)) (omega arith) (omega arith)) (inr (inr (inr (inr (inl (record {
@@ -212,7 +213,7 @@ by_memory_kept = step_keeps marks 3 2 before_flush by_memory (late_three_kept (p
 pub trims_by_memory : Breaks (TrimsByMemory 2)
 trims_by_memory = (
   by_memory,
-  with_journal by_memory (then by_memory.journal.now nothing),
+  with_journal by_memory (under_way by_memory.journal.now nothing),
   by_memory_kept,
   ((refl, λ j lt. refl), refl, (refl, refl), may),
   λ safe. broken (safe nothing (inr refl) (pair (1 ∷ [], 3) ([], 0)) (two_left by_memory.files (pair (1 ∷ [], 3) ([], 0)) (inl refl) (inl refl))),
@@ -231,7 +232,7 @@ skipping = record { below = 1; elements = change 1 2 ∷ change 0 3 ∷ [] }
 pub batches_skipping : Breaks (BatchesSkipping 2)
 batches_skipping = (
   accepted_three,
-  with_journal accepted_three (then nothing skipping),
+  with_journal accepted_three (under_way nothing skipping),
   accepted_three_kept,
   ((refl, λ j lt. refl), refl, (2, omega arith, omega arith, refl, refl)),
   λ safe. broken (safe skipping (inr refl) (λ i. ([], 0)) (λ i lt. inl refl)),
@@ -242,7 +243,7 @@ batches_skipping = (
 
 -- A batch of the three changes begins, and they count as durable. A crash leaves no journal: the number is 0.
 abbrev counting_early : State (List ℕ) ℕ
-counting_early = record { life = accepted_three.life; durable = 3; journal = then nothing (record { below = 0; elements = three }); files = accepted_three.files }
+counting_early = record { life = accepted_three.life; durable = 3; journal = under_way nothing (record { below = 0; elements = three }); files = accepted_three.files }
 
 pub counts_early : Breaks (CountsEarly 2)
 counts_early = (
@@ -267,13 +268,13 @@ abbrev empty_accepted : State (List ℕ) ℕ
 empty_accepted = with_change two_flushed []
 
 abbrev empty_on_its_way : State (List ℕ) ℕ
-empty_on_its_way = with_journal empty_accepted (then two_flushed.journal.now three_spelled)
+empty_on_its_way = with_journal empty_accepted (under_way two_flushed.journal.now three_spelled)
 
 abbrev empty_durable : State (List ℕ) ℕ
 empty_durable = record { life = empty_accepted.life; durable = 3; journal = settled three_spelled; files = two_flushed.files }
 
 abbrev empty_trimmed : State (List ℕ) ℕ
-empty_trimmed = with_journal empty_durable (then three_spelled nothing)
+empty_trimmed = with_journal empty_durable (under_way three_spelled nothing)
 
 pub empty_breaks : EmptyBreaks
 empty_breaks = (

@@ -1,4 +1,5 @@
--- The same for all hives at once: a list of trees, and elements whose operations go to the trees that they name.
+-- The same for all hives at once: a list of trees, and elements whose operations go to the trees that they
+-- name.
 use Rattle.std.specs.Prelude.{ℕ, zero, suc, List, [], ◌∷◌, Some, None, Option, Bool, false, if◌then◌else◌, slice_get}
 use Rattle.prefix_law.specs.Changes.{Rules, Element}
 
@@ -26,4 +27,7 @@ legal_there rules o (Some t) = rules.legal o t
 -- An element's operations in order, or nothing where one is not legal when its turn comes.
 abbrev pub run_element : {T Op : Type 0} → Rules T Op → Element Op → List T → Option (List T)
 run_element rules [] ts = Some ts
-run_element rules (p ∷ ps) ts = if legal_there rules p.1 (slice_get ts p.0) then run_element rules ps (changed_at (rules.apply p.1) ts p.0) else None
+run_element rules (p ∷ ps) ts =
+    if legal_there rules p.1 (slice_get ts p.0)
+    then run_element rules ps (changed_at (rules.apply p.1) ts p.0)
+    else None

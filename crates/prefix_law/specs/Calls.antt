@@ -5,7 +5,8 @@ use Rattle.prefix_law.specs.Promises.{Spelled, Choice, top, Answer, Answer.Idle,
 use Rattle.prefix_law.specs.Kept.{HiveFits, State}
 use Rattle.prefix_law.specs.Steps.{pending_elements, OthersStay, AllStay, MayTrim}
 
--- The durable number after a call of the journal: at Done that up to which the journal carries, and else as it was.
+-- The durable number after a call of the journal: at Done that up to which the journal carries, and else as
+-- it was.
 abbrev pub durable_after : {Op : Type 0} → Answer → ℕ → Choice (Spelled Op) → ℕ
 durable_after Done durable journal = top durable journal.now
 durable_after Idle durable journal = durable
@@ -22,19 +23,23 @@ pub record JournalStep {T Op : Type 0} (hives : ℕ) (answer : Answer) (old new 
 
 -- The engine makes a trim step of the journal; it judges where the step begins a trim.
 pub record TrimStep {T Op : Type 0} (hives : ℕ) (answer : Answer) (old new : State T Op) : Type 0 where
-  pub may : old.journal.next ≡ None → ((e : Element Op) × (es : List (Element Op)) × (old.journal.now.elements ≡ e ∷ es)) × MayTrim hives old
+  pub may : old.journal.next ≡ None → ((e : Element Op) × (es : List (Element Op))
+      × (old.journal.now.elements ≡ e ∷ es)) × MayTrim hives old
   pub journal : TrimSays answer old.journal new.journal
   pub life : new.life ≡ old.life
   pub durable : new.durable ≡ durable_after answer old.durable new.journal
   pub files : AllStay hives old.files new.files
 
--- What hive i has in memory fits: its tree and number might as well be left by a crash, and the number is not below that of what stands.
-pub record MemoryFits {T Op : Type 0} (rules : Rules T Op) (s : State T Op) (i : ℕ) (memory : T × ℕ) : Type 0 where
+-- What hive i has in memory fits: its tree and number might as well be left by a crash, and the number is not
+-- below that of what stands.
+pub record MemoryFits {T Op : Type 0} (rules : Rules T Op) (s : State T Op) (i : ℕ) (memory : T
+    × ℕ) : Type 0 where
   pub fits : HiveFits rules s.life s.durable i memory
   pub higher : (s.files i).now.1 ≤ memory.1
 
 -- The engine makes a flush step of one hive, whose memory fits.
-pub record FlusherStep {T Op : Type 0} (rules : Rules T Op) (hives : ℕ) (answer : Answer) (hive : ℕ) (memory : T × ℕ) (old new : State T Op) : Type 0 where
+pub record FlusherStep {T Op : Type 0} (rules : Rules T Op) (hives : ℕ) (answer : Answer) (hive : ℕ)
+    (memory : T × ℕ) (old new : State T Op) : Type 0 where
   pub fits : hive < hives → MemoryFits rules old hive memory
   pub file : HiveSays memory answer (old.files hive) (new.files hive)
   pub life : new.life ≡ old.life

@@ -3,7 +3,8 @@ use Rattle.std.specs.Prelude.{◌≡◌, ℕ, ◌+◌, ◌-◌, ◌<◌, List, [
 use Rattle.prefix_law.specs.Changes.{Rules, Element, on_hive, ops_on, applied}
 use Rattle.prefix_law.specs.Promises.{Spelled, floor}
 
--- A life has the trees that were opened, the number below the first element that the journal spelled then, those elements, and the elements accepted since; they are numbered from `base` + 1 on.
+-- A life has the trees that were opened, the number below the first element that the journal spelled then,
+-- those elements, and the elements accepted since; they are numbered from `base` + 1 on.
 pub record Life (T Op : Type 0) : Type 0 where
   pub trees : ℕ → T
   pub base : ℕ
@@ -40,12 +41,23 @@ NamesHive {Op = Op} hives e = (i : ℕ) × (i < hives) × (o : Op) × (os : List
 
 -- The life with one more accepted element.
 abbrev pub with_accepted : {T Op : Type 0} → Life T Op → Element Op → Life T Op
-with_accepted life e = record { trees = life.trees; base = life.base; opened = life.opened; accepted = life.accepted ++ e ∷ [] }
+with_accepted life e = record {
+  trees = life.trees;
+  base = life.base;
+  opened = life.opened;
+  accepted = life.accepted ++ e ∷ [];
+}
 
 -- The life that begins with these recovered trees at n, where the journal spells s.
 abbrev pub opened_life : {T Op : Type 0} → ℕ → (ℕ → T) → Spelled Op → Life T Op
 opened_life n trees s = record { trees = trees; base = floor n s; opened = s.elements; accepted = [] }
 
--- The life as if it had been opened at its last number: what was accepted is counted among the opened elements.
+-- The life as if it had been opened at its last number: what was accepted is counted among the opened
+-- elements.
 abbrev pub folded_life : {T Op : Type 0} → Rules T Op → Life T Op → Life T Op
-folded_life rules life = record { trees = tree_at rules life (last_number life); base = life.base; opened = known_elements life; accepted = [] }
+folded_life rules life = record {
+  trees = tree_at rules life (last_number life);
+  base = life.base;
+  opened = known_elements life;
+  accepted = [];
+}

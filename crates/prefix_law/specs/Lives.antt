@@ -8,7 +8,8 @@ use Rattle.prefix_law.specs.Life.{last_number, tree_at, opened_life}
 use Rattle.prefix_law.specs.Kept.{State}
 use Rattle.prefix_law.specs.Steps.{AllStay, Step}
 
--- A crash, and an opening of what it left: of the journal and of each hive something that it might leave, and then any number and trees that are recovered from these. Whether the crash came in a step, between two,
+-- A crash, and an opening of what it left: of the journal and of each hive something that it might leave, and
+-- then any number and trees that are recovered from these. Whether the crash came in a step, between two,
 -- inside an opening or inside a repair makes no difference here: each leaves what the choices say.
 pub record Reopens {T Op : Type 0} (rules : Rules T Op) (most hives : ℕ) (old new : State T Op) : Type 0 where
   pub n : ℕ
@@ -23,7 +24,8 @@ pub record Reopens {T Op : Type 0} (rules : Rules T Op) (most hives : ℕ) (old 
   pub journal : new.journal ≡ settled spelled
   pub files : AllStay hives (λ i. settled (held i)) new.files
 
--- The new life begins at a number that is not below the old durable one and not above the last accepted one, with the old life's trees after that number.
+-- The new life begins at a number that is not below the old durable one and not above the last accepted one,
+-- with the old life's trees after that number.
 pub record GoesOn {T Op : Type 0} (rules : Rules T Op) (hives : ℕ) (old new : State T Op) : Type 0 where
   pub no_loss : old.durable ≤ new.durable
   pub no_more : new.durable ≤ last_number old.life
@@ -32,12 +34,14 @@ pub record GoesOn {T Op : Type 0} (rules : Rules T Op) (hives : ℕ) (old new : 
 -- Steps of the protocol and openings after crashes, one after another, in any order.
 abbrev pub Runs : {T Op : Type 0} → Rules T Op → ℕ → ℕ → State T Op → List (State T Op) → Type 0
 Runs rules most hives s [] = Unit {0}
-Runs rules most hives s (t ∷ ts) = (Step rules most hives s t ⊎ Reopens rules most hives s t) × Runs rules most hives t ts
+Runs rules most hives s (t ∷ ts) = (Step rules most hives s t ⊎ Reopens rules most hives s t)
+    × Runs rules most hives t ts
 
 -- In such a list, each opening goes on from the state before it.
 abbrev pub OpeningsGoOn : {T Op : Type 0} → Rules T Op → ℕ → ℕ → State T Op → List (State T Op) → Type 0
 OpeningsGoOn rules most hives s [] = Unit {0}
-OpeningsGoOn rules most hives s (t ∷ ts) = (Step rules most hives s t ⊎ GoesOn rules hives s t) × OpeningsGoOn rules most hives t ts
+OpeningsGoOn rules most hives s (t ∷ ts) = (Step rules most hives s t ⊎ GoesOn rules hives s t)
+    × OpeningsGoOn rules most hives t ts
 
 -- No durable number is lost: each is at most all later ones.
 abbrev pub OnlyRises : {T Op : Type 0} → List (State T Op) → Type 0

@@ -12,9 +12,12 @@ abbrev pub IsLastNumber : {Op : Type 0} → ℕ → (ℕ → ℕ) → ℕ → Li
 IsLastNumber hives numbers below [] n = (i : ℕ) × (i < hives) × (numbers i ≡ n)
 IsLastNumber hives numbers below (e ∷ es) n = n ≡ below + length (e ∷ es)
 
--- The number n and the trees are recovered: n is the last number and within the limit, no hive holds a greater one, each tree is the held one with the operations on its hive of the elements numbered above the
--- hive's own number replayed in order, each legal, and each tree may stand at n. Since no number is above n, the number of some hive is the greatest of all where the journal spells nothing.
-pub record Recovers {T Op : Type 0} (rules : Rules T Op) (most hives : ℕ) (journal : Spelled Op) (held : ℕ → T × ℕ) (n : ℕ) (trees : ℕ → T) : Type 0 where
+-- The number n and the trees are recovered: n is the last number and within the limit, no hive holds a
+-- greater one, each tree is the held one with the operations on its hive of the elements numbered above the
+-- hive's own number replayed in order, each legal, and each tree may stand at n. Since no number is above n,
+-- the number of some hive is the greatest of all where the journal spells nothing.
+pub record Recovers {T Op : Type 0} (rules : Rules T Op) (most hives : ℕ) (journal : Spelled Op) (held : ℕ
+    → T × ℕ) (n : ℕ) (trees : ℕ → T) : Type 0 where
   pub last : IsLastNumber hives (λ i. (held i).1) journal.below journal.elements n
   pub limit : n ≤ most
   pub not_above : (i : ℕ) → i < hives → (held i).1 ≤ n
