@@ -6,4 +6,5 @@ pub mod MemFile
 pub mod MemSound
 pub mod Plan
 pub mod Sector
+pub mod Tear
 pub mod Written

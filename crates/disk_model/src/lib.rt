@@ -6,8 +6,10 @@ mod mem_disk;
 mod mem_file;
 mod past;
 mod plan;
+mod tear;
 mod written;
 
 pub use disk::{Disk, Failed};
 pub use mem_disk::{FILES, MemDisk};
 pub use plan::Plan;
+pub use tear::Tear;
