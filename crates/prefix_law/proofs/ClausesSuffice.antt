@@ -1,3 +1,4 @@
+-- The calls of the journal and of a hive's files, as steps of the protocol.
 use Rattle.std.proofs.Common.{◌≡◌, inl, inr, ℕ, ◌<◌, ◌≤◌, List, [], refl, ◌↔◌, ◌∙◌, ap, sym, subst, arith, Some}
 use Rattle.std.proofs.lemmas.Option.{same_Some}
 use Rattle.prefix_law.specs.Changes.{Rules, ops_on, replay}

@@ -1,4 +1,4 @@
--- Each event keeps what the engine keeps.
+-- Batches, trims and flushes keep the invariant.
 use Rattle.std.proofs.Common.{◌≡◌, ◌⊎◌, inl, inr, ℕ, zero, suc, ◌+◌, ◌-◌, ◌<◌, ◌≤◌, List, [], ◌∷◌, ◌++◌, length, take, drop, refl, ◌∙◌, ap, sym, subst, arith, Some, None}
 use Rattle.std.proofs.lemmas.List.{length-append, length-drop, length-take}
 use Rattle.std.proofs.lemmas.Option.{none-some, same_Some}
@@ -125,7 +125,7 @@ module _ {T Op : Type 0} (r : Rules T Op) (most hives : ℕ) (life : Life T Op) 
       limit = engine.fits.limit;
       legal = engine.fits.legal;
       named = engine.fits.named;
-      stands = engine.fits.stands;
+      allowed = engine.fits.allowed;
     };
     journal_fits = λ x left. subst (JournalFits life (top durable s)) (sym (only_leaves s x left)) fits;
     ends = same_end;

@@ -1,4 +1,4 @@
--- Accepting keeps what the engine keeps, and an opening has it.
+-- Accepting and folding keep the invariant, and an opening has it.
 use Rattle.std.proofs.Common.{◌≡◌, inl, inr, ℕ, ◌+◌, ◌-◌, ◌<◌, ◌≤◌, List, [], ◌∷◌, ◌++◌, length, take, drop, refl, ◌∙◌, ap, sym, subst, arith, append_assoc, Some, IsTrue}
 use Rattle.std.proofs.lemmas.Bool.{cases_eq}
 use Rattle.std.proofs.lemmas.List.{append-nil, take-append-le, length-append, take_all}
@@ -26,15 +26,15 @@ module _ {T Op : Type 0} (r : Rules T Op) (most hives : ℕ) where
       → EngineFits r most hives life durable journal files
       → (e : Element Op) → last_number life < most → NamesHive hives e
       → ((i : ℕ) → i < hives → replay r (on_hive i e) (tree_at r life (last_number life) i) ≡ Some (applied r (on_hive i e) (tree_at r life (last_number life) i)))
-      → ((i : ℕ) → i < hives → IsTrue (r.stands i (last_number life + 1) (applied r (on_hive i e) (tree_at r life (last_number life) i))))
+      → ((i : ℕ) → i < hives → IsTrue (r.allows i (last_number life + 1) (applied r (on_hive i e) (tree_at r life (last_number life) i))))
       → EngineFits r most hives (with_accepted life e) durable journal files
-  keep_accept life durable journal files engine e room names legal may_stand = record {
+  keep_accept life durable journal files engine e room names legal allowed_after = record {
     fits = record {
       from_opened = engine.fits.from_opened;
       to_last = omega (arith, engine.fits.to_last, longer);
       limit = omega (arith, room, longer);
       legal = all_legal;
-      stands = all_stand;
+      allowed = all_allowed;
       named = subst (AllByRecursion (NamesHive hives)) (append_assoc life.opened life.accepted (e ∷ [])) (all_append (NamesHive hives) (known_elements life) (e ∷ []) engine.fits.named (names, tt));
     };
     journal_fits = λ s left. let f = engine.journal_fits s left in record {
@@ -62,19 +62,19 @@ module _ {T Op : Type 0} (r : Rules T Op) (most hives : ℕ) where
       ops : (i : ℕ) → ops_on i (life.accepted ++ e ∷ []) ≡ ops_on i life.accepted ++ on_hive i e
       ops i = ops_on-append i life.accepted (e ∷ []) ∙ ap (λ (os : List Op). ops_on i life.accepted ++ os) (append-nil (on_hive i e))
 
-      -- the trees after the new element are the ones that may stand
+      -- the trees after the new element are those that the operations on them make
       new_tree : (i : ℕ) → tree_at r (with_accepted life e) (last_number life + 1) i ≡ applied r (on_hive i e) (tree_at r life (last_number life) i)
       new_tree i = ap (λ (es : List (Element Op)). applied r (ops_on i es) (life.trees i)) (take_all ((last_number life + 1) - opened_number life) (life.accepted ++ e ∷ []) (omega (arith, longer)))
           ∙ ap (λ (os : List Op). applied r os (life.trees i)) (ops i) ∙ applied-append r (ops_on i life.accepted) (on_hive i e) (life.trees i) ∙ ap (applied r (on_hive i e)) (sym (now_is i))
 
-      all_stand : (n : ℕ) → opened_number life ≤ n → n ≤ last_number (with_accepted life e) → (i : ℕ) → i < hives
-          → IsTrue (r.stands i n (tree_at r (with_accepted life e) n i))
-      all_stand n low high i lt = elim (le_or_le n (last_number life)) as (λ z. IsTrue (r.stands i n (tree_at r (with_accepted life e) n i))) [
-        | inl le ↦ subst (λ t. IsTrue (r.stands i n t)) (sym (tree_grows r life e n i le)) (engine.fits.stands n low le i lt)
-        | inr ge ↦ elim (cases_eq n (last_number life)) as (λ z. IsTrue (r.stands i n (tree_at r (with_accepted life e) n i))) [
-          | inl same ↦ subst (λ t. IsTrue (r.stands i n t)) (sym (tree_grows r life e n i (omega (arith, same)))) (engine.fits.stands n low (omega (arith, same)) i lt)
-          | inr other ↦ subst (λ m. IsTrue (r.stands i m (tree_at r (with_accepted life e) m i))) (omega (arith, ge, other, high, longer))
-              (subst (λ t. IsTrue (r.stands i (last_number life + 1) t)) (sym (new_tree i)) (may_stand i lt))
+      all_allowed : (n : ℕ) → opened_number life ≤ n → n ≤ last_number (with_accepted life e) → (i : ℕ) → i < hives
+          → IsTrue (r.allows i n (tree_at r (with_accepted life e) n i))
+      all_allowed n low high i lt = elim (le_or_le n (last_number life)) as (λ z. IsTrue (r.allows i n (tree_at r (with_accepted life e) n i))) [
+        | inl le ↦ subst (λ t. IsTrue (r.allows i n t)) (sym (tree_grows r life e n i le)) (engine.fits.allowed n low le i lt)
+        | inr ge ↦ elim (cases_eq n (last_number life)) as (λ z. IsTrue (r.allows i n (tree_at r (with_accepted life e) n i))) [
+          | inl same ↦ subst (λ t. IsTrue (r.allows i n t)) (sym (tree_grows r life e n i (omega (arith, same)))) (engine.fits.allowed n low (omega (arith, same)) i lt)
+          | inr other ↦ subst (λ m. IsTrue (r.allows i m (tree_at r (with_accepted life e) m i))) (omega (arith, ge, other, high, longer))
+              (subst (λ t. IsTrue (r.allows i (last_number life + 1) t)) (sym (new_tree i)) (allowed_after i lt))
         ]
       ]
 
@@ -93,7 +93,7 @@ module _ {T Op : Type 0} (r : Rules T Op) (most hives : ℕ) where
       limit = omega (arith, engine.fits.limit, long);
       legal = λ i lt. refl;
       named = subst (AllByRecursion (NamesHive hives)) (sym same) engine.fits.named;
-      stands = stand;
+      allowed = last_allowed;
     };
     journal_fits = λ s left. let f = engine.journal_fits s left in record {
       low = f.low;
@@ -121,10 +121,10 @@ module _ {T Op : Type 0} (r : Rules T Op) (most hives : ℕ) where
       trees i = ap (λ n. tree_at r life n i) all ∙ sym (ap (λ (l : List (Element Op)). applied r (ops_on i l) (tree_at r life (last_number life) i)) (take_nil {A = Element Op} (durable - opened_number (folded_life r life))))
 
       -- only the last number is left, and its trees are as they were
-      stand : (n : ℕ) → opened_number (folded_life r life) ≤ n → n ≤ last_number (folded_life r life) → (i : ℕ) → i < hives
-          → IsTrue (r.stands i n (tree_at r (folded_life r life) n i))
-      stand n low high i lt = subst (λ m. IsTrue (r.stands i m (tree_at r (folded_life r life) m i))) (all ∙ omega (arith, low, high, long))
-          (subst (λ t. IsTrue (r.stands i durable t)) (trees i) (engine.fits.stands durable engine.fits.from_opened engine.fits.to_last i lt))
+      last_allowed : (n : ℕ) → opened_number (folded_life r life) ≤ n → n ≤ last_number (folded_life r life) → (i : ℕ) → i < hives
+          → IsTrue (r.allows i n (tree_at r (folded_life r life) n i))
+      last_allowed n low high i lt = subst (λ m. IsTrue (r.allows i m (tree_at r (folded_life r life) m i))) (all ∙ omega (arith, low, high, long))
+          (subst (λ t. IsTrue (r.allows i durable t)) (trees i) (engine.fits.allowed durable engine.fits.from_opened engine.fits.to_last i lt))
 
   end_is_last : (durable below n : ℕ) (numbers : ℕ → ℕ) (es : List (Element Op)) → IsLastNumber hives numbers below es n
       → floor_of n below es + length es ≡ n
@@ -152,8 +152,8 @@ module _ {T Op : Type 0} (r : Rules T Op) (most hives : ℕ) where
       limit = omega (arith, end, found.limit);
       legal = λ i lt. refl;
       named = all_append (NamesHive hives) s.elements [] named tt;
-      stands = λ m low high i lt. subst (λ k. IsTrue (r.stands i k (tree_at r (opened_life n trees s) k i))) (omega (arith, low, high, end))
-          (subst (λ t. IsTrue (r.stands i n t)) (at_opening i) (found.stands i lt));
+      allowed = λ m low high i lt. subst (λ k. IsTrue (r.allows i k (tree_at r (opened_life n trees s) k i))) (omega (arith, low, high, end))
+          (subst (λ t. IsTrue (r.allows i n t)) (at_opening i) (found.allowed i lt));
     };
     journal_fits = λ x left. subst (JournalFits (opened_life n trees s) n) (sym (only_leaves s x left)) (record {
       low = omega arith;

@@ -1,4 +1,4 @@
--- Each event keeps what the engine keeps, from the clauses of the journal and the hives.
+-- Each step of the protocol, each opening, and so each list of them keeps the invariant.
 use Rattle.std.proofs.Common.{◌≡◌, ◌⊎◌, inl, inr, ℕ, ◌+◌, ◌-◌, ◌<◌, ◌≤◌, List, [], ◌∷◌, ◌++◌, length, take, refl, ◌∙◌, ap, sym, subst, arith, Some, IsTrue}
 use Rattle.std.proofs.lemmas.List.{length-drop, drop-take}
 use Rattle.std.proofs.lemmas.Option.{same_Some}
@@ -40,7 +40,7 @@ module _ {T Op : Type 0} (r : Rules T Op) (most hives : ℕ) where
 
   pub step_accept : (old new : State T Op) → IsKept r most hives old → Accepts r most hives old new → IsKept r most hives new
   step_accept old new engine step = moved old new (with_accepted old.life step.element) old.durable old.journal step.life step.durable step.journal step.files
-      (keep_accept r most hives old.life old.durable old.journal old.files engine step.element step.room step.names step.legal step.stands)
+      (keep_accept r most hives old.life old.durable old.journal old.files engine step.element step.room step.names step.legal step.allowed)
 
   pub step_batch : (old new : State T Op) → IsKept r most hives old → Batches hives old new → IsKept r most hives new
   step_batch old new engine step = let b = step.journal in
@@ -197,12 +197,12 @@ module _ {T Op : Type 0} (r : Rules T Op) (most hives : ℕ) where
   begun spelled held n trees found named = begin r most hives spelled held n trees found named
 
   -- a created store
-  pub fresh : 0 < hives → (trees : ℕ → T) → ((i : ℕ) → i < hives → IsTrue (r.stands i 0 (trees i)))
+  pub fresh : 0 < hives → (trees : ℕ → T) → ((i : ℕ) → i < hives → IsTrue (r.allows i 0 (trees i)))
       → IsKept r most hives (opened_state 0 trees nothing (λ i. (trees i, 0)))
-  fresh some trees stand = begun nothing (λ i. (trees i, 0)) 0 trees (record {
+  fresh some trees all_allowed = begun nothing (λ i. (trees i, 0)) 0 trees (record {
     last = (0, some, refl);
     limit = omega arith;
     not_above = λ i lt. omega arith;
     tree = λ i lt. refl;
-    stands = stand;
+    allowed = all_allowed;
   }) tt

@@ -41,7 +41,7 @@ module _ {T Op : Type 0} (r : Rules T Op) (spells : List ℕ → Spelled Op → 
           spelled = j.2;
           last = last_of files held held_by j.0.below j.0.elements p.0 p.3.last;
           limit = p.3.limit;
-          each = λ i lt. record { held = held i; holds_it = held_by i lt; not_above = p.3.not_above i lt; replayed = p.3.tree i lt; stands = p.3.stands i lt };
+          each = λ i lt. record { held = held i; holds_it = held_by i lt; not_above = p.3.not_above i lt; replayed = p.3.tree i lt; allowed = p.3.allowed i lt };
         },
       )
     where

@@ -86,7 +86,7 @@ module _ {T Op : Type 0} (r : Rules T Op) (most hives : ℕ) (life : Life T Op) 
       limit = omega (arith, fits.high, engine.fits.limit);
       not_above = λ i lt. omega (arith, (of_hive i lt).not_above, fits.holds_durable);
       tree = tree;
-      stands = λ i lt. engine.fits.stands (top durable s) (omega (arith, engine.fits.from_opened, fits.holds_durable)) fits.high i lt;
+      allowed = λ i lt. engine.fits.allowed (top durable s) (omega (arith, engine.fits.from_opened, fits.holds_durable)) fits.high i lt;
     },
   )
     where

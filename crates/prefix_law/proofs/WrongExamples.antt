@@ -62,7 +62,7 @@ with_change_kept s e room names kept = step_keeps marks 3 2 s (with_change s e) 
   room = room;
   names = names;
   legal = λ i lt. all_legal (on_hive i e) (tree_at marks s.life (last_number s.life) i);
-  stands = λ i lt. refl;
+  allowed = λ i lt. refl;
   life = refl;
   durable = refl;
   journal = refl;
@@ -94,7 +94,7 @@ opened_kept n es held last limit low named = begun marks 3 2 (record { below = 0
   limit = limit;
   not_above = low;
   tree = λ i lt. all_legal (ops_on i (above (held i).1 (record { below = 0; elements = es }))) (held i).0;
-  stands = λ i lt. refl;
+  allowed = λ i lt. refl;
 }) named
 
 three_kept : (held : ℕ → List ℕ × ℕ) → (held 0).1 ≤ 3 → (held 1).1 ≤ 3 → IsKept marks 3 2 (opened_with 3 three held)

@@ -3,12 +3,13 @@
 use Rattle.std.specs.Prelude.{◌≡◌, ℕ, List, [], ◌∷◌, ◌++◌, Bool, eqb, if◌then◌else◌, Option, Some, None}
 
 -- What the law takes from outside: what an operation (with the moment of its change) makes of a tree, on
--- which trees it is legal, and which trees may stand. `stands i n t` says that hive i may have the tree t
--- after the change numbered n, beyond what replaying asks; where nothing more is asked it is always true.
+-- which trees it is legal, and which trees a hive may have: `allows i n t` says that hive i may have the tree
+-- t after the change numbered n. That is asked beyond what replaying asks; where nothing more is asked, it is
+-- always true.
 pub record Rules (T Op : Type 0) : Type 0 where
   pub apply : Op → T → T
   pub legal : Op → T → Bool
-  pub stands : ℕ → ℕ → T → Bool
+  pub allows : ℕ → ℕ → T → Bool
 
 -- An element is one accepted change: its operations in order, each beside the number of its hive.
 abbrev pub Element : Type 0 → Type 0

@@ -21,14 +21,14 @@ IsLastNumberOf has hives below [] n = (i : ℕ) × (i < hives) × has i n
 IsLastNumberOf has hives below (e ∷ es) n = n ≡ below + length (e ∷ es)
 
 -- Hive i's files hold a tree and a number not above n, from which the journal leads legally to this tree,
--- which may stand at n.
+-- which is allowed after n.
 pub record HiveRecovers {T Op : Type 0} (rules : Rules T Op) (holds : T × ℕ
     → Type 0) (journal : Spelled Op) (i n : ℕ) (tree : T) : Type 0 where
   pub held : T × ℕ
   pub holds_it : holds held
   pub not_above : held.1 ≤ n
   pub replayed : replay rules (ops_on i (above held.1 journal)) held.0 ≡ Some tree
-  pub stands : IsTrue (rules.stands i n tree)
+  pub allowed : IsTrue (rules.allows i n tree)
 
 -- The files recover n and these trees: the journal's file spells something, n is its last number or else the
 -- number of some hive, within the limit, and each hive's files recover its tree.

@@ -8,7 +8,7 @@ use Rattle.prefix_law.specs.Life.{Life, opened_number, last_number, known_elemen
 
 -- The life is in order: the durable number lies between the opened and the last one, the last is within the
 -- limit, what was accepted is legal hive by hive, each known element names a hive, and after each number from
--- the opened one on each tree may stand.
+-- the opened one on each tree is allowed.
 pub record LifeFits {T Op : Type 0} (rules : Rules T Op) (most hives : ℕ) (life : Life T Op)
     (durable : ℕ) : Type 0 where
   pub from_opened : opened_number life ≤ durable
@@ -16,8 +16,8 @@ pub record LifeFits {T Op : Type 0} (rules : Rules T Op) (most hives : ℕ) (lif
   pub limit : last_number life ≤ most
   pub legal : (i : ℕ) → i < hives → AreLegal rules (ops_on i life.accepted) (life.trees i)
   pub named : AllByRecursion (NamesHive hives) (known_elements life)
-  pub stands : (n : ℕ) → opened_number life ≤ n → n ≤ last_number life → (i : ℕ) → i < hives
-      → IsTrue (rules.stands i n (tree_at rules life n i))
+  pub allowed : (n : ℕ) → opened_number life ≤ n → n ≤ last_number life → (i : ℕ) → i < hives
+      → IsTrue (rules.allows i n (tree_at rules life n i))
 
 -- A journal that a crash may leave: it spells a piece of the known elements that reaches at least to the
 -- durable number.

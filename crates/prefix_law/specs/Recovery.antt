@@ -14,12 +14,12 @@ IsLastNumber hives numbers below (e ∷ es) n = n ≡ below + length (e ∷ es)
 
 -- The number n and the trees are recovered: n is the last number and within the limit, no hive holds a
 -- greater one, each tree is the held one with the operations on its hive of the elements numbered above the
--- hive's own number replayed in order, each legal, and each tree may stand at n. Since no number is above n,
--- the number of some hive is the greatest of all where the journal spells nothing.
-pub record Recovers {T Op : Type 0} (rules : Rules T Op) (most hives : ℕ) (journal : Spelled Op) (held : ℕ
-    → T × ℕ) (n : ℕ) (trees : ℕ → T) : Type 0 where
+-- hive's own number replayed in order, each legal, and each tree is allowed after n. Since no number is above
+-- n, the number of some hive is the greatest of all where the journal spells nothing.
+pub record Recovers {T Op : Type 0} (rules : Rules T Op) (most hives : ℕ) (journal : Spelled Op)
+    (held : ℕ → T × ℕ) (n : ℕ) (trees : ℕ → T) : Type 0 where
   pub last : IsLastNumber hives (λ i. (held i).1) journal.below journal.elements n
   pub limit : n ≤ most
   pub not_above : (i : ℕ) → i < hives → (held i).1 ≤ n
   pub tree : (i : ℕ) → i < hives → replay rules (ops_on i (above (held i).1 journal)) (held i).0 ≡ Some (trees i)
-  pub stands : (i : ℕ) → i < hives → IsTrue (rules.stands i n (trees i))
+  pub allowed : (i : ℕ) → i < hives → IsTrue (rules.allows i n (trees i))

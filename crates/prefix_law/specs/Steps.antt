@@ -30,13 +30,13 @@ BeginsFlush {T = T} rules ops upto old new = (t : T) × (old.next ≡ None)
     × (replay rules ops old.now.0 ≡ Some t) × (new ≡ under_way old.now (t, upto))
 
 -- A change is accepted: there is room for its number, it names a hive, it is legal hive by hive on the trees
--- of now, and each hive's tree after it may stand under its number. No file changes.
+-- of now, and each hive's tree after it is allowed. No file changes.
 pub record Accepts {T Op : Type 0} (rules : Rules T Op) (most hives : ℕ) (old new : State T Op) : Type 0 where
   pub element : Element Op
   pub room : last_number old.life < most
   pub names : NamesHive hives element
   pub legal : (i : ℕ) → i < hives → AreLegal rules (on_hive i element) (tree_at rules old.life (last_number old.life) i)
-  pub stands : (i : ℕ) → i < hives → IsTrue (rules.stands i (last_number old.life + 1)
+  pub allowed : (i : ℕ) → i < hives → IsTrue (rules.allows i (last_number old.life + 1)
       (applied rules (on_hive i element) (tree_at rules old.life (last_number old.life) i)))
   pub life : new.life ≡ with_accepted old.life element
   pub durable : new.durable ≡ old.durable

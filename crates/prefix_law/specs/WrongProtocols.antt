@@ -11,7 +11,7 @@ use Rattle.prefix_law.specs.Lives.{Runs}
 -- A small store: a tree is the list of the marks put into it, the latest first; an operation is a mark, and
 -- is legal everywhere.
 abbrev pub marks : Rules (List ℕ) ℕ
-marks = record { apply = λ o t. o ∷ t; legal = λ o t. true; stands = λ i n t. true }
+marks = record { apply = λ o t. o ∷ t; legal = λ o t. true; allows = λ i n t. true }
 
 -- A wrong step breaks the law: on a small store of two hives it leads from some state with the invariant to
 -- one in which a crash may leave what stands for no prefix.

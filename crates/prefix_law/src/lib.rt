@@ -65,7 +65,7 @@ pub fn one_prefix<T, Op>()
 ///   at a number that is not below the durable one and not above the last one, with the old trees after it.
 /// - `begins`: whatever is recovered, from a journal whose elements each name a hive, begins a life that has
 ///   it.
-/// - `created`: a created store has it, so it is not empty: the trees are any that may stand at number 0, the
+/// - `created`: a created store has it, so it is not empty: the trees are any that are allowed at number 0, the
 ///   journal spells nothing, and each hive holds its tree and 0.
 pub fn kept<T, Op>()
     ensures step { (r : Rules T Op) (most hives : ℕ) (old new : State T Op) →
@@ -78,7 +78,7 @@ pub fn kept<T, Op>()
         AllByRecursion (NamesHive hives) spelled.elements →
         IsKept r most hives (opened_state n trees spelled held) }
     ensures created { (r : Rules T Op) (most hives : ℕ) → 0 < hives → (trees : ℕ → T) →
-        ((i : ℕ) → i < hives → IsTrue (r.stands i 0 (trees i))) →
+        ((i : ℕ) → i < hives → IsTrue (r.allows i 0 (trees i))) →
         IsKept r most hives (opened_state 0 trees nothing (λ i. (trees i, 0))) }
 {}
 

@@ -6,5 +6,5 @@ returns g c = record {
   step = λ r most hives old new. step_keeps r most hives old new;
   reopens = λ r most hives old new engine step. (reopens_keeps r most hives old new engine step, reopens_goes r most hives old new engine step);
   begins = λ r most hives spelled held n trees. begun r most hives spelled held n trees;
-  created = λ r most hives some trees stand. fresh r most hives some trees stand;
+  created = λ r most hives some trees all_allowed. fresh r most hives some trees all_allowed;
 }
