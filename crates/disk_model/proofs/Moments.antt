@@ -1,10 +1,11 @@
 -- A disk in memory, as one more moment goes by.
 use Rattle.std.proofs.Common.{◌≡◌, ℕ, ◌+◌, ◌-◌, ◌≤◌, List, [], ◌∷◌, length, get_or, ◌∙◌, ap, add-one, arith}
+use Rattle.disk_model.specs.FileState.{at_rest}
 use Rattle.disk_model.specs.Call.{Passes}
 use Rattle.disk_model.specs.MemFile.{state_of}
 use Rattle.disk_model.specs.MemDisk.{earlier, states}
 use Rattle.disk_model.specs.declared.mem_file.MemFile.{MemFile}
-use Rattle.disk_model.specs.declared.past.Past.{Past}
+use Rattle.disk_model.specs.declared.past.Past.{Past, Begun}
 
 -- at the present moment a file's state is that of the files as they are
 pub states_now : (past : Past) (files : List MemFile) (f : ℕ) → states past files (length (earlier past)) f ≡ state_of files f
@@ -28,6 +29,13 @@ passes past later files changed is = record {
   clock = omega (arith, ap length is);
   past = λ k f le. states_earlier past later files changed k f is le;
 }
+
+-- a disk that was never used
+pub states_begun : (files : List MemFile) (k f : ℕ) → files ≡ [] → states Begun files k f ≡ at_rest []
+unfolding states
+states_begun files k f none =
+    let first : 0 - k ≡ 0 = omega arith in
+    ap (λ (i : ℕ). state_of (get_or (files ∷ []) i []) f) first ∙ ap (λ (l : List MemFile). state_of l f) none
 
 -- what holds of the files as they are holds of them at the present moment
 pub ruleset one_moment = (states_now, passes)

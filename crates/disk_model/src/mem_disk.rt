@@ -1,13 +1,14 @@
 //! Files in memory, as a disk. It fails as a plan says, and where it finds no memory.
-ghost use Rattle.std.specs.Prelude.{◌≡◌, ℕ, ◌≤◌, length, OnOk, OnErr, IsErr};
-ghost use Rattle.disk_model.specs.FileState.{Writes, MayWrite, Cuts, MayCut, Syncs};
+ghost use Rattle.std.specs.Prelude.{◌≡◌, ℕ, ◌≤◌, [], length, IfOk, OnOk, OnErr, IsErr};
+ghost use Rattle.disk_model.specs.FileState.{Writes, MayWrite, Cuts, MayCut, Syncs, at_rest, Leaves};
+ghost use Rattle.disk_model.specs.Tear.{IsCrashOf};
 ghost use Rattle.disk_model.specs.Call.{KeepsOthers, Reads};
 ghost use Rattle.disk_model.specs.MemFile.{state_of};
 
 use crate::mem_file::MemFile;
 use crate::past::Past;
 use crate::plan::{Fate, Plan};
-use crate::{Disk, Failed};
+use crate::{Disk, Failed, Tear};
 use std::alloc::{AllocError, Global};
 use std::snapshot::Snapshot;
 use std::sync::Arc;
@@ -24,16 +25,43 @@ pub struct MemDisk {
 }
 
 impl MemDisk {
-    ghost use Rattle.disk_model.specs.MemDisk.{states, failed_calls, earlier};
-
     /// A disk whose files were never written. `plan` may be changed while the disk is used.
-    pub fn new(alloc: Global, plan: Arc<Plan>) -> MemDisk {
+    pub fn new(alloc: Global, plan: Arc<Plan>) -> MemDisk
+        ensures files { (k f : ℕ) → ⟦<MemDisk as Disk>⟧.state_at result k f ≡ at_rest [] }
+        ensures clock { ⟦<MemDisk as Disk>⟧.clock result ≡ 0 }
+        ensures failures { ⟦<MemDisk as Disk>⟧.failures result ≡ 0 }
+    {
         MemDisk {
             files: Vec::new(alloc),
             past: Past::Begun,
             plan,
         }
     }
+
+    /// The disk after a crash now, as `tear` says. What is left counts as synced. `plan` is that of the new disk; this one stays.
+    pub fn crashed(&self, tear: Tear, plan: Arc<Plan>) -> Result<MemDisk, AllocError>
+        ensures left { IfOk result (λ disk. (f : ℕ) → IsCrashOf tear (⟦<MemDisk as Disk>⟧.state_at self.now (⟦<MemDisk as Disk>⟧.clock self.now) f) (⟦<MemDisk as Disk>⟧.state_at disk 0 f)) }
+        ensures allowed { IfOk result (λ disk. (f : ℕ) → Leaves (⟦<MemDisk as Disk>⟧.state_at self.now (⟦<MemDisk as Disk>⟧.clock self.now) f) (⟦<MemDisk as Disk>⟧.state_at disk 0 f).seen) }
+        ensures clock { IfOk result (λ disk. ⟦<MemDisk as Disk>⟧.clock disk ≡ 0) }
+        ensures failures { IfOk result (λ disk. ⟦<MemDisk as Disk>⟧.failures disk ≡ 0) }
+    {
+        Ok(MemDisk {
+            files: files_after(&self.files, tear)?,
+            past: Past::Begun,
+            plan,
+        })
+    }
+}
+
+fn files_after(files: &Vec<MemFile>, tear: Tear) -> Result<Vec<MemFile>, AllocError>
+    ensures { IfOk result (λ after. (f : ℕ) → IsCrashOf tear (state_of files.now.items f) (state_of after.items f)) }
+{
+    let alloc = *files.allocator();
+    let mut after = Vec::new(alloc);
+    for file in files {
+        after.push(file.crashed(alloc, tear)?)?;
+    }
+    Ok(after)
 }
 
 // So many files are there then, and the state of each is as before.

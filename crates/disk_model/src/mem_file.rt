@@ -1,8 +1,9 @@
 //! One file in memory, with what a crash needs to know of it.
-ghost use Rattle.std.specs.Prelude.{◌≡◌, ◌+◌, [], ◌++◌, ◌<◌, ◌≤◌, max, length, take, drop, OnOk, OnErr};
+ghost use Rattle.std.specs.Prelude.{◌≡◌, ◌+◌, [], ◌++◌, ◌<◌, ◌≤◌, max, length, take, drop, OnOk, OnErr, IfOk};
 ghost use Rattle.disk_model.specs.FileState.{at_rest, put, resized, Writes, Cuts, Syncs, IsSound};
 ghost use Rattle.disk_model.specs.Written.{file_of};
 
+use crate::tear::{Tear, torn};
 use crate::written::Written;
 use std::alloc::{AllocError, Global};
 use std::snapshot::Snapshot;
@@ -21,6 +22,7 @@ pub(crate) struct MemFile {
 
 impl MemFile {
     ghost use Rattle.disk_model.specs.MemFile.{file_state};
+    ghost use Rattle.disk_model.specs.Tear.{IsCrashOf};
 
     /// A file that was never written.
     pub fn new(alloc: Global) -> MemFile
@@ -33,6 +35,33 @@ impl MemFile {
             least: 0,
             greatest: 0,
         }
+    }
+
+    /// A file whose bytes are all on the disk.
+    fn at_rest(alloc: Global, bytes: Vec<u8>) -> Result<MemFile, AllocError>
+        ensures { IfOk result (λ file. file_state file ≡ at_rest bytes.items) }
+    {
+        let synced = bytes.as_slice().to_vec(alloc)?;
+        let len = bytes.len();
+        Ok(MemFile {
+            seen: bytes,
+            synced,
+            written: Vec::new(alloc),
+            least: len,
+            greatest: len,
+        })
+    }
+
+    /// The file after a crash.
+    pub fn crashed(&self, alloc: Global, tear: Tear) -> Result<MemFile, AllocError>
+        ensures { IfOk result (λ file. IsCrashOf tear (file_state self.now) (file_state file)) }
+    {
+        let bytes = match tear {
+            Tear::Old => self.synced.as_slice().to_vec(alloc)?,
+            Tear::New => self.seen.as_slice().to_vec(alloc)?,
+            Tear::Torn => torn(alloc, &self.seen, &self.written)?,
+        };
+        MemFile::at_rest(alloc, bytes)
     }
 
     pub fn write(&mut self, offset: u64, bytes: &[u8]) -> Result<(), AllocError>
