@@ -1,19 +1,39 @@
 -- The calls of the journal and of a hive's files, as steps of the protocol.
-use Rattle.std.proofs.Common.{◌≡◌, inl, inr, ℕ, ◌<◌, ◌≤◌, List, [], refl, ◌↔◌, ◌∙◌, ap, sym, subst, arith, Some}
+use Rattle.std.proofs.Common.{◌≡◌, ◌-◌, ◌⊎◌, inl, inr, ℕ, ◌<◌, ◌≤◌, List, [], refl, ◌↔◌, ◌∙◌, ap, sym, subst, arith, Some}
 use Rattle.std.proofs.lemmas.Option.{same_Some}
-use Rattle.prefix_law.specs.Changes.{Rules, ops_on, replay}
+use Rattle.prefix_law.specs.Changes.{Rules, AreLegal, ops_on, replay}
 use Rattle.prefix_law.specs.Promises.{Choice, Leaves, BeginsTrim, Answer, Answer.Idle, Answer.More, Answer.Done, Answer.NoMemory, Answer.DiskFault, BeginsWrite, HiveSays}
 use Rattle.prefix_law.specs.Recovery.{above}
-use Rattle.prefix_law.specs.Life.{ops_in}
+use Rattle.prefix_law.specs.Life.{Life, IsLastNaming, ops_in, tree_at}
 use Rattle.prefix_law.specs.Kept.{HiveFits, EngineFits, State, IsKept}
 use Rattle.prefix_law.specs.Steps.{AllStay, MayTrim}
 use Rattle.prefix_law.specs.Calls.{JournalStep, TrimStep, FlusherStep, MemoryFits}
 use Rattle.prefix_law.proofs.OnePrefix.{ops_split, ops_above}
-use Rattle.prefix_law.proofs.Replays.{replay_on}
-use Rattle.prefix_law.proofs.KeepFiles.{only_leaves}
+use Rattle.prefix_law.proofs.Replays.{replay_on, replay_front}
+use Rattle.prefix_law.proofs.Lists.{le_or_le}
+use Rattle.std.proofs.lemmas.Bool.{cases_eq}
+use Rattle.prefix_law.proofs.KeepFiles.{covered_higher, only_leaves}
 use Rattle.prefix_law.proofs.KeepSteps.{moved, one_file, step_batch, step_settle, step_trim}
 
+pub last_naming : {T Op : Type 0} (life : Life T Op) (i hi m : ℕ) → IsLastNaming life i hi m → (k : ℕ) → (ops_in life i k hi ≡ []) ↔ (m ≤ k)
+last_naming {Op = Op} life i hi m is k = (λ none. reached none is.names, λ le. covered_higher life i m k hi le is.none_after)
+  where
+    reached : ops_in life i k hi ≡ [] → (m ≡ 0) ⊎ ((1 ≤ m) × ¬ (ops_in life i (m - 1) hi ≡ [])) → m ≤ k
+    reached none (inl zero) = omega (arith, zero)
+    reached none (inr some) = elim (le_or_le m k) as (λ z. m ≤ k) [
+      | inl le ↦ le
+      | inr ge ↦ elim (cases_eq m k) as (λ z. m ≤ k) [
+        | inl same ↦ omega (arith, same)
+        | inr other ↦ absurd (some.1 (covered_higher life i k (m - 1) hi (omega (arith, ge, other)) none))
+      ]
+    ]
+
 module _ {T Op : Type 0} (r : Rules T Op) (most hives : ℕ) where
+  -- what is to be absorbed is legal on what is in memory
+  pub may_absorb : (s : State T Op) (i : ℕ) (memory : T × ℕ) (upto : ℕ) → MemoryFits r s i memory → memory.1 ≤ upto → upto ≤ s.durable → AreLegal r (ops_in s.life i memory.1 upto) memory.0
+  may_absorb s i memory upto fits low high = replay_front r (ops_in s.life i memory.1 upto) (ops_in s.life i upto s.durable) memory.0 (tree_at r s.life s.durable i)
+      (ap (λ (os : List Op). replay r os memory.0) (sym (ops_split s.life i memory.1 upto s.durable low high)) ∙ fits.fits.tree)
+
   -- absorbing up to any number not above the durable one
   pub absorbed : (s : State T Op) (i : ℕ) (memory : T × ℕ) (upto : ℕ) (t : T) → MemoryFits r s i memory → memory.1 ≤ upto → upto ≤ s.durable
       → replay r (ops_in s.life i memory.1 upto) memory.0 ≡ Some t → MemoryFits r s i (t, upto)

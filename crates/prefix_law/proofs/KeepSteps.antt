@@ -6,7 +6,7 @@ use Rattle.std.specs.List.{AllByRecursion}
 use Rattle.prefix_law.specs.Changes.{Rules, Element}
 use Rattle.prefix_law.specs.Promises.{Spelled, nothing, Choice, Leaves, floor_of, floor, top, settled}
 use Rattle.prefix_law.specs.Recovery.{Recovers}
-use Rattle.prefix_law.specs.Life.{Life, opened_number, known_elements, elements_in, tree_at, NamesHive, with_accepted, opened_life, folded_life}
+use Rattle.prefix_law.specs.Life.{Life, opened_number, last_number, known_elements, elements_in, tree_at, NamesHive, with_accepted, opened_life, folded_life}
 use Rattle.prefix_law.specs.Kept.{IsPrefix, HiveFits, EngineFits, State, IsKept, IsSafe, opened_state}
 use Rattle.prefix_law.specs.Steps.{pending_elements, OthersStay, AllStay, Accepts, Batches, Settles, Trims, Flushes, Lands, Folds, Step}
 use Rattle.prefix_law.specs.Lives.{Reopens, GoesOn, Runs, OpeningsGoOn, OnlyRises}
@@ -148,6 +148,12 @@ module _ {T Op : Type 0} (r : Rules T Op) (most hives : ℕ) where
         no_more = omega (arith, p.2, same.0, step.durable);
         trees = λ i lt. ap (λ (l : Life T Op). l.trees i) step.life ∙ same.1 i lt ∙ ap (λ n. tree_at r old.life n i) (sym (step.durable ∙ same.0));
       }
+
+  -- where all is durable, an opening finds all
+  pub reopens_quiet : (old new : State T Op) → IsKept r most hives old → old.durable ≡ last_number old.life → Reopens r most hives old new
+      → (new.durable ≡ old.durable) × ((i : ℕ) → i < hives → new.life.trees i ≡ tree_at r old.life (last_number old.life) i)
+  reopens_quiet old new engine all step = let g = reopens_goes old new engine step in
+      (omega (arith, g.no_loss, g.no_more, all), λ i lt. g.trees i lt ∙ ap (λ n. tree_at r old.life n i) (omega (arith, g.no_loss, g.no_more, all)))
 
   -- a step or an opening keeps it
   one_keeps : (s t : State T Op) → IsKept r most hives s → Step r most hives s t ⊎ Reopens r most hives s t → IsKept r most hives t

@@ -1,5 +1,5 @@
 -- One life: what was opened, and what was accepted since.
-use Rattle.std.specs.Prelude.{◌≡◌, ℕ, ◌+◌, ◌-◌, ◌<◌, List, [], ◌∷◌, ◌++◌, length, take, drop}
+use Rattle.std.specs.Prelude.{◌≡◌, ◌⊎◌, ℕ, ◌+◌, ◌-◌, ◌<◌, ◌≤◌, List, [], ◌∷◌, ◌++◌, length, take, drop}
 use Rattle.prefix_law.specs.Changes.{Rules, Element, on_hive, ops_on, applied}
 use Rattle.prefix_law.specs.Promises.{Spelled, floor}
 
@@ -30,6 +30,11 @@ elements_in life lo hi = drop (lo - life.base) (take (hi - life.base) (known_ele
 -- Their operations on hive i.
 abbrev pub ops_in : {T Op : Type 0} → Life T Op → ℕ → ℕ → ℕ → List Op
 ops_in life i lo hi = ops_on i (elements_in life lo hi)
+
+-- m is the number of the last known element up to hi that names hive i, or 0 where none does.
+pub record IsLastNaming {T Op : Type 0} (life : Life T Op) (i hi m : ℕ) : Type 0 where
+  pub none_after : ops_in life i m hi ≡ []
+  pub names : (m ≡ 0) ⊎ ((1 ≤ m) × ¬ (ops_in life i (m - 1) hi ≡ []))
 
 -- The tree of hive i after the change numbered n, from the opened number on.
 abbrev pub tree_at : {T Op : Type 0} → Rules T Op → Life T Op → ℕ → ℕ → T

@@ -24,11 +24,11 @@
 
 ghost use Rattle.std.specs.Prelude.{[], ◌≡◌, ◌≤◌, ◌<◌, ◌+◌, ◌∷◌, ◌*◌, ◌⊎◌, ◌↔◌, ℕ, Some, None, Bool, IsTrue, List, Option, slice_get, option_map};
 ghost use Rattle.std.specs.List.{AllByRecursion};
-ghost use Rattle.prefix_law.specs.Changes.{Rules, Element, on_hive, ops_on, replay, applied};
+ghost use Rattle.prefix_law.specs.Changes.{Rules, AreLegal, Element, on_hive, ops_on, replay, applied};
 ghost use Rattle.prefix_law.specs.AllHives.{after_elements, run_element};
 ghost use Rattle.prefix_law.specs.Promises.{Choice, Leaves, Spelled, nothing, Answer};
 ghost use Rattle.prefix_law.specs.Recovery.{Recovers};
-ghost use Rattle.prefix_law.specs.Life.{NamesHive, ops_in};
+ghost use Rattle.prefix_law.specs.Life.{Life, NamesHive, IsLastNaming, last_number, tree_at, ops_in};
 ghost use Rattle.prefix_law.specs.Kept.{State, IsKept, IsPrefix, IsSafe, opened_state};
 ghost use Rattle.prefix_law.specs.Steps.{MayTrim, Step};
 ghost use Rattle.prefix_law.specs.Lives.{Reopens, GoesOn, Runs, OpeningsGoOn, OnlyRises};
@@ -63,6 +63,8 @@ pub fn one_prefix<T, Op>()
 ///   flush, ending one, and folding the history keep it.
 /// - `reopens`: after a crash, an opening at any number and trees that are recovered has it again; it begins
 ///   at a number that is not below the durable one and not above the last one, with the old trees after it.
+/// - `quiet`: where every accepted change is durable, an opening finds just that number and the trees of now,
+///   whatever was on its way. So a created store is opened at 0, on the created trees.
 /// - `begins`: whatever is recovered, from a journal whose elements each name a hive, begins a life that has
 ///   it.
 /// - `created`: a created store has it, so it is not empty: the trees are any that are allowed at number 0, the
@@ -73,6 +75,9 @@ pub fn kept<T, Op>()
     ensures reopens { (r : Rules T Op) (most hives : ℕ) (old new : State T Op) →
         IsKept r most hives old → Reopens r most hives old new →
         IsKept r most hives new × GoesOn r hives old new }
+    ensures quiet { (r : Rules T Op) (most hives : ℕ) (old new : State T Op) → IsKept r most hives old →
+        old.durable ≡ last_number old.life → Reopens r most hives old new → (new.durable ≡ old.durable)
+        × ((i : ℕ) → i < hives → new.life.trees i ≡ tree_at r old.life (last_number old.life) i) }
     ensures begins { (r : Rules T Op) (most hives : ℕ) (spelled : Spelled Op)
         (held : ℕ → T × ℕ) (n : ℕ) (trees : ℕ → T) → Recovers r most hives spelled held n trees →
         AllByRecursion (NamesHive hives) spelled.elements →
@@ -109,8 +114,11 @@ pub fn lives<T, Op>()
 ///   invariant.
 /// - `trim_test`: a trim may begin exactly where no hive, by what surely stands of it, lacks an operation of
 ///   a durable element.
-/// - `absorb`: what a hive has in memory goes on fitting as it absorbs the elements up to any number that is
-///   not below its own and not above the durable one.
+/// - `last_naming`: a hive lacks nothing exactly where its number is not below that of the last element that
+///   names it; so this test and the flusher's may compare numbers.
+/// - `may_absorb`: the operations that a hive is to absorb, up to any number that is not below its own and not
+///   above the durable one, are legal on what it has in memory.
+/// - `absorb`: what a hive has in memory goes on fitting as it absorbs the elements up to such a number.
 pub fn clauses_suffice<T, Op>()
     ensures journal { (r : Rules T Op) (most hives : ℕ) (answer : Answer) (old new : State T Op) →
         IsKept r most hives old → JournalStep hives answer old new → IsKept r most hives new }
@@ -121,6 +129,11 @@ pub fn clauses_suffice<T, Op>()
         FlusherStep r hives answer hive memory old new → IsKept r most hives new }
     ensures trim_test { (r : Rules T Op) (most hives : ℕ) (s : State T Op) → IsKept r most hives s →
         MayTrim hives s ↔ ((i : ℕ) → i < hives → ops_in s.life i (s.files i).now.1 s.durable ≡ []) }
+    ensures last_naming { (life : Life T Op) (i hi m : ℕ) → IsLastNaming life i hi m →
+        (k : ℕ) → (ops_in life i k hi ≡ []) ↔ (m ≤ k) }
+    ensures may_absorb { (r : Rules T Op) (s : State T Op) (i : ℕ) (memory : T × ℕ) (upto : ℕ) →
+        MemoryFits r s i memory → memory.1 ≤ upto → upto ≤ s.durable →
+        AreLegal r (ops_in s.life i memory.1 upto) memory.0 }
     ensures absorb { (r : Rules T Op) (s : State T Op) (i : ℕ) (memory : T × ℕ) (upto : ℕ) (t : T) →
         MemoryFits r s i memory → memory.1 ≤ upto → upto ≤ s.durable →
         replay r (ops_in s.life i memory.1 upto) memory.0 ≡ Some t → MemoryFits r s i (t, upto) }
