@@ -1,3 +1,4 @@
+pub mod Crashes
 pub mod Files
 pub mod Left
 pub mod Moments

@@ -7,22 +7,30 @@ use Rattle.disk_model.specs.Sector.{IsHonest}
 abbrev pub LeavesAll : (ℕ → FileState) → (ℕ → List ℕ) → Type 0
 LeavesAll state files = (f : ℕ) → Leaves (state f) (files f)
 
--- a crash at some moment from `since` to `clock` might have left these files
-abbrev pub LeftSince : (ℕ → ℕ → FileState) → ℕ → ℕ → (ℕ → List ℕ) → Type 0
-LeftSince states clock since files = (k : ℕ) × (since ≤ k) × (k ≤ clock) × LeavesAll (states k) files
+-- the same, with an honest first sector in each file that is to have one
+abbrev pub LeavesHonest : (ℕ → Type 0) → (ℕ → FileState) → (ℕ → List ℕ) → Type 0
+LeavesHonest has_sector state files = LeavesAll state files × ((f : ℕ) → has_sector f → IsHonest (state f) (files f))
 
--- the first sectors of the files that are to have one are honest
-abbrev pub AllHonest : (ℕ → Type 0) → (ℕ → FileState) → (ℕ → List ℕ) → Type 0
-AllHonest has_sector state files = (f : ℕ) → has_sector f → IsHonest (state f) (files f)
+-- at some moment from `since` to `clock` these files might have been left so
+abbrev pub AtSome : ((ℕ → FileState) → (ℕ → List ℕ) → Type 0) → (ℕ → ℕ → FileState) → ℕ → ℕ → (ℕ → List ℕ) → Type 0
+AtSome left states clock since files = (k : ℕ) × (since ≤ k) × (k ≤ clock) × left (states k) files
+
+-- a crash at some moment from `since` on might have left these files
+abbrev pub LeftSince : (ℕ → ℕ → FileState) → ℕ → ℕ → (ℕ → List ℕ) → Type 0
+LeftSince = AtSome LeavesAll
 
 -- the same with honest first sectors
 abbrev pub HonestSince : (ℕ → Type 0) → (ℕ → ℕ → FileState) → ℕ → ℕ → (ℕ → List ℕ) → Type 0
-HonestSince has_sector states clock since files = (k : ℕ) × (since ≤ k) × (k ≤ clock) × LeavesAll (states k) files × AllHonest has_sector (states k) files
+HonestSince has_sector = AtSome (LeavesHonest has_sector)
 
--- whatever a crash since then has left has P
+-- whatever might have been left so has P
+abbrev pub AlwaysLeaves : ((ℕ → FileState) → (ℕ → List ℕ) → Type 0) → (ℕ → ℕ → FileState) → ℕ → ℕ → ((ℕ → List ℕ) → Type 0) → Type 0
+AlwaysLeaves left states clock since P = (files : ℕ → List ℕ) → AtSome left states clock since files → P files
+
+-- whatever a crash since then might have left has P
 abbrev pub LeavesOnly : (ℕ → ℕ → FileState) → ℕ → ℕ → ((ℕ → List ℕ) → Type 0) → Type 0
-LeavesOnly states clock since P = (files : ℕ → List ℕ) → LeftSince states clock since files → P files
+LeavesOnly = AlwaysLeaves LeavesAll
 
--- whatever a crash since then has left with honest first sectors has P
-abbrev pub LeavesHonest : (ℕ → Type 0) → (ℕ → ℕ → FileState) → ℕ → ℕ → ((ℕ → List ℕ) → Type 0) → Type 0
-LeavesHonest has_sector states clock since P = (files : ℕ → List ℕ) → HonestSince has_sector states clock since files → P files
+-- whatever a crash since then might have left with honest first sectors has P
+abbrev pub LeavesOnlyHonest : (ℕ → Type 0) → (ℕ → ℕ → FileState) → ℕ → ℕ → ((ℕ → List ℕ) → Type 0) → Type 0
+LeavesOnlyHonest has_sector = AlwaysLeaves (LeavesHonest has_sector)
