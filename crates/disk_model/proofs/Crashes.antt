@@ -1,8 +1,8 @@
 -- How "whatever a crash since then might have left has P" goes on over a call.
-use Rattle.std.proofs.Common.{◌≡◌, ℕ, ◌<◌, ◌≤◌, ⊎_elim, List, subst, arith}
+use Rattle.std.proofs.Common.{◌≡◌, ℕ, ◌<◌, ◌≤◌, ⊎_elim, List, refl, ◌∙◌, subst, arith}
 use Rattle.std.proofs.lemmas.Bool.{cases_lt}
 use Rattle.disk_model.specs.FileState.{FileState}
-use Rattle.disk_model.specs.Call.{Passes}
+use Rattle.disk_model.specs.Call.{Passes, Extends}
 use Rattle.disk_model.specs.Crash.{AlwaysLeaves}
 
 -- two moments at which each file has the same state
@@ -42,12 +42,28 @@ module _ (left : (ℕ → FileState) → (ℕ → List ℕ) → Type 0) where
       (λ files here. at_present old before since P le so_far files (subst (λ (s : ℕ → FileState). left s files) (same_state (new now) (old before) same) here))
 
   -- a run after another, each seen by itself
-  pub joins : (old mid new : ℕ → ℕ → FileState) (start before now : ℕ) (P : (ℕ → List ℕ) → Type 0) → ((k f : ℕ) → k ≤ before → new k f ≡ mid k f)
+  pub joins : (mid new : ℕ → ℕ → FileState) (start before now : ℕ) (P : (ℕ → List ℕ) → Type 0) → Extends mid new before now
       → AlwaysLeaves left mid before start P → AlwaysLeaves left new now before P → AlwaysLeaves left new now start P
-  joins old mid new start before now P past first second files (k, from, upto, was) = ⊎_elim earlier later (cases_lt k before)
+  joins mid new start before now P time first second files (k, from, upto, was) = ⊎_elim earlier later (cases_lt k before)
     where
       earlier : k < before → P files
-      earlier lt = first files (k, from, omega arith, subst (λ (s : ℕ → FileState). left s files) (same_state (new k) (mid k) (λ f. past k f (omega arith))) was)
+      earlier lt = first files (k, from, omega arith, subst (λ (s : ℕ → FileState). left s files) (same_state (new k) (mid k) (λ f. time.past k f (omega arith))) was)
 
       later : before ≤ k → P files
       later le = second files (k, le, upto, was)
+
+-- no call, one call, and one call more
+pub extends_none : (states : ℕ → ℕ → FileState) (clock : ℕ) → Extends states states clock clock
+extends_none states clock = record { later = omega arith; past = λ k f le. refl }
+
+pub extends_by : (old mid new : ℕ → ℕ → FileState) (start before now : ℕ) → Extends old mid start before → Passes mid new before now → Extends old new start now
+extends_by old mid new start before now so_far time = record {
+  later = omega (arith, so_far.later, time.clock);
+  past = λ k f le. time.past k f (omega (arith, so_far.later)) ∙ so_far.past k f le;
+}
+
+pub extends_over : (old mid new : ℕ → ℕ → FileState) (start before now : ℕ) → Extends old mid start before → Extends mid new before now → Extends old new start now
+extends_over old mid new start before now first second = record {
+  later = omega (arith, first.later, second.later);
+  past = λ k f le. second.past k f (omega (arith, first.later)) ∙ first.past k f le;
+}

@@ -19,3 +19,8 @@ CountsFailure result old new = MatchResult result (λ _. new ≡ old) (λ _. new
 pub record Reads (offset : ℕ) (seen old_buffer new_buffer : List ℕ) (count : ℕ) : Type 0 where
   pub all : count ≡ min (length seen - offset) (length old_buffer)
   pub bytes : take count new_buffer ≡ take count (drop offset seen)
+
+-- some calls, none or more: time goes on, and what was before stays as it was
+pub record Extends (old_states new_states : ℕ → ℕ → FileState) (old_clock new_clock : ℕ) : Type 0 where
+  pub later : old_clock ≤ new_clock
+  pub past : (k f : ℕ) → k ≤ old_clock → new_states k f ≡ old_states k f
