@@ -20,6 +20,8 @@
 //!   has in memory;
 //! - `Files`, `Moments`: the same said of files, and of each moment of a run;
 //! - `WrongProtocols`: nine protocols that are nearly right, and how each breaks.
+//!
+//! `docs/HEADLINE.md` tells all of it in plain words, with examples.
 #![tactic(auto)]
 
 ghost use Rattle.std.specs.Prelude.{[], ◌≡◌, ◌≤◌, ◌<◌, ◌+◌, ◌∷◌, ◌*◌, ◌⊎◌, ◌↔◌, ℕ, Some, None, Bool, IsTrue, List, Option, slice_get, option_map};
