@@ -4,6 +4,7 @@ pub mod Left
 pub mod Leaves
 pub mod Moments
 pub mod Put
+pub mod Sectors
 pub mod Sound
 pub mod Steps
 pub mod Tears
