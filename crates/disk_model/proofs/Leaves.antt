@@ -46,12 +46,12 @@ left_of_cut len old new seen c (inr part) left =
     record { no_shorter = after.no_shorter; no_longer = after.no_longer; kept = after.kept }
 
 -- a crash after a sync, done or not, leaves no more than one before it
-pub left_of_sync : {T E F : Type 0} (result : Result T E) (old new : FileState) (c : List ℕ)
-    → IsSound old → F → OnOk result (F → Syncs old new) → OnErr result (F → new ≡ old) → Leaves new c → Leaves old c
-left_of_sync (Ok x) old new c sound faithful done failed left =
+pub left_of_sync : {T E F : Type 0} (result : Result T E) (old new : FileState)
+    → IsSound old → F → OnOk result (F → Syncs old new) → OnErr result (F → new ≡ old) → (c : List ℕ) → Leaves new c → Leaves old c
+left_of_sync (Ok x) old new sound faithful done failed c left =
     let is : c ≡ old.seen = left_at_rest old.seen c (subst (λ (s : FileState). Leaves s c) (done faithful) left) in
     subst (Leaves old) (sym is) sound.left
-left_of_sync (Err e) old new c sound faithful done failed left = subst (λ (s : FileState). Leaves s c) (failed faithful) left
+left_of_sync (Err e) old new sound faithful done failed c left = subst (λ (s : FileState). Leaves s c) (failed faithful) left
 
 -- what a write puts in the middle, at the end or over all of a file
 pub put_within : (file bytes : List ℕ) (offset : ℕ) → offset ≤ length file → put file offset bytes ≡ take offset file ++ bytes ++ drop (offset + length bytes) file

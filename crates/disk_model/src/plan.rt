@@ -1,8 +1,8 @@
 //! When a disk in memory is to fail, told from outside while it is used.
-ghost use Rattle.std.specs.Prelude.{◌≡◌, ◌-◌, ◌≤◌};
+ghost use Rattle.std.specs.Prelude.{◌≡◌, ◌+◌, ◌<◌, ◌≤◌, ◌^◌};
 ghost use Rattle.disk_model.specs.Plan.{fate_of};
 
-use std::sync::atomic::{AtomicBool, AtomicU64, Ordering};
+use std::sync::atomic::{AtomicU64, Ordering};
 
 /// What becomes of one call.
 #[derive(Clone, Copy)]
@@ -14,22 +14,41 @@ pub(crate) enum Fate {
     Fails,
 }
 
-/// What stands ahead, as the number of calls up to the one that is hit; 0 is none.
+/// One call, by its place among all calls.
 #[derive(Clone, Copy)]
-pub(crate) struct Schedule {
-    pub stop_in: u64,
-    pub fail_in: u64,
-    pub is_stopped: bool,
+pub(crate) struct Turn {
+    /// Which of all calls it is; the first is 1.
+    pub call: u64,
+    /// How many writes, cuts and syncs were before it.
+    pub changes_before: u64,
+    /// It is a write, a cut or a sync.
+    pub is_change: bool,
 }
 
-impl Schedule {
-    /// What becomes of the next call. `changes` says that it is a write, a cut or a sync.
-    pub fn fate(self, changes: bool) -> Fate
-        ensures { result ≡ fate_of self changes }
+/// Which calls are to be hit. 0 is none.
+#[derive(Clone, Copy)]
+pub(crate) struct Marks {
+    /// Which of the writes, cuts and syncs stops the disk.
+    pub stop_on: u64,
+    /// Which of all calls fails alone.
+    pub fail_on: u64,
+}
+
+impl Marks {
+    pub fn fate(self, turn: Turn) -> Fate
+        requires { turn.changes_before + 1 < 2 ^ 64 }
+        ensures { result ≡ fate_of self turn }
     {
-        if self.is_stopped || self.fail_in == 1 {
-            Fate::Fails
-        } else if changes && self.stop_in == 1 {
+        if turn.call == self.fail_on {
+            return Fate::Fails;
+        }
+        if self.stop_on == 0 || turn.changes_before + 1 < self.stop_on {
+            return Fate::Succeeds;
+        }
+        if turn.changes_before + 1 > self.stop_on {
+            return Fate::Fails;
+        }
+        if turn.is_change {
             Fate::Stops
         } else {
             Fate::Succeeds
@@ -37,30 +56,23 @@ impl Schedule {
     }
 }
 
-/// One call fewer is ahead.
-fn count_down(calls: &AtomicU64) -> u64 {
-    calls
-        .fetch_update(Ordering::SeqCst, Ordering::SeqCst, |n| {
-            Some(n.saturating_sub(1))
-        })
-        .unwrap_or(0)
-}
-
 /// When the calls of a [`MemDisk`](crate::MemDisk) fail. It is shared with the disk, and may be changed while that is used.
 #[derive(Drop)]
 pub struct Plan {
-    stop_in: AtomicU64,
-    fail_in: AtomicU64,
-    is_stopped: AtomicBool,
+    calls: AtomicU64,
+    changes: AtomicU64,
+    stop_on: AtomicU64,
+    fail_on: AtomicU64,
 }
 
 impl Plan {
     /// No call fails.
     pub const fn new() -> Plan {
         Plan {
-            stop_in: AtomicU64::new(0),
-            fail_in: AtomicU64::new(0),
-            is_stopped: AtomicBool::new(false),
+            calls: AtomicU64::new(0),
+            changes: AtomicU64::new(0),
+            stop_on: AtomicU64::new(0),
+            fail_on: AtomicU64::new(0),
         }
     }
 
@@ -69,31 +81,42 @@ impl Plan {
     pub fn stop_at(&self, k: u64)
         requires { 1 ≤ k }
     {
-        self.is_stopped.store(false, Ordering::SeqCst);
-        self.stop_in.store(k, Ordering::SeqCst);
+        let mark = mark_at(self.changes.load(Ordering::SeqCst), k);
+        self.stop_on.store(mark, Ordering::SeqCst);
     }
 
     /// The `k`-th call of any kind from now on fails, alone, and does nothing. It takes the place of an earlier one.
     pub fn fail_at(&self, k: u64)
         requires { 1 ≤ k }
     {
-        self.fail_in.store(k, Ordering::SeqCst);
+        let mark = mark_at(self.calls.load(Ordering::SeqCst), k);
+        self.fail_on.store(mark, Ordering::SeqCst);
     }
 
     /// What becomes of the next call, which counts from now on as made.
-    pub(crate) fn next(&self, changes: bool) -> Fate {
-        let schedule = Schedule {
-            stop_in: if changes {
-                count_down(&self.stop_in)
-            } else {
-                self.stop_in.load(Ordering::SeqCst)
-            },
-            fail_in: count_down(&self.fail_in),
-            is_stopped: self.is_stopped.load(Ordering::SeqCst),
+    pub(crate) fn next(&self, is_change: bool) -> Fate {
+        let changes = if is_change {
+            self.changes.fetch_add(1, Ordering::SeqCst)
+        } else {
+            self.changes.load(Ordering::SeqCst)
         };
-        if changes && schedule.stop_in == 1 {
-            self.is_stopped.store(true, Ordering::SeqCst);
-        }
-        schedule.fate(changes)
+        let turn = Turn {
+            call: self.calls.fetch_add(1, Ordering::SeqCst).saturating_add(1),
+            changes_before: changes.min(u64::MAX - 1),
+            is_change,
+        };
+        let marks = Marks {
+            stop_on: self.stop_on.load(Ordering::SeqCst),
+            fail_on: self.fail_on.load(Ordering::SeqCst),
+        };
+        marks.fate(turn)
     }
+}
+
+/// The number of the `k`-th call after so many.
+fn mark_at(so_far: u64, k: u64) -> u64
+    requires { 1 ≤ k }
+    ensures { so_far + k < 2 ^ 64 → result ≡ so_far + k }
+{
+    so_far.saturating_add(k)
 }
