@@ -1,0 +1,2 @@
+pub mod LogBytes
+pub mod LogSteps
