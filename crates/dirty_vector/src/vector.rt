@@ -1,0 +1,156 @@
+//! The set of dirty pages.
+
+ghost use Rattle.std.specs.Prelude.{◌≡◌, ℕ, ◌/◌, ◌≤◌, ◌↔◌, ◌⊎◌, Bool, true, false, IsTrue, IfOk, IfErr, MatchOption, length, Ok};
+ghost use Rattle.std.specs.FinSet as set;
+ghost use Rattle.reg_names.specs.Names.{IsOrNoMemory, RefusedFor};
+ghost use Rattle.dirty_vector.specs.Kept.{IsBlank};
+ghost use Rattle.dirty_vector.specs.Marks.{is_marked_in_bitmap, marked_below};
+ghost use Rattle.dirty_vector.specs.Pages.{is_dirty, is_bins_size, Touches, NoneFrom, IsFirstRun, fresh_pages, read_pages, bitmap_of};
+
+use crate::bitmap::{read_bitmap, write_bitmap};
+use crate::marks::{WORD_BITS, count_marks, first_page, is_page_marked, mark_pages};
+use crate::runs::Runs;
+use reg_names::Refusal;
+use reg_names::limits::MOST_BINS_BYTES;
+use std::alloc::Global;
+use std::marker::Model;
+use std::ops::Range;
+
+/// Bytes in a page.
+pub const PAGE_BYTES: usize = 512;
+
+// bins data come in bins of this many bytes, or of multiples of it
+const BIN_BYTES: usize = 4096;
+
+/// The set of the dirty pages of hive bins data of one size.
+#[derive(Drop)]
+pub struct DirtyVector {
+    bins_size: usize,
+    words: Vec<u64>,
+}
+
+impl Model for DirtyVector {
+    ghost use Rattle.dirty_vector.specs.Pages.{Pages, pages_code};
+
+    ghost Value = { Pages };
+
+    ghost coded = { pages_code };
+
+    ghost use Rattle.dirty_vector.specs.Kept.{pages_of, IsKept};
+
+    ghost view = { λ a. pages_of a.bins_size a.words.items };
+
+    ghost invariant = { λ a. IsKept a.bins_size a.words.items };
+}
+
+impl DirtyVector {
+    ghost use Rattle.dirty_vector.specs.Runs.{IsAt};
+
+    /// A vector of bins data of a size, with no dirty page. Refused with `TooLarge` where the size isn't
+    /// a multiple of 4,096 from 4,096 to the limit, and else only for want of memory.
+    pub fn new(alloc: Global, bins_size: usize) -> Result<DirtyVector, Refusal>
+        ensures { IsOrNoMemory result (fresh_pages bins_size) }
+    {
+        let words = blank_words(alloc, bins_size)?;
+        Ok(DirtyVector { bins_size, words })
+    }
+
+    /// The size of the bins data in bytes.
+    pub fn bins_size(&self) -> usize
+        ensures value { result ≡ self.now.bins_size }
+        ensures good { is_bins_size result ≡ true }
+    {
+        self.bins_size
+    }
+
+    /// Whether a page is dirty. A page past the bins data isn't.
+    pub fn is_dirty(&self, page: usize) -> bool
+        ensures { result ≡ is_dirty self.now page }
+    {
+        page < self.bins_size / PAGE_BYTES && is_page_marked(&self.words, page)
+    }
+
+    /// Marks each page of which the range, counted in bytes from the start of the bins data, has a byte.
+    /// An empty range marks none.
+    pub fn mark(&mut self, range: Range<usize>)
+        requires { range.end ≤ self.old.bins_size }
+        ensures size { self.new.bins_size ≡ self.old.bins_size }
+        ensures pages { (page : ℕ) → IsTrue (is_dirty self.new page) ↔ (IsTrue (is_dirty self.old page) ⊎ Touches range.start range.end page) }
+    {
+        if range.start < range.end {
+            mark_pages(
+                &mut self.words,
+                range.start / PAGE_BYTES,
+                (range.end - 1) / PAGE_BYTES,
+            );
+        }
+    }
+
+    /// How many pages are dirty.
+    pub fn count(&self) -> usize
+        ensures { result ≡ set.len self.now.dirty }
+    {
+        count_marks(&self.words)
+    }
+
+    /// The first run of adjacent dirty pages from a page on, as long as it goes; none where no page from
+    /// there on is dirty.
+    pub fn next_run(&self, from: usize) -> Option<Range<usize>>
+        ensures { MatchOption result (NoneFrom self.now from) (λ run. IsFirstRun self.now from run.start run.end) }
+    {
+        let pages = self.bins_size / PAGE_BYTES;
+        if from >= pages {
+            return None;
+        }
+        let words = self.words.as_slice();
+        let start = first_page(words, true, from, pages);
+        if start == pages {
+            return None;
+        }
+        let end = first_page(words, false, start, pages);
+        Some(start..end)
+    }
+
+    /// The runs of adjacent dirty pages, in rising order.
+    pub fn runs(&self) -> Runs<'_>
+        ensures { IsAt result self.now 0 }
+    {
+        Runs {
+            vector: self,
+            from: 0,
+        }
+    }
+
+    /// Writes the bitmap: a bit for each page, the least significant bit of the first byte first, 1 for a
+    /// dirty page. It has a byte for each 4,096 bytes of bins data.
+    pub fn write(&self, bitmap: &mut [u8])
+        requires { length bitmap.old ≡ self.now.bins_size / 4096 }
+        ensures { bitmap.new ≡ bitmap_of (is_dirty self.now) (self.now.bins_size / 4096) }
+    {
+        write_bitmap(&self.words, bitmap);
+    }
+
+    /// The vector of bins data of a size whose bitmap this is. Refused as [`DirtyVector::new`] is.
+    pub fn read(alloc: Global, bins_size: usize, bitmap: &[u8]) -> Result<DirtyVector, Refusal>
+        requires { length bitmap.now ≡ bins_size / 4096 }
+        ensures { IsOrNoMemory result (read_pages bins_size bitmap.now) }
+    {
+        let mut words = blank_words(alloc, bins_size)?;
+        read_bitmap(bitmap, &mut words);
+        Ok(DirtyVector { bins_size, words })
+    }
+}
+
+// Words without a mark, with a bit for each page of bins data of a size.
+fn blank_words(alloc: Global, bins_size: usize) -> Result<Vec<u64>, Refusal>
+    ensures ok { IfOk result (λ words. IsBlank bins_size words.items) }
+    ensures refused { IfErr result (RefusedFor Refusal.TooLarge (is_bins_size bins_size ≡ false)) }
+{
+    if !bins_size.is_multiple_of(BIN_BYTES)
+        || bins_size < BIN_BYTES
+        || bins_size > MOST_BINS_BYTES
+    {
+        return Err(Refusal::TooLarge);
+    }
+    Ok(vec![in alloc; 0; (bins_size / PAGE_BYTES).div_ceil(WORD_BITS)]?)
+}
