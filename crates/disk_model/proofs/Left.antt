@@ -1,5 +1,5 @@
 -- Each of the three crashes leaves what a crash may leave.
-use Rattle.std.proofs.Common.{◌≡◌, inl, inr, ⊎_elim, ℕ, ◌+◌, ◌-◌, ◌<◌, ◌≤◌, Bool, false, List, [], ◌∷◌, length, get_or, refl, sym, ◌∙◌, ap, subst, arith}
+use Rattle.std.proofs.Common.{◌≡◌, inl, inr, ⊎_elim, ℕ, ◌+◌, ◌-◌, ◌<◌, ◌≤◌, Bool, true, false, List, [], ◌∷◌, length, get_or, refl, sym, ◌∙◌, ap, subst, arith}
 use Rattle.std.specs.Prelude.{◌&&◌, nat_le, nat_lt, if◌then◌else◌}
 use Rattle.std.proofs.lemmas.Bool.{cases_lt}
 use Rattle.std.proofs.lemmas.Bool.Decides.{nat_tests}
@@ -38,3 +38,9 @@ leaves_of_left Torn file bytes sound left = leaves_of_torn file bytes sound left
 
 pub leaves_of_crash : (tear : Tear) (old new : FileState) → IsSound old → IsCrashOf tear old new → Leaves old new.seen
 leaves_of_crash tear old new sound crash = subst (λ (s : FileState). Leaves old s.seen) (sym crash.2) (leaves_of_left tear old crash.0 sound crash.1)
+
+pub covered : (range : Range) (p : ℕ) → Covers range p → (nat_le range.from p && nat_lt p (range.from + length range.bytes)) ≡ true
+covered range p covers =
+    let from : range.from ≤ p = covers.0 in
+    let below : p < range.from + length range.bytes = covers.1 in
+    grind (arith, nat_tests)

@@ -8,3 +8,4 @@ pub mod Sectors
 pub mod Sound
 pub mod Steps
 pub mod Tears
+pub mod Whole

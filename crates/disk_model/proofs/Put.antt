@@ -61,3 +61,13 @@ get_or-put_outside file offset (byte ∷ bytes) p in_file out = ⊎_elim before 
         get_or-append_right (resized file offset ++ byte ∷ bytes) (drop end file) end p 0 long past
         ∙ get_or-drop end file (p - end) 0
         ∙ ap (λ (i : ℕ). get_or file i 0) back
+
+-- a byte in the range is the one put there
+pub get_or-put_inside : (file : List ℕ) (offset : ℕ) (bytes : List ℕ) (p : ℕ) → offset ≤ p → p < offset + length bytes → get_or (put file offset bytes) p 0 ≡ get_or bytes (p - offset) 0
+get_or-put_inside file offset [] p from below = absurd (omega arith)
+get_or-put_inside file offset (byte ∷ bytes) p from below =
+    let all = byte ∷ bytes in
+    let front : length (resized file offset) ≡ offset = length-resized file offset in
+    let long : length (resized file offset ++ byte ∷ bytes) ≡ offset + length (byte ∷ bytes) = omega (arith, length-append (resized file offset) (byte ∷ bytes)) in
+    get_or_append_left (resized file offset ++ byte ∷ bytes) (drop (offset + length (byte ∷ bytes)) file) 0 p (omega arith)
+    ∙ get_or-append_right (resized file offset) (byte ∷ bytes) offset p 0 front from

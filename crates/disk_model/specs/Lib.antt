@@ -6,5 +6,6 @@ pub mod MemFile
 pub mod MemSound
 pub mod Plan
 pub mod Sector
+pub mod Shown
 pub mod Tear
 pub mod Written

@@ -1,6 +1,7 @@
 //! One file in memory, with what a crash needs to know of it.
 ghost use Rattle.std.specs.Prelude.{◌≡◌, ◌+◌, [], ◌++◌, ◌<◌, ◌≤◌, max, length, take, drop, OnOk, OnErr, IfOk};
 ghost use Rattle.disk_model.specs.FileState.{at_rest, put, resized, Writes, Cuts, Syncs, IsSound};
+ghost use Rattle.disk_model.specs.Shown.{IsWhole};
 ghost use Rattle.disk_model.specs.Written.{file_of};
 
 use crate::tear::{Tear, torn};
@@ -18,6 +19,7 @@ pub(crate) struct MemFile {
     pub least: usize,
     pub greatest: usize,
     ghost sound: { IsSound (file_of synced.items seen.items written.items least greatest) },
+    ghost whole: { IsWhole (file_of synced.items seen.items written.items least greatest) },
 }
 
 impl MemFile {
