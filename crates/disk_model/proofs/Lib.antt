@@ -1,6 +1,7 @@
 pub mod Crashes
 pub mod Files
 pub mod Left
+pub mod HonestTears
 pub mod Leaves
 pub mod Moments
 pub mod Put

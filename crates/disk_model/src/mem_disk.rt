@@ -1,7 +1,8 @@
 //! Files in memory, as a disk. It fails as a plan says, and where it finds no memory.
 ghost use Rattle.std.specs.Prelude.{◌≡◌, ℕ, ◌≤◌, [], length, IfOk, OnOk, OnErr, IsErr};
 ghost use Rattle.disk_model.specs.FileState.{Writes, MayWrite, Cuts, MayCut, Syncs, at_rest, Leaves};
-ghost use Rattle.disk_model.specs.Tear.{IsCrashOf};
+ghost use Rattle.disk_model.specs.Sector.{IsHonest};
+ghost use Rattle.disk_model.specs.Tear.{IsCrashOf, WritesWholeSectors};
 ghost use Rattle.disk_model.specs.Call.{KeepsOthers, Reads};
 ghost use Rattle.disk_model.specs.MemFile.{state_of};
 
@@ -41,6 +42,7 @@ impl MemDisk {
     /// The disk after a crash now, as `tear` says. What is left counts as synced. `plan` is that of the new disk; this one stays.
     pub fn crashed(&self, tear: Tear, plan: Arc<Plan>) -> Result<MemDisk, AllocError>
         ensures left { IfOk result (λ disk. (f : ℕ) → IsCrashOf tear (⟦<MemDisk as Disk>⟧.state_at self.now (⟦<MemDisk as Disk>⟧.clock self.now) f) (⟦<MemDisk as Disk>⟧.state_at disk 0 f)) }
+        ensures honest { IfOk result (λ disk. (f : ℕ) → WritesWholeSectors (⟦<MemDisk as Disk>⟧.state_at self.now (⟦<MemDisk as Disk>⟧.clock self.now) f) → IsHonest (⟦<MemDisk as Disk>⟧.state_at self.now (⟦<MemDisk as Disk>⟧.clock self.now) f) (⟦<MemDisk as Disk>⟧.state_at disk 0 f).seen) }
         ensures allowed { IfOk result (λ disk. (f : ℕ) → Leaves (⟦<MemDisk as Disk>⟧.state_at self.now (⟦<MemDisk as Disk>⟧.clock self.now) f) (⟦<MemDisk as Disk>⟧.state_at disk 0 f).seen) }
         ensures clock { IfOk result (λ disk. ⟦<MemDisk as Disk>⟧.clock disk ≡ 0) }
         ensures failures { IfOk result (λ disk. ⟦<MemDisk as Disk>⟧.failures disk ≡ 0) }
