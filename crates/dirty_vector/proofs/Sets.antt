@@ -8,10 +8,12 @@ use Rattle.std.proofs.lemmas.Bool.{false≢true, eqb-true, cases_lt, cases_eq, c
 use Rattle.std.proofs.lemmas.Bool.Decides.{nat_tests}
 use Rattle.std.proofs.Math.Nat.{add-zero}
 use Rattle.std.proofs.lemmas.List.FromFn.{fill_by_all, length-map-range_with_len, get_or-map-range_with_len}
-use Rattle.dirty_vector.specs.Marks.{is_marked, is_marked_in_bitmap, marked_count, marked_below}
-use Rattle.dirty_vector.specs.Pages.{Pages, is_dirty, is_bins_size, Touches, fresh_pages, read_pages, bitmap_byte, bitmap_of, NoneFrom, IsFirstRun}
+use Rattle.dirty_vector.specs.Marks.{is_marked, is_marked_in_bitmap, marked_count, marked_below, IsNthMark}
+use Rattle.dirty_vector.specs.Pages.{Pages, is_dirty, is_bins_size, Touches, fresh_pages, read_pages, bitmap_byte, bitmap_of, NoneFrom, IsNextDirty, IsNthDirty, IsFirstRun}
 use Rattle.dirty_vector.specs.Kept.{pages_of, IsKept, IsBlank}
+use Rattle.std.specs.Prelude.{Option, Some, None, MatchOption}
 use Rattle.dirty_vector.proofs.Bytes.{none_marked}
+use Rattle.dirty_vector.proofs.Words.{same_count}
 use Rattle.reg_names.specs.declared.refusal.Refusal.{Refusal}
 use Rattle.reg_names.specs.declared.refusal.Refusal.TheVariants.{TooLarge}
 
@@ -218,3 +220,25 @@ first_run size words v from start end kept is after inside clean on later within
       dirty = λ page low high. as_marked size words v kept is page ∙ dirty page low high;
       ended = as_marked size words v kept is end ∙ stop;
     }
+
+pub next_kept : (size : ℕ) (words : List ℕ) (v : Pages) (from next : ℕ) → IsKept size words → pages_of size words ≡ v
+    → from ≤ next → next < size / 512 → ((page : ℕ) → from ≤ page → page < next → is_marked words page ≡ false) → is_marked words next ≡ true → IsNextDirty v from next
+next_kept size words v from next kept is after inside clean on = (
+  after,
+  omega (arith, inside, ap (λ (u : Pages). u.bins_size) (sym is)),
+  as_marked size words v kept is next ∙ on,
+  (λ page low high. as_marked size words v kept is page ∙ clean page low high),
+)
+
+pub nth_kept : (size : ℕ) (words : List ℕ) (v : Pages) (n : ℕ) (result : Option ℕ) → IsKept size words → pages_of size words ≡ v
+    → MatchOption result (marked_count (is_marked words) (64 * length words) ≤ n) (IsNthMark words n) → MatchOption result (set.len v.dirty ≤ n) (IsNthDirty v n)
+nth_kept size words v n None kept is few =
+    let all = count_kept size words kept in
+    let same : set.len v.dirty ≡ set.len (marked_below (is_marked words) (size / 512)) = ap (λ (u : Pages). set.len u.dirty) (sym is) in
+    omega (arith, all, same, few)
+nth_kept size words v n (Some page) kept is nth =
+    let inside : page < size / 512 = elim (cases_lt page (size / 512)) [ inl lt ↦ lt | inr le ↦ absurd (false≢true (sym (kept.inside page le) ∙ nth.0)) ] in (
+      as_marked size words v kept is page ∙ nth.0,
+      omega (arith, inside, ap (λ (u : Pages). u.bins_size) (sym is)),
+      same_count (is_dirty v) (is_marked words) page (λ p h. as_marked size words v kept is p) ∙ nth.2,
+    )

@@ -1,5 +1,5 @@
 -- Marks of pages, as bits of words and as bits of bytes.
-use Rattle.std.specs.Prelude.{◌≡◌, ◌≤◌, ◌<◌, ℕ, zero, suc, ◌+◌, ◌/◌, ◌%◌, ◌==◌, nat_le, ◌&&◌, not, Bool, if◌then◌else◌, List, slice_index}
+use Rattle.std.specs.Prelude.{◌≡◌, ◌≤◌, ◌<◌, ℕ, zero, suc, ◌+◌, ◌/◌, ◌%◌, ◌==◌, nat_le, ◌&&◌, not, Bool, if◌then◌else◌, List, slice_index, true, length, ◌*◌}
 use Rattle.std.specs.Int.{bit_at}
 use Rattle.std.specs.Ordering.{nat_cmp}
 use Rattle.std.specs.FinSet as set
@@ -32,3 +32,7 @@ pub record IsFirstBit (word : ℕ) (marked : Bool) (low result : ℕ) : Type 0 w
   pub within : result ≤ 64
   pub before : (bit : ℕ) → low ≤ bit → bit < result → (bit_at word bit == 1) ≡ not marked
   pub here : result < 64 → (bit_at word result == 1) ≡ marked
+
+-- a marked page with n marked pages before it
+abbrev pub IsNthMark : List ℕ → ℕ → ℕ → Type 0
+IsNthMark words n page = (is_marked words page ≡ true) × (page < 64 * length words) × (marked_count (is_marked words) page ≡ n)

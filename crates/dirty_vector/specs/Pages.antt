@@ -5,7 +5,7 @@ use Rattle.std.specs.Ordering.{nat_cmp}
 use Rattle.std.specs.FinSet as set
 use Rattle.std.specs.Coded.{Coded, code_by, coded×, coded_ℕ}
 use Rattle.std.proofs.Common.{refl}
-use Rattle.dirty_vector.specs.Marks.{is_marked_in_bitmap, marked_below}
+use Rattle.dirty_vector.specs.Marks.{is_marked_in_bitmap, marked_count, marked_below}
 use Rattle.reg_names.specs.declared.refusal.Refusal.{Refusal}
 use Rattle.reg_names.specs.declared.refusal.Refusal.TheVariants.{TooLarge}
 use Rattle.reg_names.specs.declared.limits.TheConstants.{MOST_BINS_BYTES}
@@ -56,6 +56,14 @@ bitmap_of mark n = map (bitmap_byte mark) (range_with_len 0 n)
 -- no page from a page on is dirty
 abbrev pub NoneFrom : Pages → ℕ → Type 0
 NoneFrom v from = (page : ℕ) → from ≤ page → is_dirty v page ≡ false
+
+-- a dirty page before which no page from a page on is dirty
+abbrev pub IsNextDirty : Pages → ℕ → ℕ → Type 0
+IsNextDirty v from next = (from ≤ next) × (512 * (next + 1) ≤ v.bins_size) × (is_dirty v next ≡ true) × ((page : ℕ) → from ≤ page → page < next → is_dirty v page ≡ false)
+
+-- a dirty page with n dirty pages before it
+abbrev pub IsNthDirty : Pages → ℕ → ℕ → Type 0
+IsNthDirty v n page = (is_dirty v page ≡ true) × (512 * (page + 1) ≤ v.bins_size) × (marked_count (is_dirty v) page ≡ n)
 
 -- the pages from start up to end, end left out, are the first run of adjacent dirty pages from a page on
 pub record IsFirstRun (v : Pages) (from start end : ℕ) : Type 0 where

@@ -1,7 +1,7 @@
 //! Marks of pages in words of 64 bits: that of a page is bit `page % 64` of word `page / 64`.
 
-ghost use Rattle.std.specs.Prelude.{◌≡◌, ℕ, ◌+◌, ◌*◌, ◌/◌, ◌<◌, ◌≤◌, ◌^◌, ◌||◌, ◌&&◌, nat_le, not, true, length};
-ghost use Rattle.dirty_vector.specs.Marks.{is_marked, marked_count, IsMask, IsFirstBit};
+ghost use Rattle.std.specs.Prelude.{◌≡◌, ℕ, ◌+◌, ◌*◌, ◌/◌, ◌<◌, ◌≤◌, ◌^◌, ◌||◌, ◌&&◌, nat_le, not, true, length, MatchOption};
+ghost use Rattle.dirty_vector.specs.Marks.{is_marked, marked_count, IsMask, IsFirstBit, IsNthMark};
 
 /// Bits in a word.
 pub(crate) const WORD_BITS: usize = 64;
@@ -69,6 +69,41 @@ pub(crate) fn first_page(words: &[u64], marked: bool, from: usize, end: usize) -
         page = start + WORD_BITS;
     }
     end
+}
+
+/// The marked page with `index` marked pages before it, or none. Words are passed whole.
+pub(crate) fn nth_mark(words: &[u64], index: usize) -> Option<usize>
+    requires { length words.now < 2 ^ 32 }
+    ensures { MatchOption result (marked_count (is_marked words.now) (64 * length words.now) ≤ index) (IsNthMark words.now index) }
+{
+    let (start, mut left) = pass_words(words, index);
+    for page in start..WORD_BITS * words.len() {
+        if is_page_marked(words, page) {
+            if left == 0 {
+                return Some(page);
+            }
+            left -= 1;
+        }
+    }
+    None
+}
+
+// Passes whole words with at most `index` marks together: the first page behind them, and how many marks
+// are left to pass.
+fn pass_words(words: &[u64], index: usize) -> (usize, usize)
+    requires { length words.now < 2 ^ 32 }
+    ensures within { result.0 ≤ 64 * length words.now }
+    ensures left { marked_count (is_marked words.now) result.0 + result.1 ≡ index }
+{
+    let mut left = index;
+    for (place, word) in words.iter().enumerate() {
+        let ones = word.count_ones() as usize;
+        if left < ones {
+            return (WORD_BITS * place, left);
+        }
+        left -= ones;
+    }
+    (WORD_BITS * words.len(), left)
 }
 
 // The first bit of a word from `low` on that is set, or where `marked` is false that is not; 64 where there

@@ -5,10 +5,10 @@ ghost use Rattle.std.specs.FinSet as set;
 ghost use Rattle.reg_names.specs.Names.{IsOrNoMemory, RefusedFor};
 ghost use Rattle.dirty_vector.specs.Kept.{IsBlank};
 ghost use Rattle.dirty_vector.specs.Marks.{is_marked_in_bitmap, marked_below};
-ghost use Rattle.dirty_vector.specs.Pages.{is_dirty, is_bins_size, Touches, NoneFrom, IsFirstRun, fresh_pages, read_pages, bitmap_of};
+ghost use Rattle.dirty_vector.specs.Pages.{is_dirty, is_bins_size, Touches, NoneFrom, IsNextDirty, IsNthDirty, IsFirstRun, fresh_pages, read_pages, bitmap_of};
 
 use crate::bitmap::{read_bitmap, write_bitmap};
-use crate::marks::{WORD_BITS, count_marks, first_page, is_page_marked, mark_pages};
+use crate::marks::{WORD_BITS, count_marks, first_page, is_page_marked, mark_pages, nth_mark};
 use crate::runs::Runs;
 use reg_names::Refusal;
 use reg_names::limits::MOST_BINS_BYTES;
@@ -91,6 +91,28 @@ impl DirtyVector {
         ensures { result ≡ set.len self.now.dirty }
     {
         count_marks(&self.words)
+    }
+
+    /// The first dirty page from a page on, or none.
+    pub fn next_dirty(&self, from: usize) -> Option<usize>
+        ensures { MatchOption result (NoneFrom self.now from) (IsNextDirty self.now from) }
+    {
+        let pages = self.bins_size / PAGE_BYTES;
+        if from >= pages {
+            return None;
+        }
+        let words = self.words.as_slice();
+        let page = first_page(words, true, from, pages);
+        if page < pages { Some(page) } else { None }
+    }
+
+    /// The dirty page with `index` dirty pages before it, found a word at a time; none where there are no
+    /// more than `index` dirty pages.
+    pub fn nth_dirty(&self, index: usize) -> Option<usize>
+        ensures { MatchOption result (set.len self.now.dirty ≤ index) (IsNthDirty self.now index) }
+    {
+        let words = self.words.as_slice();
+        nth_mark(words, index)
     }
 
     /// The first run of adjacent dirty pages from a page on, as long as it goes; none where no page from
