@@ -1,5 +1,5 @@
 -- The states of a disk's files after one is made, or changed.
-use Rattle.std.proofs.Common.{◌≡◌, ◌≢◌, ℕ, zero, suc, ◌<◌, List, [], ◌∷◌, ◌++◌, length, get_or, set, refl, sym, ap, arith}
+use Rattle.std.proofs.Common.{◌≡◌, ◌≢◌, ℕ, zero, suc, ◌<◌, List, [], ◌∷◌, ◌++◌, length, get_or, set, refl, sym, ◌∙◌, ap, arith}
 use Rattle.disk_model.specs.FileState.{at_rest}
 use Rattle.disk_model.specs.MemFile.{file_state, state_of}
 use Rattle.disk_model.specs.declared.mem_file.MemFile.{MemFile}
@@ -28,6 +28,14 @@ pub state_of_there : (files : List MemFile) (file : MemFile) (f : ℕ) → f < l
 state_of_there [] file f in_files is = absurd (omega arith)
 state_of_there (m ∷ files) file zero in_files is = ap file_state (sym is)
 state_of_there (m ∷ files) file (suc f) in_files is = state_of_there files file f (omega arith) is
+
+-- a file replaced by one of the same state
+pub state_of_replaced : (files : List MemFile) (file other : MemFile) (i : ℕ) → file ≡ get_or files i file → file_state other ≡ file_state file → (f : ℕ) → state_of (set files i other) f ≡ state_of files f
+state_of_replaced [] file other i is same f = refl
+state_of_replaced (m ∷ files) file other zero is same zero = same ∙ ap file_state is
+state_of_replaced (m ∷ files) file other zero is same (suc f) = refl
+state_of_replaced (m ∷ files) file other (suc i) is same zero = refl
+state_of_replaced (m ∷ files) file other (suc i) is same (suc f) = state_of_replaced files file other i is same f
 
 -- a list of files of which one is changed
 pub ruleset one_changed = (state_of_set_same, state_of_set_other, state_of_there)

@@ -1,5 +1,5 @@
 -- A disk in memory, as one more moment goes by.
-use Rattle.std.proofs.Common.{◌≡◌, ℕ, ◌+◌, ◌-◌, ◌≤◌, List, [], ◌∷◌, length, get_or, ◌∙◌, ap, add-one, arith}
+use Rattle.std.proofs.Common.{◌≡◌, ℕ, zero, suc, refl, ◌+◌, ◌-◌, ◌≤◌, List, [], ◌∷◌, length, get_or, ◌∙◌, ap, add-one, arith}
 use Rattle.disk_model.specs.FileState.{at_rest}
 use Rattle.disk_model.specs.Call.{Passes}
 use Rattle.disk_model.specs.MemFile.{state_of}
@@ -36,6 +36,15 @@ unfolding states
 states_begun files k f none =
     let first : 0 - k ≡ 0 = omega arith in
     ap (λ (i : ℕ). state_of (get_or (files ∷ []) i []) f) first ∙ ap (λ (l : List MemFile). state_of l f) none
+
+-- other files of the same states
+pub states_same : (past : Past) (files changed : List MemFile) → ((f : ℕ) → state_of changed f ≡ state_of files f) → (k f : ℕ) → states past changed k f ≡ states past files k f
+unfolding states
+states_same past files changed same k f = by_index (length (earlier past) - k)
+  where
+    by_index : (i : ℕ) → state_of (get_or (changed ∷ earlier past) i []) f ≡ state_of (get_or (files ∷ earlier past) i []) f
+    by_index zero = same f
+    by_index (suc i) = refl
 
 -- what holds of the files as they are holds of them at the present moment
 pub ruleset one_moment = (states_now, passes)

@@ -39,6 +39,17 @@ impl MemDisk {
         }
     }
 
+    /// Takes memory ahead: within the next `calls` calls no call takes any, where no file gets more than `bytes` bytes longer.
+    /// A refused one may have taken some of it.
+    pub fn room(&mut self, bytes: usize, calls: usize) -> Result<(), AllocError>
+        ensures files { (k f : ℕ) → ⟦<MemDisk as Disk>⟧.state_at self.new k f ≡ ⟦<MemDisk as Disk>⟧.state_at self.old k f }
+        ensures clock { ⟦<MemDisk as Disk>⟧.clock self.new ≡ ⟦<MemDisk as Disk>⟧.clock self.old }
+        ensures failures { ⟦<MemDisk as Disk>⟧.failures self.new ≡ ⟦<MemDisk as Disk>⟧.failures self.old }
+    {
+        make_up_to(&mut self.files, FILES as usize)?;
+        reserve(&mut self.files, bytes, calls)
+    }
+
     /// The disk after a crash now, as `tear` says. What is left counts as synced. `plan` is that of the new disk; this one stays.
     pub fn crashed(&self, tear: Tear, plan: Arc<Plan>) -> Result<MemDisk, AllocError>
         ensures left { IfOk result (λ disk. (f : ℕ) → IsCrashOf tear (⟦<MemDisk as Disk>⟧.state_at self.now (⟦<MemDisk as Disk>⟧.clock self.now) f) (⟦<MemDisk as Disk>⟧.state_at disk 0 f)) }
@@ -75,6 +86,16 @@ fn make_up_to(files: &mut Vec<MemFile>, count: usize) -> Result<(), AllocError>
     let alloc = *files.allocator();
     for _made in files.len()..count {
         files.push(MemFile::new(alloc))?;
+    }
+    Ok(())
+}
+
+/// Takes the memory that each of the files needs to get so many bytes longer in so many calls.
+fn reserve(files: &mut Vec<MemFile>, bytes: usize, calls: usize) -> Result<(), AllocError>
+    ensures { (f : ℕ) → state_of files.new.items f ≡ state_of files.old.items f }
+{
+    for number in 0..files.len() {
+        files[number].reserve(bytes, calls)?;
     }
     Ok(())
 }

@@ -39,6 +39,16 @@ impl MemFile {
         }
     }
 
+    /// Takes the memory that it needs to get so many bytes longer, and for so many writes before the next sync.
+    pub fn reserve(&mut self, bytes: usize, writes: usize) -> Result<(), AllocError>
+        ensures { file_state self.new ≡ file_state self.old }
+    {
+        let len = self.seen.len().checked_add(bytes).ok_or(AllocError)?;
+        self.seen.reserve(bytes)?;
+        self.synced.reserve(len.saturating_sub(self.synced.len()))?;
+        self.written.reserve(writes)
+    }
+
     /// A file whose bytes are all on the disk.
     fn at_rest(alloc: Global, bytes: Vec<u8>) -> Result<MemFile, AllocError>
         ensures { IfOk result (λ file. file_state file ≡ at_rest bytes.items) }
