@@ -1,0 +1,72 @@
+-- What stands at a path among the entries of a key and its subkeys.
+use Rattle.std.proofs.Common.{◌≡◌, ℕ, ◌+◌, Bool, true, false, ◌&&◌, cond, T, List, [], ◌∷◌, ◌++◌, map, Option, Some, None, refl, sym, ◌∙◌, ap, subst}
+use Rattle.std.specs.declared.cmp.Ordering.{Ordering}
+use Rattle.std.specs.declared.cmp.Ordering.TheVariants.{Less, Equal, Greater}
+use Rattle.std.specs.Ordering.{is_lt, is_eq, ordering_then, eq_by_cmp}
+use Rattle.std.specs.Cmp.{IsTotalOrder, alike_right}
+use Rattle.std.specs.FinMap.Entries.{find, is_sorted, below_all}
+use Rattle.reg_tree_parts.specs.Orders.{name_order, path_order}
+use Rattle.reg_tree_parts.specs.Rows.{Row}
+use Rattle.reg_tree_parts.specs.Nodes.{Entries, root_name, below, all_below, entries_of, row_at, row_in, IsNode, AreNodes}
+use Rattle.reg_tree_parts.proofs.Keys.{names_total, paths_total}
+use Rattle.reg_tree_parts.proofs.Places.{front_of, back_of, less_of}
+
+-- the first of two that is there
+abbrev or_else : {A : Type 0} → Option A → Option A → Option A
+or_else None b = b
+or_else (Some a) b = Some a
+
+-- a search of two lists joined
+find-append : {K X : Type 0} (R : K → K → Ordering) (q : K) (xs ys : List (K × X)) → find R q (xs ++ ys) ≡ or_else (find R q xs) (find R q ys)
+find-append R q [] ys = refl
+find-append R q (x ∷ xs) ys =
+    elim (eq_by_cmp R q x.0) as (λ b. cond b (Some x.1) (find R q (xs ++ ys)) ≡ or_else (cond b (Some x.1) (find R q xs)) (find R q ys)) [ true ↦ refl | false ↦ find-append R q xs ys ]
+
+is_eq_then : (o p : Ordering) → is_eq o ≡ false → is_eq (ordering_then o p) ≡ false
+is_eq_then Less p e = refl
+is_eq_then Equal p e = cc
+is_eq_then Greater p e = refl
+
+pub equal_of : (o : Ordering) → is_eq o ≡ true → o ≡ Equal
+equal_of Less e = cc
+equal_of Equal e = refl
+equal_of Greater e = cc
+
+-- below a name that ties with n, a path that begins with n stands where its rest stands
+find-below_tied : (n a : List ℕ) (q : List (List ℕ)) (es : Entries) → name_order n a ≡ Equal → find path_order (n ∷ q) (below a es) ≡ find path_order q es
+find-below_tied n a q [] tied = refl
+find-below_tied n a q (e ∷ es) tied =
+    ap (λ o. cond (is_eq (ordering_then o (path_order q e.0))) (Some e.1) (find path_order (n ∷ q) (below a es))) tied
+    ∙ ap (cond (eq_by_cmp path_order q e.0) (Some e.1)) (find-below_tied n a q es tied)
+
+-- below another name, no path that begins with n stands
+find-below_apart : (n a : List ℕ) (q : List (List ℕ)) (es : Entries) → eq_by_cmp name_order n a ≡ false → find path_order (n ∷ q) (below a es) ≡ None
+find-below_apart n a q [] apart = refl
+find-below_apart n a q (e ∷ es) apart =
+    ap (λ b. cond b (Some e.1) (find path_order (n ∷ q) (below a es))) (is_eq_then (name_order n a) (path_order q e.0) apart)
+    ∙ find-below_apart n a q es apart
+
+-- a name that ties with one below all is not among them
+pub find_below_all : (n a : List ℕ) (kids : List (List ℕ × Entries)) → name_order n a ≡ Equal → T (below_all name_order a kids) → find name_order n kids ≡ None
+find_below_all n a [] tied h = refl
+find_below_all n a (kid ∷ kids) tied h =
+    let less : name_order n kid.0 ≡ Less = names_total.congr n a kid.0 tied ∙ less_of (name_order a kid.0) (front_of (is_lt (name_order a kid.0)) (below_all name_order a kids) h) in
+    ap (λ o. cond (is_eq o) (Some kid.1) (find name_order n kids)) less ∙ find_below_all n a kids tied (back_of (is_lt (name_order a kid.0)) (below_all name_order a kids) h)
+
+-- what stands at a path below the subkeys is what stands at its rest in the subkey of its first name
+pub find-all_below : (n : List ℕ) (q : List (List ℕ)) (kids : List (List ℕ × Entries)) → T (is_sorted name_order kids) → row_at (all_below kids) (n ∷ q) ≡ row_in (find name_order n kids) q
+find-all_below n q [] h = refl
+find-all_below n q (kid ∷ kids) h =
+    find-append path_order (n ∷ q) (below kid.0 kid.1) (all_below kids)
+    ∙ ap (or_else (find path_order (n ∷ q) (below kid.0 kid.1))) (find-all_below n q kids (back_of _ _ h))
+    ∙ elim (eq_by_cmp name_order n kid.0) as (λ b. eq_by_cmp name_order n kid.0 ≡ b → or_else (find path_order (n ∷ q) (below kid.0 kid.1)) (row_in (find name_order n kids) q) ≡ row_in (cond b (Some kid.1) (find name_order n kids)) q) [
+      | true ↦ λ e.
+        let tied : name_order n kid.0 ≡ Equal = equal_of _ e in
+        ap (λ o. or_else (find path_order (n ∷ q) (below kid.0 kid.1)) (row_in o q)) (find_below_all n kid.0 kids tied (front_of _ _ h))
+        ∙ or_else_none _ ∙ find-below_tied n kid.0 q kid.1 tied
+      | false ↦ λ e. ap (λ o. or_else o (row_in (find name_order n kids) q)) (find-below_apart n kid.0 q kid.1 e)
+    ] refl
+  where
+    or_else_none : (o : Option Row) → or_else o None ≡ o
+    or_else_none None = refl
+    or_else_none (Some r) = refl

@@ -1,0 +1,86 @@
+-- The entries of a key and its subkeys are in the order of their paths.
+use Rattle.std.proofs.Common.{◌≡◌, ℕ, Bool, true, false, ◌&&◌, T, List, [], ◌∷◌, ◌++◌, refl, sym, ◌∙◌, ap, subst}
+use Rattle.std.specs.declared.cmp.Ordering.{Ordering}
+use Rattle.std.specs.declared.cmp.Ordering.TheVariants.{Less, Equal, Greater}
+use Rattle.std.specs.Ordering.{is_lt, ordering_then}
+use Rattle.std.specs.Cmp.{tied_itself}
+use Rattle.std.specs.FinMap.Entries.{is_sorted, below_all}
+use Rattle.reg_tree_parts.specs.Orders.{name_order, path_order}
+use Rattle.reg_tree_parts.specs.Rows.{Row}
+use Rattle.reg_tree_parts.specs.Nodes.{Entries, below, all_below, entries_of, IsNode, AreNodes}
+use Rattle.reg_tree_parts.proofs.Keys.{names_total}
+use Rattle.reg_tree_parts.proofs.Places.{front_of, back_of, less_of}
+
+both_of : (a b : Bool) → T a → T b → T (a && b)
+both_of true b p q = q
+both_of false b p q = p
+
+below_all-append : (p : List (List ℕ)) (xs ys : Entries) → T (below_all path_order p xs) → T (below_all path_order p ys) → T (below_all path_order p (xs ++ ys))
+below_all-append p [] ys hx hy = hy
+below_all-append p (x ∷ xs) ys hx hy =
+    both_of (is_lt (path_order p x.0)) (below_all path_order p (xs ++ ys)) (front_of (is_lt (path_order p x.0)) (below_all path_order p xs) hx)
+    (below_all-append p xs ys (back_of (is_lt (path_order p x.0)) (below_all path_order p xs) hx) hy)
+
+-- the root is below all paths that begin with a name
+root_below : (n : List ℕ) (es : Entries) → T (below_all path_order [] (below n es))
+root_below n [] = tt
+root_below n (e ∷ es) = root_below n es
+
+root_below_all : (kids : List (List ℕ × Entries)) → T (below_all path_order [] (all_below kids))
+root_below_all [] = tt
+root_below_all (kid ∷ kids) = below_all-append [] (below kid.0 kid.1) (all_below kids) (root_below kid.0 kid.1) (root_below_all kids)
+
+-- under one name, paths compare as their rests do
+same_first : (n : List ℕ) (o : Ordering) → ordering_then (name_order n n) o ≡ o
+same_first n o = ap (λ r. ordering_then r o) (tied_itself names_total n)
+
+below_same : (n : List ℕ) (p : List (List ℕ)) (es : Entries) → T (below_all path_order p es) → T (below_all path_order (n ∷ p) (below n es))
+below_same n p [] h = tt
+below_same n p (e ∷ es) h =
+    both_of (is_lt (ordering_then (name_order n n) (path_order p e.0))) (below_all path_order (n ∷ p) (below n es))
+    (subst (λ o. T (is_lt o)) (sym (same_first n (path_order p e.0))) (front_of (is_lt (path_order p e.0)) (below_all path_order p es) h))
+    (below_same n p es (back_of (is_lt (path_order p e.0)) (below_all path_order p es) h))
+
+sorted_same : (n : List ℕ) (es : Entries) → T (is_sorted path_order es) → T (is_sorted path_order (below n es))
+sorted_same n [] h = tt
+sorted_same n (e ∷ es) h =
+    both_of (below_all path_order (n ∷ e.0) (below n es)) (is_sorted path_order (below n es))
+    (below_same n e.0 es (front_of (below_all path_order e.0 es) (is_sorted path_order es) h))
+    (sorted_same n es (back_of (below_all path_order e.0 es) (is_sorted path_order es) h))
+
+-- a path under a lesser name is below all paths under a greater one
+below_other : (n m : List ℕ) (p : List (List ℕ)) (es : Entries) → name_order n m ≡ Less → T (below_all path_order (n ∷ p) (below m es))
+below_other n m p [] less = tt
+below_other n m p (e ∷ es) less =
+    both_of (is_lt (ordering_then (name_order n m) (path_order p e.0))) (below_all path_order (n ∷ p) (below m es))
+    (subst (λ o. T (is_lt (ordering_then o (path_order p e.0)))) (sym less) tt) (below_other n m p es less)
+
+below_others : (n : List ℕ) (p : List (List ℕ)) (kids : List (List ℕ × Entries)) → T (below_all name_order n kids) → T (below_all path_order (n ∷ p) (all_below kids))
+below_others n p [] h = tt
+below_others n p (kid ∷ kids) h =
+    below_all-append (n ∷ p) (below kid.0 kid.1) (all_below kids)
+    (below_other n kid.0 p kid.1 (less_of (name_order n kid.0) (front_of (is_lt (name_order n kid.0)) (below_all name_order n kids) h)))
+    (below_others n p kids (back_of (is_lt (name_order n kid.0)) (below_all name_order n kids) h))
+
+-- the entries of one subkey, and those of the subkeys after it
+sorted_joined : (n : List ℕ) (es : Entries) (kids : List (List ℕ × Entries)) → T (is_sorted path_order (below n es)) → T (below_all name_order n kids) → T (is_sorted path_order (all_below kids)) → T (is_sorted path_order (below n es ++ all_below kids))
+sorted_joined n [] kids h less rest = rest
+sorted_joined n (e ∷ es) kids h less rest =
+    both_of (below_all path_order (n ∷ e.0) (below n es ++ all_below kids)) (is_sorted path_order (below n es ++ all_below kids))
+    (below_all-append (n ∷ e.0) (below n es) (all_below kids) (front_of (below_all path_order (n ∷ e.0) (below n es)) (is_sorted path_order (below n es)) h) (below_others n e.0 kids less))
+    (sorted_joined n es kids (back_of (below_all path_order (n ∷ e.0) (below n es)) (is_sorted path_order (below n es)) h) less rest)
+
+sorted_all : (kids : List (List ℕ × Entries)) → AreNodes kids → T (is_sorted name_order kids) → T (is_sorted path_order (all_below kids))
+sorted_all [] nodes h = tt
+sorted_all (kid ∷ kids) nodes h =
+    sorted_joined kid.0 kid.1 kids (sorted_same kid.0 kid.1 nodes.0.rises) (front_of (below_all name_order kid.0 kids) (is_sorted name_order kids) h)
+    (sorted_all kids nodes.1 (back_of (below_all name_order kid.0 kids) (is_sorted name_order kids) h))
+
+-- a key with subkeys in order is a node
+pub is_node : (row : Row) (kids : List (List ℕ × Entries)) → AreNodes kids → T (is_sorted name_order kids) → IsNode (entries_of row kids)
+is_node row kids nodes h = record {
+  row = row;
+  others = all_below kids;
+  whole = refl;
+  rises = both_of (below_all path_order [] (all_below kids)) (is_sorted path_order (all_below kids)) (root_below_all kids) (sorted_all kids nodes h);
+}

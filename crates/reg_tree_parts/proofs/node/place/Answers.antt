@@ -1,0 +1,14 @@
+use Rattle.std.proofs.Common.{◌≡◌, refl, rules}
+use Rattle.std.proofs.lemmas.Fn.{answers_by}
+use Rattle.reg_names.specs.Names.{folded}
+use Rattle.reg_tree_parts.specs.Orders.{name_order}
+use Rattle.reg_tree_parts.specs.Nodes.{kid_name, kid_entry}
+use Rattle.reg_tree_parts.proofs.Keys.{names_total, names_apart}
+use Rattle.reg_tree_parts.proofs.Places.{searched}
+use Rattle.reg_tree_parts.proofs.node.place.Goals as goal
+
+pub returns : goal.returns
+returns c =
+    let facts = c.binary_search_by.ensures in
+    let by_name = facts.position (λ kid. name_order (kid_name kid) (folded c.args.name.now)) (answers_by _ _ (λ f. f.0.now ≡ c.args.name.now) (λ f a r h called keeps. (search rules, search rules)) _ refl) in
+    searched names_total kid_entry names_apart c.args.kids.now (folded c.args.name.now) c.requires _ facts.bound by_name

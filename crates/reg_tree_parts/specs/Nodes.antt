@@ -1,0 +1,106 @@
+-- What a node stands for: the entries of the key and of all keys below it, each a path from it on and a row.
+use Rattle.std.specs.Prelude.{if◌then◌else◌, ◌≡◌, ℕ, ◌+◌, min, Bool, true, false, ◌&&◌, Option, Some, None, filter, List, [], ◌∷◌, ◌++◌, map, sum_by, T}
+use Rattle.std.specs.FinMap.Entries.{is_sorted, find}
+use Rattle.std.specs.Ordering.{eq_by_cmp}
+use Rattle.std.below.core.specs.declared.int.u64.TheConstants.{MAX}
+use Rattle.std.specs.declared.sync.Arc.{Arc}
+use Rattle.std.specs.declared.alloc.Global.{Global}
+use Rattle.std.specs.Arc.{arc_value}
+use Rattle.reg_names.specs.Names.{folded}
+use Rattle.reg_tree_parts.specs.Orders.{name_order, path_order}
+use Rattle.reg_tree_parts.specs.Rows.{Row, row_weight}
+use Rattle.reg_tree_parts.specs.NewRows.{new_row}
+
+-- paths and the rows that stand there
+abbrev pub Entries : Type 0
+Entries = List (List (List ℕ) × Row)
+
+-- the folded name of the key whose entries these are, which is the first of them
+abbrev pub root_name : Entries → List ℕ
+root_name [] = []
+root_name (entry ∷ rest) = let row = entry.1 in folded row.name
+
+-- the name of the first of these entries, as spelled
+abbrev pub spelled_root : Entries → List ℕ
+spelled_root [] = []
+spelled_root (entry ∷ rest) = let row = entry.1 in row.name
+
+-- the entries of a subkey, seen from its parent
+abbrev pub below : List ℕ → Entries → Entries
+below name entries = map (λ e. (name ∷ e.0, e.1)) entries
+
+-- the entries of a subkey under its own name
+abbrev pub kid_entry : Arc Entries Global → List ℕ × Entries
+kid_entry kid = (root_name (arc_value kid), arc_value kid)
+
+-- the folded name of a subkey
+abbrev pub kid_name : Arc Entries Global → List ℕ
+kid_name kid = root_name (arc_value kid)
+
+abbrev pub kid_entries : List (Arc Entries Global) → List (List ℕ × Entries)
+kid_entries kids = map kid_entry kids
+
+-- the entries of all subkeys, seen from their parent
+abbrev pub all_below : List (List ℕ × Entries) → Entries
+all_below [] = []
+all_below (kid ∷ kids) = below kid.0 kid.1 ++ all_below kids
+
+-- the entries of a key with these subkeys
+abbrev pub entries_of : Row → List (List ℕ × Entries) → Entries
+entries_of row kids = ([], row) ∷ all_below kids
+
+-- the weight of entries: that of their rows together
+abbrev pub entries_weight : Entries → ℕ
+entries_weight entries = sum_by (λ e. row_weight e.1) entries
+
+-- the entries of one key and those below it: first its own, then others whose paths rise
+pub record IsNode (entries : Entries) : Type 0 where
+  pub row : Row
+  pub others : Entries
+  pub whole : entries ≡ ([], row) ∷ others
+  pub rises : T (is_sorted path_order entries)
+
+-- each of a list of subkeys is one
+abbrev pub AreNodes : List (List ℕ × Entries) → Type 0
+AreNodes [] = Unit {0}
+AreNodes (kid ∷ kids) = IsNode kid.1 × AreNodes kids
+
+-- what holds of every node: its subkeys are nodes in the order of their names, and its weight is that of its
+-- entries, as far as 64 bits hold it
+pub record NodeFits (row : Row) (kids : List (List ℕ × Entries)) (weight : ℕ) : Type 0 where
+  pub nodes : AreNodes kids
+  pub rises : T (is_sorted name_order kids)
+  pub weighs : weight ≡ min (entries_weight (entries_of row kids)) MAX
+
+-- the row that stands at a path
+abbrev pub row_at : Entries → List (List ℕ) → Option Row
+row_at entries path = find path_order path entries
+
+-- the row that stands at a path of what was found, if anything was
+abbrev pub row_in : Option Entries → List (List ℕ) → Option Row
+row_in None path = None
+row_in (Some entries) path = row_at entries path
+
+-- the names of the keys that stand one level below a path, in the order of the entries
+abbrev pub one_below : List (List ℕ) → List (List ℕ) → Bool
+one_below [] [] = false
+one_below [] (n ∷ []) = true
+one_below [] (n ∷ m ∷ path) = false
+one_below (k ∷ path) [] = false
+one_below (k ∷ path) (n ∷ other) = eq_by_cmp name_order k n && one_below path other
+
+abbrev pub names_below : List (List ℕ) → Entries → List (List ℕ)
+names_below path entries = map (λ e. let row = e.1 in row.name) (filter (λ e. one_below path e.0) entries)
+
+-- whether a path goes on from another, by folded names
+abbrev pub begins_path : List (List ℕ) → List (List ℕ) → Bool
+begins_path [] other = true
+begins_path (n ∷ path) [] = false
+begins_path (n ∷ path) (m ∷ other) = eq_by_cmp name_order m n && begins_path path other
+
+-- the rows of a new key, and below it of one new key of each further name
+abbrev pub branch_row : List ℕ → List (List ℕ) → List ℕ → ℕ → List (List ℕ) → Option Row
+branch_row name further descriptor time [] = Some (new_row name descriptor time)
+branch_row name [] descriptor time (m ∷ path) = None
+branch_row name (next ∷ further) descriptor time (m ∷ path) =
+    if eq_by_cmp name_order m (folded next) then branch_row next further descriptor time path else None

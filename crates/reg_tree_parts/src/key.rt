@@ -1,0 +1,154 @@
+//! What a key holds: the row of a tree.
+ghost use Rattle.std.specs.Prelude.{◌≡◌, ℕ, IfOk, min};
+ghost use Rattle.reg_tree_parts.specs.Rows.{Row, row_weight};
+ghost use Rattle.reg_tree_parts.specs.NewRows.{new_row};
+
+use crate::data::Data;
+use crate::values::Values;
+use reg_names::Name;
+use std::alloc::{AllocError, Global};
+use std::marker::Model;
+
+/// What a key holds: its name as spelled, class, flags, security descriptor, last written time and values.
+#[derive(Drop)]
+pub struct Key {
+    name: Name,
+    class: Data,
+    flags: u16,
+    descriptor: Data,
+    time: u64,
+    values: Values,
+}
+
+impl Model for Key {
+    ghost use Rattle.reg_tree_parts.specs.Rows.{Row, row_code};
+
+    ghost Value = { Row };
+
+    ghost coded = { row_code };
+
+    ghost view = { λ inside. record { name = inside.name; class = inside.class; flags = inside.flags; descriptor = inside.descriptor; time = inside.time; values = inside.values } };
+}
+
+impl Key {
+    /// A key of these parts.
+    pub fn new(
+        name: Name,
+        class: Data,
+        flags: u16,
+        descriptor: Data,
+        time: u64,
+        values: Values,
+    ) -> Key
+        ensures { result ≡ record { name = name; class = class; flags = flags; descriptor = descriptor; time = time; values = values } }
+    {
+        Key {
+            name,
+            class,
+            flags,
+            descriptor,
+            time,
+            values,
+        }
+    }
+
+    /// A new key of this name: no class, no flags and no values.
+    pub fn fresh(
+        alloc: Global,
+        name: &Name,
+        descriptor: &Data,
+        time: u64,
+    ) -> Result<Key, AllocError>
+        ensures { IfOk result (λ made. made ≡ new_row name.now descriptor.now time) }
+    {
+        let name = name.clone()?;
+        let class = Data::new(alloc, &[])?;
+        let descriptor = descriptor.clone()?;
+        let values = Values::new(alloc)?;
+        Ok(Key::new(name, class, 0, descriptor, time, values))
+    }
+
+    /// The name as spelled.
+    pub fn name(&self) -> &Name
+        ensures { result.now ≡ self.now.name }
+    {
+        &self.name
+    }
+
+    /// The class.
+    pub fn class(&self) -> &Data
+        ensures { result.now ≡ self.now.class }
+    {
+        &self.class
+    }
+
+    /// The flags.
+    pub fn flags(&self) -> u16
+        ensures { result ≡ self.now.flags }
+    {
+        self.flags
+    }
+
+    /// The security descriptor.
+    pub fn descriptor(&self) -> &Data
+        ensures { result.now ≡ self.now.descriptor }
+    {
+        &self.descriptor
+    }
+
+    /// The moment of the last write.
+    pub fn time(&self) -> u64
+        ensures { result ≡ self.now.time }
+    {
+        self.time
+    }
+
+    /// The values.
+    pub fn values(&self) -> &Values
+        ensures { result.now ≡ self.now.values }
+    {
+        &self.values
+    }
+
+    /// The key with these values, written at this moment.
+    pub fn with_values(&self, values: Values, time: u64) -> Result<Key, AllocError>
+        ensures { IfOk result (λ made. made ≡ record self.now { time = time; values = values }) }
+    {
+        let name = self.name.clone()?;
+        let class = self.class.clone()?;
+        let descriptor = self.descriptor.clone()?;
+        Ok(Key {
+            name,
+            class,
+            flags: self.flags,
+            descriptor,
+            time,
+            values,
+        })
+    }
+
+    /// The key, written at this moment.
+    pub fn touched(&self, time: u64) -> Result<Key, AllocError>
+        ensures { IfOk result (λ made. made ≡ record self.now { time = time }) }
+    {
+        let values = self.values.clone()?;
+        self.with_values(values, time)
+    }
+
+    /// The weight of the row: 192, twice the units of its name, its class and descriptor bytes and the
+    /// weight of its values; or the greatest number of 64 bits where that is more.
+    pub fn weight(&self) -> u64
+        ensures { result ≡ min (row_weight self.now) u64.MAX }
+    {
+        let units = self.name.units().len() as u64;
+        let class = self.class.bytes().len() as u64;
+        let descriptor = self.descriptor.bytes().len() as u64;
+        let values = self.values.weight();
+        units
+            .saturating_mul(2)
+            .saturating_add(class)
+            .saturating_add(descriptor)
+            .saturating_add(values)
+            .saturating_add(192)
+    }
+}

@@ -1,0 +1,20 @@
+//! The parts of a registry tree: shared bytes, values, keys, and the nodes that hold keys with their
+//! subkeys.
+//!
+//! A tree is seen as a list of entries, a path and the row of the key that stands there. The code has
+//! nodes, shared by `Arc`, which never change: a change makes new nodes along one path and shares all
+//! others. What a refused growth leaves is therefore the old tree, untouched.
+#![tactic(auto)]
+
+mod data;
+mod key;
+mod node;
+mod shared;
+mod value;
+mod values;
+
+pub use data::Data;
+pub use key::Key;
+pub use node::Node;
+pub use value::Value;
+pub use values::Values;

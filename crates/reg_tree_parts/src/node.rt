@@ -1,0 +1,346 @@
+//! Nodes: a key with its subkeys, which never changes once it is made.
+ghost use Rattle.std.specs.Prelude.{◌≡◌, ℕ, ◌+◌, ◌<◌, ◌≤◌, T, not, false, List, [], ◌∷◌, ◌++◌, length, take, IfOk, IfSome, IfNone, MatchResult, min, slice_get};
+ghost use Rattle.std.specs.Arc.{arc_value, arc_slice_items};
+ghost use Rattle.std.specs.FinMap.Entries.{is_sorted, put, where_key};
+ghost use Rattle.std.specs.Ordering.{eq_by_cmp};
+ghost use Rattle.std.specs.Option.{option_copied};
+ghost use Rattle.reg_names.specs.Names.{folded, folded_path};
+ghost use Rattle.reg_tree_parts.specs.Orders.{name_order};
+ghost use Rattle.reg_tree_parts.specs.Rows.{Row};
+ghost use Rattle.reg_tree_parts.specs.Searches.{IsFound, IsGap};
+ghost use Rattle.reg_tree_parts.specs.Nodes.{Entries, entries_of, entries_weight, all_below, kid_entries, kid_name, root_name, row_at, names_below, spelled_root, begins_path, branch_row, IsNode, AreNodes};
+
+use crate::data::Data;
+use crate::key::Key;
+use crate::shared::copied;
+use reg_names::Name;
+use std::alloc::{AllocError, Global};
+use std::cmp::Ordering;
+use std::marker::Model;
+use std::sync::{Arc, ArcSlice};
+
+/// A key and all keys below it, shared by `Arc`.
+#[derive(Drop)]
+pub struct Node {
+    key: Arc<Key>,
+    kids: ArcSlice<Arc<Node>>,
+    weight: u64,
+}
+
+impl Model for Node {
+    ghost use Rattle.std.specs.Prelude.{length};
+    ghost use Rattle.std.specs.Coded.{coded×, coded_ℕ, coded_list};
+    ghost use Rattle.std.specs.Arc.{arc_value, arc_slice_items};
+    ghost use Rattle.reg_tree_parts.specs.Rows.{row_code};
+    ghost use Rattle.reg_tree_parts.specs.Nodes.{Entries, entries_of, kid_entries, NodeFits};
+
+    ghost Value = { Entries };
+
+    ghost coded = { coded_list (coded× (coded_list (coded_list coded_ℕ)) row_code) };
+
+    ghost view = { λ inside. entries_of (arc_value inside.key) (kid_entries (arc_slice_items inside.kids)) };
+
+    ghost invariant = { λ inside. NodeFits (arc_value inside.key) (kid_entries (arc_slice_items inside.kids)) inside.weight };
+
+    ghost size = { length };
+
+    ghost use Rattle.std.proofs.Common.{arith};
+    ghost use Rattle.reg_tree_parts.specs.NodeFalls.{most_kid};
+
+    ghost size_decreases = { λ a h. omega (arith, most_kid a.kids.items.value.items) };
+}
+
+impl Node {
+    /// The weight of the key and of all keys below it, or the greatest number of 64 bits where it is more.
+    pub fn weight(&self) -> u64
+        ensures { result ≡ min (entries_weight self.now) u64.MAX }
+    {
+        self.weight
+    }
+
+    /// The key itself.
+    pub fn key(&self) -> &Key
+        ensures here { row_at self.now [] ≡ Some result.now }
+        ensures named { root_name self.now ≡ folded result.now.name }
+        ensures spelled { spelled_root self.now ≡ result.now.name }
+        ensures node { IsNode self.now }
+    {
+        &self.key
+    }
+
+    /// How many subkeys the key has.
+    pub fn subkeys(&self) -> usize
+        ensures { result ≡ length (names_below [] self.now) }
+    {
+        self.kids.len()
+    }
+
+    /// The subkey of this name.
+    pub fn child(&self, name: &Name) -> Option<&Node>
+        ensures found { IfSome result (λ child. (path : List (List ℕ)) → row_at self.now (folded name.now ∷ path) ≡ row_at child.now path) }
+        ensures names { IfSome result (λ child. (path : List (List ℕ)) → names_below (folded name.now ∷ path) self.now ≡ names_below path child.now) }
+        ensures named { IfSome result (λ child. root_name child.now ≡ folded name.now) }
+        ensures none { IfNone result ((path : List (List ℕ)) → row_at self.now (folded name.now ∷ path) ≡ None) }
+    {
+        match place(&self.kids, name) {
+            Ok(at) => Some(&*self.kids[at]),
+            Err(_) => None,
+        }
+    }
+
+    /// The key at this path from here on.
+    pub fn find(&self, path: &[Name]) -> Option<&Node>
+        ensures found { IfSome result (λ node. (rest : List (List ℕ)) → row_at self.now (folded_path path.now ++ rest) ≡ row_at node.now rest) }
+        ensures names { IfSome result (λ node. names_below (folded_path path.now) self.now ≡ names_below [] node.now) }
+        ensures none { IfNone result ((rest : List (List ℕ)) → row_at self.now (folded_path path.now ++ rest) ≡ None) }
+    {
+        match path.split_first() {
+            None => Some(self),
+            Some((name, rest)) => match self.child(name) {
+                Some(child) => child.find(rest),
+                None => None,
+            },
+        }
+    }
+
+    /// The deepest key that is there on the way along this path, and how many of its names lead to it.
+    pub fn nearest(&self, path: &[Name]) -> (&Node, usize)
+        ensures within { result.1 ≤ length path.now }
+        ensures there { (rest : List (List ℕ)) → row_at self.now (folded_path (take result.1 path.now) ++ rest) ≡ row_at result.0.now rest }
+        ensures missing { result.1 < length path.now → (rest : List (List ℕ)) → row_at self.now (folded_path (take (result.1 + 1) path.now) ++ rest) ≡ None }
+    {
+        match path.split_first() {
+            None => (self, 0),
+            Some((name, rest)) => match self.child(name) {
+                Some(child) => {
+                    let (node, depth) = child.nearest(rest);
+                    (node, depth + 1)
+                }
+                None => (self, 0),
+            },
+        }
+    }
+
+    /// The key with another row of the same name, and the same subkeys.
+    pub fn with_key(&self, alloc: Global, key: Key) -> Result<Node, AllocError>
+        requires { folded key.name ≡ root_name self.now }
+        ensures here { IfOk result (λ made. row_at made [] ≡ Some key) }
+        ensures below { IfOk result (λ made. (name : List ℕ) (rest : List (List ℕ)) → row_at made (name ∷ rest) ≡ row_at self.now (name ∷ rest)) }
+        ensures named { IfOk result (λ made. root_name made ≡ root_name self.now) }
+        ensures node { IfOk result IsNode }
+    {
+        let _ = &self.weight;
+        let key = Arc::new(alloc, key)?;
+        let kids = self.kids.clone()?;
+        Ok(Node::made(key, kids))
+    }
+
+    // the key with this subkey in the place of its name
+    fn with_child(
+        &self,
+        alloc: Global,
+        key: Arc<Key>,
+        child: Arc<Node>,
+    ) -> Result<Node, AllocError>
+        requires named { folded key.value.name ≡ root_name self.now }
+        requires node { IsNode child.value }
+        ensures here { IfOk result (λ made. row_at made [] ≡ Some key.value) }
+        ensures child { IfOk result (λ made. (rest : List (List ℕ)) → row_at made (root_name child.value ∷ rest) ≡ row_at child.value rest) }
+        ensures others { IfOk result (λ made. (name : List ℕ) (rest : List (List ℕ)) → eq_by_cmp name_order name (root_name child.value) ≡ false → row_at made (name ∷ rest) ≡ row_at self.now (name ∷ rest)) }
+        ensures root { IfOk result (λ made. root_name made ≡ root_name self.now) }
+        ensures node { IfOk result IsNode }
+    {
+        let kids = placed(alloc, &self.kids, child)?;
+        let kids = ArcSlice::from_vec(kids)?;
+        Ok(Node::made(key, kids))
+    }
+
+    /// The key with another row of the same name, and with this subkey in the place of its name.
+    pub fn with_new_child(
+        &self,
+        alloc: Global,
+        key: Key,
+        child: Node,
+    ) -> Result<Node, AllocError>
+        requires named { folded key.name ≡ root_name self.now }
+        requires node { IsNode child }
+        ensures here { IfOk result (λ made. row_at made [] ≡ Some key) }
+        ensures child { IfOk result (λ made. (rest : List (List ℕ)) → row_at made (root_name child ∷ rest) ≡ row_at child rest) }
+        ensures others { IfOk result (λ made. (name : List ℕ) (rest : List (List ℕ)) → eq_by_cmp name_order name (root_name child) ≡ false → row_at made (name ∷ rest) ≡ row_at self.now (name ∷ rest)) }
+        ensures root { IfOk result (λ made. root_name made ≡ root_name self.now) }
+        ensures node { IfOk result IsNode }
+    {
+        let key = Arc::new(alloc, key)?;
+        let child = Arc::new(alloc, child)?;
+        self.with_child(alloc, key, child)
+    }
+
+    /// The key with another row of the same name, and without the subkey of this name.
+    pub fn without_child(
+        &self,
+        alloc: Global,
+        key: Key,
+        name: &Name,
+    ) -> Result<Node, AllocError>
+        requires { folded key.name ≡ root_name self.now }
+        ensures here { IfOk result (λ made. row_at made [] ≡ Some key) }
+        ensures gone { IfOk result (λ made. (rest : List (List ℕ)) → row_at made (folded name.now ∷ rest) ≡ None) }
+        ensures others { IfOk result (λ made. (other : List ℕ) (rest : List (List ℕ)) → eq_by_cmp name_order other (folded name.now) ≡ false → row_at made (other ∷ rest) ≡ row_at self.now (other ∷ rest)) }
+        ensures root { IfOk result (λ made. root_name made ≡ root_name self.now) }
+        ensures node { IfOk result IsNode }
+    {
+        let key = Arc::new(alloc, key)?;
+        let kids = taken_out(alloc, &self.kids, name)?;
+        let kids = ArcSlice::from_vec(kids)?;
+        Ok(Node::made(key, kids))
+    }
+
+    /// The name of the subkey at this index, in the order of names.
+    pub fn subkey(&self, index: usize) -> Option<&Name>
+        ensures { option_copied result ≡ slice_get (names_below [] self.now) index }
+    {
+        if index < self.kids.len() {
+            Some(self.kids[index].key().name())
+        } else {
+            None
+        }
+    }
+
+    /// The key with the one at this path, and all below that, replaced by another of the same name.
+    pub fn replaced(
+        &self,
+        alloc: Global,
+        path: &[Name],
+        with: Node,
+    ) -> Result<Node, AllocError>
+        requires named { (row : Row) × (row_at self.now (folded_path path.now) ≡ Some row) × (folded row.name ≡ root_name with) }
+        requires node { IsNode with }
+        ensures within { IfOk result (λ made. (rest : List (List ℕ)) → row_at made (folded_path path.now ++ rest) ≡ row_at with rest) }
+        ensures others { IfOk result (λ made. (other : List (List ℕ)) → begins_path (folded_path path.now) other ≡ false → row_at made other ≡ row_at self.now other) }
+        ensures root { IfOk result (λ made. root_name made ≡ root_name self.now) }
+        ensures node { IfOk result IsNode }
+    {
+        let key = self.key.clone()?;
+        let Some((name, rest)) = path.split_first() else {
+            return Ok(with);
+        };
+        let Some(child) = self.child(name) else {
+            unreachable!();
+        };
+        let new = child.replaced(alloc, rest, with)?;
+        let made = self.with_child(alloc, key, Arc::new(alloc, new)?)?;
+        Ok(made)
+    }
+
+    /// A key without subkeys.
+    pub fn leaf(alloc: Global, key: Key) -> Result<Node, AllocError>
+        ensures here { IfOk result (λ made. row_at made [] ≡ Some key) }
+        ensures alone { IfOk result (λ made. (name : List ℕ) (rest : List (List ℕ)) → row_at made (name ∷ rest) ≡ None) }
+        ensures root { IfOk result (λ made. root_name made ≡ folded key.name) }
+        ensures node { IfOk result IsNode }
+    {
+        let key = Arc::new(alloc, key)?;
+        let kids = ArcSlice::from_vec(Vec::new(alloc))?;
+        Ok(Node::made(key, kids))
+    }
+
+    /// A new key of this name, and below it one new key of each further name, all with this descriptor.
+    pub fn branch(
+        alloc: Global,
+        name: &Name,
+        further: &[Name],
+        descriptor: &Data,
+        time: u64,
+    ) -> Result<Node, AllocError>
+        ensures rows { IfOk result (λ made. (path : List (List ℕ)) → row_at made path ≡ branch_row name.now further.now descriptor.now time path) }
+        ensures root { IfOk result (λ made. root_name made ≡ folded name.now) }
+        ensures node { IfOk result IsNode }
+    {
+        let leaf = Node::leaf(alloc, Key::fresh(alloc, name, descriptor, time)?)?;
+        let Some((next, rest)) = further.split_first() else {
+            return Ok(leaf);
+        };
+        let child = Node::branch(alloc, next, rest, descriptor, time)?;
+        let key = leaf.key.clone()?;
+        let made = leaf.with_child(alloc, key, Arc::new(alloc, child)?)?;
+        Ok(made)
+    }
+
+    // a key with these subkeys
+    fn made(key: Arc<Key>, kids: ArcSlice<Arc<Node>>) -> Node
+        requires nodes { AreNodes (kid_entries (arc_slice_items kids)) }
+        requires rises { T (is_sorted name_order (kid_entries (arc_slice_items kids))) }
+        ensures is { result ≡ entries_of (arc_value key) (kid_entries (arc_slice_items kids)) }
+        ensures node { IsNode result }
+    {
+        let weight = key.weight().saturating_add(weight_of(&kids));
+        Node { key, kids, weight }
+    }
+}
+
+// the weight of these keys and of all keys below them
+fn weight_of(kids: &[Arc<Node>]) -> u64
+    ensures { result ≡ min (entries_weight (all_below (kid_entries kids.now))) u64.MAX }
+{
+    let mut weight = 0u64;
+    for kid in kids {
+        weight = weight.saturating_add(kid.weight());
+    }
+    weight
+}
+
+// the subkeys with this one in the place of its name
+fn placed(
+    alloc: Global,
+    kids: &[Arc<Node>],
+    child: Arc<Node>,
+) -> Result<Vec<Arc<Node>>, AllocError>
+    requires { T (is_sorted name_order (kid_entries kids.now)) }
+    ensures { IfOk result (λ made. kid_entries made.items ≡ put name_order (root_name child.value) child.value (kid_entries kids.now)) }
+{
+    let mut made = copied(alloc, kids, 1)?;
+    match place(&made, child.key().name()) {
+        Ok(at) => {
+            made[at] = child;
+            Ok(made)
+        }
+        Err(at) => {
+            made.insert(at, child)?;
+            Ok(made)
+        }
+    }
+}
+
+// the subkeys without the one of this name
+fn taken_out(
+    alloc: Global,
+    kids: &[Arc<Node>],
+    name: &Name,
+) -> Result<Vec<Arc<Node>>, AllocError>
+    requires { T (is_sorted name_order (kid_entries kids.now)) }
+    ensures { IfOk result (λ made. kid_entries made.items ≡ where_key name_order (λ key. not (eq_by_cmp name_order (folded name.now) key)) (kid_entries kids.now)) }
+{
+    let mut made = copied(alloc, kids, 0)?;
+    match place(&made, name) {
+        Ok(at) => {
+            let _ = made.remove(at);
+            Ok(made)
+        }
+        Err(_) => Ok(made),
+    }
+}
+
+// where the subkey of this name stands, or where it would go
+fn place(kids: &[Arc<Node>], name: &Name) -> Result<usize, usize>
+    requires { T (is_sorted name_order (kid_entries kids.now)) }
+    ensures { MatchResult result (IsFound kid_name kids.now (folded name.now)) (IsGap name_order kid_name kids.now (folded name.now)) }
+{
+    kids.binary_search_by(|kid| compared(kid, name))
+}
+
+// how the key's name compares with this one
+fn compared(kid: &Arc<Node>, name: &Name) -> Ordering
+    ensures { result ≡ name_order (kid_name kid.now) (folded name.now) }
+{
+    kid.key().name().cmp(name)
+}

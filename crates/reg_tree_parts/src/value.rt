@@ -1,0 +1,43 @@
+//! One value of a key.
+ghost use Rattle.std.specs.Prelude.{◌≡◌, IfOk, min};
+ghost use Rattle.reg_tree_parts.specs.Weights.{value_weight};
+
+use crate::data::Data;
+use reg_names::Name;
+use std::alloc::AllocError;
+
+/// A value: its name as it was spelled first, its type number, and its data.
+#[derive(Drop)]
+pub struct Value {
+    /// The name as spelled. The empty one is the default value's.
+    pub name: Name,
+    /// The type number, which is kept and not looked at.
+    pub kind: u32,
+    /// The data.
+    pub data: Data,
+}
+
+impl Value {
+    /// The weight of the value: 128, twice the units of its name, and its bytes; or the greatest number of
+    /// 64 bits where that is more.
+    pub fn weight(&self) -> u64
+        ensures { result ≡ min (value_weight self.now) u64.MAX }
+    {
+        let units = self.name.units().len() as u64;
+        let bytes = self.data.bytes().len() as u64;
+        units.saturating_mul(2).saturating_add(bytes).saturating_add(128)
+    }
+
+    /// A copy that shares the units of the name and the data.
+    pub fn try_clone(&self) -> Result<Value, AllocError>
+        ensures { IfOk result (λ copy. copy ≡ self.now) }
+    {
+        let name = self.name.clone()?;
+        let data = self.data.clone()?;
+        Ok(Value {
+            name,
+            kind: self.kind,
+            data,
+        })
+    }
+}
