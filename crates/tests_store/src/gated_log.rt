@@ -10,9 +10,22 @@ use disk_model::{Disk, Failed};
 
 const LOG: u32 = 0;
 
+const OTHER: u32 = 1;
+
 const OPEN: u8 = 0xc3;
 
 const CLOSED: u8 = 0;
+
+/// Makes an empty log, whatever the file held, and puts both files on the disk.
+pub fn create<D: Disk>(disk: &mut D) -> Result<(), Failed>
+    ensures settled { OnOk result (D.faithful disk.old → IsSettled (D.state_at disk.new (D.clock disk.new)) 0) }
+    ensures failed { OnErr result (D.failures disk.old < D.failures disk.new) }
+{
+    disk.cut(LOG, 0)?;
+    disk.write_at(LOG, 0, &[CLOSED])?;
+    disk.sync(LOG)?;
+    disk.sync(OTHER)
+}
 
 /// Adds a byte to a log of `count` entries. At `Ok` each crash leaves a log that has it.
 pub fn append<D: Disk>(disk: &mut D, count: u64, byte: u8) -> Result<(), Failed>
