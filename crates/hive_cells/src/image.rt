@@ -1,0 +1,91 @@
+//! Hive bins data whose bins and cells tile, with its cells by their offsets.
+ghost use Rattle.std.specs.Prelude.{◌≡◌, ◌+◌, ◌-◌, ◌^◌, ◌<◌, ◌*◌, ◌/◌, ◌%◌, List, ℕ, MatchResult, IsTrue, ◌↔◌, min, length};
+ghost use Rattle.hive_cells.specs.Tiles.{Tiles, DataRefused, IsAllocatedCell, cell_data, cell_size, is_allocated};
+ghost use Rattle.hive_cells.specs.Marks.{IsMarked, IsCellMarkedAt, IsWholeCell};
+
+use crate::looks::Looks;
+use crate::marks::Mark;
+use crate::tiling::{MARKED_BYTES, cell_size, damaged, is_allocated, marks_of};
+use reg_names::{Cause, Refusal};
+use std::alloc::Global;
+use std::marker::Model;
+
+/// The bytes of a cell's size, which stand before its data.
+const SIZE_BYTES: usize = 4;
+
+/// Hive bins data that bins and cells tile: bins follow one another and fill the data, and the cells of a
+/// bin follow its header of 32 bytes and fill the bin. Contracts see an image as its bytes.
+///
+/// An image keeps its bytes and a mark for each 8 of them, by which a cell is found without a walk.
+#[derive(Drop)]
+pub struct Image {
+    bytes: Vec<u8>,
+    marks: Vec<Mark>,
+}
+
+impl Model for Image {
+    ghost Value = { List ℕ };
+
+    ghost view = { λ image. image.bytes.items };
+
+    ghost invariant = { λ image. IsMarked image.bytes.items image.marks.items };
+}
+
+impl Image {
+    /// Goes over the bytes of hive bins data once. Empty data are an image without bins.
+    ///
+    /// Refused with `HiveDamaged` of hive 0 exactly where bins and cells don't tile the data, with a cause
+    /// that stands in them: `Truncated` where they are not whole pages of 4,096 bytes, `BadBin` where a bin's
+    /// signature, offset or size is wrong or the bin doesn't end within the data, `BadCell` where a cell's
+    /// size is no multiple of 8, is below 8, or passes the end of its bin. Refused with `NoMemory` where an
+    /// eighth of the data's length was asked for and not given.
+    pub fn open(alloc: Global, bytes: Vec<u8>) -> Result<Image, Refusal>
+        ensures { MatchResult result (λ image. (image ≡ bytes.items) × Tiles bytes.items) (DataRefused bytes.items) }
+    {
+        let marks = marks_of(alloc, &bytes)?;
+        Ok(Image { bytes, marks })
+    }
+
+    /// The data of the allocated cell that begins at an offset: its bytes behind its size. Takes no memory.
+    /// Each call, also a refused one, counts one look.
+    ///
+    /// Refused with `HiveDamaged` of hive 0 and `BadOffset` exactly where no allocated cell begins there.
+    pub fn cell(&self, offset: u32, looks: &mut Looks) -> Result<&[u8], Refusal>
+        ensures data { MatchResult result (λ lent. IsAllocatedCell self.now offset × (lent.now ≡ cell_data self.now offset)) (λ refusal. (refusal ≡ Refusal.HiveDamaged 0 Cause.BadOffset) × (¬ IsAllocatedCell self.now offset)) }
+        ensures look { looks.new ≡ min (looks.old + 1) (2 ^ 64 - 1) }
+    {
+        looks.raise();
+        let at = offset as usize;
+        if is_cell_allocated(&self.bytes, &self.marks, at) {
+            Ok(data_of(&self.bytes, at))
+        } else {
+            Err(damaged(Cause::BadOffset))
+        }
+    }
+}
+
+// whether an allocated cell begins at an offset, by the marks of the data
+fn is_cell_allocated(bytes: &[u8], marks: &[Mark], at: usize) -> bool
+    requires { IsMarked bytes.now marks.now }
+    ensures found { IsTrue result ↔ IsAllocatedCell bytes.now at }
+    ensures whole { IsTrue result → IsWholeCell bytes.now at }
+{
+    is_cell(marks, at) && is_allocated(bytes, at)
+}
+
+// whether a cell is marked at an offset
+fn is_cell(marks: &[Mark], at: usize) -> bool
+    ensures { IsTrue result ↔ IsCellMarkedAt marks.now at }
+{
+    at % MARKED_BYTES == 0
+        && at / MARKED_BYTES < marks.len()
+        && marks[at / MARKED_BYTES] == Mark::Cell
+}
+
+// the data of the cell at an offset
+fn data_of(bytes: &[u8], at: usize) -> &[u8]
+    requires { IsWholeCell bytes.now at }
+    ensures { result.now ≡ cell_data bytes.now at }
+{
+    &bytes[at + SIZE_BYTES..at + cell_size(bytes, at)]
+}
