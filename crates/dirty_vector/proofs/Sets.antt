@@ -9,7 +9,7 @@ use Rattle.std.proofs.lemmas.Bool.Decides.{nat_tests}
 use Rattle.std.proofs.Math.Nat.{add-zero}
 use Rattle.std.proofs.lemmas.List.FromFn.{fill_by_all, length-map-range_with_len, get_or-map-range_with_len}
 use Rattle.dirty_vector.specs.Marks.{is_marked, is_marked_in_bitmap, marked_count, marked_below, IsNthMark}
-use Rattle.dirty_vector.specs.Pages.{Pages, is_dirty, is_bins_size, Touches, fresh_pages, read_pages, bitmap_byte, bitmap_of, NoneFrom, IsNextDirty, IsNthDirty, IsFirstRun}
+use Rattle.dirty_vector.specs.Pages.{Pages, is_dirty, dirty_count, is_bins_size, Touches, fresh_pages, read_pages, bitmap_byte, bitmap_of, NoneFrom, IsNextDirty, IsNthDirty, IsFirstRun}
 use Rattle.dirty_vector.specs.Kept.{pages_of, IsKept, IsBlank}
 use Rattle.std.specs.Prelude.{Option, Some, None, MatchOption}
 use Rattle.dirty_vector.proofs.Bytes.{none_marked}
@@ -230,12 +230,16 @@ next_kept size words v from next kept is after inside clean on = (
   (λ page low high. as_marked size words v kept is page ∙ clean page low high),
 )
 
+-- the marked pages are the dirty ones
+pub dirty_counted : (size : ℕ) (words : List ℕ) (v : Pages) → IsKept size words → pages_of size words ≡ v → marked_count (is_marked words) (64 * length words) ≡ dirty_count v
+dirty_counted size words v kept is =
+    count_past (is_marked words) (size / 512) (64 * length words) (omega (arith, kept.room)) kept.inside
+    ∙ same_count (is_marked words) (is_dirty v) (size / 512) (λ p h. sym (as_marked size words v kept is p))
+    ∙ ap (λ (u : Pages). marked_count (is_dirty v) (u.bins_size / 512)) is
+
 pub nth_kept : (size : ℕ) (words : List ℕ) (v : Pages) (n : ℕ) (result : Option ℕ) → IsKept size words → pages_of size words ≡ v
-    → MatchOption result (marked_count (is_marked words) (64 * length words) ≤ n) (IsNthMark words n) → MatchOption result (set.len v.dirty ≤ n) (IsNthDirty v n)
-nth_kept size words v n None kept is few =
-    let all = count_kept size words kept in
-    let same : set.len v.dirty ≡ set.len (marked_below (is_marked words) (size / 512)) = ap (λ (u : Pages). set.len u.dirty) (sym is) in
-    omega (arith, all, same, few)
+    → MatchOption result (marked_count (is_marked words) (64 * length words) ≤ n) (IsNthMark words n) → MatchOption result (dirty_count v ≤ n) (IsNthDirty v n)
+nth_kept size words v n None kept is few = omega (arith, dirty_counted size words v kept is, few)
 nth_kept size words v n (Some page) kept is nth =
     let inside : page < size / 512 = elim (cases_lt page (size / 512)) [ inl lt ↦ lt | inr le ↦ absurd (false≢true (sym (kept.inside page le) ∙ nth.0)) ] in (
       as_marked size words v kept is page ∙ nth.0,

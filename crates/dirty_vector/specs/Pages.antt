@@ -23,6 +23,10 @@ pages_code =
 abbrev pub is_dirty : Pages → ℕ → Bool
 is_dirty v page = set.contains v.dirty page
 
+-- how many pages of the bins data are dirty
+abbrev pub dirty_count : Pages → ℕ
+dirty_count v = marked_count (is_dirty v) (v.bins_size / 512)
+
 -- some byte from start up to end, end left out, lies in the page
 abbrev pub Touches : ℕ → ℕ → ℕ → Type 0
 Touches start end page = (byte : ℕ) × (start ≤ byte) × (byte < end) × (byte / 512 ≡ page)

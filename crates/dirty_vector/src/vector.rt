@@ -1,11 +1,11 @@
 //! The set of dirty pages.
 
-ghost use Rattle.std.specs.Prelude.{◌≡◌, ℕ, ◌/◌, ◌≤◌, ◌↔◌, ◌⊎◌, Bool, true, false, IsTrue, IfOk, IfErr, MatchOption, length, Ok};
+ghost use Rattle.std.specs.Prelude.{◌≡◌, ℕ, ◌/◌, ◌%◌, ◌≤◌, ◌↔◌, ◌⊎◌, Bool, true, false, IsTrue, IfOk, IfErr, MatchOption, length, Ok};
 ghost use Rattle.std.specs.FinSet as set;
 ghost use Rattle.reg_names.specs.Names.{IsOrNoMemory, RefusedFor};
 ghost use Rattle.dirty_vector.specs.Kept.{IsBlank};
 ghost use Rattle.dirty_vector.specs.Marks.{is_marked_in_bitmap, marked_below};
-ghost use Rattle.dirty_vector.specs.Pages.{is_dirty, is_bins_size, Touches, NoneFrom, IsNextDirty, IsNthDirty, IsFirstRun, fresh_pages, read_pages, bitmap_of};
+ghost use Rattle.dirty_vector.specs.Pages.{is_dirty, dirty_count, is_bins_size, Touches, NoneFrom, IsNextDirty, IsNthDirty, IsFirstRun, fresh_pages, read_pages, bitmap_of};
 
 use crate::bitmap::{read_bitmap, write_bitmap};
 use crate::marks::{WORD_BITS, count_marks, first_page, is_page_marked, mark_pages, nth_mark};
@@ -58,7 +58,9 @@ impl DirtyVector {
     /// The size of the bins data in bytes.
     pub fn bins_size(&self) -> usize
         ensures value { result ≡ self.now.bins_size }
-        ensures good { is_bins_size result ≡ true }
+        ensures whole { result % 4096 ≡ 0 }
+        ensures least { 4096 ≤ result }
+        ensures most { result ≤ MOST_BINS_BYTES }
     {
         self.bins_size
     }
@@ -88,7 +90,8 @@ impl DirtyVector {
 
     /// How many pages are dirty.
     pub fn count(&self) -> usize
-        ensures { result ≡ set.len self.now.dirty }
+        ensures set { result ≡ set.len self.now.dirty }
+        ensures pages { result ≡ dirty_count self.now }
     {
         count_marks(&self.words)
     }
@@ -109,7 +112,7 @@ impl DirtyVector {
     /// The dirty page with `index` dirty pages before it, found a word at a time; none where there are no
     /// more than `index` dirty pages.
     pub fn nth_dirty(&self, index: usize) -> Option<usize>
-        ensures { MatchOption result (set.len self.now.dirty ≤ index) (IsNthDirty self.now index) }
+        ensures { MatchOption result (dirty_count self.now ≤ index) (IsNthDirty self.now index) }
     {
         let words = self.words.as_slice();
         nth_mark(words, index)

@@ -1,0 +1,26 @@
+//! Where the parts of a log lie.
+
+ghost use Rattle.std.specs.Prelude.{◌≡◌, ◌≤◌};
+ghost use Rattle.dirt_log.specs.LogText.{pages_at};
+
+use dirty_vector::PAGE_BYTES;
+
+/// Bytes of bins data for which the bitmap has a byte.
+pub(crate) const BYTES_PER_BITMAP_BYTE: usize = 4096;
+
+/// Where the four letters stand.
+pub(crate) const LETTERS_AT: usize = 512;
+
+/// The four letters behind the block.
+pub(crate) const LETTERS: &[u8] = b"DIRT";
+
+/// Where the bitmap stands.
+pub(crate) const BITMAP_AT: usize = 516;
+
+/// Where the dirty pages begin: at the end of the bitmap, rounded up to a multiple of 512.
+pub(crate) fn pages_start(bins_size: usize) -> usize
+    requires { bins_size ≤ 67108864 }
+    ensures { result ≡ pages_at bins_size }
+{
+    (BITMAP_AT + bins_size / BYTES_PER_BITMAP_BYTE).div_ceil(PAGE_BYTES) * PAGE_BYTES
+}

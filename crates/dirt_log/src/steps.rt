@@ -1,0 +1,156 @@
+//! Writing a log in pieces.
+
+ghost use Rattle.std.specs.Prelude.{◌≡◌, ◌≤◌, ◌+◌, ◌-◌, ◌/◌, ◌*◌, ◌%◌, ◌++◌, take, drop, length};
+ghost use Rattle.dirt_log.specs.LogText.{pages_from, head_text, log_text, bitmap_end, pages_at};
+ghost use Rattle.base_block.specs.Layout.{zeros};
+ghost use Rattle.dirty_vector.specs.Pages.{is_dirty, bitmap_of};
+
+use crate::pages::{BITMAP_AT, BYTES_PER_BITMAP_BYTE, LETTERS, LETTERS_AT, pages_start};
+use base_block::{BaseBlock, FileType};
+use dirty_vector::{DirtyVector, PAGE_BYTES};
+use std::marker::Model;
+
+/// The most bytes in a piece of a log.
+pub const PIECE_BYTES: usize = 65_536;
+
+/// The text of a log, which is given in pieces and held by nobody. Contracts see it as the list of its
+/// bytes.
+#[derive(Drop)]
+pub struct LogSteps<'a> {
+    image: &'a [u8],
+    vector: &'a DirtyVector,
+    sector: [u8; 512],
+}
+
+impl<'a> Model for LogSteps<'a> {
+    ghost use Rattle.std.specs.Prelude.{ℕ, List, length, ◌≡◌};
+    ghost use Rattle.std.specs.Coded.{coded_ℕ, coded_list};
+
+    ghost Value = { List ℕ };
+
+    ghost coded = { coded_list coded_ℕ };
+
+    ghost use Rattle.dirt_log.specs.LogText.{text_behind};
+
+    ghost view = { λ a. text_behind a.image.now a.vector.now a.sector };
+
+    ghost invariant = { λ a. (length a.image.now ≡ a.vector.now.bins_size) × (length a.sector ≡ 512) };
+}
+
+/// The log of a flush: of the image of the bins data as it will be, its dirty pages, and the base block
+/// of the primary file as it will be. The log's own block is the same with the type of a log. Takes no
+/// memory.
+pub fn write_steps<'a>(image: &'a [u8], vector: &'a DirtyVector, base: &BaseBlock) -> LogSteps<'a>
+    requires { length image.now ≡ vector.now.bins_size }
+    ensures { result ≡ log_text image.now vector.now base.now }
+{
+    let block = BaseBlock {
+        file_type: FileType::LOG,
+        ..*base
+    };
+    let sector = block.write();
+    LogSteps {
+        image,
+        vector,
+        sector,
+    }
+}
+
+impl LogSteps<'_> {
+    /// How many bytes the log has.
+    pub fn len(&self) -> usize
+        ensures { result ≡ length self.now }
+    {
+        pages_start(self.vector.bins_size()) + PAGE_BYTES * self.vector.count()
+    }
+
+    /// Lays the piece of a number, from 0 on, at the front of a buffer: how many bytes it has. Each piece
+    /// but the last is full, and past the last there is none.
+    pub fn piece(&self, index: u32, buffer: &mut [u8]) -> usize
+        requires { length buffer.old ≡ 65536 }
+        ensures bytes { take result buffer.new ≡ take 65536 (drop (65536 * index) self.now) }
+        ensures count { result ≡ length (take 65536 (drop (65536 * index) self.now)) }
+    {
+        let head = pages_start(self.vector.bins_size());
+        if index == 0 {
+            put_head(self.vector, &self.sector, buffer);
+            return put_pages(self.image, self.vector, 0, head, buffer);
+        }
+        let skipped = (PIECE_BYTES * index as usize - head) / PAGE_BYTES;
+        match self.vector.nth_dirty(skipped) {
+            Some(page) => put_pages(self.image, self.vector, page, 0, buffer),
+            None => 0,
+        }
+    }
+}
+
+// Lays the dirty pages from `from` on behind the first `at` bytes, until the buffer is full: where they end.
+fn put_pages(image: &[u8], vector: &DirtyVector, from: usize, at: usize, buffer: &mut [u8]) -> usize
+    requires sizes { length image.now ≡ vector.now.bins_size }
+    requires room { length buffer.old ≡ 65536 }
+    requires inside { at ≤ 65536 }
+    requires whole { at % 512 ≡ 0 }
+    ensures within { result ≤ 65536 }
+    ensures bytes { take result buffer.new ≡ take 65536 (take at buffer.old ++ pages_from image.now vector.now from) }
+{
+    let mut end = at;
+    let mut page = from;
+    while end < PIECE_BYTES {
+        match vector.next_dirty(page) {
+            None => return end,
+            Some(next) => {
+                put(
+                    buffer,
+                    end,
+                    &image[PAGE_BYTES * next..PAGE_BYTES * (next + 1)],
+                );
+                end += PAGE_BYTES;
+                page = next + 1;
+            }
+        }
+    }
+    end
+}
+
+// Lays what stands before the pages.
+fn put_head(vector: &DirtyVector, sector: &[u8], buffer: &mut [u8])
+    requires room { length buffer.old ≡ 65536 }
+    requires sector { length sector.now ≡ 512 }
+    ensures { take (pages_at vector.now.bins_size) buffer.new ≡ head_text vector.now sector.now }
+{
+    let bins_size = vector.bins_size();
+    put(buffer, 0, sector);
+    put(buffer, LETTERS_AT, LETTERS);
+    put_bitmap(vector, buffer);
+    put_zeros(
+        buffer,
+        BITMAP_AT + bins_size / BYTES_PER_BITMAP_BYTE,
+        pages_start(bins_size),
+    );
+}
+
+// Lays the bitmap at its place.
+fn put_bitmap(vector: &DirtyVector, buffer: &mut [u8])
+    requires { length buffer.old ≡ 65536 }
+    ensures { take (bitmap_end vector.now.bins_size) buffer.new ≡ take 516 buffer.old ++ bitmap_of (is_dirty vector.now) (vector.now.bins_size / 4096) }
+{
+    let end = BITMAP_AT + vector.bins_size() / BYTES_PER_BITMAP_BYTE;
+    vector.write(&mut buffer[BITMAP_AT..end]);
+}
+
+// Lays zeros from a place to another.
+fn put_zeros(buffer: &mut [u8], from: usize, to: usize)
+    requires order { from ≤ to }
+    requires inside { to ≤ length buffer.old }
+    ensures { take to buffer.new ≡ take from buffer.old ++ zeros (to - from) }
+{
+    buffer[from..to].fill(0);
+}
+
+// Lays bytes at a place.
+fn put(buffer: &mut [u8], at: usize, bytes: &[u8])
+    requires { at + length bytes.now ≤ length buffer.old }
+    ensures { take (at + length bytes.now) buffer.new ≡ take at buffer.old ++ bytes.now }
+{
+    buffer[at..at + bytes.len()].copy_from_slice(bytes);
+}
