@@ -76,3 +76,21 @@ IsAllocatedCell bytes at = ((end : ℕ) × CellStart bytes end at) × IsTrue (is
 -- the data of a cell: its bytes behind its size
 abbrev pub cell_data : List ℕ → ℕ → List ℕ
 cell_data bytes at = slice_range bytes (at + 4) (at + cell_size bytes at)
+
+-- a tile of the data: the header of the bin that begins at an offset, or the cell that begins there
+pub data Tile : Type 0 where
+  header : ℕ → Tile
+  cell : ℕ → Tile
+
+abbrev pub IsTile : List ℕ → Tile → Type 0
+IsTile bytes (header at) = BinStart bytes at
+IsTile bytes (cell at) = (end : ℕ) × CellStart bytes end at
+
+-- the tile holds the byte at an offset
+abbrev pub HoldsByte : List ℕ → Tile → ℕ → Type 0
+HoldsByte bytes (header at) i = (at ≤ i) × (i < at + 32)
+HoldsByte bytes (cell at) i = (at ≤ i) × (i < at + cell_size bytes at)
+
+-- the byte at an offset lies in one tile, and in no other
+abbrev pub LiesInOneTile : List ℕ → ℕ → Type 0
+LiesInOneTile bytes i = (tile : Tile) × IsTile bytes tile × HoldsByte bytes tile i × ((other : Tile) → IsTile bytes other → HoldsByte bytes other i → other ≡ tile)

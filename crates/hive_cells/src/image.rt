@@ -1,6 +1,6 @@
 //! Hive bins data whose bins and cells tile, with its cells by their offsets.
 ghost use Rattle.std.specs.Prelude.{◌≡◌, ◌+◌, ◌-◌, ◌^◌, ◌<◌, ◌*◌, ◌/◌, ◌%◌, List, ℕ, MatchResult, IsTrue, ◌↔◌, min, length};
-ghost use Rattle.hive_cells.specs.Tiles.{Tiles, DataRefused, IsAllocatedCell, cell_data, cell_size, is_allocated};
+ghost use Rattle.hive_cells.specs.Tiles.{Tiles, LiesInOneTile, DataRefused, IsAllocatedCell, cell_data, cell_size, is_allocated};
 ghost use Rattle.hive_cells.specs.Marks.{IsMarked, IsCellMarkedAt, IsWholeCell};
 
 use crate::looks::Looks;
@@ -44,6 +44,37 @@ impl Image {
     {
         let marks = marks_of(alloc, &bytes)?;
         Ok(Image { bytes, marks })
+    }
+
+    /// The law of every image: bins and cells tile it, and each byte lies in the header of one bin or in one
+    /// cell, and in nothing else. Does nothing.
+    pub fn tiles(&self, at: usize)
+        ensures tiles { Tiles self.now }
+        ensures once { at < length self.now → LiesInOneTile self.now at }
+    {
+        let _ = &self.bytes;
+    }
+
+    /// The bytes of the data.
+    pub fn len(&self) -> usize
+        ensures { result ≡ length self.now }
+    {
+        self.bytes.len()
+    }
+
+    /// Whether the data have no bin.
+    pub fn is_empty(&self) -> bool
+        ensures { IsTrue result ↔ (length self.now ≡ 0) }
+    {
+        self.bytes.is_empty()
+    }
+
+    /// The bytes of the data, given back without taking memory.
+    pub fn into_bytes(self) -> Vec<u8>
+        ensures { result.items ≡ self }
+    {
+        let Image { bytes, marks: _ } = self;
+        bytes
     }
 
     /// The data of the allocated cell that begins at an offset: its bytes behind its size. Takes no memory.
