@@ -1,3 +1,4 @@
+pub mod CaughtUp
 pub mod Crashes
 pub mod Files
 pub mod Left

@@ -1,8 +1,8 @@
 //! One file in memory, with what a crash needs to know of it.
-ghost use Rattle.std.specs.Prelude.{◌≡◌, ◌+◌, [], ◌++◌, ◌<◌, ◌≤◌, max, length, take, drop, OnOk, OnErr, IfOk};
-ghost use Rattle.disk_model.specs.FileState.{at_rest, put, resized, Writes, Cuts, Syncs, IsSound};
+ghost use Rattle.std.specs.Prelude.{◌≡◌, ◌+◌, [], ◌++◌, ◌<◌, ◌≤◌, max, length, take, drop, map, slice_index, ℕ, OnOk, OnErr, IfOk};
+ghost use Rattle.disk_model.specs.FileState.{at_rest, put, resized, Covers, Writes, Cuts, Syncs, IsSound};
 ghost use Rattle.disk_model.specs.Shown.{IsWhole};
-ghost use Rattle.disk_model.specs.Written.{file_of};
+ghost use Rattle.disk_model.specs.Written.{file_of, range_of, IsApart};
 
 use crate::tear::{Tear, torn};
 use crate::written::Written;
@@ -107,7 +107,7 @@ impl MemFile {
         ensures done { OnOk result (Syncs (file_state self.old) (file_state self.new)) }
         ensures failed { OnErr result (file_state self.new ≡ file_state self.old) }
     {
-        replace(&mut self.synced, &self.seen)?;
+        catch_up(&mut self.synced, &self.seen, &self.written, self.least)?;
         self.written.clear();
         self.least = self.seen.len();
         self.greatest = self.seen.len();
@@ -155,11 +155,34 @@ fn paste(file: &mut Vec<u8>, offset: usize, bytes: &[u8])
     file[offset..offset + bytes.len()].copy_from_slice(bytes);
 }
 
-fn replace(file: &mut Vec<u8>, bytes: &[u8]) -> Result<(), AllocError>
-    ensures done { OnOk result (file.new.items ≡ bytes.now) }
-    ensures failed { OnErr result (file.new.items ≡ file.old.items) }
+/// Makes the synced bytes what a read gives. Only what was written since, or is past the least length, is copied.
+fn catch_up(
+    synced: &mut Vec<u8>,
+    seen: &[u8],
+    written: &[Written],
+    least: usize,
+) -> Result<(), AllocError>
+    requires { IsApart (map range_of written.now) least synced.old.items seen.now }
+    ensures done { OnOk result (synced.new.items ≡ seen.now) }
+    ensures failed { OnErr result (synced.new.items ≡ synced.old.items) }
 {
-    file.reserve(bytes.len().saturating_sub(file.len()))?;
-    file.clear();
-    file.extend_from_slice(bytes)
+    synced.reserve(seen.len().saturating_sub(synced.len()))?;
+    synced.truncate(least);
+    synced.extend_from_slice(&seen[least..])?;
+    for write in written {
+        copy_range(synced, seen, write);
+    }
+    Ok(())
+}
+
+/// Copies the bytes of one write, as far as they are still there.
+fn copy_range(synced: &mut [u8], seen: &[u8], write: &Written)
+    requires { length synced.old ≡ length seen.now }
+    ensures inside { (p : ℕ) → p < length seen.now → Covers (range_of write.now) p → slice_index synced.new p ≡ slice_index seen.now p }
+    ensures outside { (p : ℕ) → (Covers (range_of write.now) p → ⊥) → slice_index synced.new p ≡ slice_index synced.old p }
+{
+    let end = write.offset.saturating_add(write.len).min(seen.len());
+    if write.offset < end {
+        synced[write.offset..end].copy_from_slice(&seen[write.offset..end]);
+    }
 }
