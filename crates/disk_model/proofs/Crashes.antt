@@ -3,7 +3,7 @@ use Rattle.std.proofs.Common.{◌≡◌, ℕ, ◌<◌, ◌≤◌, ⊎_elim, List
 use Rattle.std.proofs.lemmas.Bool.{cases_lt}
 use Rattle.disk_model.specs.FileState.{FileState}
 use Rattle.disk_model.specs.Call.{Passes, Extends}
-use Rattle.disk_model.specs.Crash.{AlwaysLeaves}
+use Rattle.disk_model.specs.Crash.{AlwaysLeaves, LeavesOnly, LeavesOnlyHonest}
 
 -- two moments at which each file has the same state
 same_state : (a b : ℕ → FileState) → ((f : ℕ) → a f ≡ b f) → a ≡ b
@@ -41,6 +41,14 @@ module _ (left : (ℕ → FileState) → (ℕ → List ℕ) → Type 0) where
       goes_on old new before now since P so_far time
       (λ files here. at_present old before since P le so_far files (subst (λ (s : ℕ → FileState). left s files) (same_state (new now) (old before) same) here))
 
+  -- what has P has Q too; and a later beginning leaves less
+  pub weaker : (states : ℕ → ℕ → FileState) (clock since : ℕ) (P Q : (ℕ → List ℕ) → Type 0) → ((files : ℕ → List ℕ) → P files → Q files)
+      → AlwaysLeaves left states clock since P → AlwaysLeaves left states clock since Q
+  weaker states clock since P Q implies always files was = implies files (always files was)
+
+  pub from_later : (states : ℕ → ℕ → FileState) (clock since later : ℕ) (P : (ℕ → List ℕ) → Type 0) → since ≤ later → AlwaysLeaves left states clock since P → AlwaysLeaves left states clock later P
+  from_later states clock since later P le always files (k, from, upto, was) = always files (k, omega arith, upto, was)
+
   -- a run after another, each seen by itself
   pub joins : (mid new : ℕ → ℕ → FileState) (start before now : ℕ) (P : (ℕ → List ℕ) → Type 0) → Extends mid new before now
       → AlwaysLeaves left mid before start P → AlwaysLeaves left new now before P → AlwaysLeaves left new now start P
@@ -67,3 +75,7 @@ extends_over old mid new start before now first second = record {
   later = omega (arith, first.later, second.later);
   past = λ k f le. second.past k f (omega (arith, first.later)) ∙ first.past k f le;
 }
+
+-- what every crash leaves, a crash that leaves honest first sectors leaves
+pub honest_too : (has_sector : ℕ → Type 0) (states : ℕ → ℕ → FileState) (clock since : ℕ) (P : (ℕ → List ℕ) → Type 0) → LeavesOnly states clock since P → LeavesOnlyHonest has_sector states clock since P
+honest_too has_sector states clock since P always files (k, from, upto, was) = always files (k, from, upto, was.0)

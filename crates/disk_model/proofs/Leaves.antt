@@ -2,7 +2,7 @@
 use Rattle.std.proofs.Common.{◌≡◌, inl, inr, ⊎_elim, ℕ, ◌+◌, ◌-◌, ◌<◌, ◌≤◌, List, [], ◌∷◌, ◌++◌, length, get_or, take, drop, replicate, refl, sym, ◌∙◌, ap, subst, arith, length-take, length-drop, take-append-drop}
 use Rattle.std.specs.Prelude.{Result, Ok, Err, OnOk, OnErr}
 use Rattle.std.proofs.lemmas.List.{same_lists, get_or-take, get_or-drop, get_or_default, take_all, drop_all, append-nil}
-use Rattle.disk_model.specs.FileState.{FileState, at_rest, Covers, Leaves, IsSound, resized, put, after_write, Writes, MayWrite, after_cut, Cuts, MayCut, Syncs}
+use Rattle.disk_model.specs.FileState.{FileState, at_rest, Covers, IsWritten, Leaves, IsSound, resized, put, after_write, Writes, MayWrite, after_cut, Cuts, MayCut, Syncs}
 use Rattle.disk_model.proofs.Steps.{length-put, done_may_write, done_may_cut}
 
 -- a synced file is only its bytes
@@ -97,3 +97,8 @@ module _ (file bytes seen c : List ℕ) (offset : ℕ) (left : Leaves (after_wri
       (λ k d h. let inside : end + k < length c = omega (arith, length-drop end c) in
       get_or-drop end c k d ∙ get_or_default c (end + k) d 0 inside ∙ byte_kept (end + k) (omega (arith, same_length le)) (λ covers. omega (arith, covers.1))
       ∙ get_or_default file (end + k) 0 d (omega (arith, same_length le)) ∙ sym (get_or-drop end file k d))
+
+-- after any writes since a sync, all of them within some part of the file, a crash leaves the rest as it was synced
+pub kept_outside : (file : FileState) (c : List ℕ) (part : ℕ → Type 0) → ((p : ℕ) → IsWritten file.ranges p → part p) → Leaves file c
+    → (p : ℕ) → p < file.least → (part p → ⊥) → get_or c p 0 ≡ get_or file.synced p 0
+kept_outside file c part within left p below out = left.kept p below (λ written. out (within p written))

@@ -34,7 +34,8 @@ pub trait Disk {
 
     /// The length of a file in bytes.
     fn len(&mut self, file: u32) -> Result<u64, Failed>
-        ensures len { IfOk result (λ n. faithful self.old → n ≡ length (state_at self.old (clock self.old) file).seen) }
+        ensures len { IfOk result (λ n. faithful self.old →
+            n ≡ length (state_at self.old (clock self.old) file).seen) }
         ensures same { (f : ℕ) → state_at self.new (clock self.new) f ≡ state_at self.old (clock self.old) f }
         ensures time { Passes (state_at self.old) (state_at self.new) (clock self.old) (clock self.new) }
         ensures failures { CountsFailure result (failures self.old) (failures self.new) }
@@ -43,7 +44,8 @@ pub trait Disk {
     /// Reads from an offset in bytes on into the front of `buffer`, and answers how many bytes there were.
     fn read(&mut self, file: u32, offset: u64, buffer: &mut [u8]) -> Result<usize, Failed>
         ensures count { IfOk result (λ n. n ≤ length buffer.old) }
-        ensures read { IfOk result (λ n. faithful self.old → Reads offset (state_at self.old (clock self.old) file).seen buffer.old buffer.new n) }
+        ensures read { IfOk result (λ n. faithful self.old →
+            Reads offset (state_at self.old (clock self.old) file).seen buffer.old buffer.new n) }
         ensures same { (f : ℕ) → state_at self.new (clock self.new) f ≡ state_at self.old (clock self.old) f }
         ensures time { Passes (state_at self.old) (state_at self.new) (clock self.old) (clock self.new) }
         ensures failures { CountsFailure result (failures self.old) (failures self.new) }
@@ -52,31 +54,41 @@ pub trait Disk {
     /// Writes at an offset in bytes. Past the end the file gets longer, with zeros between. Until a sync a crash may leave
     /// any bytes in the range.
     fn write_at(&mut self, file: u32, offset: u64, bytes: &[u8]) -> Result<(), Failed>
-        ensures written { OnOk result (faithful self.old → Writes offset bytes.now (state_at self.old (clock self.old) file) (state_at self.new (clock self.new) file)) }
-        ensures failed { OnErr result (faithful self.old → MayWrite offset bytes.now (state_at self.old (clock self.old) file) (state_at self.new (clock self.new) file)) }
-        ensures others { KeepsOthers file (state_at self.old (clock self.old)) (state_at self.new (clock self.new)) }
+        ensures written { OnOk result (faithful self.old → Writes offset bytes.now
+            (state_at self.old (clock self.old) file) (state_at self.new (clock self.new) file)) }
+        ensures failed { OnErr result (faithful self.old → MayWrite offset bytes.now
+            (state_at self.old (clock self.old) file) (state_at self.new (clock self.new) file)) }
+        ensures others { KeepsOthers file
+            (state_at self.old (clock self.old)) (state_at self.new (clock self.new)) }
         ensures time { Passes (state_at self.old) (state_at self.new) (clock self.old) (clock self.new) }
         ensures failures { CountsFailure result (failures self.old) (failures self.new) }
         ensures faithful { faithful self.old ↔ faithful self.new };
 
     /// Makes a file `len` bytes long: cuts it, or puts zeros behind it.
     fn cut(&mut self, file: u32, len: u64) -> Result<(), Failed>
-        ensures cut { OnOk result (faithful self.old → Cuts len (state_at self.old (clock self.old) file) (state_at self.new (clock self.new) file)) }
-        ensures failed { OnErr result (faithful self.old → MayCut len (state_at self.old (clock self.old) file) (state_at self.new (clock self.new) file)) }
-        ensures others { KeepsOthers file (state_at self.old (clock self.old)) (state_at self.new (clock self.new)) }
+        ensures cut { OnOk result (faithful self.old → Cuts len
+            (state_at self.old (clock self.old) file) (state_at self.new (clock self.new) file)) }
+        ensures failed { OnErr result (faithful self.old → MayCut len
+            (state_at self.old (clock self.old) file) (state_at self.new (clock self.new) file)) }
+        ensures others { KeepsOthers file
+            (state_at self.old (clock self.old)) (state_at self.new (clock self.new)) }
         ensures time { Passes (state_at self.old) (state_at self.new) (clock self.old) (clock self.new) }
         ensures failures { CountsFailure result (failures self.old) (failures self.new) }
         ensures faithful { faithful self.old ↔ faithful self.new };
 
     /// After it a crash leaves what a read gives. A sync that failed keeps nothing: what was on its way still is.
     fn sync(&mut self, file: u32) -> Result<(), Failed>
-        ensures synced { OnOk result (faithful self.old → Syncs (state_at self.old (clock self.old) file) (state_at self.new (clock self.new) file)) }
-        ensures failed { OnErr result (faithful self.old → state_at self.new (clock self.new) file ≡ state_at self.old (clock self.old) file) }
-        ensures others { KeepsOthers file (state_at self.old (clock self.old)) (state_at self.new (clock self.new)) }
+        ensures synced { OnOk result (faithful self.old → Syncs
+            (state_at self.old (clock self.old) file) (state_at self.new (clock self.new) file)) }
+        ensures failed { OnErr result (faithful self.old →
+            state_at self.new (clock self.new) file ≡ state_at self.old (clock self.old) file) }
+        ensures others { KeepsOthers file
+            (state_at self.old (clock self.old)) (state_at self.new (clock self.new)) }
         ensures time { Passes (state_at self.old) (state_at self.new) (clock self.old) (clock self.new) }
         ensures failures { CountsFailure result (failures self.old) (failures self.new) }
         ensures faithful { faithful self.old ↔ faithful self.new };
 
     /// What a read gives is one of the contents that a crash may leave.
-    ghost sound: { (disk : Self) (k f : ℕ) → faithful disk → k ≤ clock disk → IsSound (state_at disk k f) };
+    ghost sound: { (disk : Self) (k f : ℕ) →
+        faithful disk → k ≤ clock disk → IsSound (state_at disk k f) };
 }

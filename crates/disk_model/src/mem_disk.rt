@@ -42,7 +42,8 @@ impl MemDisk {
     /// Takes memory ahead: within the next `calls` calls no call takes any, where no file gets more than `bytes` bytes longer.
     /// A refused one may have taken some of it.
     pub fn room(&mut self, bytes: usize, calls: usize) -> Result<(), AllocError>
-        ensures files { (k f : ℕ) → ⟦<MemDisk as Disk>⟧.state_at self.new k f ≡ ⟦<MemDisk as Disk>⟧.state_at self.old k f }
+        ensures files { (k f : ℕ) →
+            ⟦<MemDisk as Disk>⟧.state_at self.new k f ≡ ⟦<MemDisk as Disk>⟧.state_at self.old k f }
         ensures clock { ⟦<MemDisk as Disk>⟧.clock self.new ≡ ⟦<MemDisk as Disk>⟧.clock self.old }
         ensures failures { ⟦<MemDisk as Disk>⟧.failures self.new ≡ ⟦<MemDisk as Disk>⟧.failures self.old }
     {
@@ -52,9 +53,16 @@ impl MemDisk {
 
     /// The disk after a crash now, as `tear` says. What is left counts as synced. `plan` is that of the new disk; this one stays.
     pub fn crashed(&self, tear: Tear, plan: Arc<Plan>) -> Result<MemDisk, AllocError>
-        ensures left { IfOk result (λ disk. (f : ℕ) → IsCrashOf tear (⟦<MemDisk as Disk>⟧.state_at self.now (⟦<MemDisk as Disk>⟧.clock self.now) f) (⟦<MemDisk as Disk>⟧.state_at disk 0 f)) }
-        ensures honest { IfOk result (λ disk. (f : ℕ) → WritesWholeSectors (⟦<MemDisk as Disk>⟧.state_at self.now (⟦<MemDisk as Disk>⟧.clock self.now) f) → IsHonest (⟦<MemDisk as Disk>⟧.state_at self.now (⟦<MemDisk as Disk>⟧.clock self.now) f) (⟦<MemDisk as Disk>⟧.state_at disk 0 f).seen) }
-        ensures allowed { IfOk result (λ disk. (f : ℕ) → Leaves (⟦<MemDisk as Disk>⟧.state_at self.now (⟦<MemDisk as Disk>⟧.clock self.now) f) (⟦<MemDisk as Disk>⟧.state_at disk 0 f).seen) }
+        ensures left { IfOk result (λ disk. (f : ℕ) → IsCrashOf tear
+            (⟦<MemDisk as Disk>⟧.state_at self.now (⟦<MemDisk as Disk>⟧.clock self.now) f)
+            (⟦<MemDisk as Disk>⟧.state_at disk 0 f)) }
+        ensures honest { IfOk result (λ disk. (f : ℕ) →
+            WritesWholeSectors (⟦<MemDisk as Disk>⟧.state_at self.now (⟦<MemDisk as Disk>⟧.clock self.now) f) →
+            IsHonest (⟦<MemDisk as Disk>⟧.state_at self.now (⟦<MemDisk as Disk>⟧.clock self.now) f)
+            (⟦<MemDisk as Disk>⟧.state_at disk 0 f).seen) }
+        ensures allowed { IfOk result (λ disk. (f : ℕ) → Leaves
+            (⟦<MemDisk as Disk>⟧.state_at self.now (⟦<MemDisk as Disk>⟧.clock self.now) f)
+            (⟦<MemDisk as Disk>⟧.state_at disk 0 f).seen) }
         ensures clock { IfOk result (λ disk. ⟦<MemDisk as Disk>⟧.clock disk ≡ 0) }
         ensures failures { IfOk result (λ disk. ⟦<MemDisk as Disk>⟧.failures disk ≡ 0) }
     {
@@ -67,7 +75,8 @@ impl MemDisk {
 }
 
 fn files_after(files: &Vec<MemFile>, tear: Tear) -> Result<Vec<MemFile>, AllocError>
-    ensures { IfOk result (λ after. (f : ℕ) → IsCrashOf tear (state_of files.now.items f) (state_of after.items f)) }
+    ensures { IfOk result (λ after. (f : ℕ) → IsCrashOf tear
+        (state_of files.now.items f) (state_of after.items f)) }
 {
     let alloc = *files.allocator();
     let mut after = Vec::new(alloc);
@@ -102,7 +111,8 @@ fn reserve(files: &mut Vec<MemFile>, bytes: usize, calls: usize) -> Result<(), A
 
 #[tactic(auto, using(crate::proofs::Files::one_changed))]
 fn write(files: &mut Vec<MemFile>, file: u32, offset: u64, bytes: &[u8]) -> Result<(), Failed>
-    ensures done { OnOk result (Writes offset bytes.now (state_of files.old.items file) (state_of files.new.items file)) }
+    ensures done { OnOk result (Writes offset bytes.now
+        (state_of files.old.items file) (state_of files.new.items file)) }
     ensures failed { OnErr result (state_of files.new.items file ≡ state_of files.old.items file) }
     ensures others { KeepsOthers file (state_of files.old.items) (state_of files.new.items) }
 {
@@ -123,7 +133,8 @@ fn write_and_fail(
     bytes: &[u8],
 ) -> Result<(), Failed>
     ensures fails { IsErr result }
-    ensures written { MayWrite offset bytes.now (state_of files.old.items file) (state_of files.new.items file) }
+    ensures written { MayWrite offset bytes.now
+        (state_of files.old.items file) (state_of files.new.items file) }
     ensures others { KeepsOthers file (state_of files.old.items) (state_of files.new.items) }
 {
     let _ = write(files, file, offset, bytes);
@@ -132,7 +143,8 @@ fn write_and_fail(
 
 #[tactic(auto, using(crate::proofs::Files::one_changed))]
 fn cut(files: &mut Vec<MemFile>, file: u32, len: u64) -> Result<(), Failed>
-    ensures done { OnOk result (Cuts len (state_of files.old.items file) (state_of files.new.items file)) }
+    ensures done { OnOk result (Cuts len
+        (state_of files.old.items file) (state_of files.new.items file)) }
     ensures failed { OnErr result (state_of files.new.items file ≡ state_of files.old.items file) }
     ensures others { KeepsOthers file (state_of files.old.items) (state_of files.new.items) }
 {

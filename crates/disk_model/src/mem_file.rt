@@ -178,8 +178,10 @@ fn catch_up(
 /// Copies the bytes of one write, as far as they are still there.
 fn copy_range(synced: &mut [u8], seen: &[u8], write: &Written)
     requires { length synced.old ≡ length seen.now }
-    ensures inside { (p : ℕ) → p < length seen.now → Covers (range_of write.now) p → slice_index synced.new p ≡ slice_index seen.now p }
-    ensures outside { (p : ℕ) → (Covers (range_of write.now) p → ⊥) → slice_index synced.new p ≡ slice_index synced.old p }
+    ensures inside { (p : ℕ) → p < length seen.now → Covers (range_of write.now) p →
+        slice_index synced.new p ≡ slice_index seen.now p }
+    ensures outside { (p : ℕ) → (Covers (range_of write.now) p → ⊥) →
+        slice_index synced.new p ≡ slice_index synced.old p }
 {
     let end = write.offset.saturating_add(write.len).min(seen.len());
     if write.offset < end {

@@ -20,7 +20,8 @@ pub enum Tear {
 /// What a read gives, with the last byte of each write inverted.
 pub(crate) fn torn(alloc: Global, seen: &[u8], written: &[Written]) -> Result<Vec<u8>, AllocError>
     ensures size { IfOk result (λ v. length v.items ≡ length seen.now) }
-    ensures each { IfOk result (λ v. (p : ℕ) → p < length seen.now → slice_index v.items p ≡ torn_byte (reverse (map range_of written.now)) seen.now p) }
+    ensures each { IfOk result (λ v. (p : ℕ) → p < length seen.now →
+        slice_index v.items p ≡ torn_byte (reverse (map range_of written.now)) seen.now p) }
 {
     let mut bytes = seen.to_vec(alloc)?;
     for write in written {
@@ -32,8 +33,11 @@ pub(crate) fn torn(alloc: Global, seen: &[u8], written: &[Written]) -> Result<Ve
 /// Puts back the bytes of one write, with the last of them inverted.
 fn invert_end(bytes: &mut [u8], seen: &[u8], write: &Written)
     requires { length bytes.old ≡ length seen.now }
-    ensures { (p : ℕ) → p < length seen.now → slice_index bytes.new p ≡ (if nat_le write.now.offset p && nat_lt p (write.now.offset + write.now.len)
-        then (if p + 1 == write.now.offset + write.now.len then 255 - slice_index seen.now p else slice_index seen.now p) else slice_index bytes.old p) }
+    ensures { (p : ℕ) → p < length seen.now → slice_index bytes.new p ≡
+        (if nat_le write.now.offset p && nat_lt p (write.now.offset + write.now.len)
+        then (if p + 1 == write.now.offset + write.now.len
+        then 255 - slice_index seen.now p else slice_index seen.now p)
+        else slice_index bytes.old p) }
 {
     let end = write.offset.saturating_add(write.len);
     for p in write.offset..end.min(seen.len()) {
