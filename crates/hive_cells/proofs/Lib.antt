@@ -1,3 +1,5 @@
+pub mod Edits
 pub mod Marking
 pub mod OneTile
 pub mod Reached
+pub mod Region

@@ -1,2 +1,3 @@
-pub mod Tiles
+pub mod Changes
 pub mod Marks
+pub mod Tiles

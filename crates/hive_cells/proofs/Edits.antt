@@ -1,0 +1,288 @@
+-- The three changes of cells: a cell becomes allocated or free, a free cell is split, two free cells are joined.
+use Rattle.std.proofs.Common.{◌≡◌, ◌≢◌, ℕ, ◌+◌, ◌*◌, ◌%◌, ◌/◌, ◌<◌, ◌≤◌, Bool, false, List, length, refl, sym, ◌∙◌, subst, inl, inr, arith, ap}
+use Rattle.std.specs.Prelude.{slice_set, ◌⊎◌}
+use Rattle.std.proofs.lemmas.Bool.{cases_eq, cases_lt, cases_order}
+use Rattle.hive_cells.specs.declared.marks.Mark.{Mark}
+use Rattle.hive_cells.specs.declared.marks.Mark.TheVariants.{Inside, Bin, Cell}
+use Rattle.hive_cells.specs.Tiles.{word_at, cell_size, is_allocated}
+use Rattle.hive_cells.specs.Marks.{mark_at, CellMarked, IsMarked, IsCellMarkedAt}
+use Rattle.hive_cells.specs.Changes.{OthersStay, AllStay, PutsSize}
+use Rattle.hive_cells.proofs.Marking.{SetsMark, set_mark}
+use Rattle.hive_cells.proofs.Region.{ChangesCells, size_same, kind_same, all_again, stays_at, words_same}
+
+-- a size that is put leaves the words before and behind it
+puts_beside : (old new : List ℕ) (at size : ℕ) (kind : Bool) → PutsSize old new at size kind → (other : ℕ) → ((other + 4 ≤ at) ⊎ (at + 4 ≤ other)) → word_at new other ≡ word_at old other
+puts_beside old new at size kind p other (inl low) = words_same old new other (λ i after before. p.others i (inl (omega arith)))
+puts_beside old new at size kind p other (inr high) = words_same old new other (λ i after before. p.others i (inr (omega arith)))
+
+-- ---- a cell becomes allocated or free
+
+module _ (bytes bytes' : List ℕ) (marks : List Mark) (k : ℕ) (m : IsMarked bytes marks) (is_cell : mark_at marks k ≡ Cell) (kind : Bool) (p : PutsSize bytes bytes' (8 * k) (cell_size bytes (8 * k)) kind) where
+  turns : ChangesCells bytes bytes' marks marks k (k + cell_size bytes (8 * k) / 8)
+  turns =
+      let c : CellMarked bytes marks (length bytes) k = m.all.cells k is_cell in
+      let eights : cell_size bytes (8 * k) % 8 ≡ 0 = c.sound.eights in
+      let least : 8 ≤ cell_size bytes (8 * k) = c.sound.least in
+      let within : 8 * k + cell_size bytes (8 * k) ≤ length bytes = c.sound.within in
+      let size : cell_size bytes' (8 * k) ≡ cell_size bytes (8 * k) = p.size_is in
+      let to : 8 * (k + cell_size bytes (8 * k) / 8) ≡ 8 * k + cell_size bytes (8 * k) = omega arith in
+      record {
+        len = p.len;
+        marks_len = refl;
+        some = omega arith;
+        within = omega arith;
+        begins = is_cell;
+        ends = λ before. c.behind (k + cell_size bytes (8 * k) / 8) to before;
+        one_bin = λ j after before is_bin. (let inside : mark_at marks j ≡ Inside = c.inside j after (omega arith) in let no : ⊥ = cc in no);
+        bytes_before = λ i before. p.others i (inl before);
+        bytes_behind = λ i after. p.others i (inr (omega arith));
+        marks_before = λ j before. refl;
+        marks_behind = λ j after. refl;
+        begins_again = is_cell;
+        no_bin = λ j after before is_bin. elim (cases_eq j k) [
+          | inl same ↦ (let no : ⊥ = cc in no)
+          | inr apart ↦ (let inside : mark_at marks j ≡ Inside = c.inside j (omega arith) (omega arith) in let no : ⊥ = cc in no)
+        ];
+        cells = λ j after before found. elim (cases_eq j k) [
+          | inl same ↦ subst (λ (x : ℕ). CellMarked bytes' marks (8 * (k + cell_size bytes (8 * k) / 8)) x) (sym same) (record {
+            sound = record { eights = omega arith; least = omega arith; within = omega arith };
+            inside = λ i later inner. c.inside i later (omega arith);
+            behind = λ i is inner. absurd (omega arith);
+          })
+          | inr apart ↦ absurd (let inside : mark_at marks j ≡ Inside = c.inside j (omega arith) (omega arith) in let no : ⊥ = cc in no)
+        ];
+      }
+
+  -- what is marked tiles again
+  pub turned_marked : IsMarked bytes' marks
+  turned_marked = all_again bytes bytes' marks marks k (k + cell_size bytes (8 * k) / 8) m.all turns m
+
+  -- all other allocated cells stay
+  pub turned_stay : OthersStay bytes bytes' (8 * k)
+  turned_stay at apart =
+      let c : CellMarked bytes marks (length bytes) k = m.all.cells k is_cell in
+      let eights : cell_size bytes (8 * k) % 8 ≡ 0 = c.sound.eights in
+      let other : k ≤ at / 8 → at / 8 < k + cell_size bytes (8 * k) / 8 → IsCellMarkedAt marks at → ⊥ =
+      (λ after before w.
+      let slot : 8 * (at / 8) ≡ at = omega (arith, w.eights) in
+      let inside : mark_at marks (at / 8) ≡ Inside = c.inside (at / 8) (omega arith) (omega arith) in
+      let found : mark_at marks (at / 8) ≡ Cell = w.is_cell in
+      cc) in
+      stays_at bytes bytes' marks marks k (k + cell_size bytes (8 * k) / 8) m.all turns m at (λ after before w. absurd (other after before w)) (λ after before w. absurd (other after before w))
+
+-- ---- a free cell is split
+
+module _ (bytes half bytes' : List ℕ) (marks : List Mark) (k a rest : ℕ) (m : IsMarked bytes marks) (is_cell : mark_at marks k ≡ Cell) (is_free : is_allocated bytes (8 * k) ≡ false) (whole : cell_size bytes (8 * k) ≡ 8 * a + rest) (some : 0 < a) (more : 8 ≤ rest)
+    (p : PutsSize bytes half (8 * (k + a)) rest false) (q : PutsSize half bytes' (8 * k) (8 * a) false) where
+  split_marks : List Mark
+  split_marks = slice_set marks (k + a) Cell
+
+  split_set : SetsMark marks split_marks (k + a) Cell
+  unfolding split_marks
+  split_set =
+      let within : 8 * k + cell_size bytes (8 * k) ≤ length bytes = (m.all.cells k is_cell).sound.within in
+      set_mark marks (k + a) Cell (omega (arith, m.all.len))
+
+  second_size : cell_size bytes' (8 * (k + a)) ≡ rest
+  second_size = size_same half bytes' (8 * (k + a)) (puts_beside half bytes' (8 * k) (8 * a) false q (8 * (k + a)) (inr (omega arith))) ∙ p.size_is
+
+  second_free : is_allocated bytes' (8 * (k + a)) ≡ false
+  second_free = kind_same half bytes' (8 * (k + a)) (puts_beside half bytes' (8 * k) (8 * a) false q (8 * (k + a)) (inr (omega arith))) ∙ p.kind_is
+
+  splits : ChangesCells bytes bytes' marks split_marks k (k + a + rest / 8)
+  splits =
+      let c : CellMarked bytes marks (length bytes) k = m.all.cells k is_cell in
+      let s : SetsMark marks split_marks (k + a) Cell = split_set in
+      let eights : cell_size bytes (8 * k) % 8 ≡ 0 = c.sound.eights in
+      let within : 8 * k + cell_size bytes (8 * k) ≤ length bytes = c.sound.within in
+      let first_size : cell_size bytes' (8 * k) ≡ 8 * a = q.size_is in
+      let behind_size : cell_size bytes' (8 * (k + a)) ≡ rest = second_size in
+      let rest_eights : rest % 8 ≡ 0 = omega arith in
+      let to : 8 * (k + a + rest / 8) ≡ 8 * k + cell_size bytes (8 * k) = omega arith in
+      record {
+        len = q.len ∙ p.len;
+        marks_len = s.len;
+        some = omega arith;
+        within = omega arith;
+        begins = is_cell;
+        ends = λ before. c.behind (k + a + rest / 8) to before;
+        one_bin = λ j after before is_bin. (let inside : mark_at marks j ≡ Inside = c.inside j after (omega arith) in let no : ⊥ = cc in no);
+        bytes_before = λ i before. q.others i (inl before) ∙ p.others i (inl (omega arith));
+        bytes_behind = λ i after. q.others i (inr (omega arith)) ∙ p.others i (inr (omega arith));
+        marks_before = λ j before. s.others j (omega arith);
+        marks_behind = λ j after. s.others j (omega arith);
+        begins_again = s.others k (omega arith) ∙ is_cell;
+        no_bin = λ j after before is_bin. elim (cases_eq j (k + a)) [
+          | inl same ↦ (let here : mark_at split_marks (k + a) ≡ Cell = s.here in let no : ⊥ = cc in no)
+          | inr apart ↦ (
+              let was : mark_at marks j ≡ Bin = sym (s.others j apart) ∙ is_bin in
+              elim (cases_eq j k) [
+                | inl same ↦ (let no : ⊥ = cc in no)
+                | inr other ↦ (let inside : mark_at marks j ≡ Inside = c.inside j (omega arith) (omega arith) in let no : ⊥ = cc in no)
+              ]
+              )
+        ];
+        cells = λ j after before found. elim (cases_eq j (k + a)) [
+          | inl same ↦ subst (λ (x : ℕ). CellMarked bytes' split_marks (8 * (k + a + rest / 8)) x) (sym same) (record {
+            sound = record { eights = omega arith; least = omega arith; within = omega arith };
+            inside = λ i later inner. s.others i (omega arith) ∙ c.inside i (omega arith) (omega arith);
+            behind = λ i is inner. absurd (omega arith);
+          })
+          | inr apart ↦ elim (cases_eq j k) [
+            | inl same ↦ subst (λ (x : ℕ). CellMarked bytes' split_marks (8 * (k + a + rest / 8)) x) (sym same) (record {
+              sound = record { eights = omega arith; least = omega arith; within = omega arith };
+              inside = λ i later inner. s.others i (omega arith) ∙ c.inside i later (omega arith);
+              behind = λ i is inner none. (
+                  let here : mark_at split_marks (k + a) ≡ Cell = s.here in
+                  let at_is : i ≡ k + a = omega arith in
+                  let no : ⊥ = cc in no
+                  );
+            })
+            | inr other ↦ absurd (
+                let was : mark_at marks j ≡ Cell = sym (s.others j apart) ∙ found in
+                let inside : mark_at marks j ≡ Inside = c.inside j (omega arith) (omega arith) in
+                let no : ⊥ = cc in no
+                )
+          ]
+        ];
+      }
+
+  pub split_marked : IsMarked bytes' (slice_set marks (k + a) Cell)
+  unfolding split_marks
+  split_marked = all_again bytes bytes' marks split_marks k (k + a + rest / 8) m.all splits m
+
+  -- all allocated cells stay
+  pub split_stay : AllStay bytes bytes'
+  split_stay at =
+      let c : CellMarked bytes marks (length bytes) k = m.all.cells k is_cell in
+      let s : SetsMark marks split_marks (k + a) Cell = split_set in
+      let eights : cell_size bytes (8 * k) % 8 ≡ 0 = c.sound.eights in
+      stays_at bytes bytes' marks split_marks k (k + a + rest / 8) m.all splits m at
+      (λ after before w.
+      let slot : 8 * (at / 8) ≡ at = omega (arith, w.eights) in
+      let found : mark_at marks (at / 8) ≡ Cell = w.is_cell in
+      elim (cases_eq (at / 8) k) [
+        | inl same ↦ (let at_is : at ≡ 8 * k = omega arith in ap (is_allocated bytes) at_is ∙ is_free)
+        | inr other ↦ absurd (let inside : mark_at marks (at / 8) ≡ Inside = c.inside (at / 8) (omega arith) (omega arith) in let no : ⊥ = cc in no)
+      ])
+      (λ after before w.
+      let slot : 8 * (at / 8) ≡ at = omega (arith, w.eights) in
+      let found : mark_at split_marks (at / 8) ≡ Cell = w.is_cell in
+      elim (cases_eq (at / 8) k) [
+        | inl same ↦ (let at_is : at ≡ 8 * k = omega arith in ap (is_allocated bytes') at_is ∙ q.kind_is)
+        | inr other ↦ elim (cases_eq (at / 8) (k + a)) [
+          | inl same ↦ (let at_is : at ≡ 8 * (k + a) = omega arith in ap (is_allocated bytes') at_is ∙ second_free)
+          | inr apart ↦ absurd (
+              let was : mark_at marks (at / 8) ≡ Cell = sym (s.others (at / 8) apart) ∙ found in
+              let inside : mark_at marks (at / 8) ≡ Inside = c.inside (at / 8) (omega arith) (omega arith) in
+              let no : ⊥ = cc in no
+              )
+        ]
+      ])
+
+-- ---- two free cells are joined
+
+module _ (bytes bytes' : List ℕ) (marks : List Mark) (k a rest : ℕ) (m : IsMarked bytes marks) (is_cell : mark_at marks k ≡ Cell) (is_next : mark_at marks (k + a) ≡ Cell)
+    (first_free : is_allocated bytes (8 * k) ≡ false) (next_free : is_allocated bytes (8 * (k + a)) ≡ false) (first_size : cell_size bytes (8 * k) ≡ 8 * a) (next_size : cell_size bytes (8 * (k + a)) ≡ rest)
+    (q : PutsSize bytes bytes' (8 * k) (8 * a + rest) false) where
+  join_marks : List Mark
+  join_marks = slice_set marks (k + a) Inside
+
+  join_set : SetsMark marks join_marks (k + a) Inside
+  unfolding join_marks
+  join_set =
+      let within : 8 * (k + a) + cell_size bytes (8 * (k + a)) ≤ length bytes = (m.all.cells (k + a) is_next).sound.within in
+      let least : 8 ≤ cell_size bytes (8 * (k + a)) = (m.all.cells (k + a) is_next).sound.least in
+      set_mark marks (k + a) Inside (omega (arith, m.all.len))
+
+  joins : ChangesCells bytes bytes' marks join_marks k (k + a + rest / 8)
+  joins =
+      let c : CellMarked bytes marks (length bytes) k = m.all.cells k is_cell in
+      let d : CellMarked bytes marks (length bytes) (k + a) = m.all.cells (k + a) is_next in
+      let s : SetsMark marks join_marks (k + a) Inside = join_set in
+      let least : 8 ≤ cell_size bytes (8 * k) = c.sound.least in
+      let next_least : 8 ≤ cell_size bytes (8 * (k + a)) = d.sound.least in
+      let next_eights : cell_size bytes (8 * (k + a)) % 8 ≡ 0 = d.sound.eights in
+      let within : 8 * (k + a) + cell_size bytes (8 * (k + a)) ≤ length bytes = d.sound.within in
+      let size : cell_size bytes' (8 * k) ≡ 8 * a + rest = q.size_is in
+      let rest_eights : rest % 8 ≡ 0 = omega arith in
+      let to : 8 * (k + a + rest / 8) ≡ 8 * (k + a) + cell_size bytes (8 * (k + a)) = omega arith in
+      let inner : (j : ℕ) → k < j → j < k + a + rest / 8 → mark_at join_marks j ≡ Inside =
+      (λ j after before. elim (cases_order j (k + a)) [
+        | inl same ↦ ap (mark_at join_marks) same ∙ s.here
+        | inr apart ↦ elim apart [
+          | inl low ↦ s.others j (omega arith) ∙ c.inside j after (omega arith)
+          | inr high ↦ s.others j (omega arith) ∙ d.inside j high (omega arith)
+        ]
+      ]) in
+      record {
+        len = q.len;
+        marks_len = s.len;
+        some = omega arith;
+        within = omega arith;
+        begins = is_cell;
+        ends = λ before. d.behind (k + a + rest / 8) to before;
+        one_bin = λ j after before is_bin. elim (cases_eq j (k + a)) [
+          | inl same ↦ (let no : ⊥ = cc in no)
+          | inr apart ↦ (let inside : mark_at join_marks j ≡ Inside = inner j after before in let was : mark_at join_marks j ≡ mark_at marks j = s.others j apart in let no : ⊥ = cc in no)
+        ];
+        bytes_before = λ i before. q.others i (inl before);
+        bytes_behind = λ i after. q.others i (inr (omega arith));
+        marks_before = λ j before. s.others j (omega arith);
+        marks_behind = λ j after. s.others j (omega arith);
+        begins_again = s.others k (omega arith) ∙ is_cell;
+        no_bin = λ j after before is_bin. elim (cases_eq j k) [
+          | inl same ↦ (let begins : mark_at join_marks k ≡ Cell = s.others k (omega arith) ∙ is_cell in let no : ⊥ = cc in no)
+          | inr apart ↦ (let inside : mark_at join_marks j ≡ Inside = inner j (omega arith) before in let no : ⊥ = cc in no)
+        ];
+        cells = λ j after before found. elim (cases_eq j k) [
+          | inl same ↦ subst (λ (x : ℕ). CellMarked bytes' join_marks (8 * (k + a + rest / 8)) x) (sym same) (record {
+            sound = record { eights = omega arith; least = omega arith; within = omega arith };
+            inside = λ i later low. inner i later (omega arith);
+            behind = λ i is low. absurd (omega arith);
+          })
+          | inr apart ↦ absurd (let inside : mark_at join_marks j ≡ Inside = inner j (omega arith) before in let no : ⊥ = cc in no)
+        ];
+      }
+
+  pub joined_marked : IsMarked bytes' (slice_set marks (k + a) Inside)
+  unfolding join_marks
+  joined_marked = all_again bytes bytes' marks join_marks k (k + a + rest / 8) m.all joins m
+
+  -- all allocated cells stay
+  pub joined_stay : AllStay bytes bytes'
+  joined_stay at =
+      let c : CellMarked bytes marks (length bytes) k = m.all.cells k is_cell in
+      let d : CellMarked bytes marks (length bytes) (k + a) = m.all.cells (k + a) is_next in
+      let s : SetsMark marks join_marks (k + a) Inside = join_set in
+      let next_eights : cell_size bytes (8 * (k + a)) % 8 ≡ 0 = d.sound.eights in
+      let was_inside : (j : ℕ) → k < j → j ≢ k + a → j < k + a + rest / 8 → mark_at marks j ≡ Inside =
+      (λ j after apart before. elim (cases_lt j (k + a)) [
+        | inl low ↦ c.inside j after (omega arith)
+        | inr high ↦ d.inside j (omega arith) (omega arith)
+      ]) in
+      stays_at bytes bytes' marks join_marks k (k + a + rest / 8) m.all joins m at
+      (λ after before w.
+      let slot : 8 * (at / 8) ≡ at = omega (arith, w.eights) in
+      let found : mark_at marks (at / 8) ≡ Cell = w.is_cell in
+      elim (cases_eq (at / 8) k) [
+        | inl same ↦ (let at_is : at ≡ 8 * k = omega arith in ap (is_allocated bytes) at_is ∙ first_free)
+        | inr other ↦ elim (cases_eq (at / 8) (k + a)) [
+          | inl same ↦ (let at_is : at ≡ 8 * (k + a) = omega arith in ap (is_allocated bytes) at_is ∙ next_free)
+          | inr apart ↦ absurd (let inside : mark_at marks (at / 8) ≡ Inside = was_inside (at / 8) (omega arith) apart before in let no : ⊥ = cc in no)
+        ]
+      ])
+      (λ after before w.
+      let slot : 8 * (at / 8) ≡ at = omega (arith, w.eights) in
+      let found : mark_at join_marks (at / 8) ≡ Cell = w.is_cell in
+      elim (cases_eq (at / 8) k) [
+        | inl same ↦ (let at_is : at ≡ 8 * k = omega arith in ap (is_allocated bytes') at_is ∙ q.kind_is)
+        | inr other ↦ elim (cases_eq (at / 8) (k + a)) [
+          | inl same ↦ absurd (let here : mark_at join_marks (k + a) ≡ Inside = s.here in let no : ⊥ = cc in no)
+          | inr apart ↦ absurd (
+              let was : mark_at marks (at / 8) ≡ Cell = sym (s.others (at / 8) apart) ∙ found in
+              let inside : mark_at marks (at / 8) ≡ Inside = was_inside (at / 8) (omega arith) apart before in
+              let no : ⊥ = cc in no
+              )
+        ]
+      ])

@@ -1,0 +1,40 @@
+-- What a change of the cells leaves: which are allocated, with which data, and which bytes were written.
+use Rattle.std.specs.Prelude.{◌≡◌, ◌≢◌, ℕ, ◌+◌, ◌*◌, ◌/◌, ◌<◌, ◌≤◌, Bool, false, List, length, slice_index, ◌↔◌, ◌⊎◌}
+use Rattle.hive_cells.specs.declared.marks.Mark.{Mark}
+use Rattle.hive_cells.specs.Tiles.{is_allocated, cell_size, IsAllocatedCell, cell_data}
+use Rattle.hive_cells.specs.Marks.{IsCellMarkedAt}
+
+-- at an offset an allocated cell begins after the change exactly where one did before, and its data are the same
+pub record StaysAt (old new : List ℕ) (at : ℕ) : Type 0 where
+  pub same : IsAllocatedCell new at ↔ IsAllocatedCell old at
+  pub kept : IsAllocatedCell old at → cell_data new at ≡ cell_data old at
+
+-- the allocated cells but for the one at an offset stay
+abbrev pub OthersStay : List ℕ → List ℕ → ℕ → Type 0
+OthersStay old new offset = (at : ℕ) → at ≢ offset → StaysAt old new at
+
+-- all allocated cells stay
+abbrev pub AllStay : List ℕ → List ℕ → Type 0
+AllStay old new = (at : ℕ) → StaysAt old new at
+
+-- the least size of a cell for data of a length: four bytes more, rounded up to a multiple of 8
+abbrev pub least_size : ℕ → ℕ
+least_size len = (len + 11) / 8 * 8
+
+-- only the bytes from one offset up to another are written, and those behind the old end
+pub record WritesWithin (old new : List ℕ) (from to : ℕ) : Type 0 where
+  pub longer : length old ≤ length new
+  pub others : (i : ℕ) → i < length old → ((i < from) ⊎ (to ≤ i)) → slice_index new i ≡ slice_index old i
+
+-- the size of a cell is written
+pub record PutsSize (old new : List ℕ) (at size : ℕ) (allocated : Bool) : Type 0 where
+  pub len : length new ≡ length old
+  pub size_is : cell_size new at ≡ size
+  pub kind_is : is_allocated new at ≡ allocated
+  pub others : (i : ℕ) → ((i < at) ⊎ (at + 4 ≤ i)) → slice_index new i ≡ slice_index old i
+
+-- a free cell of a size is marked at an offset
+pub record IsFreeCell (bytes : List ℕ) (marks : List Mark) (at size : ℕ) : Type 0 where
+  pub marked : IsCellMarkedAt marks at
+  pub size_is : cell_size bytes at ≡ size
+  pub is_free : is_allocated bytes at ≡ false
