@@ -1,1 +1,3 @@
 pub mod PageBytes
+pub mod Whole
+pub mod Replaced

@@ -1,5 +1,5 @@
 -- The bytes of dirty pages.
-use Rattle.std.proofs.Common.{◌≡◌, ◌≢◌, ◌≤◌, ◌<◌, ℕ, zero, suc, ◌+◌, ◌-◌, ◌*◌, ◌/◌, Bool, true, false, cond, List, [], ◌∷◌, ◌++◌, length, take, drop, refl, sym, ap, ◌∙◌, inl, inr, arith, append_assoc, length-append, subst}
+use Rattle.std.proofs.Common.{◌≡◌, ◌≢◌, ◌≤◌, ◌<◌, ℕ, zero, suc, ◌+◌, ◌-◌, ◌*◌, ◌/◌, Bool, true, false, cond, List, [], ◌∷◌, ◌++◌, length, take, drop, refl, sym, ap, ◌∙◌, inl, inr, arith, append_assoc, length-append}
 use Rattle.std.specs.Prelude.{filter}
 use Rattle.std.specs.List.{range_with_len, flat_map}
 use Rattle.std.proofs.lemmas.Bool.{cases_Bool}
@@ -170,14 +170,11 @@ full_laid buffer rest whole end full room bytes =
     sym (take_at (take end buffer) rest 65536 len) ∙ ap (take 65536) bytes
 
 -- one page more
-pub part_laid : (buffer new image rest whole : List ℕ) (end next : ℕ) → 512 * (next + 1) ≤ length image
-    → (let part = take (512 * (next + 1) - 512 * next) (drop (512 * next) image) in take (end + length part) new ≡ take end buffer ++ part)
+pub part_laid : (buffer new image part rest whole : List ℕ) (end next : ℕ) → part ≡ page_of image next → length part ≡ 512
+    → take (end + length part) new ≡ take end buffer ++ part
     → take end buffer ++ (page_of image next ++ rest) ≡ whole → take (end + 512) new ++ rest ≡ whole
-part_laid buffer new image rest whole end next inside put bytes =
-    let e : 512 * (next + 1) - 512 * next ≡ 512 = omega arith in
-    let placed : take (end + length (page_of image next)) new ≡ take end buffer ++ page_of image next =
-    subst (λ (k : ℕ). take (end + length (take k (drop (512 * next) image))) new ≡ take end buffer ++ take k (drop (512 * next) image)) e put in
-    let laid : take (end + 512) new ≡ take end buffer ++ page_of image next = ap (λ (n : ℕ). take (end + n) new) (sym (length_page image next inside)) ∙ placed in
+part_laid buffer new image part rest whole end next is long put bytes =
+    let laid : take (end + 512) new ≡ take end buffer ++ page_of image next = ap (λ (n : ℕ). take (end + n) new) (sym long) ∙ put ∙ ap (λ (xs : List ℕ). take end buffer ++ xs) is in
     ap (λ (xs : List ℕ). xs ++ rest) laid ∙ append_assoc (take end buffer) (page_of image next) rest ∙ bytes
 
 -- the head, part by part

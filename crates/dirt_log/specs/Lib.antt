@@ -1,1 +1,3 @@
 pub mod LogText
+pub mod WholeLog
+pub mod Held

@@ -6,7 +6,12 @@
 //! is read only where the primary file isn't clean.
 #![tactic(auto)]
 
+mod held;
 mod pages;
+mod reading;
+mod repair;
 mod steps;
 
+pub use held::clean_primary_stands;
+pub use reading::{DirtLog, read};
 pub use steps::{LogSteps, PIECE_BYTES, write_steps};

@@ -1,7 +1,7 @@
 //! Where the parts of a log lie.
 
-ghost use Rattle.std.specs.Prelude.{◌≡◌, ◌≤◌};
-ghost use Rattle.dirt_log.specs.LogText.{pages_at};
+ghost use Rattle.std.specs.Prelude.{◌≡◌, ◌≤◌, ◌+◌, ◌*◌, length};
+ghost use Rattle.dirt_log.specs.LogText.{page_of, pages_at};
 
 use dirty_vector::PAGE_BYTES;
 
@@ -23,4 +23,13 @@ pub(crate) fn pages_start(bins_size: usize) -> usize
     ensures { result ≡ pages_at bins_size }
 {
     (BITMAP_AT + bins_size / BYTES_PER_BITMAP_BYTE).div_ceil(PAGE_BYTES) * PAGE_BYTES
+}
+
+/// The bytes of a page.
+pub(crate) fn page_bytes(image: &[u8], page: usize) -> &[u8]
+    requires { 512 * (page + 1) ≤ length image.now }
+    ensures value { result.now ≡ page_of image.now page }
+    ensures long { length result.now ≡ 512 }
+{
+    &image[PAGE_BYTES * page..PAGE_BYTES * (page + 1)]
 }

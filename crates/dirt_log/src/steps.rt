@@ -5,7 +5,9 @@ ghost use Rattle.dirt_log.specs.LogText.{pages_from, head_text, log_text, bitmap
 ghost use Rattle.base_block.specs.Layout.{zeros};
 ghost use Rattle.dirty_vector.specs.Pages.{is_dirty, bitmap_of};
 
-use crate::pages::{BITMAP_AT, BYTES_PER_BITMAP_BYTE, LETTERS, LETTERS_AT, pages_start};
+use crate::pages::{
+    BITMAP_AT, BYTES_PER_BITMAP_BYTE, LETTERS, LETTERS_AT, page_bytes, pages_start,
+};
 use base_block::{BaseBlock, FileType};
 use dirty_vector::{DirtyVector, PAGE_BYTES};
 use std::marker::Model;
@@ -99,11 +101,7 @@ fn put_pages(image: &[u8], vector: &DirtyVector, from: usize, at: usize, buffer:
         match vector.next_dirty(page) {
             None => return end,
             Some(next) => {
-                put(
-                    buffer,
-                    end,
-                    &image[PAGE_BYTES * next..PAGE_BYTES * (next + 1)],
-                );
+                put(buffer, end, page_bytes(image, next));
                 end += PAGE_BYTES;
                 page = next + 1;
             }

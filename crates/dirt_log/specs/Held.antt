@@ -1,0 +1,26 @@
+-- What a primary file and its log hold together.
+use Rattle.std.specs.Prelude.{◌≡◌, ◌≤◌, ℕ, ◌+◌, nat_le, Bool, ◌&&◌, List, take, drop, length, MatchBool}
+use Rattle.base_block.specs.declared.block.BaseBlock.{BaseBlock}
+use Rattle.base_block.specs.Layout.{is_clean_block}
+use Rattle.dirt_log.specs.WholeLog.{IsWhole, IsCovered, block_of, pages_in, page_bytes_in, repaired}
+
+-- a primary file is clean when its first sector is there and its block is clean
+abbrev pub is_clean_file : List ℕ → Bool
+is_clean_file primary = nat_le 512 (length primary) && is_clean_block (block_of primary)
+
+-- the block and the bins data of a clean primary file: its own, whatever its log is
+pub record IsOwn (primary : List ℕ) (block : BaseBlock) (bins : List ℕ) : Type 0 where
+  pub read : block ≡ block_of primary
+  pub long : 4096 + block.bins_size ≤ length primary
+  pub part : bins ≡ take block.bins_size (drop 4096 primary)
+
+-- the block and the bins data of an unclean primary file: those that its log repairs
+pub record IsRepaired (primary log : List ℕ) (block : BaseBlock) (bins : List ℕ) : Type 0 where
+  pub whole : IsWhole log
+  pub read : block ≡ block_of log
+  pub covered : IsCovered (length (drop 4096 primary)) (pages_in log)
+  pub image : bins ≡ repaired (drop 4096 primary) (pages_in log) (page_bytes_in log)
+
+-- the block and the bins data that are in use
+abbrev pub IsInUse : List ℕ → List ℕ → BaseBlock → List ℕ → Type 0
+IsInUse primary log block bins = MatchBool (is_clean_file primary) (IsOwn primary block bins) (IsRepaired primary log block bins)
