@@ -1,0 +1,5 @@
+pub mod Rows
+pub mod Depths
+pub mod Paths
+pub mod Splices
+pub mod Changes

@@ -1,0 +1,24 @@
+-- What a tree says of the entries that it stands for.
+use Rattle.std.proofs.Common.{◌≡◌, ℕ, List, [], ◌∷◌, ◌++◌, Some, None, sym, ◌∙◌, ap}
+use Rattle.std.specs.FinMap as finite
+use Rattle.std.specs.FinMap.{entries-from_sorted, get-from_sorted}
+use Rattle.reg_tree_parts.specs.Orders.{path_order}
+use Rattle.reg_tree_parts.specs.Nodes.{Entries, IsNode, row_at, names_below, entries_weight}
+use Rattle.reg_tree.specs.Maps.{TreeMap, row, subkeys, weight}
+
+module _ (entries : Entries) (node : IsNode entries) where
+  -- its rows are those of the entries
+  pub row_is : (path : List (List ℕ)) → row (finite.from_sorted {R = path_order} entries) path ≡ row_at entries path
+  row_is path = get-from_sorted path_order entries path node.rises
+
+  -- so are the names of its subkeys
+  pub subkeys_are : (path : List (List ℕ)) → subkeys (finite.from_sorted {R = path_order} entries) path ≡ names_below path entries
+  subkeys_are path = ap (names_below path) (entries-from_sorted path_order entries node.rises)
+
+  -- and its weight
+  pub weight_is : weight (finite.from_sorted {R = path_order} entries) ≡ entries_weight entries
+  weight_is = ap entries_weight (entries-from_sorted path_order entries node.rises)
+
+-- rows of the entries are those of the tree, by the value that it is seen as
+pub rows_of : (entries at : Entries) (tree : TreeMap) → IsNode entries → finite.from_sorted entries ≡ tree → at ≡ entries → (path : List (List ℕ)) → row_at at path ≡ row tree path
+rows_of entries at tree node view is path = ap (λ es. row_at es path) is ∙ sym (row_is entries node path) ∙ ap (λ t. row t path) view

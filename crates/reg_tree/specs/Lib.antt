@@ -1,0 +1,4 @@
+pub mod Maps
+pub mod Operations
+pub mod Judgement
+pub mod Reads

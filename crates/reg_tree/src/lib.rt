@@ -1,0 +1,16 @@
+//! Registry trees and the operations on them.
+//!
+//! A tree is a finite map from folded paths to rows. An operation says, row by row, what the map is after
+//! it; every row that it doesn't name stays. Whether an operation is legal is judged by the same map, and
+//! the first refusal in the stated order is told.
+//!
+//! Trees never change: [`Trees::apply`] makes new ones that share all that stays, so what a refused growth
+//! leaves is the old trees. Look-ups take no memory.
+#![tactic(auto)]
+
+mod op;
+mod tree;
+
+pub use op::{Legality, Op};
+pub use reg_tree_parts::{Data, Key, Value};
+pub use tree::{Info, Tree};

@@ -1,0 +1,237 @@
+//! One registry tree.
+ghost use Rattle.std.specs.Prelude.{◌≡◌, ◌+◌, ◌-◌, ◌<◌, ◌≤◌, ◌==◌, length, take, List, [], ℕ, ◌++◌, IfSome, IfNone, IfOk, MatchResult, min};
+ghost use Rattle.reg_names.specs.Names.{folded_path};
+ghost use Rattle.reg_tree_parts.specs.Nodes.{row_at, names_below, IsNode};
+ghost use Rattle.reg_tree.specs.Maps.{row, is_there, subkeys, missing, weight};
+ghost use Rattle.reg_tree.specs.Operations.{depth_there};
+ghost use Rattle.reg_tree.specs.Judgement.{judged, judged_create, judged_delete_at, judged_set, judged_unset};
+ghost use Rattle.reg_tree.specs.Reads.{value_at, value_index, subkey_index, info_of, IsMissing};
+
+mod change;
+
+use crate::op::{Legality, Op};
+use reg_names::limits::{MOST_NEW_LEVELS, MOST_VALUE_BYTES};
+use reg_names::{Name, Path, Refusal, ValueName};
+use reg_tree_parts::{Data, Key, Node, Value};
+use std::alloc::{AllocError, Global};
+use std::marker::Model;
+use std::sync::Arc;
+
+/// The tree of one hive: a map from folded paths to rows.
+///
+/// A change makes a new tree, which shares all nodes off its path; a clone shares all of them.
+#[derive(Drop)]
+pub struct Tree {
+    root: Arc<Node>,
+}
+
+impl Model for Tree {
+    ghost use Rattle.std.specs.Coded.{coded_ℕ, coded_list};
+    ghost use Rattle.std.specs.FinMap as finite;
+    ghost use Rattle.std.specs.Arc.{arc_value};
+    ghost use Rattle.reg_tree_parts.specs.Rows.{row_code};
+    ghost use Rattle.reg_tree_parts.specs.Orders.{path_order};
+    ghost use Rattle.reg_tree.specs.Maps.{TreeMap, IsRooted};
+
+    ghost Value = { TreeMap };
+
+    ghost coded = { finite.code (coded_list (coded_list coded_ℕ)) row_code };
+
+    ghost view = { λ inside. finite.from_sorted (arc_value inside.root) };
+
+    ghost invariant = { λ inside. IsRooted (arc_value inside.root) };
+}
+
+// the flag of a key that is not to be deleted
+const NOT_DELETABLE: u16 = 0x0008;
+
+/// What a key has.
+#[derive(Clone, Copy)]
+pub struct Info {
+    /// How many subkeys.
+    pub subkeys: usize,
+    /// How many values.
+    pub values: usize,
+    /// The moment of its last write.
+    pub time: u64,
+}
+
+impl Tree {
+    /// The weight of the tree, or the greatest number of 64 bits where it is more.
+    pub fn weight(&self) -> u64
+        ensures { result ≡ min (weight self.now) u64.MAX }
+    {
+        self.root.weight()
+    }
+
+    /// The value of this name. Refused with `NotFound` exactly where there is no such key or value.
+    pub fn get_value(&self, path: &Path, name: &Name) -> Result<&Value, Refusal>
+        ensures { MatchResult result (λ value. value_at self.now (folded_path path.now) name.now ≡ Some value.now) (IsMissing (value_at self.now (folded_path path.now) name.now)) }
+    {
+        let Some(node) = self.node(path.names()) else {
+            return Err(Refusal::NotFound);
+        };
+        match node.key().values().get(name) {
+            Some(value) => Ok(value),
+            None => Err(Refusal::NotFound),
+        }
+    }
+
+    /// The value at this index, in the order of names. Refused with `NotFound` exactly where there is no such
+    /// key or the index is past its last value.
+    pub fn enum_value(&self, path: &Path, index: usize) -> Result<&Value, Refusal>
+        ensures { MatchResult result (λ value. value_index self.now (folded_path path.now) index ≡ Some value.now) (IsMissing (value_index self.now (folded_path path.now) index)) }
+    {
+        let Some(node) = self.node(path.names()) else {
+            return Err(Refusal::NotFound);
+        };
+        match node.key().values().at(index) {
+            Some(value) => Ok(value),
+            None => Err(Refusal::NotFound),
+        }
+    }
+
+    /// The name of the subkey at this index, in the order of names. Refused with `NotFound` exactly where there
+    /// is no such key or the index is past its last subkey.
+    pub fn enum_key(&self, path: &Path, index: usize) -> Result<&Name, Refusal>
+        ensures { MatchResult result (λ name. subkey_index self.now (folded_path path.now) index ≡ Some name.now) (IsMissing (subkey_index self.now (folded_path path.now) index)) }
+    {
+        let Some(node) = self.node(path.names()) else {
+            return Err(Refusal::NotFound);
+        };
+        let _ = node.key();
+        match node.subkey(index) {
+            Some(name) => Ok(name),
+            None => Err(Refusal::NotFound),
+        }
+    }
+
+    /// How many subkeys and values the key has, and when it was last written. Refused with `NotFound` exactly
+    /// where there is no such key.
+    pub fn query_info(&self, path: &Path) -> Result<Info, Refusal>
+        ensures { MatchResult result (λ info. info_of self.now (folded_path path.now) ≡ Some info) (IsMissing (info_of self.now (folded_path path.now))) }
+    {
+        match self.node(path.names()) {
+            Some(node) => Ok(Info {
+                subkeys: node.subkeys(),
+                values: node.key().values().len(),
+                time: node.key().time(),
+            }),
+            None => Err(Refusal::NotFound),
+        }
+    }
+
+    /// Whether the operation may be carried out on this tree, weights aside: the first refusal in order.
+    ///
+    /// A creation is `Opened` where its key is there, and `TooDeep` where more than 32 levels are missing. A
+    /// deletion of the root is `Fixed`; of a missing key `NotFound`; of one marked as not deletable `Fixed`; of
+    /// one with subkeys `HasSubkeys`. A value is written and deleted only where its key, and for a deletion the
+    /// value, is there, else `NotFound`; and written only up to 1,048,576 bytes, else `TooLarge`.
+    pub fn judged(&self, op: &Op) -> Result<Legality, Refusal>
+        ensures { result ≡ judged self.now op.now }
+    {
+        match op {
+            Op::CreateKey { path, .. } => self.judged_create(path),
+            Op::DeleteKey { path, .. } => self.judged_delete(path),
+            Op::SetValue { path, data, .. } => self.judged_set(path, data),
+            Op::DeleteValue { path, name, .. } => self.judged_unset(path, name),
+        }
+    }
+
+    fn judged_create(&self, path: &Path) -> Result<Legality, Refusal>
+        ensures { result ≡ judged_create self.now (folded_path path.now) }
+    {
+        let names = path.names();
+        let (_, depth) = self.nearest(names);
+        if depth == names.len() {
+            return Ok(Legality::Opened);
+        }
+        if names.len() - depth > MOST_NEW_LEVELS {
+            return Err(Refusal::TooDeep);
+        }
+        Ok(Legality::Legal)
+    }
+
+    fn judged_delete(&self, path: &Path) -> Result<Legality, Refusal>
+        ensures { result ≡ judged_delete_at self.now path.now }
+    {
+        let names = path.names();
+        if names.is_empty() {
+            return Err(Refusal::Fixed);
+        }
+        let Some(node) = self.node(names) else {
+            return Err(Refusal::NotFound);
+        };
+        if node.key().flags() & NOT_DELETABLE != 0 {
+            return Err(Refusal::Fixed);
+        }
+        if node.subkeys() != 0 {
+            return Err(Refusal::HasSubkeys);
+        }
+        Ok(Legality::Legal)
+    }
+
+    fn judged_set(&self, path: &Path, data: &Data) -> Result<Legality, Refusal>
+        ensures { result ≡ judged_set self.now (folded_path path.now) data.now }
+    {
+        let Some(node) = self.node(path.names()) else {
+            return Err(Refusal::NotFound);
+        };
+        let _ = node.key();
+        if data.bytes().len() > MOST_VALUE_BYTES {
+            return Err(Refusal::TooLarge);
+        }
+        Ok(Legality::Legal)
+    }
+
+    fn judged_unset(&self, path: &Path, name: &ValueName) -> Result<Legality, Refusal>
+        ensures { result ≡ judged_unset self.now (folded_path path.now) name.now }
+    {
+        let Some(node) = self.node(path.names()) else {
+            return Err(Refusal::NotFound);
+        };
+        match node.key().values().get(name.name()) {
+            Some(_) => Ok(Legality::Legal),
+            None => Err(Refusal::NotFound),
+        }
+    }
+
+    // the last key on the way along the path that is there, and how many of the names lead to it
+    fn nearest(&self, path: &[Name]) -> (&Node, usize)
+        ensures within { result.1 ≤ length path.now }
+        ensures depth { result.1 ≡ depth_there self.now (folded_path path.now) }
+        ensures missing { length (missing self.now (folded_path path.now)) ≡ length path.now - result.1 }
+        ensures there { is_there self.now (folded_path path.now) ≡ (result.1 == length path.now) }
+        ensures below { (rest : List (List ℕ)) → row self.now (take result.1 (folded_path path.now) ++ rest) ≡ row_at result.0.now rest }
+        ensures gone { result.1 < length (folded_path path.now) → (rest : List (List ℕ)) → row self.now (take (result.1 + 1) (folded_path path.now) ++ rest) ≡ None }
+    {
+        let (node, depth) = self.root.nearest(path);
+        let _ = node.key();
+        (node, depth)
+    }
+
+    // the node of the key at this path
+    fn node(&self, path: &[Name]) -> Option<&Node>
+        ensures found { IfSome result (λ node. (rest : List (List ℕ)) → row self.now (folded_path path.now ++ rest) ≡ row_at node.now rest) }
+        ensures key { IfSome result (λ node. row self.now (folded_path path.now) ≡ row_at node.now []) }
+        ensures names { IfSome result (λ node. subkeys self.now (folded_path path.now) ≡ names_below [] node.now) }
+        ensures none { IfNone result ((rest : List (List ℕ)) → row self.now (folded_path path.now ++ rest) ≡ None) }
+        ensures missing { IfNone result (row self.now (folded_path path.now) ≡ None) }
+    {
+        match self.root.find(path) {
+            Some(node) => Some(node),
+            None => None,
+        }
+    }
+}
+
+impl Clone for Tree {
+    ghost is_clone = { λ old copy. copy ≡ old };
+
+    fn clone(&self) -> Result<Tree, AllocError>
+        ensures { IfOk result (λ copy. copy ≡ self.now) }
+    {
+        let root = self.root.clone()?;
+        Ok(Tree { root })
+    }
+}
