@@ -1,5 +1,6 @@
-pub mod Edits
+pub mod CellChanges
 pub mod Marking
 pub mod OneTile
+pub mod Outcomes
 pub mod Reached
 pub mod Region

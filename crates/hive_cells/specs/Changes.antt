@@ -1,5 +1,9 @@
 -- What a change of the cells leaves: which are allocated, with which data, and which bytes were written.
-use Rattle.std.specs.Prelude.{◌≡◌, ◌≢◌, ℕ, ◌+◌, ◌*◌, ◌/◌, ◌<◌, ◌≤◌, Bool, false, List, length, slice_index, ◌↔◌, ◌⊎◌}
+use Rattle.std.specs.Prelude.{◌≡◌, ◌≢◌, ℕ, zero, ◌+◌, ◌*◌, ◌/◌, ◌<◌, ◌≤◌, Bool, false, List, length, slice_index, ◌↔◌, ◌⊎◌}
+use Rattle.reg_names.specs.declared.refusal.Refusal.{Refusal}
+use Rattle.reg_names.specs.declared.refusal.Refusal.TheVariants as refusal
+use Rattle.reg_names.specs.declared.refusal.Cause.TheVariants as cause
+use Rattle.reg_names.specs.declared.limits.TheConstants.{MOST_BINS_BYTES}
 use Rattle.hive_cells.specs.declared.marks.Mark.{Mark}
 use Rattle.hive_cells.specs.Tiles.{is_allocated, cell_size, IsAllocatedCell, cell_data}
 use Rattle.hive_cells.specs.Marks.{IsCellMarkedAt}
@@ -26,6 +30,11 @@ pub record WritesWithin (old new : List ℕ) (from to : ℕ) : Type 0 where
   pub longer : length old ≤ length new
   pub others : (i : ℕ) → i < length old → ((i < from) ⊎ (to ≤ i)) → slice_index new i ≡ slice_index old i
 
+-- the length stays, and only the bytes from one offset up to another are written
+pub record RewritesWithin (old new : List ℕ) (from to : ℕ) : Type 0 where
+  pub len : length new ≡ length old
+  pub others : (i : ℕ) → ((i < from) ⊎ (to ≤ i)) → slice_index new i ≡ slice_index old i
+
 -- the size of a cell is written
 pub record PutsSize (old new : List ℕ) (at size : ℕ) (allocated : Bool) : Type 0 where
   pub len : length new ≡ length old
@@ -38,3 +47,18 @@ pub record IsFreeCell (bytes : List ℕ) (marks : List Mark) (at size : ℕ) : T
   pub marked : IsCellMarkedAt marks at
   pub size_is : cell_size bytes at ≡ size
   pub is_free : is_allocated bytes at ≡ false
+
+-- the allocated cell at an offset is freed, and lies in a free cell that begins at another
+pub record Frees (old new : List ℕ) (offset from : ℕ) : Type 0 where
+  pub was : IsAllocatedCell old offset
+  pub gone : ¬ IsAllocatedCell new offset
+  pub others : OthersStay old new offset
+  pub len : length new ≡ length old
+  pub before : from ≤ offset
+  pub written : (i : ℕ) → ((i < offset) ⊎ (offset + 4 ≤ i)) → ((i < from) ⊎ (from + 4 ≤ i)) → slice_index new i ≡ slice_index old i
+
+-- why a cell isn't freed
+abbrev pub FreeRefused : List ℕ → ℕ → Refusal → Type 0
+FreeRefused bytes offset refusal.TooLarge = MOST_BINS_BYTES < length bytes
+FreeRefused bytes offset (refusal.HiveDamaged zero cause.BadOffset) = ¬ IsAllocatedCell bytes offset
+FreeRefused bytes offset _ = ⊥

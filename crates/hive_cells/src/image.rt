@@ -1,11 +1,15 @@
 //! Hive bins data whose bins and cells tile, with its cells by their offsets.
 ghost use Rattle.std.specs.Prelude.{◌≡◌, ◌+◌, ◌-◌, ◌^◌, ◌<◌, ◌*◌, ◌/◌, ◌%◌, List, ℕ, MatchResult, IsTrue, ◌↔◌, min, length};
 ghost use Rattle.hive_cells.specs.Tiles.{Tiles, LiesInOneTile, DataRefused, IsAllocatedCell, cell_data, cell_size, is_allocated};
-ghost use Rattle.hive_cells.specs.Marks.{IsMarked, IsCellMarkedAt, IsWholeCell};
+ghost use Rattle.hive_cells.specs.Marks.{IsMarked, IsWholeCell};
+ghost use Rattle.hive_cells.specs.Changes.{Frees, FreeRefused};
 
+use crate::edits::give_back;
 use crate::looks::Looks;
+use crate::lookup::is_cell_allocated;
 use crate::marks::Mark;
-use crate::tiling::{MARKED_BYTES, cell_size, damaged, is_allocated, marks_of};
+use crate::tiling::{cell_size, damaged, marks_of};
+use reg_names::limits::MOST_BINS_BYTES;
 use reg_names::{Cause, Refusal};
 use std::alloc::Global;
 use std::marker::Model;
@@ -93,24 +97,26 @@ impl Image {
             Err(damaged(Cause::BadOffset))
         }
     }
-}
 
-// whether an allocated cell begins at an offset, by the marks of the data
-fn is_cell_allocated(bytes: &[u8], marks: &[Mark], at: usize) -> bool
-    requires { IsMarked bytes.now marks.now }
-    ensures found { IsTrue result ↔ IsAllocatedCell bytes.now at }
-    ensures whole { IsTrue result → IsWholeCell bytes.now at }
-{
-    is_cell(marks, at) && is_allocated(bytes, at)
-}
-
-// whether a cell is marked at an offset
-fn is_cell(marks: &[Mark], at: usize) -> bool
-    ensures { IsTrue result ↔ IsCellMarkedAt marks.now at }
-{
-    at % MARKED_BYTES == 0
-        && at / MARKED_BYTES < marks.len()
-        && marks[at / MARKED_BYTES] == Mark::Cell
+    /// Frees the allocated cell that begins at an offset, and merges it with the free cell behind it and with
+    /// a near free cell before it. Answers where the free cell begins in which it now lies; of the data only
+    /// the four bytes there and those at the offset are written. Takes no memory.
+    ///
+    /// Refused with `TooLarge` exactly where the data are longer than the limit, and else with `HiveDamaged` of
+    /// hive 0 and `BadOffset` exactly where no allocated cell begins there.
+    pub fn free(&mut self, offset: u32) -> Result<u32, Refusal>
+        ensures { MatchResult result (λ from. Frees self.old self.new offset from) (λ refusal. (self.new ≡ self.old) × FreeRefused self.old offset refusal) }
+    {
+        let at = offset as usize;
+        if self.bytes.len() > MOST_BINS_BYTES {
+            return Err(Refusal::TooLarge);
+        }
+        if !is_cell_allocated(&self.bytes, &self.marks, at) {
+            return Err(damaged(Cause::BadOffset));
+        }
+        let from = give_back(&mut self.bytes, &mut self.marks, at);
+        Ok(from as u32)
+    }
 }
 
 // the data of the cell at an offset

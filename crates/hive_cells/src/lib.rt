@@ -7,8 +7,10 @@
 //! counted from the start of the hive bins data.
 #![tactic(auto)]
 
+mod edits;
 mod image;
 mod looks;
+mod lookup;
 mod marks;
 mod tiling;
 mod words;

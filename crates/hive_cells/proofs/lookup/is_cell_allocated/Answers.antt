@@ -2,7 +2,7 @@ use Rattle.std.proofs.Common.{Bool, subst, sym, rules}
 use Rattle.std.specs.Prelude.{IsTrue}
 use Rattle.hive_cells.specs.Marks.{IsCellMarkedAt}
 use Rattle.hive_cells.proofs.Reached.{starts_at_mark, mark_at_start}
-use Rattle.hive_cells.proofs.image.is_cell_allocated.Goals as goal
+use Rattle.hive_cells.proofs.lookup.is_cell_allocated.Goals as goal
 
 pub returns-then-is_cell-clause-found : goal.returns-then-is_cell-clause-found
 returns-then-is_cell-clause-found c =

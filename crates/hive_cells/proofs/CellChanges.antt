@@ -1,12 +1,12 @@
 -- The three changes of cells: a cell becomes allocated or free, a free cell is split, two free cells are joined.
-use Rattle.std.proofs.Common.{◌≡◌, ◌≢◌, ℕ, ◌+◌, ◌*◌, ◌%◌, ◌/◌, ◌<◌, ◌≤◌, Bool, false, List, length, refl, sym, ◌∙◌, subst, inl, inr, arith, ap}
+use Rattle.std.proofs.Common.{◌≡◌, ◌≢◌, ℕ, ◌+◌, ◌-◌, ◌*◌, ◌%◌, ◌/◌, ◌<◌, ◌≤◌, Bool, false, List, length, refl, sym, ◌∙◌, subst, inl, inr, arith, ap}
 use Rattle.std.specs.Prelude.{slice_set, ◌⊎◌}
 use Rattle.std.proofs.lemmas.Bool.{cases_eq, cases_lt, cases_order}
 use Rattle.hive_cells.specs.declared.marks.Mark.{Mark}
 use Rattle.hive_cells.specs.declared.marks.Mark.TheVariants.{Inside, Bin, Cell}
 use Rattle.hive_cells.specs.Tiles.{word_at, cell_size, is_allocated}
 use Rattle.hive_cells.specs.Marks.{mark_at, CellMarked, IsMarked, IsCellMarkedAt}
-use Rattle.hive_cells.specs.Changes.{OthersStay, AllStay, PutsSize}
+use Rattle.hive_cells.specs.Changes.{OthersStay, AllStay, PutsSize, IsFreeCell}
 use Rattle.hive_cells.proofs.Marking.{SetsMark, set_mark}
 use Rattle.hive_cells.proofs.Region.{ChangesCells, size_same, kind_same, all_again, stays_at, words_same}
 
@@ -286,3 +286,53 @@ module _ (bytes bytes' : List ℕ) (marks : List Mark) (k a rest : ℕ) (m : IsM
               )
         ]
       ])
+
+-- ---- the same by offsets
+
+-- a cell that turned
+pub turned : (bytes bytes' : List ℕ) (marks : List Mark) (at size : ℕ) (kind : Bool) → IsMarked bytes marks → IsCellMarkedAt marks at → size ≡ cell_size bytes at → PutsSize bytes bytes' at size kind → IsMarked bytes' marks × OthersStay bytes bytes' at
+turned bytes bytes' marks at size kind m w size_is p =
+    let slot : 8 * (at / 8) ≡ at = omega (arith, w.eights) in
+    let here : PutsSize bytes bytes' at (cell_size bytes at) kind = subst (λ (x : ℕ). PutsSize bytes bytes' at x kind) size_is p in
+    let put : PutsSize bytes bytes' (8 * (at / 8)) (cell_size bytes (8 * (at / 8))) kind = subst (λ (x : ℕ). PutsSize bytes bytes' x (cell_size bytes x) kind) (sym slot) here in (
+      turned_marked bytes bytes' marks (at / 8) m w.is_cell kind put,
+      subst (λ (x : ℕ). OthersStay bytes bytes' x) slot (turned_stay bytes bytes' marks (at / 8) m w.is_cell kind put),
+    )
+
+-- a free cell that was split
+pub was_split : (bytes half bytes' : List ℕ) (marks : List Mark) (at size rest : ℕ) → IsMarked bytes marks → IsFreeCell bytes marks at (cell_size bytes at) → cell_size bytes at ≡ size + rest → size % 8 ≡ 0 → 8 ≤ size → 8 ≤ rest
+    → PutsSize bytes half (at + size) rest false → PutsSize half bytes' at size false → IsMarked bytes' (slice_set marks ((at + size) / 8) Cell) × AllStay bytes bytes'
+was_split bytes half bytes' marks at size rest m w whole eights least more p q =
+    let slot : at ≡ 8 * (at / 8) = omega (arith, w.marked.eights) in
+    let size_is : size ≡ 8 * (size / 8) = omega arith in
+    let whole_here : cell_size bytes (8 * (at / 8)) ≡ 8 * (size / 8) + rest = ap (cell_size bytes) (sym slot) ∙ whole ∙ ap (λ (x : ℕ). x + rest) size_is in
+    let free : is_allocated bytes (8 * (at / 8)) ≡ false = ap (is_allocated bytes) (sym slot) ∙ w.is_free in
+    let sum_is : at + size ≡ 8 * (at / 8 + size / 8) = omega arith in
+    let mid : (at + size) / 8 ≡ at / 8 + size / 8 = omega arith in
+    let second : PutsSize bytes half (8 * (at / 8 + size / 8)) rest false = subst (λ (x : ℕ). PutsSize bytes half x rest false) sum_is p in
+    let first : PutsSize half bytes' (8 * (at / 8)) size false = subst (λ (x : ℕ). PutsSize half bytes' x size false) slot q in
+    let first_put : PutsSize half bytes' (8 * (at / 8)) (8 * (size / 8)) false = subst (λ (x : ℕ). PutsSize half bytes' (8 * (at / 8)) x false) size_is first in (
+      subst (λ (x : ℕ). IsMarked bytes' (slice_set marks x Cell)) (sym mid) (split_marked bytes half bytes' marks (at / 8) (size / 8) rest m w.marked.is_cell free whole_here (omega arith) more second first_put),
+      split_stay bytes half bytes' marks (at / 8) (size / 8) rest m w.marked.is_cell free whole_here (omega arith) more second first_put,
+    )
+
+-- two free cells that were joined
+pub were_joined : (bytes bytes' : List ℕ) (marks : List Mark) (at next size : ℕ) → IsMarked bytes marks → IsFreeCell bytes marks at (cell_size bytes at) → IsFreeCell bytes marks next (cell_size bytes next) → next ≡ at + cell_size bytes at
+    → size ≡ cell_size bytes at + cell_size bytes next → PutsSize bytes bytes' at size false → IsMarked bytes' (slice_set marks (next / 8) Inside) × AllStay bytes bytes'
+were_joined bytes bytes' marks at next size m w v behind sum_is q =
+    let slot : at ≡ 8 * (at / 8) = omega (arith, w.marked.eights) in
+    let next_slot : next ≡ 8 * (next / 8) = omega (arith, v.marked.eights) in
+    let a : ℕ = next / 8 - at / 8 in
+    let later : next / 8 ≡ at / 8 + a = omega arith in
+    let next_is : next ≡ 8 * (at / 8 + a) = omega arith in
+    let first_size : cell_size bytes (8 * (at / 8)) ≡ 8 * a = ap (cell_size bytes) (sym slot) ∙ omega arith in
+    let next_size : cell_size bytes (8 * (at / 8 + a)) ≡ cell_size bytes next = ap (cell_size bytes) (sym next_is) in
+    let free : is_allocated bytes (8 * (at / 8)) ≡ false = ap (is_allocated bytes) (sym slot) ∙ w.is_free in
+    let next_free : is_allocated bytes (8 * (at / 8 + a)) ≡ false = ap (is_allocated bytes) (sym next_is) ∙ v.is_free in
+    let is_next : mark_at marks (at / 8 + a) ≡ Cell = ap (mark_at marks) (sym later) ∙ v.marked.is_cell in
+    let size_is : size ≡ 8 * a + cell_size bytes next = omega arith in
+    let here : PutsSize bytes bytes' (8 * (at / 8)) size false = subst (λ (x : ℕ). PutsSize bytes bytes' x size false) slot q in
+    let put : PutsSize bytes bytes' (8 * (at / 8)) (8 * a + cell_size bytes next) false = subst (λ (x : ℕ). PutsSize bytes bytes' (8 * (at / 8)) x false) size_is here in (
+      subst (λ (x : ℕ). IsMarked bytes' (slice_set marks x Inside)) (sym later) (joined_marked bytes bytes' marks (at / 8) a (cell_size bytes next) m w.marked.is_cell is_next free next_free first_size next_size put),
+      joined_stay bytes bytes' marks (at / 8) a (cell_size bytes next) m w.marked.is_cell is_next free next_free first_size next_size put,
+    )
