@@ -5,6 +5,7 @@ pub mod MemDisk
 pub mod MemFile
 pub mod MemSound
 pub mod Plan
+pub mod Room
 pub mod Sector
 pub mod Shown
 pub mod Tear

@@ -1,10 +1,10 @@
 //! Files in memory, as a disk. It fails as a plan says, and where it finds no memory.
-ghost use Rattle.std.specs.Prelude.{◌≡◌, ℕ, ◌≤◌, [], length, IfOk, OnOk, OnErr, IsErr};
+ghost use Rattle.std.specs.Prelude.{◌≡◌, ℕ, ◌≤◌, [], length, All, IfOk, OnOk, OnErr, IsErr};
 ghost use Rattle.disk_model.specs.FileState.{Writes, MayWrite, Cuts, MayCut, Syncs, at_rest, Leaves};
 ghost use Rattle.disk_model.specs.Sector.{IsHonest};
 ghost use Rattle.disk_model.specs.Tear.{IsCrashOf, WritesWholeSectors};
 ghost use Rattle.disk_model.specs.Call.{KeepsOthers, Reads};
-ghost use Rattle.disk_model.specs.MemFile.{state_of};
+ghost use Rattle.disk_model.specs.MemFile.{state_of, HasRoom};
 
 use crate::mem_file::MemFile;
 use crate::past::Past;
@@ -26,6 +26,8 @@ pub struct MemDisk {
 }
 
 impl MemDisk {
+    ghost use Rattle.disk_model.specs.Room.{IsRoomy};
+
     /// A disk whose files were never written. `plan` may be changed while the disk is used.
     pub fn new(alloc: Global, plan: Arc<Plan>) -> MemDisk
         ensures files { (k f : ℕ) → ⟦<MemDisk as Disk>⟧.state_at result k f ≡ at_rest [] }
@@ -42,6 +44,7 @@ impl MemDisk {
     /// Takes memory ahead: within the next `calls` calls no call takes any, where no file gets more than `bytes` bytes longer.
     /// A refused one may have taken some of it.
     pub fn room(&mut self, bytes: usize, calls: usize) -> Result<(), AllocError>
+        ensures room { OnOk result (IsRoomy bytes calls self.new) }
         ensures files { (k f : ℕ) →
             ⟦<MemDisk as Disk>⟧.state_at self.new k f ≡ ⟦<MemDisk as Disk>⟧.state_at self.old k f }
         ensures clock { ⟦<MemDisk as Disk>⟧.clock self.new ≡ ⟦<MemDisk as Disk>⟧.clock self.old }
@@ -101,7 +104,9 @@ fn make_up_to(files: &mut Vec<MemFile>, count: usize) -> Result<(), AllocError>
 
 /// Takes the memory that each of the files needs to get so many bytes longer in so many calls.
 fn reserve(files: &mut Vec<MemFile>, bytes: usize, calls: usize) -> Result<(), AllocError>
-    ensures { (f : ℕ) → state_of files.new.items f ≡ state_of files.old.items f }
+    ensures same { (f : ℕ) → state_of files.new.items f ≡ state_of files.old.items f }
+    ensures as_many { length files.new.items ≡ length files.old.items }
+    ensures room { OnOk result (All (HasRoom bytes calls) files.new.items) }
 {
     for number in 0..files.len() {
         files[number].reserve(bytes, calls)?;

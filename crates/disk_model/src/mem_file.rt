@@ -23,7 +23,7 @@ pub(crate) struct MemFile {
 }
 
 impl MemFile {
-    ghost use Rattle.disk_model.specs.MemFile.{file_state};
+    ghost use Rattle.disk_model.specs.MemFile.{file_state, HasRoom};
     ghost use Rattle.disk_model.specs.Tear.{IsCrashOf};
 
     /// A file that was never written.
@@ -41,7 +41,8 @@ impl MemFile {
 
     /// Takes the memory that it needs to get so many bytes longer, and for so many writes before the next sync.
     pub fn reserve(&mut self, bytes: usize, writes: usize) -> Result<(), AllocError>
-        ensures { file_state self.new ≡ file_state self.old }
+        ensures same { file_state self.new ≡ file_state self.old }
+        ensures room { OnOk result (HasRoom bytes writes self.new) }
     {
         let len = self.seen.len().checked_add(bytes).ok_or(AllocError)?;
         self.seen.reserve(bytes)?;

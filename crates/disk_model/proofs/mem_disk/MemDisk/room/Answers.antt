@@ -7,4 +7,4 @@ returns-in_err-make_up_to-clause-files c = states_same c.args.self.now.past c.ar
 
 pub returns-clause-files : goal.returns-clause-files
 returns-clause-files c =
-    states_same c.args.self.now.past c.args.self.now.files.items c.reserve.new.files.items (λ f. c.reserve.ensures f ∙ c.make_up_to.ensures.same f)
+    states_same c.args.self.now.past c.args.self.now.files.items c.reserve.new.files.items (λ f. c.reserve.ensures.same f ∙ c.make_up_to.ensures.same f)
