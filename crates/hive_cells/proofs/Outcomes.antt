@@ -1,9 +1,10 @@
 -- What changes one after another leave.
-use Rattle.std.proofs.Common.{◌≡◌, ℕ, ◌+◌, ◌≤◌, true, false, List, ◌∙◌}
+use Rattle.std.proofs.Common.{◌≡◌, ℕ, ◌+◌, ◌≤◌, true, false, List, ◌∙◌, inl, inr, arith}
 use Rattle.hive_cells.specs.declared.marks.Mark.{Mark}
-use Rattle.hive_cells.specs.Tiles.{is_allocated, IsAllocatedCell}
-use Rattle.hive_cells.specs.Marks.{IsMarked}
-use Rattle.hive_cells.specs.Changes.{StaysAt, OthersStay, AllStay, RewritesWithin, Frees}
+use Rattle.hive_cells.specs.Tiles.{is_allocated, cell_size, IsAllocatedCell}
+use Rattle.hive_cells.proofs.Reached.{starts_at_mark}
+use Rattle.hive_cells.specs.Marks.{IsMarked, IsCellMarkedAt}
+use Rattle.hive_cells.specs.Changes.{StaysAt, OthersStay, AllStay, RewritesWithin, Frees, Takes}
 
 -- what stays over two changes
 pub stays_on : (old mid new : List ℕ) (at : ℕ) → StaysAt old mid at → StaysAt mid new at → StaysAt old new at
@@ -29,4 +30,24 @@ freed old free joined new marks at from m was others is_free turned behind_stay 
       len = before.len ∙ behind.len ∙ turned.len;
       before = low;
       written = λ i here there. before.others i there ∙ behind.others i here ∙ turned.others i here;
+    }
+
+-- a free cell that was fitted and turned allocated
+pub taken : (old fitted new : List ℕ) (marks' : List Mark) (at size : ℕ) → is_allocated old at ≡ false → IsMarked new marks' → IsCellMarkedAt marks' at
+    → AllStay old fitted → size ≤ cell_size fitted at → cell_size fitted at ≤ size + 8 → RewritesWithin old fitted at (at + cell_size fitted at + 4)
+    → OthersStay fitted new at → is_allocated new at ≡ true → cell_size new at ≡ cell_size fitted at → RewritesWithin fitted new at (at + 4) → Takes old new at size
+taken old fitted new marks' at size is_free m w stay least most fit others kind same turned =
+    record {
+      fresh = λ found. (let yes : is_allocated old at ≡ true = found.1 in let no : ⊥ = cc in no);
+      begins = (starts_at_mark new marks' m at w, kind);
+      least = omega arith;
+      most = omega arith;
+      others = λ other apart. stays_on old fitted new other (stay other) (others other apart);
+      written = record {
+        len = turned.len ∙ fit.len;
+        others = λ i out. elim out [
+          | inl low ↦ turned.others i (inl low) ∙ fit.others i (inl low)
+          | inr high ↦ turned.others i (inr (omega arith)) ∙ fit.others i (inr (omega arith))
+        ];
+      };
     }

@@ -48,6 +48,15 @@ pub record IsFreeCell (bytes : List ℕ) (marks : List Mark) (at size : ℕ) : T
   pub size_is : cell_size bytes at ≡ size
   pub is_free : is_allocated bytes at ≡ false
 
+-- a free cell is allocated at an offset, of at least a size and at most 8 bytes more
+pub record Takes (old new : List ℕ) (at size : ℕ) : Type 0 where
+  pub fresh : ¬ IsAllocatedCell old at
+  pub begins : IsAllocatedCell new at
+  pub least : size ≤ cell_size new at
+  pub most : cell_size new at ≤ size + 8
+  pub others : OthersStay old new at
+  pub written : RewritesWithin old new at (at + cell_size new at + 4)
+
 -- the allocated cell at an offset is freed, and lies in a free cell that begins at another
 pub record Frees (old new : List ℕ) (offset from : ℕ) : Type 0 where
   pub was : IsAllocatedCell old offset

@@ -2,7 +2,7 @@
 ghost use Rattle.std.specs.Prelude.{◌≡◌, ◌≢◌, ◌+◌, ◌*◌, ◌%◌, ◌^◌, ◌<◌, ◌≤◌, false, length};
 ghost use Rattle.hive_cells.specs.Tiles.{IsAllocatedCell, cell_size, is_allocated};
 ghost use Rattle.hive_cells.specs.Marks.{IsMarked, IsCellMarkedAt};
-ghost use Rattle.hive_cells.specs.Changes.{OthersStay, AllStay, PutsSize, IsFreeCell, RewritesWithin, Frees};
+ghost use Rattle.hive_cells.specs.Changes.{OthersStay, AllStay, PutsSize, IsFreeCell, RewritesWithin, Frees, Takes};
 
 use crate::lookup::{free_before, is_free_cell};
 use crate::marks::Mark;
@@ -125,4 +125,40 @@ pub(crate) fn give_back(bytes: &mut [u8], marks: &mut [Mark], at: usize) -> usiz
     turn(bytes, marks, at, false);
     join_behind(bytes, marks, at);
     join_before(bytes, marks, at)
+}
+
+/// Allocates the free cell at an offset with a size, or with what it has where no more than 8 bytes would be
+/// over; what is over becomes a free cell.
+pub(crate) fn take(bytes: &mut [u8], marks: &mut [Mark], at: usize, size: usize)
+    requires marked { IsMarked bytes.old marks.old }
+    requires limit { length bytes.old ≤ MOST_BINS_BYTES }
+    requires free { IsFreeCell bytes.old marks.old at (cell_size bytes.old at) }
+    requires eights { size % 8 ≡ 0 }
+    requires least { 8 ≤ size }
+    requires fits { size ≤ cell_size bytes.old at }
+    ensures marked { IsMarked bytes.new marks.new }
+    ensures taken { Takes bytes.old bytes.new at size }
+{
+    fit(bytes, marks, at, size);
+    turn(bytes, marks, at, true);
+}
+
+// splits the free cell at an offset where more than 8 bytes would be over the size
+fn fit(bytes: &mut [u8], marks: &mut [Mark], at: usize, size: usize)
+    requires marked { IsMarked bytes.old marks.old }
+    requires limit { length bytes.old ≤ MOST_BINS_BYTES }
+    requires free { IsFreeCell bytes.old marks.old at (cell_size bytes.old at) }
+    requires eights { size % 8 ≡ 0 }
+    requires least { 8 ≤ size }
+    requires fits { size ≤ cell_size bytes.old at }
+    ensures marked { IsMarked bytes.new marks.new }
+    ensures stay { AllStay bytes.old bytes.new }
+    ensures free { IsFreeCell bytes.new marks.new at (cell_size bytes.new at) }
+    ensures fits { size ≤ cell_size bytes.new at }
+    ensures most { cell_size bytes.new at ≤ size + 8 }
+    ensures written { RewritesWithin bytes.old bytes.new at (at + cell_size bytes.new at + 4) }
+{
+    if cell_size(bytes, at) > size + MARKED_BYTES {
+        split(bytes, marks, at, size);
+    }
 }
