@@ -1,6 +1,7 @@
 //! The disk in memory, by the rules of a crash: what each stop, each failure and each tear leaves.
 use disk_model::{Disk, FILES, Failed, MemDisk, Plan, Tear};
 use std::alloc::{AllocError, Global};
+use std::process::Abort;
 use std::sync::Arc;
 use std::test::Fail;
 
@@ -94,156 +95,96 @@ fn writes_reads_and_cuts(rt: HostRuntime) -> Result<(), Fail> {
     Ok(())
 }
 
-/// How many of the first calls succeed, and what each file is at the end: as a read gives it, and as last synced.
+/// The call that is hit, counted from 0, and what each file is at the end: as a read gives it, and as last synced.
 #[derive(Drop)]
 struct Outcome {
-    stops_after: usize,
+    hits: usize,
     seen: [&'static [u8]; 2],
     synced: [&'static [u8]; 2],
 }
 
-#[test]
-fn stops_at_each_change(rt: HostRuntime) -> Result<(), Fail> {
-    let alloc = rt.alloc();
-    let outcomes = [
-        Outcome {
-            stops_after: 0,
-            seen: [b"abcd", b""],
-            synced: [b"", b""],
-        },
-        Outcome {
-            stops_after: 1,
-            seen: [b"abcd", b""],
-            synced: [b"", b""],
-        },
-        Outcome {
-            stops_after: 2,
-            seen: [b"abXY", b""],
-            synced: [b"abcd", b""],
-        },
-        Outcome {
-            stops_after: 4,
-            seen: [b"abX", b""],
-            synced: [b"abcd", b""],
-        },
-        Outcome {
-            stops_after: 5,
-            seen: [b"abX", b"\0z"],
-            synced: [b"abcd", b""],
-        },
-        Outcome {
-            stops_after: 6,
-            seen: [b"abX", b"\0z"],
-            synced: [b"abcd", b""],
-        },
-        Outcome {
-            stops_after: 7,
-            seen: [b"abX", b"\0z"],
-            synced: [b"abX", b""],
-        },
-        Outcome {
-            stops_after: 8,
-            seen: [b"abX", b"\0z"],
-            synced: [b"abX", b"\0z"],
-        },
-    ];
+/// Which failure a plan is told.
+#[derive(Clone, Copy)]
+enum Failure {
+    Stop,
+    One,
+}
+
+/// Makes the calls with the failure at each place in turn: at the first, the second and so on.
+fn check_each(
+    rt: &impl Abort,
+    alloc: Global,
+    failure: Failure,
+    outcomes: &[Outcome],
+) -> Result<(), Fail> {
     for (number, outcome) in outcomes.iter().enumerate() {
+        let place = number as u64 + 1;
         let plan = plan(alloc)?;
         let mut disk = MemDisk::new(alloc, Arc::try_clone(&plan)?);
-        plan.stop_at(number as u64 + 1);
+        match failure {
+            Failure::Stop => plan.stop_at(place),
+            Failure::One => plan.fail_at(place),
+        }
         for (made, call) in calls().iter().enumerate() {
-            assert_eq!(rt;
-                make(&mut disk, call).is_ok(),
-                made < outcome.stops_after,
-                "stop {number}, call {made}"
+            let succeeds = match failure {
+                Failure::Stop => made < outcome.hits,
+                Failure::One => made != outcome.hits,
+            };
+            assert!(rt;
+                make(&mut disk, call).is_ok() == succeeds,
+                "at {place}, call {made}"
             );
         }
-        for file in 0..2usize {
-            assert_eq!(rt;
-                left(alloc, &disk, Tear::New, file as u32)?.as_slice(),
-                outcome.seen[file],
-                "stop {number}"
-            );
-            assert_eq!(rt;
-                left(alloc, &disk, Tear::Old, file as u32)?.as_slice(),
-                outcome.synced[file],
-                "stop {number}"
-            );
-        }
+        check_left(rt, alloc, &disk, Tear::New, &outcome.seen)?;
+        check_left(rt, alloc, &disk, Tear::Old, &outcome.synced)?;
     }
     Ok(())
 }
 
+fn check_left(
+    rt: &impl Abort,
+    alloc: Global,
+    disk: &MemDisk,
+    tear: Tear,
+    files: &[&[u8]; 2],
+) -> Result<(), Fail> {
+    assert_eq!(rt; left(alloc, disk, tear, 0)?.as_slice(), files[0]);
+    assert_eq!(rt; left(alloc, disk, tear, 1)?.as_slice(), files[1]);
+    Ok(())
+}
+
+fn leaves(hits: usize, seen: [&'static [u8]; 2], synced: [&'static [u8]; 2]) -> Outcome {
+    Outcome { hits, seen, synced }
+}
+
+#[test]
+fn stops_at_each_change(rt: HostRuntime) -> Result<(), Fail> {
+    let outcomes = [
+        leaves(0, [b"abcd", b""], [b"", b""]),
+        leaves(1, [b"abcd", b""], [b"", b""]),
+        leaves(2, [b"abXY", b""], [b"abcd", b""]),
+        leaves(4, [b"abX", b""], [b"abcd", b""]),
+        leaves(5, [b"abX", b"\0z"], [b"abcd", b""]),
+        leaves(6, [b"abX", b"\0z"], [b"abcd", b""]),
+        leaves(7, [b"abX", b"\0z"], [b"abX", b""]),
+        leaves(8, [b"abX", b"\0z"], [b"abX", b"\0z"]),
+    ];
+    check_each(&rt, rt.alloc(), Failure::Stop, &outcomes)
+}
+
 #[test]
 fn fails_at_each_call(rt: HostRuntime) -> Result<(), Fail> {
-    let alloc = rt.alloc();
     let outcomes = [
-        Outcome {
-            stops_after: 0,
-            seen: [b"\0\0X", b"\0z"],
-            synced: [b"\0\0X", b"\0z"],
-        },
-        Outcome {
-            stops_after: 1,
-            seen: [b"abX", b"\0z"],
-            synced: [b"abX", b"\0z"],
-        },
-        Outcome {
-            stops_after: 2,
-            seen: [b"abc", b"\0z"],
-            synced: [b"abc", b"\0z"],
-        },
-        Outcome {
-            stops_after: 3,
-            seen: [b"abX", b"\0z"],
-            synced: [b"abX", b"\0z"],
-        },
-        Outcome {
-            stops_after: 4,
-            seen: [b"abXY", b"\0z"],
-            synced: [b"abXY", b"\0z"],
-        },
-        Outcome {
-            stops_after: 5,
-            seen: [b"abX", b""],
-            synced: [b"abX", b""],
-        },
-        Outcome {
-            stops_after: 6,
-            seen: [b"abX", b"\0z"],
-            synced: [b"abcd", b"\0z"],
-        },
-        Outcome {
-            stops_after: 7,
-            seen: [b"abX", b"\0z"],
-            synced: [b"abX", b""],
-        },
+        leaves(0, [b"\0\0X", b"\0z"], [b"\0\0X", b"\0z"]),
+        leaves(1, [b"abX", b"\0z"], [b"abX", b"\0z"]),
+        leaves(2, [b"abc", b"\0z"], [b"abc", b"\0z"]),
+        leaves(3, [b"abX", b"\0z"], [b"abX", b"\0z"]),
+        leaves(4, [b"abXY", b"\0z"], [b"abXY", b"\0z"]),
+        leaves(5, [b"abX", b""], [b"abX", b""]),
+        leaves(6, [b"abX", b"\0z"], [b"abcd", b"\0z"]),
+        leaves(7, [b"abX", b"\0z"], [b"abX", b""]),
     ];
-    for (number, outcome) in outcomes.iter().enumerate() {
-        let plan = plan(alloc)?;
-        let mut disk = MemDisk::new(alloc, Arc::try_clone(&plan)?);
-        plan.fail_at(number as u64 + 1);
-        for (made, call) in calls().iter().enumerate() {
-            assert_eq!(rt;
-                make(&mut disk, call).is_ok(),
-                made != outcome.stops_after,
-                "fail {number}, call {made}"
-            );
-        }
-        for file in 0..2usize {
-            assert_eq!(rt;
-                left(alloc, &disk, Tear::New, file as u32)?.as_slice(),
-                outcome.seen[file],
-                "fail {number}"
-            );
-            assert_eq!(rt;
-                left(alloc, &disk, Tear::Old, file as u32)?.as_slice(),
-                outcome.synced[file],
-                "fail {number}"
-            );
-        }
-    }
-    Ok(())
+    check_each(&rt, rt.alloc(), Failure::One, &outcomes)
 }
 
 /// A file of eight dots that is on the disk.
