@@ -1,3 +1,4 @@
 pub mod PageBytes
 pub mod Whole
 pub mod Replaced
+pub mod Again

@@ -1,5 +1,5 @@
 -- Pages that are replaced one after the other.
-use Rattle.std.proofs.Common.{◌≡◌, ◌≤◌, ◌<◌, ℕ, zero, suc, ◌+◌, ◌-◌, ◌*◌, ◌/◌, ◌%◌, Bool, true, false, cond, eqb, ltb, List, ◌++◌, length, take, drop, get_or, map, sym, ap, ◌∙◌, inl, inr, arith}
+use Rattle.std.proofs.Common.{◌≡◌, ◌≤◌, ◌<◌, ℕ, zero, suc, ◌+◌, ◌-◌, ◌*◌, ◌/◌, ◌%◌, Bool, true, false, cond, eqb, ltb, List, ◌++◌, length, take, drop, get_or, map, refl, sym, ap, ◌∙◌, inl, inr, arith}
 use Rattle.std.specs.List.{range_with_len}
 use Rattle.std.proofs.lemmas.Bool.{cases_lt, cases_eq, cases_Bool, lt-ltb, le-ltb, eq-eqb, ne_eqb}
 use Rattle.std.proofs.lemmas.List.FromFn.{fill_by_all, length-map-range_with_len, get_or-map-range_with_len}
@@ -8,7 +8,8 @@ use Rattle.std.proofs.Math.ListN.{get_or-append}
 use borrow.Rule.Slice.PartMut.{put_mid}
 use Rattle.dirty_vector.specs.Marks.{marked_count}
 use Rattle.dirty_vector.specs.Pages.{Pages, is_dirty, dirty_count, NoneFrom, IsNextDirty}
-use Rattle.dirt_log.specs.LogText.{page_of}
+use Rattle.dirt_log.specs.LogText.{page_of, pages_from}
+use Rattle.dirt_log.proofs.PageBytes.{length_page, pages_nth, pages_next}
 use Rattle.dirt_log.specs.WholeLog.{IsCovered, repaired_byte, repaired}
 
 -- the bytes of the pages before one are repaired, the others are as they were
@@ -137,3 +138,33 @@ resized_same old new v pages filler is whole covered =
     ap (λ (xs : List ℕ). get_or xs i 0) is
     ∙ get_or-append (take v.bins_size old) filler 0 i (omega (arith, length-take v.bins_size old, inside, there))
     ∙ get_or-take v.bins_size old i 0 inside)
+
+-- ---- the log of an image repairs to the image
+
+logged_byte : (image : List ℕ) (v : Pages) (i : ℕ) → length image ≡ v.bins_size → v.bins_size % 512 ≡ 0 → i < v.bins_size → is_dirty v (i / 512) ≡ true
+    → get_or (pages_from image v 0) (512 * marked_count (is_dirty v) (i / 512) + i % 512) 0 ≡ get_or image i 0
+logged_byte image v i sizes whole inside on =
+    let page = i / 512 in
+    let j = i % 512 in
+    let k = marked_count (is_dirty v) page in
+    let within : 512 * (page + 1) ≤ v.bins_size = omega (arith, inside, whole) in
+    let there : 512 * (page + 1) ≤ length image = omega (arith, within, sizes) in
+    let here : IsNextDirty v page page = (omega arith, within, on, (λ p low high. absurd (omega (arith, low, high)))) in
+    let place : 512 * page + j ≡ i = omega arith in
+    let long = length_page image page there in
+    sym (get_or-drop (512 * k) (pages_from image v 0) j 0)
+    ∙ ap (λ (xs : List ℕ). get_or xs j 0) (pages_nth image v k page sizes (on, within, refl) ∙ pages_next image v page page here)
+    ∙ get_or-append (page_of image page) (pages_from image v (page + 1)) 0 j (omega (arith, long))
+    ∙ get_or-take 512 (drop (512 * page) image) j 0 (omega arith)
+    ∙ get_or-drop (512 * page) image j 0
+    ∙ ap (λ (n : ℕ). get_or image n 0) place
+
+pub repairs : (image primary : List ℕ) (v : Pages) → length image ≡ v.bins_size → v.bins_size % 512 ≡ 0
+    → ((i : ℕ) → i < v.bins_size → is_dirty v (i / 512) ≡ false → get_or primary i 0 ≡ get_or image i 0) → repaired primary v (pages_from image v 0) ≡ image
+unfolding repaired
+repairs image primary v sizes whole same =
+    let pages = pages_from image v 0 in
+    sym (fill_by_all (repaired_byte primary v pages) image v.bins_size 0 sizes (λ i inside. elim (cases_Bool (is_dirty v (i / 512))) [
+      | inl on ↦ sym (logged_byte image v i sizes whole inside on) ∙ sym (dirty_byte primary v pages i on)
+      | inr off ↦ sym (same i inside off) ∙ sym (clean_byte primary v pages i off)
+    ]))

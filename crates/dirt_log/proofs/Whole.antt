@@ -17,17 +17,17 @@ good_size b h =
     let least : 4096 ≤ b.bins_size = omega (arith, h.bins_size.0, h.bins_size.1) in
     and_from _ _ (and_from _ _ (eq-eqb (b.bins_size % 4096) 0 h.bins_size.0) (le-leb 4096 b.bins_size least)) (le-leb b.bins_size 67108864 h.within)
 
-abbrev done : Pages → Result Pages Refusal
+abbrev pub done : Pages → Result Pages Refusal
 done v = Ok v
 
 abbrev failed : Refusal → Result Pages Refusal
 failed e = Err e
 
 -- what reading a bitmap gives for a good size
-read_good : (size : ℕ) (bitmap : List ℕ) → is_bins_size size ≡ true → read_pages size bitmap ≡ done (record { bins_size = size; dirty = marked_below (is_marked_in_bitmap bitmap) (size / 512) })
+pub read_good : (size : ℕ) (bitmap : List ℕ) → is_bins_size size ≡ true → read_pages size bitmap ≡ done (record { bins_size = size; dirty = marked_below (is_marked_in_bitmap bitmap) (size / 512) })
 read_good size bitmap good = ap (λ (b : Bool). cond b (done (record { bins_size = size; dirty = marked_below (is_marked_in_bitmap bitmap) (size / 512) })) (failed TooLarge)) good
 
-same_pages : (v w : Pages) → done v ≡ done w → v ≡ w
+pub same_pages : (v w : Pages) → done v ≡ done w → v ≡ w
 same_pages v w e = cc
 
 -- for a good size only memory is refused

@@ -1,7 +1,8 @@
 -- What a primary file and its log hold together.
-use Rattle.std.specs.Prelude.{◌≡◌, ◌≤◌, ℕ, ◌+◌, nat_le, Bool, ◌&&◌, List, take, drop, length, MatchBool}
+use Rattle.std.specs.Prelude.{◌≡◌, ◌≤◌, ◌<◌, ◌/◌, false, slice_index, ℕ, ◌+◌, nat_le, Bool, ◌&&◌, List, take, drop, length, MatchBool}
 use Rattle.base_block.specs.declared.block.BaseBlock.{BaseBlock}
 use Rattle.base_block.specs.Layout.{is_clean_block}
+use Rattle.dirty_vector.specs.Pages.{Pages, is_dirty}
 use Rattle.dirt_log.specs.WholeLog.{IsWhole, IsCovered, block_of, pages_in, page_bytes_in, repaired}
 
 -- a primary file is clean when its first sector is there and its block is clean
@@ -24,3 +25,7 @@ pub record IsRepaired (primary log : List ℕ) (block : BaseBlock) (bins : List 
 -- the block and the bins data that are in use
 abbrev pub IsInUse : List ℕ → List ℕ → BaseBlock → List ℕ → Type 0
 IsInUse primary log block bins = MatchBool (is_clean_file primary) (IsOwn primary block bins) (IsRepaired primary log block bins)
+
+-- the primary file's bins data have the image's bytes where the page isn't dirty
+abbrev pub SameWhereClean : List ℕ → List ℕ → Pages → Type 0
+SameWhereClean image primary v = (i : ℕ) → i < v.bins_size → is_dirty v (i / 512) ≡ false → slice_index primary i ≡ slice_index image i

@@ -1,12 +1,12 @@
 -- Logs that are whole, and what they repair (regf format, old transaction log).
-use Rattle.std.specs.Prelude.{◌≡◌, ◌≢◌, ◌≤◌, ◌<◌, ℕ, ◌+◌, ◌*◌, ◌/◌, ◌%◌, false, if◌then◌else◌, List, take, drop, length, map, slice_index, codes}
+use Rattle.std.specs.Prelude.{true, ◌≡◌, ◌≢◌, ◌≤◌, ◌<◌, ℕ, ◌+◌, ◌*◌, ◌/◌, ◌%◌, false, if◌then◌else◌, List, take, drop, length, map, slice_index, codes}
 use Rattle.std.specs.List.{range_with_len}
 use Rattle.reg_names.specs.declared.refusal.Refusal.{Refusal}
 use Rattle.reg_names.specs.declared.refusal.Refusal.TheVariants.{HiveDamaged}
 use Rattle.reg_names.specs.declared.refusal.Cause.TheVariants.{BadLog}
 use Rattle.base_block.specs.declared.block.BaseBlock.{BaseBlock}
 use Rattle.base_block.specs.Layout.{block_at}
-use Rattle.base_block.specs.Judgements.{IsLog}
+use Rattle.base_block.specs.Judgements.{IsUsable, IsLog}
 use Rattle.dirty_vector.specs.Marks.{is_marked_in_bitmap, marked_count, marked_below}
 use Rattle.dirty_vector.specs.Pages.{Pages, is_dirty, dirty_count}
 use Rattle.dirt_log.specs.LogText.{bitmap_end, pages_at}
@@ -60,3 +60,20 @@ repaired_byte image v pages i = if is_dirty v (i / 512) then slice_index pages (
 -- the repaired bins data, of the log's size: the primary file's with each dirty page replaced
 unfoldable pub repaired : List ℕ → Pages → List ℕ → List ℕ
 repaired image v pages = map (repaired_byte image v pages) (range_with_len 0 v.bins_size)
+
+-- a block that a log of these pages may have: usable, with equal numbers, and of their size
+pub record IsLoggable (b : BaseBlock) (v : Pages) : Type 0 where
+  pub usable : IsUsable b
+  pub equal : b.primary.0 ≡ b.secondary.0
+  pub size : b.bins_size ≡ v.bins_size
+
+-- a log's text is whole, and has this block, these pages and their bytes
+pub record ReadsAs (text : List ℕ) (b : BaseBlock) (v : Pages) (pages : List ℕ) : Type 0 where
+  pub whole : IsWhole text
+  pub base : block_of text ≡ b
+  pub marked : pages_in text ≡ v
+  pub bytes : page_bytes_in text ≡ pages
+
+-- the block of a log as it is read
+abbrev pub block_as_read : BaseBlock → BaseBlock
+block_as_read b = record b { file_type = record { 0 = 1 }; sum_is_right = true }

@@ -12,6 +12,6 @@ mod reading;
 mod repair;
 mod steps;
 
-pub use held::clean_primary_stands;
+pub use held::{clean_primary_stands, log_repairs};
 pub use reading::{DirtLog, read};
 pub use steps::{LogSteps, PIECE_BYTES, write_steps};

@@ -2,6 +2,7 @@
 
 ghost use Rattle.std.specs.Prelude.{◌≡◌, ◌≤◌, ◌+◌, ◌-◌, ◌/◌, ◌*◌, ◌%◌, ◌++◌, take, drop, length};
 ghost use Rattle.dirt_log.specs.LogText.{pages_from, head_text, log_text, bitmap_end, pages_at};
+ghost use Rattle.dirt_log.specs.WholeLog.{IsLoggable, ReadsAs, block_as_read};
 ghost use Rattle.base_block.specs.Layout.{zeros};
 ghost use Rattle.dirty_vector.specs.Pages.{is_dirty, bitmap_of};
 
@@ -44,8 +45,12 @@ impl<'a> Model for LogSteps<'a> {
 /// memory.
 pub fn write_steps<'a>(image: &'a [u8], vector: &'a DirtyVector, base: &BaseBlock) -> LogSteps<'a>
     requires { length image.now ≡ vector.now.bins_size }
-    ensures { result ≡ log_text image.now vector.now base.now }
+    ensures text { result ≡ log_text image.now vector.now base.now }
+    // What is written is read again.
+    ensures again { IsLoggable base.now vector.now → ReadsAs result (block_as_read base.now) vector.now (pages_from image.now vector.now 0) }
 {
+    vector.bitmap_reads_again();
+    let _size = vector.bins_size();
     let block = BaseBlock {
         file_type: FileType::LOG,
         ..*base

@@ -1,15 +1,16 @@
 -- The set of the marked pages.
-use Rattle.std.proofs.Common.{◌≡◌, ◌≢◌, ◌≤◌, ◌<◌, ℕ, zero, suc, ◌+◌, ◌-◌, ◌*◌, ◌/◌, ◌%◌, Bool, true, false, ◌&&◌, ◌||◌, eqb, leb, ltb, cond, List, length, map, refl, sym, ap, ◌∙◌, inl, inr, arith, ◌⊎◌, ◌↔◌, IsTrue, Result, Ok, Err}
+use Rattle.std.proofs.Common.{◌≡◌, ◌≢◌, ◌≤◌, ◌<◌, ℕ, zero, suc, ◌+◌, ◌-◌, ◌*◌, ◌/◌, ◌%◌, Bool, true, false, ◌&&◌, ◌||◌, eqb, leb, ltb, cond, List, [], ◌∷◌, length, get_or, map, refl, sym, ap, ◌∙◌, inl, inr, arith, ◌⊎◌, ◌↔◌, IsTrue, Result, Ok, Err}
 use Rattle.std.specs.Ordering.{nat_cmp, eq_by_cmp}
 use Rattle.std.specs.Cmp.{nat_cmp_total}
 use Rattle.std.specs.FinSet as set
+use Rattle.std.specs.Int.{bit_at}
 use Rattle.std.specs.List.{range_with_len}
 use Rattle.std.proofs.lemmas.Bool.{false≢true, eqb-true, cases_lt, cases_eq, cases_Bool, lt-ltb, le-ltb, leb-true, le-leb, eq-eqb, ne_eqb, and_parts, and_from, or_cases, or_left, or_right}
 use Rattle.std.proofs.lemmas.Bool.Decides.{nat_tests}
 use Rattle.std.proofs.Math.Nat.{add-zero}
 use Rattle.std.proofs.lemmas.List.FromFn.{fill_by_all, length-map-range_with_len, get_or-map-range_with_len}
 use Rattle.dirty_vector.specs.Marks.{is_marked, is_marked_in_bitmap, marked_count, marked_below, IsNthMark}
-use Rattle.dirty_vector.specs.Pages.{Pages, is_dirty, dirty_count, is_bins_size, Touches, fresh_pages, read_pages, bitmap_byte, bitmap_of, NoneFrom, IsNextDirty, IsNthDirty, IsFirstRun}
+use Rattle.dirty_vector.specs.Pages.{Pages, is_dirty, dirty_count, is_bins_size, Touches, fresh_pages, read_pages, bit_of, bitmap_byte, bitmap_of, NoneFrom, IsNextDirty, IsNthDirty, IsFirstRun}
 use Rattle.dirty_vector.specs.Kept.{pages_of, IsKept, IsBlank}
 use Rattle.std.specs.Prelude.{Option, Some, None, MatchOption}
 use Rattle.dirty_vector.proofs.Bytes.{none_marked}
@@ -246,3 +247,67 @@ nth_kept size words v n (Some page) kept is nth =
       omega (arith, inside, ap (λ (u : Pages). u.bins_size) (sym is)),
       same_count (is_dirty v) (is_marked words) page (λ p h. as_marked size words v kept is p) ∙ nth.2,
     )
+
+-- ---- the bitmap is read again
+
+bit_small : (b : Bool) → bit_of b < 2
+bit_small true = omega arith
+bit_small false = omega arith
+
+bit_test : (b : Bool) → eqb (bit_of b) 1 ≡ b
+bit_test true = refl
+bit_test false = refl
+
+-- a bit of a number that is given by its bits
+bit_of_eight : (a b c d e f g h j : ℕ) → a < 2 → b < 2 → c < 2 → d < 2 → e < 2 → f < 2 → g < 2 → h < 2 → j < 8
+    → bit_at (a + 2 * b + 4 * c + 8 * d + 16 * e + 32 * f + 64 * g + 128 * h) j ≡ get_or (a ∷ b ∷ c ∷ d ∷ e ∷ f ∷ g ∷ h ∷ []) j 0
+bit_of_eight a b c d e f g h zero ha hb hc hd he hf hg hh hj = omega arith
+bit_of_eight a b c d e f g h (suc zero) ha hb hc hd he hf hg hh hj = omega arith
+bit_of_eight a b c d e f g h (suc (suc zero)) ha hb hc hd he hf hg hh hj = omega arith
+bit_of_eight a b c d e f g h (suc (suc (suc zero))) ha hb hc hd he hf hg hh hj = omega arith
+bit_of_eight a b c d e f g h (suc (suc (suc (suc zero)))) ha hb hc hd he hf hg hh hj = omega arith
+bit_of_eight a b c d e f g h (suc (suc (suc (suc (suc zero))))) ha hb hc hd he hf hg hh hj = omega arith
+bit_of_eight a b c d e f g h (suc (suc (suc (suc (suc (suc zero)))))) ha hb hc hd he hf hg hh hj = omega arith
+bit_of_eight a b c d e f g h (suc (suc (suc (suc (suc (suc (suc zero))))))) ha hb hc hd he hf hg hh hj = omega arith
+bit_of_eight a b c d e f g h (suc (suc (suc (suc (suc (suc (suc (suc j)))))))) ha hb hc hd he hf hg hh hj = absurd (omega arith)
+
+-- the marks of the pages of a byte, by their places
+marks_of_byte : (mark : ℕ → Bool) (k j : ℕ) → j < 8
+    → get_or (bit_of (mark (8 * k)) ∷ bit_of (mark (8 * k + 1)) ∷ bit_of (mark (8 * k + 2)) ∷ bit_of (mark (8 * k + 3)) ∷ bit_of (mark (8 * k + 4)) ∷ bit_of (mark (8 * k + 5)) ∷ bit_of (mark (8 * k + 6)) ∷ bit_of (mark (8 * k + 7)) ∷ []) j 0 ≡ bit_of (mark (8 * k + j))
+marks_of_byte mark k zero h = let e : 8 * k ≡ 8 * k + 0 = omega arith in ap (λ (p : ℕ). bit_of (mark p)) e
+marks_of_byte mark k (suc zero) h = refl
+marks_of_byte mark k (suc (suc zero)) h = refl
+marks_of_byte mark k (suc (suc (suc zero))) h = refl
+marks_of_byte mark k (suc (suc (suc (suc zero)))) h = refl
+marks_of_byte mark k (suc (suc (suc (suc (suc zero))))) h = refl
+marks_of_byte mark k (suc (suc (suc (suc (suc (suc zero)))))) h = refl
+marks_of_byte mark k (suc (suc (suc (suc (suc (suc (suc zero))))))) h = refl
+marks_of_byte mark k (suc (suc (suc (suc (suc (suc (suc (suc j)))))))) h = absurd (omega arith)
+
+-- the bitmap marks what it was made of
+marked_again : (mark : ℕ → Bool) (n page : ℕ) → page < 8 * n → is_marked_in_bitmap (bitmap_of mark n) page ≡ mark page
+unfolding bitmap_of
+marked_again mark n page inside =
+    let k = page / 8 in
+    let j = page % 8 in
+    let whole : 8 * k + j ≡ page = omega arith in
+    ap (λ (b : ℕ). eqb (bit_at b j) 1) (get_or-map-range_with_len (bitmap_byte mark) 0 n k k 0 (omega (arith, inside)) (omega arith))
+    ∙ ap (λ (b : ℕ). eqb b 1) (bit_of_eight (bit_of (mark (8 * k))) (bit_of (mark (8 * k + 1))) (bit_of (mark (8 * k + 2))) (bit_of (mark (8 * k + 3))) (bit_of (mark (8 * k + 4))) (bit_of (mark (8 * k + 5))) (bit_of (mark (8 * k + 6))) (bit_of (mark (8 * k + 7))) j
+    (bit_small (mark (8 * k))) (bit_small (mark (8 * k + 1))) (bit_small (mark (8 * k + 2))) (bit_small (mark (8 * k + 3))) (bit_small (mark (8 * k + 4))) (bit_small (mark (8 * k + 5))) (bit_small (mark (8 * k + 6))) (bit_small (mark (8 * k + 7))) (omega arith)
+    ∙ marks_of_byte mark k j (omega arith))
+    ∙ bit_test (mark (8 * k + j)) ∙ ap mark whole
+
+pub bitmap_again : (size : ℕ) (words : List ℕ) (v : Pages) → IsKept size words → pages_of size words ≡ v → read_pages v.bins_size (bitmap_of (is_dirty v) (v.bins_size / 4096)) ≡ done v
+bitmap_again size words v kept is =
+    let size_is : v.bins_size ≡ size = ap (λ (u : Pages). u.bins_size) (sym is) in
+    let good : is_bins_size v.bins_size ≡ true = ap is_bins_size size_is ∙ kept.good in
+    let bits : v.bins_size % 4096 ≡ 0 = eqb-true _ _ (and_parts _ _ (and_parts _ _ good).0).0 in
+    let bitmap = bitmap_of (is_dirty v) (v.bins_size / 4096) in
+    let same : marked_below (is_marked_in_bitmap bitmap) (v.bins_size / 512) ≡ v.dirty =
+    set.same_set nat_cmp_total set.nat_cmp-IsAntisymmetric (marked_below (is_marked_in_bitmap bitmap) (v.bins_size / 512)) v.dirty
+    (λ q. contains_below (is_marked_in_bitmap bitmap) (v.bins_size / 512) q ∙ elim (cases_lt q (v.bins_size / 512)) [
+      | inl lt ↦ ap (λ (b : Bool). b && is_marked_in_bitmap bitmap q) (lt-ltb q (v.bins_size / 512) lt) ∙ marked_again (is_dirty v) (v.bins_size / 4096) q (omega (arith, lt, bits))
+      | inr le ↦ ap (λ (b : Bool). b && is_marked_in_bitmap bitmap q) (le-ltb q (v.bins_size / 512) le) ∙ sym (as_marked size words v kept is q ∙ kept.inside q (omega (arith, le, size_is)))
+    ]) in
+    ap (λ (b : Bool). cond b (done (pages v.bins_size (marked_below (is_marked_in_bitmap bitmap) (v.bins_size / 512)))) (failed TooLarge)) good
+    ∙ ap (λ (d : set.FinSet nat_cmp). done (pages v.bins_size d)) same

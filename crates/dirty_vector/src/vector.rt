@@ -155,6 +155,13 @@ impl DirtyVector {
         write_bitmap(&self.words, bitmap);
     }
 
+    /// A law: the bitmap of a vector reads as the vector.
+    pub fn bitmap_reads_again(&self)
+        ensures { read_pages self.now.bins_size (bitmap_of (is_dirty self.now) (self.now.bins_size / 4096)) ≡ Ok self.now }
+    {
+        let _size = self.bins_size;
+    }
+
     /// The vector of bins data of a size whose bitmap this is. Refused as [`DirtyVector::new`] is.
     pub fn read(alloc: Global, bins_size: usize, bitmap: &[u8]) -> Result<DirtyVector, Refusal>
         requires { length bitmap.now ≡ bins_size / 4096 }
