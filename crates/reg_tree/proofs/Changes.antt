@@ -53,7 +53,7 @@ nothing_below tree is d none m r = by_case (row tree (d ++ m ∷ r)) refl
 -- a branch put below the last key that is there leaves the rows of a creation
 pub created_is : (tree : TreeMap) (spelled front further : List (List ℕ)) (name : List ℕ) (d : ℕ) (key : Row) (moment : ℕ) → spelled ≡ front ++ name ∷ further → d ≡ depth_there tree (folded_path spelled) → length front ≡ d → row tree (folded_path front) ≡ Some key → (q : List (List ℕ))
     → cond (eq_by_cmp path_order q (folded_path front)) (option_map (touched moment) (row tree q)) (cond (begins_path q (folded_path front ++ folded name ∷ folded_path further) && nat_lt (length (folded_path front)) (length q)) (Some (new_row (slice_index_or (front ++ name ∷ further) (length q - 1) []) key.descriptor moment)) (row tree q))
-      ≡ row_created tree spelled moment q
+    ≡ row_created tree spelled moment q
 created_is tree spelled front further name d key moment is depth long there q = λ i. put (home i) (whole i) (deep i) (is_spelled i) (bytes i)
   where
     put : List (List ℕ) → List (List ℕ) → ℕ → List (List ℕ) → List ℕ → Option Row

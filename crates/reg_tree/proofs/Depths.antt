@@ -66,8 +66,8 @@ module _ (tree : TreeMap) (is : IsTree tree) (path : List (List ℕ)) (d : ℕ) 
   there_is = elim (cases_lt d (length path)) [
     | inl lt ↦ ap (is_there tree) (sym (all_of path)) ∙ gone_past (length path) lt (omega arith) ∙ grind (arith, nat_tests)
     | inr at_least ↦
-      let same : d ≡ length path = omega arith in
-      ap (is_there tree) (sym (all_of path)) ∙ ap (λ k. is_there tree (take k path)) (sym same) ∙ there_up_to d (omega arith) ∙ grind (arith, nat_tests)
+        let same : d ≡ length path = omega arith in
+        ap (is_there tree) (sym (all_of path)) ∙ ap (λ k. is_there tree (take k path)) (sym same) ∙ there_up_to d (omega arith) ∙ grind (arith, nat_tests)
   ]
     where
       all_of : (xs : List (List ℕ)) → take (length xs) xs ≡ xs
@@ -79,7 +79,6 @@ module _ (entries : Entries) (rooted : IsRooted entries) (spelled : List (List �
     (there : (rest : List (List ℕ)) → row_at entries (folded_path (take d spelled) ++ rest) ≡ row_at at rest)
     (gone : d < length spelled → (rest : List (List ℕ)) → row_at entries (folded_path (take (d + 1) spelled) ++ rest) ≡ None)
     (here : row_at at [] ≡ Some key) where
-
   same_length : length (folded_path spelled) ≡ length spelled
   same_length = length-map spelled folded
 

@@ -3,3 +3,6 @@ pub mod Depths
 pub mod Paths
 pub mod Splices
 pub mod Changes
+pub mod Made
+pub mod Keeps
+pub mod FreshTrees

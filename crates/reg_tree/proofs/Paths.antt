@@ -58,8 +58,8 @@ longer_apart (a ∷ p) n r = ap (λ o. is_eq (ordering_then o (path_order (p ++ 
 pub unbegun_apart : (p q : List (List ℕ)) → begins_path p q ≡ false → eq_by_cmp path_order q p ≡ false
 unbegun_apart p q off = elim (told (eq_by_cmp path_order q p)) [
   | inl same ↦
-    let is : q ≡ p = eq_is q p same in
-    absurd (false≢true (sym off ∙ ap (begins_path p) (is ∙ sym (append-nil p)) ∙ begins-append p []))
+      let is : q ≡ p = eq_is q p same in
+      absurd (false≢true (sym off ∙ ap (begins_path p) (is ∙ sym (append-nil p)) ∙ begins-append p []))
   | inr apart ↦ apart
 ]
 

@@ -52,9 +52,9 @@ module _ (after before : Rows) (new node : Entries) (p : List (List ℕ)) (withi
         not_parent : one_below q (p ++ n ∷ []) ≡ false
         not_parent = elim (told (one_below q (p ++ n ∷ []))) [
           | inl parent ↦
-            let more = split_below q (p ++ n ∷ []) parent in
-            let same : p ≡ q = same_parent p q n more.0 more.1 in
-            absurd (false≢true (sym off ∙ ap (begins_path p) (sym same ∙ sym (append-nil p)) ∙ begins-append p []))
+              let more = split_below q (p ++ n ∷ []) parent in
+              let same : p ≡ q = same_parent p q n more.0 more.1 in
+              absurd (false≢true (sym off ∙ ap (begins_path p) (sym same ∙ sym (append-nil p)) ∙ begins-append p []))
           | inr not_one ↦ not_one
         ]
 
@@ -107,7 +107,6 @@ module _ (after before : Rows) (new node branch : Entries) (front further : List
     (was : (r : List (List ℕ)) → before (folded_path front ++ r) ≡ row_at node r) (there : before (folded_path front) ≡ Some key)
     (here : row_at new [] ≡ Some (touched moment key)) (below : (r : List (List ℕ)) → row_at new (folded name ∷ r) ≡ row_at branch r) (kept : (m : List ℕ) (r : List (List ℕ)) → eq_by_cmp name_order m (folded name) ≡ false → row_at new (m ∷ r) ≡ row_at node (m ∷ r))
     (rows : (r : List (List ℕ)) → row_at branch r ≡ branch_row name further bytes moment r) (empty : (r : List (List ℕ)) → before (folded_path front ++ folded name ∷ r) ≡ None) where
-
   -- the row that a creation leaves, by whether the path is that of the last key that was there, and whether it is a
   -- new key's
   made : Bool → Bool → List (List ℕ) → Option Row

@@ -8,9 +8,13 @@
 //! leaves is the old trees. Look-ups take no memory.
 #![tactic(auto)]
 
+mod element;
 mod op;
 mod tree;
+mod trees;
 
+pub use element::{Element, Ops};
 pub use op::{Legality, Op};
 pub use reg_tree_parts::{Data, Key, Value};
 pub use tree::{Info, Tree};
+pub use trees::Trees;

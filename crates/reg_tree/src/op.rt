@@ -1,4 +1,7 @@
 //! The four operations on a registry tree.
+ghost use Rattle.std.specs.Prelude.{◌≡◌, min};
+ghost use Rattle.reg_tree.specs.Operations.{hive_of, spelled_path};
+ghost use Rattle.reg_tree.specs.Texts.{op_text_len, path_text_len};
 
 use reg_names::{Path, ValueName};
 use reg_tree_parts::Data;
@@ -42,6 +45,64 @@ pub enum Op {
         /// The value's name.
         name: ValueName,
     },
+}
+
+impl Op {
+    /// The hive's number.
+    pub fn hive(&self) -> u8
+        ensures { result ≡ hive_of self.now }
+    {
+        match self {
+            Op::CreateKey { hive, .. }
+            | Op::DeleteKey { hive, .. }
+            | Op::SetValue { hive, .. }
+            | Op::DeleteValue { hive, .. } => *hive,
+        }
+    }
+
+    /// The path of the key.
+    pub fn path(&self) -> &Path
+        ensures { result.now ≡ spelled_path self.now }
+    {
+        match self {
+            Op::CreateKey { path, .. }
+            | Op::DeleteKey { path, .. }
+            | Op::SetValue { path, .. }
+            | Op::DeleteValue { path, .. } => path,
+        }
+    }
+
+    // the bytes of the operation as journal text
+    pub(crate) fn text_len(&self) -> u64
+        ensures { result ≡ min (op_text_len self.now) u64.MAX }
+    {
+        let path = path_text_len(self.path());
+        match self {
+            Op::CreateKey { .. } | Op::DeleteKey { .. } => path.saturating_add(2),
+            Op::SetValue { name, data, .. } => {
+                let units = name.name().units().len() as u64;
+                let bytes = data.bytes().len() as u64;
+                path.saturating_add(units)
+                    .saturating_add(bytes)
+                    .saturating_add(12)
+            }
+            Op::DeleteValue { name, .. } => {
+                let units = name.name().units().len() as u64;
+                path.saturating_add(units).saturating_add(4)
+            }
+        }
+    }
+}
+
+fn path_text_len(path: &Path) -> u64
+    ensures { result ≡ min (path_text_len path.now) u64.MAX }
+{
+    let mut total = 2u64;
+    for name in path.names() {
+        let units = name.units().len() as u64;
+        total = total.saturating_add(units).saturating_add(1);
+    }
+    total
 }
 
 /// What an operation that is not refused would do.

@@ -1,18 +1,23 @@
 //! The node of the root after one operation: a new node along the operation's path, all else shared.
-ghost use Rattle.std.specs.Prelude.{◌≡◌, ◌+◌, ◌<◌, List, [], ◌∷◌, ◌++◌, ℕ, cond, length, IsSome, Some, None, IfOk, is_some, false};
+ghost use Rattle.std.specs.Prelude.{◌≡◌, ◌<◌, List, [], ◌∷◌, ◌++◌, ℕ, cond, length, IsSome, Some, None, IfOk, false};
 ghost use Rattle.std.specs.Ordering.{eq_by_cmp};
-ghost use Rattle.reg_names.specs.Names.{folded, folded_path};
+ghost use Rattle.reg_names.specs.Names.{folded, folded_path, IsOrNoMemory};
 ghost use Rattle.reg_tree_parts.specs.Orders.{path_order};
 ghost use Rattle.reg_tree_parts.specs.Rows.{Row};
 ghost use Rattle.reg_tree_parts.specs.ValueEdits.{values_with, values_without};
 ghost use Rattle.reg_tree_parts.specs.Nodes.{row_at, IsNode};
-ghost use Rattle.reg_tree.specs.Maps.{row, is_there, subkeys};
-ghost use Rattle.reg_tree.specs.Operations.{row_created, row_deleted, row_edited};
+ghost use Rattle.reg_tree.specs.Maps.{row, is_there, subkeys, weight};
+ghost use Rattle.reg_tree.specs.Operations.{row_created, row_deleted, row_edited, row_after};
+ghost use Rattle.reg_tree.specs.Judgement.{judged, changed, legal_in, legal_after};
+ghost use Rattle.reg_tree.specs.Fresh.{fresh_row, fresh_tree};
 
 use super::Tree;
-use reg_names::{Name, Path, ValueName};
-use reg_tree_parts::{Data, Key, Node};
+use crate::op::{Legality, Op};
+use reg_names::limits::MOST_WEIGHT;
+use reg_names::{Name, Path, Refusal, ValueName};
+use reg_tree_parts::{Data, Key, Node, Values};
 use std::alloc::{AllocError, Global};
+use std::sync::Arc;
 
 impl Tree {
     // the key at this path with another row of the same name
@@ -30,7 +35,7 @@ impl Tree {
         Ok(made)
     }
 
-    pub(super) fn set_value(
+    fn set_value(
         &self,
         alloc: Global,
         path: &Path,
@@ -53,7 +58,7 @@ impl Tree {
         Ok(made)
     }
 
-    pub(super) fn delete_value(
+    fn delete_value(
         &self,
         alloc: Global,
         path: &Path,
@@ -74,12 +79,7 @@ impl Tree {
         Ok(made)
     }
 
-    pub(super) fn delete_key(
-        &self,
-        alloc: Global,
-        path: &Path,
-        moment: u64,
-    ) -> Result<Node, AllocError>
+    fn delete_key(&self, alloc: Global, path: &Path, moment: u64) -> Result<Node, AllocError>
         requires there { IsSome (row self.now (folded_path path.now)) }
         requires below { 0 < length path.now }
         requires alone { length (subkeys self.now (folded_path path.now)) ≡ 0 }
@@ -98,12 +98,7 @@ impl Tree {
         Ok(made)
     }
 
-    pub(super) fn create_key(
-        &self,
-        alloc: Global,
-        path: &Path,
-        moment: u64,
-    ) -> Result<Node, AllocError>
+    fn create_key(&self, alloc: Global, path: &Path, moment: u64) -> Result<Node, AllocError>
         requires { is_there self.now (folded_path path.now) ≡ false }
         ensures rows { IfOk result (λ made. (q : List (List ℕ)) → row_at made q ≡ row_created self.now path.now moment q) }
         ensures node { IfOk result IsNode }
@@ -120,4 +115,98 @@ impl Tree {
         let made = self.root.replaced(alloc, front, new)?;
         Ok(made)
     }
+
+    // the root after an operation that may be carried out
+    fn root_after(&self, alloc: Global, op: &Op, moment: u64) -> Result<Node, AllocError>
+        requires { judged self.now op.now ≡ Ok Legality.Legal }
+        ensures rows { IfOk result (λ made. (q : List (List ℕ)) → row_at made q ≡ row_after self.now op.now moment q) }
+        ensures node { IfOk result IsNode }
+    {
+        match op {
+            Op::CreateKey { path, .. } => self.create_key(alloc, path, moment),
+            Op::DeleteKey { path, .. } => self.delete_key(alloc, path, moment),
+            Op::SetValue {
+                path,
+                name,
+                kind,
+                data,
+                ..
+            } => self.set_value(alloc, path, name, *kind, data, moment),
+            Op::DeleteValue { path, name, .. } => self.delete_value(alloc, path, name, moment),
+        }
+    }
+
+    /// The tree after the operation at this moment. One that may not be carried out, or that opens a key,
+    /// changes nothing; weights are not looked at.
+    pub fn changed(&self, alloc: Global, op: &Op, moment: u64) -> Result<Tree, AllocError>
+        ensures { IfOk result (λ made. made ≡ changed self.now op.now moment) }
+    {
+        let _ = &self.root;
+        match self.judged(op) {
+            Ok(Legality::Legal) => {
+                let root = self.root_after(alloc, op, moment)?;
+                let root = Arc::new(alloc, root)?;
+                Ok(Tree { root })
+            }
+            _ => self.clone(),
+        }
+    }
+
+    /// Whether the operation is legal on this tree: it may be carried out, and a creation or a value written
+    /// leaves the tree within the weight of 16,777,216, else `TooLarge`.
+    pub fn legal(&self, alloc: Global, op: &Op) -> Result<Legality, Refusal>
+        ensures { IsOrNoMemory result (legal_in self.now op.now) }
+    {
+        match self.judged(op) {
+            Ok(Legality::Legal) => self.weighed(alloc, op),
+            other => other,
+        }
+    }
+
+    // whether the operation, which may be carried out, leaves the tree within its weight
+    fn weighed(&self, alloc: Global, op: &Op) -> Result<Legality, Refusal>
+        requires { judged self.now op.now ≡ Ok Legality.Legal }
+        ensures { IsOrNoMemory result (legal_after op.now (Ok Legality.Legal) (weight (changed self.now op.now 0))) }
+    {
+        match op {
+            Op::DeleteKey { .. } | Op::DeleteValue { .. } => Ok(Legality::Legal),
+            Op::CreateKey { .. } | Op::SetValue { .. } => {
+                let after = self.changed(alloc, op, 0)?;
+                if after.weight() > MOST_WEIGHT {
+                    Err(Refusal::TooLarge)
+                } else {
+                    Ok(Legality::Legal)
+                }
+            }
+        }
+    }
+
+    /// The tree of a new hive: its root alone, with an empty name, the flags 0x000c, the time 0, no class and
+    /// the shortest security descriptor.
+    pub fn fresh(alloc: Global) -> Result<Tree, AllocError>
+        ensures { IfOk result (λ made. made ≡ fresh_tree) }
+    {
+        let leaf = Node::leaf(alloc, fresh_key(alloc)?)?;
+        let root = Arc::new(alloc, leaf)?;
+        Ok(Tree { root })
+    }
 }
+
+// the root of a new hive
+fn fresh_key(alloc: Global) -> Result<Key, AllocError>
+    ensures { IfOk result (λ key. key ≡ fresh_row) }
+{
+    let name = Name::stored(alloc, &[])?;
+    let class = Data::new(alloc, &[])?;
+    let descriptor = Data::new(alloc, &FRESH_DESCRIPTOR)?;
+    let values = Values::new(alloc)?;
+    Ok(Key::new(name, class, FRESH_FLAGS, descriptor, 0, values))
+}
+
+// the flags of a new hive's root: that of a root, and not to be deleted
+const FRESH_FLAGS: u16 = 0x000c;
+
+// a self-relative security descriptor of revision 1 without owner, group and lists
+const FRESH_DESCRIPTOR: [u8; 20] = [
+    0x01, 0x00, 0x00, 0x80, 0, 0, 0, 0, 0, 0, 0, 0, 0, 0, 0, 0, 0, 0, 0, 0,
+];

@@ -16,7 +16,7 @@ pub replaced-requires-clause-named : goal.replaced-requires-clause-named
 replaced-requires-clause-named c =
     let home : take c.nearest-depth.result.1 (folded_path c.names-names.result.now) ≡ folded_path c.split_at.result.0.now = take-map folded c.nearest-depth.result.1 c.names-names.result.now ∙ ap folded_path (sym c.split_at.ensures.front) in
     let there : row c.args.self.now (folded_path c.split_at.result.0.now) ≡ Some c.key-key.result.now =
-        ap (row c.args.self.now) (sym (append-nil (folded_path c.split_at.result.0.now))) ∙ ap (λ h. row c.args.self.now (h ++ [])) (sym home) ∙ c.nearest-depth.ensures.below [] ∙ c.key-key.ensures.here in
+    ap (row c.args.self.now) (sym (append-nil (folded_path c.split_at.result.0.now))) ∙ ap (λ h. row c.args.self.now (h ++ [])) (sym home) ∙ c.nearest-depth.ensures.below [] ∙ c.key-key.ensures.here in
     (c.key-key.result.now, rows_of (arc_value c.self.inside.root) c.deref.result.now c.args.self.now c.self.invariant.node c.self.view_is c.deref.ensures (folded_path c.split_at.result.0.now) ∙ there, sym (c.in_ok-new.ensures.root ∙ c.key-key.ensures.named))
 
 pub returns-clause-rows : goal.returns-clause-rows
@@ -32,8 +32,8 @@ returns-clause-rows c q =
     let was : (r : List (List ℕ)) → row self (folded_path front ++ r) ≡ row_at c.nearest-depth.result.0.now r = λ r. ap (λ h. row self (h ++ r)) (sym home) ∙ c.nearest-depth.ensures.below r in
     let there : row self (folded_path front) ≡ Some key = ap (row self) (sym (append-nil (folded_path front))) ∙ was [] ∙ c.key-key.ensures.here in
     let empty : (r : List (List ℕ)) → row self (folded_path front ++ folded name ∷ r) ≡ None =
-        λ r. ap (row self) (sym (append_assoc (folded_path front) (folded name ∷ []) r)) ∙ ap (λ h. row self (h ++ r)) (sym (ap (λ p. take (depth + 1) (folded_path p)) names ∙ one_more front further name depth c.split_at.ensures.front_len))
-             ∙ c.nearest-depth.ensures.gone (subst (λ p. depth < length (folded_path p)) (sym names) (longer_path front further name depth c.split_at.ensures.front_len)) r in
+    λ r. ap (row self) (sym (append_assoc (folded_path front) (folded name ∷ []) r)) ∙ ap (λ h. row self (h ++ r)) (sym (ap (λ p. take (depth + 1) (folded_path p)) names ∙ one_more front further name depth c.split_at.ensures.front_len))
+    ∙ c.nearest-depth.ensures.gone (subst (λ p. depth < length (folded_path p)) (sym names) (longer_path front further name depth c.split_at.ensures.front_len)) r in
     created (row_at c.in_ok-made.made) (row self) c.in_ok-new.new c.nearest-depth.result.0.now c.in_ok-branch.branch front further name key.descriptor c.args.moment key
     c.in_ok-made.ensures.within (λ q off. c.in_ok-made.ensures.others q off ∙ rows_of (arc_value c.self.inside.root) c.deref.result.now self c.self.invariant.node c.self.view_is c.deref.ensures q)
     was there (c.in_ok-new.ensures.here ∙ ap Some c.in_ok-touched.ensures) (λ r. ap (λ n. row_at c.in_ok-new.new (n ∷ r)) (sym c.in_ok-branch.ensures.root) ∙ c.in_ok-new.ensures.child r)

@@ -17,7 +17,7 @@ replaced-requires-clause-named c =
 pub returns-clause-rows : goal.returns-clause-rows
 returns-clause-rows c q =
     let path : folded_path c.args.path.now ≡ folded_path c.in-Some.parent.now ++ folded c.in-Some.last.now ∷ [] =
-        ap folded_path (sym c.names.ensures.names ∙ c.in-Some.ensures.cases.0) ∙ map-append folded c.in-Some.parent.now (c.in-Some.last.now ∷ []) in
+    ap folded_path (sym c.names.ensures.names ∙ c.in-Some.ensures.cases.0) ∙ map-append folded c.in-Some.parent.now (c.in-Some.last.now ∷ []) in
     let there : row c.args.self.now (folded_path c.in-Some.parent.now) ≡ Some c.key.result.now = c.in-Some-node.ensures.key ∙ c.key.ensures.here in
     deleted (row_at c.in_ok-made.made) (row c.args.self.now) c.in_ok-new.new c.in-Some-node.node.now (folded_path c.in-Some.parent.now) c.in_ok-made.ensures.within
     (λ q off. c.in_ok-made.ensures.others q off ∙ rows_of (arc_value c.self.inside.root) c.deref.result.now c.args.self.now c.self.invariant.node c.self.view_is c.deref.ensures q)

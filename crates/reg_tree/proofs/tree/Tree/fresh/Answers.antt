@@ -1,0 +1,12 @@
+use Rattle.std.proofs.Common.{◌≡◌, Some, [], List, ℕ, ◌∷◌, None, subst, sym, ◌∙◌, ap}
+use Rattle.reg_tree_parts.specs.Nodes.{row_at}
+use Rattle.reg_tree.specs.Maps.{IsRooted}
+use Rattle.reg_tree.specs.Fresh.{fresh_row}
+use Rattle.reg_tree.proofs.FreshTrees.{fresh_is, fresh_rooted}
+use Rattle.reg_tree.proofs.tree.Tree.fresh.Goals as goal
+
+pub invariant_of-result : goal.invariant_of-result
+invariant_of-result c = rw c.in_ok-root.ensures.ok (fresh_rooted c.in_ok-leaf.leaf c.in_ok-leaf.ensures.node (c.in_ok-leaf.ensures.here ∙ ap Some c.in_ok-fresh_key.ensures) c.in_ok-leaf.ensures.alone)
+
+pub returns : goal.returns
+returns c = rw c.in_ok-root.ensures.ok (fresh_is c.in_ok-leaf.leaf c.in_ok-leaf.ensures.node (c.in_ok-leaf.ensures.here ∙ ap Some c.in_ok-fresh_key.ensures) c.in_ok-leaf.ensures.alone)

@@ -1,0 +1,28 @@
+-- What is read of the trees of all hives, by the hive's number.
+use Rattle.std.specs.Prelude.{ℕ, List, slice_get, min, Option}
+use Rattle.std.specs.Option.{option_map, option_and_then}
+use Rattle.std.below.core.specs.declared.int.u64.TheConstants.{MAX}
+use Rattle.reg_tree_parts.specs.declared.value.Value.{Value}
+use Rattle.reg_tree.specs.Maps.{TreeMap, weight}
+use Rattle.reg_tree.specs.Reads.{value_at, value_index, subkey_index, info_of}
+use Rattle.reg_tree.specs.declared.tree.Info.{Info}
+
+-- the value of a name at a path of a hive
+abbrev pub value_in : List TreeMap → ℕ → List (List ℕ) → List ℕ → Option Value
+value_in trees hive path name = option_and_then (λ tree. value_at tree path name) (slice_get trees hive)
+
+-- the value at an index
+abbrev pub value_index_in : List TreeMap → ℕ → List (List ℕ) → ℕ → Option Value
+value_index_in trees hive path index = option_and_then (λ tree. value_index tree path index) (slice_get trees hive)
+
+-- the name of the subkey at an index
+abbrev pub subkey_index_in : List TreeMap → ℕ → List (List ℕ) → ℕ → Option (List ℕ)
+subkey_index_in trees hive path index = option_and_then (λ tree. subkey_index tree path index) (slice_get trees hive)
+
+-- how many subkeys and values a key has, and the moment of its last write
+abbrev pub info_in : List TreeMap → ℕ → List (List ℕ) → Option Info
+info_in trees hive path = option_and_then (λ tree. info_of tree path) (slice_get trees hive)
+
+-- the weight of a hive's tree, as far as 64 bits hold it
+abbrev pub weight_in : List TreeMap → ℕ → Option ℕ
+weight_in trees hive = option_map (λ tree. min (weight tree) MAX) (slice_get trees hive)

@@ -1,0 +1,79 @@
+//! Accepted changes: operations that are applied together at one moment.
+ghost use Rattle.std.specs.Prelude.{◌≡◌, ◌<◌, ◌++◌, ◌∷◌, [], List, length, IfOk, IfSome, IsNone, OnOk, OnErr, ◌↔◌, min, if◌then◌else◌, is_ok};
+ghost use Rattle.reg_tree.specs.Texts.{ops_text_len, op_text_len, element_text_len};
+
+use crate::op::Op;
+use std::alloc::{AllocError, Global};
+use std::marker::Model;
+
+/// One or more operations, in their order.
+#[derive(Drop)]
+pub struct Ops {
+    items: Vec<Op>,
+}
+
+impl Model for Ops {
+    ghost use Rattle.std.specs.Prelude.{◌<◌, List, length};
+    ghost use Rattle.reg_tree.specs.declared.op.Op.{Op};
+
+    ghost Value = { List Op };
+
+    ghost view = { λ inside. inside.items.items };
+
+    ghost invariant = { λ inside. 0 < length inside.items.items };
+}
+
+impl Ops {
+    /// One operation.
+    pub fn one(alloc: Global, op: Op) -> Result<Ops, AllocError>
+        ensures { IfOk result (λ ops. ops ≡ op ∷ []) }
+    {
+        let mut items = Vec::with_capacity(alloc, 1)?;
+        items.push(op)?;
+        Ok(Ops { items })
+    }
+
+    /// These operations, or nothing where there are none.
+    pub fn from_vec(items: Vec<Op>) -> Option<Ops>
+        ensures some { IfSome result (λ ops. ops ≡ items.items) }
+        ensures none { IsNone result ↔ (items.items ≡ []) }
+    {
+        if items.is_empty() {
+            None
+        } else {
+            Some(Ops { items })
+        }
+    }
+
+    /// The operations, of which there is at least one.
+    pub fn list(&self) -> &[Op]
+        ensures all { result.now ≡ self.now }
+        ensures some { 0 < length self.now }
+    {
+        &self.items
+    }
+}
+
+/// An accepted change: a moment, and the operations that are applied at it in their order.
+#[derive(Drop)]
+pub struct Element {
+    /// The moment, which is written into the keys that the change touches.
+    pub moment: u64,
+    /// The operations.
+    pub ops: Ops,
+}
+
+impl Element {
+    /// The bytes of the change as journal text, or the greatest number of 64 bits where they are more: 16, and
+    /// for each operation 4, for each name of its path 1 and its units, for a value's name 2 and its units, and
+    /// for a value that is written 8 and its data.
+    pub fn text_len(&self) -> u64
+        ensures { result ≡ min (element_text_len self.now) u64.MAX }
+    {
+        let mut total = 16u64;
+        for op in self.ops.list() {
+            total = total.saturating_add(op.text_len());
+        }
+        total
+    }
+}
