@@ -1,5 +1,5 @@
 -- Bytes and marks change within a run of cells of one bin, and what is marked tiles again.
-use Rattle.std.proofs.Common.{◌≡◌, ◌≢◌, ℕ, ◌+◌, ◌-◌, ◌*◌, ◌%◌, ◌/◌, ◌<◌, ◌≤◌, true, false, List, length, take, drop, min, refl, sym, ◌∙◌, inl, inr, arith, ap}
+use Rattle.std.proofs.Common.{◌≡◌, ◌≢◌, ℕ, ◌+◌, ◌-◌, ◌*◌, ◌%◌, ◌/◌, ◌<◌, ◌≤◌, true, false, List, length, take, drop, refl, sym, ◌∙◌, inl, inr, arith, ap}
 use Rattle.std.specs.Prelude.{slice_index, slice_range, ◌⊎◌}
 use Rattle.std.proofs.lemmas.List.{length-take, length-drop, get_or-take, get_or-drop, ext_get_or}
 use Rattle.std.proofs.lemmas.Bool.{cases_eq, cases_lt, cases_order}
@@ -42,11 +42,11 @@ unfolding is_allocated
 kind_same bytes bytes' at same = rw same refl
 
 -- a part of the data that no changed byte is of
-range_same : (bytes bytes' : List ℕ) (from to : ℕ) → length bytes' ≡ length bytes → to ≤ length bytes → ((i : ℕ) → from ≤ i → i < to → slice_index bytes' i ≡ slice_index bytes i) → slice_range bytes' from to ≡ slice_range bytes from to
-range_same bytes bytes' from to len within same =
+pub range_same : (bytes bytes' : List ℕ) (from to : ℕ) → to ≤ length bytes' → to ≤ length bytes → ((i : ℕ) → from ≤ i → i < to → slice_index bytes' i ≡ slice_index bytes i) → slice_range bytes' from to ≡ slice_range bytes from to
+range_same bytes bytes' from to within' within same =
     let n : ℕ = to - from in
     let long : length (take n (drop from bytes')) ≡ length (take n (drop from bytes)) =
-    length-take n (drop from bytes') ∙ ap (min n) (length-drop from bytes' ∙ ap (λ (x : ℕ). x - from) len ∙ sym (length-drop from bytes)) ∙ sym (length-take n (drop from bytes)) in
+    omega (arith, length-take n (drop from bytes'), length-drop from bytes', length-take n (drop from bytes), length-drop from bytes) in
     ext_get_or 0 (take n (drop from bytes')) (take n (drop from bytes)) long (λ i before.
     let within_part : i < n = omega (arith, length-take n (drop from bytes'), length-drop from bytes') in
     get_or-take n (drop from bytes') i 0 within_part ∙ get_or-drop from bytes' i 0 ∙ same (from + i) (omega arith) (omega arith)
@@ -222,7 +222,7 @@ module _ (bytes bytes' : List ℕ) (marks marks' : List Mark) (from to : ℕ) (m
       let size_here : cell_size bytes (8 * (at / 8)) ≡ cell_size bytes at = ap (cell_size bytes) slot in
       let size : cell_size bytes' at ≡ cell_size bytes at = size_same bytes bytes' at (kind_outside at eights out) in
       let within : at + cell_size bytes at ≤ length bytes = omega arith in
-      ap (slice_range bytes' (at + 4)) (ap (λ (x : ℕ). at + x) size) ∙ range_same bytes bytes' (at + 4) (at + cell_size bytes at) c.len within (λ i after before. elim far [
+      ap (slice_range bytes' (at + 4)) (ap (λ (x : ℕ). at + x) size) ∙ range_same bytes bytes' (at + 4) (at + cell_size bytes at) (omega (arith, c.len)) within (λ i after before. elim far [
         | inl low ↦ c.bytes_before i (omega arith)
         | inr high ↦ c.bytes_behind i (omega arith)
       ])

@@ -5,8 +5,8 @@ use Rattle.reg_names.specs.declared.refusal.Refusal.TheVariants as refusal
 use Rattle.reg_names.specs.declared.refusal.Cause.TheVariants as cause
 use Rattle.reg_names.specs.declared.limits.TheConstants.{MOST_BINS_BYTES}
 use Rattle.hive_cells.specs.declared.marks.Mark.{Mark}
-use Rattle.hive_cells.specs.Tiles.{is_allocated, cell_size, IsAllocatedCell, cell_data}
-use Rattle.hive_cells.specs.Marks.{IsCellMarkedAt}
+use Rattle.hive_cells.specs.Tiles.{word_at, bin_size, is_allocated, cell_size, IsAllocatedCell, cell_data}
+use Rattle.hive_cells.specs.Marks.{IsCellMarkedAt, IsMarked}
 
 -- at an offset an allocated cell begins after the change exactly where one did before, and its data are the same
 pub record StaysAt (old new : List ℕ) (at : ℕ) : Type 0 where
@@ -47,6 +47,36 @@ pub record IsFreeCell (bytes : List ℕ) (marks : List Mark) (at size : ℕ) : T
   pub marked : IsCellMarkedAt marks at
   pub size_is : cell_size bytes at ≡ size
   pub is_free : is_allocated bytes at ≡ false
+
+-- a bin with one free cell is laid behind the data, from an offset up to the new end
+pub record LaysBin (old new : List ℕ) (at : ℕ) : Type 0 where
+  pub signature : word_at new at ≡ 0x6e69_6268
+  pub own_offset : word_at new (at + 4) ≡ at
+  pub size_is : at + bin_size new at ≡ length new
+  pub cell_is : at + (32 + cell_size new (at + 32)) ≡ length new
+  pub is_free : is_allocated new (at + 32) ≡ false
+  pub len : length new ≡ length old
+  pub others : (i : ℕ) → i < at → slice_index new i ≡ slice_index old i
+
+-- a free cell of at least a size is marked at an offset; the data may have got longer, and what they were stays
+pub record HasRoom (old new : List ℕ) (marks : List Mark) (at size : ℕ) : Type 0 where
+  pub marked : IsMarked new marks
+  pub limit : length new ≤ MOST_BINS_BYTES
+  pub cell : IsFreeCell new marks at (cell_size new at)
+  pub fits : size ≤ cell_size new at
+  pub stay : AllStay old new
+  pub longer : length old ≤ length new
+  pub same : (i : ℕ) → i < length old → slice_index new i ≡ slice_index old i
+
+-- the size of a bin for a cell of a size: with its header of 32 bytes, rounded up to a multiple of 4,096
+abbrev pub least_bin : ℕ → ℕ
+least_bin size = (size + 4127) / 4096 * 4096
+
+-- why no bin is added
+abbrev pub BinRefused : List ℕ → ℕ → Refusal → Type 0
+BinRefused bytes size refusal.NoMemory = Unit {0}
+BinRefused bytes size refusal.TooLarge = MOST_BINS_BYTES < length bytes + least_bin size
+BinRefused bytes size _ = ⊥
 
 -- a free cell is allocated at an offset, of at least a size and at most 8 bytes more
 pub record Takes (old new : List ℕ) (at size : ℕ) : Type 0 where

@@ -10,9 +10,9 @@ use crate::tiling::{MARKED_BYTES, cell_size};
 use crate::words::put_word;
 use reg_names::limits::MOST_BINS_BYTES;
 
-// writes the size of the cell at an offset, stored below 0 where the cell is allocated
+/// Writes the size of the cell at an offset, stored below 0 where the cell is allocated.
 #[tactic(auto, unfolding(crate::specs::Tiles::cell_size, crate::specs::Tiles::is_allocated))]
-fn put_size(bytes: &mut [u8], at: usize, size: usize, allocated: bool)
+pub(crate) fn put_size(bytes: &mut [u8], at: usize, size: usize, allocated: bool)
     requires within { at + 4 ≤ length bytes.old }
     requires some { 0 < size }
     requires fits { size < 2 ^ 31 }

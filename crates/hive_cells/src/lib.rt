@@ -7,6 +7,7 @@
 //! counted from the start of the hive bins data.
 #![tactic(auto)]
 
+mod bins;
 mod edits;
 mod image;
 mod looks;

@@ -17,8 +17,8 @@ pub(crate) const BIN_HEADER_BYTES: usize = 32;
 /// The bytes that sizes and offsets of cells are multiples of: there is one mark for each.
 pub(crate) const MARKED_BYTES: usize = 8;
 
-// `hbin`, as the number of these four bytes
-const BIN_SIGNATURE: u32 = 0x6e69_6268;
+/// `hbin`, as the number of these four bytes.
+pub(crate) const BIN_SIGNATURE: u32 = 0x6e69_6268;
 
 // the lowest stored size that is below 0 as a signed number
 const LOWEST_ALLOCATED: u32 = 0x8000_0000;
