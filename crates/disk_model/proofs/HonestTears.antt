@@ -1,11 +1,10 @@
 -- Each of the three crashes leaves an honest first sector, where first sectors are written by themselves and with the right sum.
-use Rattle.std.proofs.Common.{◌≡◌, ◌⊎◌, inl, inr, ℕ, ◌+◌, ◌-◌, ◌<◌, ◌≤◌, Bool, true, false, List, [], ◌∷◌, length, get_or, take, drop, refl, sym, ◌∙◌, ap, subst, arith, length-take}
-use Rattle.std.specs.Prelude.{Some, if◌then◌else◌, ◌==◌, ◌&&◌, nat_le, nat_lt, fold, bit_xor}
-use Rattle.std.specs.Int.{w32, from_le_bytes}
+use Rattle.std.proofs.Common.{◌≡◌, ◌⊎◌, inl, inr, ℕ, zero, suc, ◌+◌, ◌-◌, ◌*◌, ◌<◌, ◌≤◌, Bool, true, false, List, [], ◌∷◌, length, get_or, take, refl, sym, ◌∙◌, ap, subst, arith, length-take}
+use Rattle.std.specs.Prelude.{Some, if◌then◌else◌, ◌==◌, ◌&&◌, nat_le, nat_lt, bit_xor}
 use Rattle.std.proofs.lemmas.Bool.Decides.{nat_tests}
-use Rattle.std.proofs.lemmas.List.{same_lists, get_or-take, get_or_default, take_all, drop_more}
+use Rattle.std.proofs.lemmas.List.{same_lists, get_or-take, get_or_default, take_all}
 use Rattle.disk_model.specs.FileState.{Range, FileState, IsSound}
-use Rattle.disk_model.specs.Sector.{words, stored, sum_of, HasRightSum, last_sector, IsHonest}
+use Rattle.disk_model.specs.Sector.{word_at, xor_of_words, stored, sum_of, HasRightSum, last_sector, IsHonest}
 use Rattle.disk_model.specs.Shown.{shown, IsWhole}
 use Rattle.disk_model.specs.Tear.{ends_newest, torn_byte, LeftBy, IsCrashOf, AllWholeSectors, WritesWholeSectors}
 use Rattle.disk_model.specs.declared.tear.Tear.{Tear}
@@ -76,31 +75,27 @@ same_front n a b in_a in_b each =
     (λ k d h. let below : k < n = omega (arith, length-take n a) in
     get_or-take n a k d below ∙ get_or_default a k d 0 (omega arith) ∙ each k below ∙ get_or_default b k 0 d (omega arith) ∙ sym (get_or-take n b k d below))
 
-last_word : (sector : List ℕ) → length sector ≡ 512 → take 4 (drop 508 sector) ≡ get_or sector 508 0 ∷ get_or sector 509 0 ∷ get_or sector 510 0 ∷ get_or sector 511 0 ∷ []
-last_word sector size =
-    ap (λ (l : List ℕ). take 4 l) (drop_more sector 508 0 (omega (arith, size)))
-    ∙ ap (λ (l : List ℕ). take 4 (get_or sector 508 0 ∷ l)) (drop_more sector 509 0 (omega (arith, size)))
-    ∙ ap (λ (l : List ℕ). take 4 (get_or sector 508 0 ∷ get_or sector 509 0 ∷ l)) (drop_more sector 510 0 (omega (arith, size)))
-    ∙ ap (λ (l : List ℕ). take 4 (get_or sector 508 0 ∷ get_or sector 509 0 ∷ get_or sector 510 0 ∷ l)) (drop_more sector 511 0 (omega (arith, size)))
+same_word : (a b : List ℕ) (p n : ℕ) → p + 4 ≤ n → ((q : ℕ) → q < n → get_or a q 0 ≡ get_or b q 0) → word_at a p ≡ word_at b p
+same_word a b p n in_both same =
+    omega (arith, same p (omega arith), same (p + 1) (omega arith), same (p + 2) (omega arith), same (p + 3) (omega arith))
 
-inverted : (a b c d a' b' c' d' : ℕ) → a ≡ a' → b ≡ b' → c ≡ c' → d ≡ 255 - d' → from_le_bytes w32 (a ∷ b ∷ c ∷ d ∷ []) ≡ from_le_bytes w32 (a' ∷ b' ∷ c' ∷ d' ∷ []) → ⊥
-inverted a b c d a' b' c' d' same_a same_b same_c last equal = omega arith
+same_words : (n : ℕ) (a b : List ℕ) → ((q : ℕ) → q < 4 * n → get_or a q 0 ≡ get_or b q 0) → xor_of_words n a ≡ xor_of_words n b
+same_words zero a b same = refl
+same_words (suc n) a b same =
+    ap (λ (x : ℕ). bit_xor x (word_at a (4 * n))) (same_words n a b (λ q below. same q (omega arith)))
+    ∙ ap (λ (w : ℕ). bit_xor (xor_of_words n b) w) (same_word a b (4 * n) (4 * suc n) (omega arith) same)
+
+same_sum : (a b : List ℕ) → ((q : ℕ) → q < 508 → get_or a q 0 ≡ get_or b q 0) → sum_of a ≡ sum_of b
+unfolding sum_of
+same_sum a b same = ap stored (same_words 127 a b same)
 
 -- with its last byte inverted a sector's sum is wrong
-torn_tells : (sector torn : List ℕ) → length sector ≡ 512 → length torn ≡ 512 → HasRightSum sector → ((p : ℕ) → p < 511 → get_or torn p 0 ≡ get_or sector p 0) → get_or torn 511 0 ≡ 255 - get_or sector 511 0
+torn_tells : (sector torn : List ℕ) → HasRightSum sector → ((p : ℕ) → p < 511 → get_or torn p 0 ≡ get_or sector p 0) → get_or torn 511 0 ≡ 255 - get_or sector 511 0
     → HasRightSum torn → ⊥
-torn_tells sector torn size torn_size right same last wrong =
-    let front : take 508 torn ≡ take 508 sector = same_front 508 torn sector (omega (arith, torn_size)) (omega (arith, size)) (λ p below. same p (omega arith)) in
-    let sums : sum_of torn ≡ sum_of sector = ap (λ (l : List ℕ). stored (fold bit_xor 0 (words l))) front in
-    let theirs : from_le_bytes w32 (get_or torn 508 0 ∷ get_or torn 509 0 ∷ get_or torn 510 0 ∷ get_or torn 511 0 ∷ []) ∷ [] ≡ sum_of sector ∷ []
-    = sym (ap words (last_word torn torn_size)) ∙ wrong ∙ ap (λ (n : ℕ). n ∷ []) sums in
-    let ours : from_le_bytes w32 (get_or sector 508 0 ∷ get_or sector 509 0 ∷ get_or sector 510 0 ∷ get_or sector 511 0 ∷ []) ∷ [] ≡ sum_of sector ∷ []
-    = sym (ap words (last_word sector size)) ∙ right in
-    let equal : from_le_bytes w32 (get_or torn 508 0 ∷ get_or torn 509 0 ∷ get_or torn 510 0 ∷ get_or torn 511 0 ∷ []) ≡ from_le_bytes w32 (get_or sector 508 0 ∷ get_or sector 509 0 ∷ get_or sector 510 0 ∷ get_or sector 511 0 ∷ []) = cc in
-    let a : get_or torn 508 0 ≡ get_or sector 508 0 = same 508 (omega arith) in
-    let b : get_or torn 509 0 ≡ get_or sector 509 0 = same 509 (omega arith) in
-    let c : get_or torn 510 0 ≡ get_or sector 510 0 = same 510 (omega arith) in
-    inverted (get_or torn 508 0) (get_or torn 509 0) (get_or torn 510 0) (get_or torn 511 0) (get_or sector 508 0) (get_or sector 509 0) (get_or sector 510 0) (get_or sector 511 0) a b c last equal
+torn_tells sector torn right same last wrong =
+    let sums : sum_of torn ≡ sum_of sector = same_sum torn sector (λ q below. same q (omega arith)) in
+    let equal : word_at torn 508 ≡ word_at sector 508 = wrong.sum ∙ sums ∙ sym right.sum in
+    omega (arith, equal, same 508 (omega arith), same 509 (omega arith), same 510 (omega arith), last)
 
 module _ (file : FileState) (sound : IsSound file) (whole : IsWhole file) (sectors : WritesWholeSectors file) where
   honest_of : (bytes : List ℕ) → 512 ≤ length bytes → ((p : ℕ) → p < 512 → get_or bytes p 0 ≡ torn_byte file.ranges file.seen p) ⊎ ((p : ℕ) → p < 512 → get_or bytes p 0 ≡ get_or file.seen p 0) → IsHonest file bytes
@@ -126,7 +121,7 @@ module _ (file : FileState) (sound : IsSound file) (whole : IsWhole file) (secto
       by_sector (inr plain) (inr (sector, has)) = new sector has (λ p below. plain p below ∙ seen_is p below ∙ has.shows p below)
       by_sector (inl torn) (inl none) =
           old (λ p below. torn p below ∙ ap (λ (b : Bool). if b then 255 - get_or file.seen p 0 else get_or file.seen p 0) (none.ends p below) ∙ seen_is p below ∙ none.shows p below)
-      by_sector (inl torn) (inr (sector, has)) = inr (inr (torn_tells sector (take 512 bytes) has.size (omega (arith, length-take 512 bytes, size)) has.right front last))
+      by_sector (inl torn) (inr (sector, has)) = inr (inr (torn_tells sector (take 512 bytes) has.right front last))
         where
           byte : (p : ℕ) → p < 512 → get_or (take 512 bytes) p 0 ≡ (if p + 1 == 512 then 255 - get_or sector p 0 else get_or sector p 0)
           byte p below =
