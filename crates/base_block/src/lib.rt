@@ -13,4 +13,4 @@ mod sums;
 
 pub use block::{BaseBlock, FILE_FORMAT, MAJOR_VERSION, MINOR_VERSION};
 pub use fields::{AppliedNumber, FileType, SequenceNumber, Signature};
-pub use sums::sum;
+pub use sums::{sum, sum_is_of_words};

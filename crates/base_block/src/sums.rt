@@ -1,7 +1,7 @@
 //! The sum that a base block ends with.
 
-ghost use Rattle.std.specs.Prelude.{◌≡◌, ◌≤◌, length};
-ghost use Rattle.base_block.specs.Sums.{sum_of, xor_of_words, stored_sum};
+ghost use Rattle.std.specs.Prelude.{◌≡◌, ◌≤◌, ℕ, List, take, fold, bit_xor, length};
+ghost use Rattle.base_block.specs.Sums.{sum_of, xor_of_words, stored_sum, words};
 
 use byteorder::{ByteOrder, LittleEndian};
 
@@ -17,6 +17,12 @@ pub fn sum(bytes: &[u8; 508]) -> u32
 }
 
 #[tactic(auto, unfolding(crate::specs::Sums::sum_of))]
+/// A law: the sum is the XOR of the words that the first 508 bytes make, one after the other, as it is
+/// stored.
+pub fn sum_is_of_words()
+    ensures { (sector : List ℕ) → 508 ≤ length sector → sum_of sector ≡ stored_sum (fold bit_xor 0 (words (take 508 sector))) }
+{}
+
 /// The same of the first 508 bytes of a sector.
 pub(crate) fn sum_of_front(bytes: &[u8]) -> u32
     requires { 508 ≤ length bytes.now }

@@ -1,5 +1,5 @@
 -- A log that was written is read again.
-use Rattle.std.proofs.Common.{◌≡◌, ℕ, ◌-◌, ◌*◌, ◌/◌, ◌%◌, Bool, List, ◌++◌, length, take, drop, refl, sym, ap, subst, ◌∙◌, inl, arith, append_assoc, length-append}
+use Rattle.std.proofs.Common.{◌≡◌, ℕ, ◌-◌, ◌*◌, ◌/◌, Bool, List, ◌++◌, length, take, drop, refl, sym, ap, subst, ◌∙◌, inl, arith, append_assoc, length-append}
 use Rattle.std.specs.Prelude.{codes}
 use Rattle.std.proofs.lemmas.Bool.{eq-eqb}
 use Rattle.std.proofs.lemmas.List.{take_at, drop_at, take_all}
@@ -62,9 +62,9 @@ unfolding text_behind
 tail image v sector long = drop_at (head_text v sector) (pages_from image v 0) (pages_at v.bins_size) (length_head v sector long)
 
 pub reads_as : (image : List ℕ) (v : Pages) (b : BaseBlock) (sector : List ℕ) → length image ≡ v.bins_size → length sector ≡ 512
-    → block_at sector ≡ block_as_read b → read_pages v.bins_size (bitmap_of (is_dirty v) (v.bins_size / 4096)) ≡ done v → v.bins_size % 4096 ≡ 0 → IsLoggable b v
+    → block_at sector ≡ block_as_read b → read_pages v.bins_size (bitmap_of (is_dirty v) (v.bins_size / 4096)) ≡ done v → IsLoggable b v
     → ReadsAs (text_behind image v sector) (block_as_read b) v (pages_from image v 0)
-reads_as image v b sector sizes long read again whole loggable =
+reads_as image v b sector sizes long read again loggable =
     let text = text_behind image v sector in
     let base : block_of text ≡ block_as_read b = ap block_at (sector_again image v sector long) ∙ read in
     let size : (block_of text).bins_size ≡ v.bins_size = ap (λ (x : BaseBlock). x.bins_size) base ∙ loggable.size in

@@ -1,5 +1,6 @@
 //! Where the parts of a log lie.
 
+ghost use Rattle.reg_names.specs.declared.limits.TheConstants.{MOST_BINS_BYTES};
 ghost use Rattle.std.specs.Prelude.{◌≡◌, ◌≤◌, ◌+◌, ◌*◌, length};
 ghost use Rattle.dirt_log.specs.LogText.{page_of, pages_at};
 
@@ -19,7 +20,7 @@ pub(crate) const BITMAP_AT: usize = 516;
 
 /// Where the dirty pages begin: at the end of the bitmap, rounded up to a multiple of 512.
 pub(crate) fn pages_start(bins_size: usize) -> usize
-    requires { bins_size ≤ 67108864 }
+    requires { bins_size ≤ MOST_BINS_BYTES }
     ensures { result ≡ pages_at bins_size }
 {
     (BITMAP_AT + bins_size / BYTES_PER_BITMAP_BYTE).div_ceil(PAGE_BYTES) * PAGE_BYTES

@@ -1,5 +1,6 @@
 //! Reading a log.
 
+ghost use Rattle.reg_names.specs.declared.limits.TheConstants.{MOST_BINS_BYTES};
 ghost use Rattle.std.specs.Prelude.{◌≡◌, ◌≤◌, ◌+◌, ◌*◌, ◌/◌, ◌↔◌, IsTrue, IfOk, IfErr, take, drop, length, codes};
 ghost use Rattle.reg_names.specs.Names.{RefusedFor};
 ghost use Rattle.base_block.specs.Judgements.{IsLog};
@@ -78,7 +79,7 @@ fn read_block(bytes: &[u8]) -> Result<BaseBlock, Refusal>
 
 // the bitmap behind the letters
 fn read_bitmap(bytes: &[u8], bins_size: usize) -> Result<&[u8], Refusal>
-    requires { bins_size ≤ 67108864 }
+    requires { bins_size ≤ MOST_BINS_BYTES }
     ensures ok { IfOk result (λ bitmap. HasBitmap bytes.now bins_size × (bitmap.now ≡ take (bins_size / 4096) (drop 516 bytes.now))) }
     ensures refused { IfErr result (λ e. (e ≡ not_whole) × ¬ HasBitmap bytes.now bins_size) }
 {

@@ -49,8 +49,8 @@ pub fn write_steps<'a>(image: &'a [u8], vector: &'a DirtyVector, base: &BaseBloc
     // What is written is read again.
     ensures again { IsLoggable base.now vector.now → ReadsAs result (block_as_read base.now) vector.now (pages_from image.now vector.now 0) }
 {
+    // a law: it does nothing
     vector.bitmap_reads_again();
-    let _size = vector.bins_size();
     let block = BaseBlock {
         file_type: FileType::LOG,
         ..*base

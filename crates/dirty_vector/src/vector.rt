@@ -159,6 +159,7 @@ impl DirtyVector {
     pub fn bitmap_reads_again(&self)
         ensures { read_pages self.now.bins_size (bitmap_of (is_dirty self.now) (self.now.bins_size / 4096)) ≡ Ok self.now }
     {
+        // the law follows from what every vector keeps
         let _size = self.bins_size;
     }
 

@@ -1,4 +1,4 @@
-use Rattle.std.proofs.Common.{◌≡◌, length, arith, rules}
+use Rattle.std.proofs.Common.{◌≡◌, length, rules}
 use Rattle.dirt_log.proofs.Again.{reads_as}
 use Rattle.dirt_log.proofs.steps.write_steps.Goals as goal
 
@@ -6,4 +6,4 @@ pub returns-clause-again : goal.returns-clause-again
 returns-clause-again c = λ loggable.
     let long : length c.write-sector.result ≡ 512 = search rules in
     reads_as c.args.image.now c.args.vector.now c.args.base.now c.write-sector.result c.requires long
-    c.write-sector.ensures.again c.bitmap_reads_again.ensures (omega (arith, c.bins_size-size.ensures.value, c.bins_size-size.ensures.whole)) loggable
+    c.write-sector.ensures.again c.bitmap_reads_again.ensures loggable
