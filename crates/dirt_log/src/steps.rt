@@ -65,7 +65,7 @@ pub fn write_steps<'a>(image: &'a [u8], vector: &'a DirtyVector, base: &BaseBloc
 
 impl LogSteps<'_> {
     /// How many bytes the log has.
-    pub fn len(&self) -> usize
+    pub fn byte_count(&self) -> usize
         ensures { result ≡ length self.now }
     {
         pages_start(self.vector.bins_size()) + PAGE_BYTES * self.vector.count()

@@ -59,7 +59,7 @@ fn a_small_log(rt: HostRuntime) -> Result<(), Fail> {
     vector.mark(3 * 512..3 * 512 + 1);
     let image = numbered(rt.alloc(), 4096)?;
     let steps = write_steps(&image, &vector, &block_of(4096));
-    assert_eq!(rt; steps.len(), 2048);
+    assert_eq!(rt; steps.byte_count(), 2048);
     let log = joined(rt.alloc(), &steps)?;
     assert_eq!(rt; log.len(), 2048);
     assert_eq!(rt; &log[512..518], b"DIRT\x09\x00".as_slice());
@@ -179,7 +179,7 @@ fn one_page_of_the_largest_hive(rt: HostRuntime) -> Result<(), Fail> {
     vector.mark(size - 1..size);
     let image = vec![in rt.alloc(); 7; size]?;
     let steps = write_steps(&image, &vector, &block_of(67_108_864));
-    assert_eq!(rt; steps.len(), 17_920);
+    assert_eq!(rt; steps.byte_count(), 17_920);
     let log = one_piece(rt.alloc(), &steps, 0)?;
     assert_eq!(rt; log.len(), 17_920);
     assert_eq!(rt; one_piece(rt.alloc(), &steps, 1)?.len(), 0);
@@ -197,7 +197,7 @@ fn all_pages_of_a_mebibyte(rt: HostRuntime) -> Result<(), Fail> {
     vector.mark(0..size);
     let image = numbered(rt.alloc(), size)?;
     let steps = write_steps(&image, &vector, &block_of(1_048_576));
-    assert_eq!(rt; steps.len(), 1_049_600);
+    assert_eq!(rt; steps.byte_count(), 1_049_600);
     for index in 0..18 {
         let count = one_piece(rt.alloc(), &steps, index)?.len();
         let want = match index {

@@ -1,6 +1,6 @@
 use Rattle.std.proofs.Common.{arith}
 use Rattle.dirt_log.proofs.PageBytes.{few_dirty, length_log}
-use Rattle.dirt_log.proofs.steps.LogSteps.len.Goals as goal
+use Rattle.dirt_log.proofs.steps.LogSteps.byte_count.Goals as goal
 
 pub overflow_mul-result : goal.overflow_mul-result
 overflow_mul-result c = omega (arith, few_dirty c.self.inside.vector.now, c.count.ensures.pages, c.bins_size.ensures.value, c.bins_size.ensures.most)
