@@ -1,10 +1,10 @@
 -- What changes one after another leave.
-use Rattle.std.proofs.Common.{◌≡◌, ℕ, ◌+◌, ◌≤◌, true, false, List, ◌∙◌, inl, inr, arith}
+use Rattle.std.proofs.Common.{◌≡◌, ℕ, ◌+◌, ◌≤◌, true, false, List, length, ◌∙◌, inl, inr, arith}
 use Rattle.hive_cells.specs.declared.marks.Mark.{Mark}
 use Rattle.hive_cells.specs.Tiles.{is_allocated, cell_size, IsAllocatedCell}
 use Rattle.hive_cells.proofs.Reached.{starts_at_mark}
 use Rattle.hive_cells.specs.Marks.{IsMarked, IsCellMarkedAt}
-use Rattle.hive_cells.specs.Changes.{StaysAt, OthersStay, AllStay, RewritesWithin, Frees, Takes}
+use Rattle.hive_cells.specs.Changes.{StaysAt, OthersStay, AllStay, RewritesWithin, Frees, Takes, HasRoom, Allocates, least_size}
 
 -- what stays over two changes
 pub stays_on : (old mid new : List ℕ) (at : ℕ) → StaysAt old mid at → StaysAt mid new at → StaysAt old new at
@@ -49,5 +49,23 @@ taken old fitted new marks' at size is_free m w stay least most fit others kind 
           | inl low ↦ turned.others i (inl low) ∙ fit.others i (inl low)
           | inr high ↦ turned.others i (inr (omega arith)) ∙ fit.others i (inr (omega arith))
         ];
+      };
+    }
+
+-- a cell that was allocated where there was room
+pub allocated : (old mid new : List ℕ) (marks : List Mark) (len size at : ℕ) → size ≡ least_size len → HasRoom old mid marks at size → Takes mid new at size → Allocates old new len at
+allocated old mid new marks len size at size_is room took =
+    let least : size ≤ cell_size new at = took.least in
+    let most : cell_size new at ≤ size + 8 = took.most in
+    let longer : length old ≤ length mid = room.longer in
+    record {
+      fresh = λ found. took.fresh ((room.stay at).same.1 found);
+      begins = took.begins;
+      least = omega arith;
+      most = omega arith;
+      others = λ other apart. stays_on old mid new other (room.stay other) (took.others other apart);
+      written = record {
+        longer = omega (arith, took.written.len);
+        others = λ i before out. took.written.others i out ∙ room.same i before;
       };
     }

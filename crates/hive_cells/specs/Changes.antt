@@ -101,3 +101,12 @@ abbrev pub FreeRefused : List ℕ → ℕ → Refusal → Type 0
 FreeRefused bytes offset refusal.TooLarge = MOST_BINS_BYTES < length bytes
 FreeRefused bytes offset (refusal.HiveDamaged zero cause.BadOffset) = ¬ IsAllocatedCell bytes offset
 FreeRefused bytes offset _ = ⊥
+
+-- a cell for data of a length is allocated at an offset, and all other allocated cells stay
+pub record Allocates (old new : List ℕ) (len offset : ℕ) : Type 0 where
+  pub fresh : ¬ IsAllocatedCell old offset
+  pub begins : IsAllocatedCell new offset
+  pub least : least_size len ≤ cell_size new offset
+  pub most : cell_size new offset ≤ least_size len + 8
+  pub others : OthersStay old new offset
+  pub written : WritesWithin old new offset (offset + cell_size new offset + 4)

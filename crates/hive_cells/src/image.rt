@@ -1,14 +1,16 @@
 //! Hive bins data whose bins and cells tile, with its cells by their offsets.
-ghost use Rattle.std.specs.Prelude.{◌≡◌, ◌+◌, ◌-◌, ◌^◌, ◌<◌, ◌*◌, ◌/◌, ◌%◌, List, ℕ, MatchResult, IsTrue, ◌↔◌, min, length};
+ghost use Rattle.std.specs.Prelude.{◌≡◌, ◌+◌, ◌-◌, ◌^◌, ◌<◌, ◌*◌, ◌/◌, ◌%◌, ◌≤◌, List, ℕ, MatchResult, IsTrue, ◌↔◌, min, length};
 ghost use Rattle.hive_cells.specs.Tiles.{Tiles, LiesInOneTile, DataRefused, IsAllocatedCell, cell_data, cell_size, is_allocated};
 ghost use Rattle.hive_cells.specs.Marks.{IsMarked, IsWholeCell};
-ghost use Rattle.hive_cells.specs.Changes.{Frees, FreeRefused};
+ghost use Rattle.hive_cells.specs.Changes.{Frees, FreeRefused, Allocates, BinRefused, HasRoom, least_size};
 
-use crate::edits::give_back;
+use crate::bins::add_bin;
+use crate::edits::{give_back, take};
+use crate::free_cells::FreeCells;
 use crate::looks::Looks;
-use crate::lookup::is_cell_allocated;
+use crate::lookup::{is_cell_allocated, is_free_cell};
 use crate::marks::Mark;
-use crate::tiling::{cell_size, damaged, marks_of};
+use crate::tiling::{MARKED_BYTES, cell_size, damaged, marks_of};
 use reg_names::limits::MOST_BINS_BYTES;
 use reg_names::{Cause, Refusal};
 use std::alloc::Global;
@@ -25,6 +27,7 @@ const SIZE_BYTES: usize = 4;
 pub struct Image {
     bytes: Vec<u8>,
     marks: Vec<Mark>,
+    free: FreeCells,
 }
 
 impl Model for Image {
@@ -47,7 +50,8 @@ impl Image {
         ensures { MatchResult result (λ image. (image ≡ bytes.items) × Tiles bytes.items) (DataRefused bytes.items) }
     {
         let marks = marks_of(alloc, &bytes)?;
-        Ok(Image { bytes, marks })
+        let free = FreeCells::of(alloc, &bytes, &marks)?;
+        Ok(Image { bytes, marks, free })
     }
 
     /// The law of every image: bins and cells tile it, and each byte lies in the header of one bin or in one
@@ -77,7 +81,11 @@ impl Image {
     pub fn into_bytes(self) -> Vec<u8>
         ensures { result.items ≡ self }
     {
-        let Image { bytes, marks: _ } = self;
+        let Image {
+            bytes,
+            marks: _,
+            free: _,
+        } = self;
         bytes
     }
 
@@ -115,7 +123,30 @@ impl Image {
             return Err(damaged(Cause::BadOffset));
         }
         let from = give_back(&mut self.bytes, &mut self.marks, at);
+        note_free(&self.bytes, &self.marks, &mut self.free, from);
         Ok(from as u32)
+    }
+
+    /// Allocates a cell for data of a length, and answers where it begins. Its size is the length and four
+    /// bytes, rounded up to a multiple of 8, or 8 bytes more. A free cell is taken, and what is over stays
+    /// free; where none of those that are looked at fits, a bin is added behind the data. Of the data before,
+    /// only bytes of the cell and the four bytes behind it are written. What the new cell's data hold is not
+    /// said.
+    ///
+    /// Refused with `TooLarge` only where the data with a new bin for the cell would be longer than the limit,
+    /// and with `NoMemory`.
+    pub fn alloc(&mut self, len: usize) -> Result<u32, Refusal>
+        ensures { MatchResult result (λ offset. Allocates self.old self.new len offset) (λ refusal. (self.new ≡ self.old) × BinRefused self.old (least_size len) refusal) }
+    {
+        if self.bytes.len() > MOST_BINS_BYTES || len > MOST_BINS_BYTES {
+            return Err(Refusal::TooLarge);
+        }
+        let size = (len + SIZE_BYTES).div_ceil(MARKED_BYTES) * MARKED_BYTES;
+        let at = find_room(&mut self.bytes, &mut self.marks, &mut self.free, size)?;
+        take(&mut self.bytes, &mut self.marks, at, size);
+        let behind = at + cell_size(&self.bytes, at);
+        note_free(&self.bytes, &self.marks, &mut self.free, behind);
+        Ok(at as u32)
     }
 }
 
@@ -125,4 +156,31 @@ fn data_of(bytes: &[u8], at: usize) -> &[u8]
     ensures { result.now ≡ cell_data bytes.now at }
 {
     &bytes[at + SIZE_BYTES..at + cell_size(bytes, at)]
+}
+
+// notes the free cell at an offset, if there is one; where memory is refused it is not noted
+fn note_free(bytes: &[u8], marks: &[Mark], free: &mut FreeCells, at: usize)
+    requires { IsMarked bytes.now marks.now }
+{
+    if is_free_cell(bytes, marks, at) {
+        let _ = free.note(at, cell_size(bytes, at));
+    }
+}
+
+// a free cell of at least a size, in the data or in a bin that is added
+fn find_room(
+    bytes: &mut Vec<u8>,
+    marks: &mut Vec<Mark>,
+    free: &mut FreeCells,
+    size: usize,
+) -> Result<usize, Refusal>
+    requires marked { IsMarked bytes.old.items marks.old.items }
+    requires limit { length bytes.old.items ≤ MOST_BINS_BYTES }
+    requires fits { size ≤ MOST_BINS_BYTES + 16 }
+    ensures { MatchResult result (λ at. HasRoom bytes.old.items bytes.new.items marks.new.items at size) (λ refusal. (bytes.new.items ≡ bytes.old.items) × (marks.new.items ≡ marks.old.items) × BinRefused bytes.old.items size refusal) }
+{
+    match free.find(bytes, marks, size) {
+        Some(at) => Ok(at),
+        None => add_bin(bytes, marks, size),
+    }
 }

@@ -9,6 +9,7 @@
 
 mod bins;
 mod edits;
+mod free_cells;
 mod image;
 mod looks;
 mod lookup;
