@@ -1,12 +1,13 @@
 -- The three changes of cells: a cell becomes allocated or free, a free cell is split, two free cells are joined.
-use Rattle.std.proofs.Common.{◌≡◌, ◌≢◌, ℕ, ◌+◌, ◌-◌, ◌*◌, ◌%◌, ◌/◌, ◌<◌, ◌≤◌, Bool, false, List, length, refl, sym, ◌∙◌, subst, inl, inr, arith, ap}
+use Rattle.std.proofs.Common.{◌≡◌, ◌≢◌, ℕ, ◌+◌, ◌-◌, ◌*◌, ◌%◌, ◌/◌, ◌<◌, ◌≤◌, Bool, false, List, length, refl, sym, ◌∙◌, subst, inl, inr, arith, ap, true}
 use Rattle.std.specs.Prelude.{slice_set, ◌⊎◌}
 use Rattle.std.proofs.lemmas.Bool.{cases_eq, cases_lt, cases_order}
 use Rattle.hive_cells.specs.declared.marks.Mark.{Mark}
 use Rattle.hive_cells.specs.declared.marks.Mark.TheVariants.{Inside, Bin, Cell}
-use Rattle.hive_cells.specs.Tiles.{word_at, cell_size, is_allocated}
-use Rattle.hive_cells.specs.Marks.{mark_at, CellMarked, IsMarked, IsCellMarkedAt}
-use Rattle.hive_cells.specs.Changes.{OthersStay, AllStay, PutsSize, IsFreeCell}
+use Rattle.hive_cells.specs.Tiles.{word_at, cell_size, is_allocated, IsAllocatedCell}
+use Rattle.hive_cells.specs.Marks.{mark_at, CellMarked, IsMarked, IsCellMarkedAt, IsWholeCell}
+use Rattle.hive_cells.specs.Changes.{OthersStay, AllStay, PutsSize, IsFreeCell, RewritesWithin, Writes}
+use Rattle.hive_cells.proofs.Reached.{whole_at_mark, starts_at_mark, mark_at_start}
 use Rattle.hive_cells.proofs.Marking.{SetsMark, set_mark}
 use Rattle.hive_cells.proofs.Region.{ChangesCells, size_same, kind_same, all_again, stays_at, words_same}
 
@@ -15,27 +16,27 @@ puts_beside : (old new : List ℕ) (at size : ℕ) (kind : Bool) → PutsSize ol
 puts_beside old new at size kind p other (inl low) = words_same old new other (λ i after before. p.others i (inl (omega arith)))
 puts_beside old new at size kind p other (inr high) = words_same old new other (λ i after before. p.others i (inr (omega arith)))
 
--- ---- a cell becomes allocated or free
+-- ---- a cell becomes allocated or free, or gets other data
 
-module _ (bytes bytes' : List ℕ) (marks : List Mark) (k : ℕ) (m : IsMarked bytes marks) (is_cell : mark_at marks k ≡ Cell) (kind : Bool) (p : PutsSize bytes bytes' (8 * k) (cell_size bytes (8 * k)) kind) where
+module _ (bytes bytes' : List ℕ) (marks : List Mark) (k : ℕ) (m : IsMarked bytes marks) (is_cell : mark_at marks k ≡ Cell) (r : RewritesWithin bytes bytes' (8 * k) (8 * k + cell_size bytes (8 * k))) (same_size : cell_size bytes' (8 * k) ≡ cell_size bytes (8 * k)) where
   turns : ChangesCells bytes bytes' marks marks k (k + cell_size bytes (8 * k) / 8)
   turns =
       let c : CellMarked bytes marks (length bytes) k = m.all.cells k is_cell in
       let eights : cell_size bytes (8 * k) % 8 ≡ 0 = c.sound.eights in
       let least : 8 ≤ cell_size bytes (8 * k) = c.sound.least in
       let within : 8 * k + cell_size bytes (8 * k) ≤ length bytes = c.sound.within in
-      let size : cell_size bytes' (8 * k) ≡ cell_size bytes (8 * k) = p.size_is in
+      let size : cell_size bytes' (8 * k) ≡ cell_size bytes (8 * k) = same_size in
       let to : 8 * (k + cell_size bytes (8 * k) / 8) ≡ 8 * k + cell_size bytes (8 * k) = omega arith in
       record {
-        len = p.len;
+        len = r.len;
         marks_len = refl;
         some = omega arith;
         within = omega arith;
         begins = is_cell;
         ends = λ before. c.behind (k + cell_size bytes (8 * k) / 8) to before;
         one_bin = λ j after before is_bin. (let inside : mark_at marks j ≡ Inside = c.inside j after (omega arith) in let no : ⊥ = cc in no);
-        bytes_before = λ i before. p.others i (inl before);
-        bytes_behind = λ i after. p.others i (inr (omega arith));
+        bytes_before = λ i before. r.others i (inl before);
+        bytes_behind = λ i after. r.others i (inr (omega arith));
         marks_before = λ j before. refl;
         marks_behind = λ j after. refl;
         begins_again = is_cell;
@@ -289,15 +290,21 @@ module _ (bytes bytes' : List ℕ) (marks : List Mark) (k a rest : ℕ) (m : IsM
 
 -- ---- the same by offsets
 
+-- a cell that was written and kept its size
+pub rewritten : (bytes bytes' : List ℕ) (marks : List Mark) (at : ℕ) → IsMarked bytes marks → IsCellMarkedAt marks at → RewritesWithin bytes bytes' at (at + cell_size bytes at) → cell_size bytes' at ≡ cell_size bytes at → IsMarked bytes' marks × OthersStay bytes bytes' at
+rewritten bytes bytes' marks at m w r same =
+    let slot : 8 * (at / 8) ≡ at = omega (arith, w.eights) in
+    let here : RewritesWithin bytes bytes' (8 * (at / 8)) (8 * (at / 8) + cell_size bytes (8 * (at / 8))) = subst (λ (x : ℕ). RewritesWithin bytes bytes' x (x + cell_size bytes x)) (sym slot) r in
+    let size : cell_size bytes' (8 * (at / 8)) ≡ cell_size bytes (8 * (at / 8)) = subst (λ (x : ℕ). cell_size bytes' x ≡ cell_size bytes x) (sym slot) same in (
+      turned_marked bytes bytes' marks (at / 8) m w.is_cell here size,
+      subst (λ (x : ℕ). OthersStay bytes bytes' x) slot (turned_stay bytes bytes' marks (at / 8) m w.is_cell here size),
+    )
+
 -- a cell that turned
 pub turned : (bytes bytes' : List ℕ) (marks : List Mark) (at size : ℕ) (kind : Bool) → IsMarked bytes marks → IsCellMarkedAt marks at → size ≡ cell_size bytes at → PutsSize bytes bytes' at size kind → IsMarked bytes' marks × OthersStay bytes bytes' at
 turned bytes bytes' marks at size kind m w size_is p =
-    let slot : 8 * (at / 8) ≡ at = omega (arith, w.eights) in
-    let here : PutsSize bytes bytes' at (cell_size bytes at) kind = subst (λ (x : ℕ). PutsSize bytes bytes' at x kind) size_is p in
-    let put : PutsSize bytes bytes' (8 * (at / 8)) (cell_size bytes (8 * (at / 8))) kind = subst (λ (x : ℕ). PutsSize bytes bytes' x (cell_size bytes x) kind) (sym slot) here in (
-      turned_marked bytes bytes' marks (at / 8) m w.is_cell kind put,
-      subst (λ (x : ℕ). OthersStay bytes bytes' x) slot (turned_stay bytes bytes' marks (at / 8) m w.is_cell kind put),
-    )
+    let least : 8 ≤ cell_size bytes at = (whole_at_mark bytes marks m at w).least in
+    rewritten bytes bytes' marks at m w (record { len = p.len; others = λ i out. p.others i (elim out [ inl low ↦ inl low | inr high ↦ inr (omega arith) ]) }) (p.size_is ∙ size_is)
 
 -- a free cell that was split
 pub was_split : (bytes half bytes' : List ℕ) (marks : List Mark) (at size rest : ℕ) → IsMarked bytes marks → IsFreeCell bytes marks at (cell_size bytes at) → cell_size bytes at ≡ size + rest → size % 8 ≡ 0 → 8 ≤ size → 8 ≤ rest
@@ -336,3 +343,24 @@ were_joined bytes bytes' marks at next size m w v behind sum_is q =
       subst (λ (x : ℕ). IsMarked bytes' (slice_set marks x Inside)) (sym later) (joined_marked bytes bytes' marks (at / 8) a (cell_size bytes next) m w.marked.is_cell is_next free next_free first_size next_size put),
       joined_stay bytes bytes' marks (at / 8) a (cell_size bytes next) m w.marked.is_cell is_next free next_free first_size next_size put,
     )
+
+-- a cell whose data were written
+pub written : (bytes bytes' : List ℕ) (marks : List Mark) (at from len : ℕ) → IsMarked bytes marks → IsCellMarkedAt marks at → is_allocated bytes at ≡ true → at + 4 ≤ from → from + len ≤ at + cell_size bytes at
+    → RewritesWithin bytes bytes' from (from + len) → IsMarked bytes' marks × Writes bytes bytes' at from (from + len)
+written bytes bytes' marks at from len m w kind low high r =
+    let word : word_at bytes' at ≡ word_at bytes at = words_same bytes bytes' at (λ i after before. r.others i (inl (omega arith))) in
+    let wide : RewritesWithin bytes bytes' at (at + cell_size bytes at) = record { len = r.len; others = λ i out. r.others i (elim out [ inl under ↦ inl (omega arith) | inr over ↦ inr (omega arith) ]) } in
+    let all = rewritten bytes bytes' marks at m w wide (size_same bytes bytes' at word) in (
+      all.0,
+      record {
+        was = (starts_at_mark bytes marks m at w, kind);
+        begins = (starts_at_mark bytes' marks all.0 at w, kind_same bytes bytes' at word ∙ kind);
+        size = size_same bytes bytes' at word;
+        others = all.1;
+        within = r;
+      },
+    )
+
+-- an allocated cell lies within the data
+pub allocated_within : (bytes : List ℕ) (marks : List Mark) (at : ℕ) → IsMarked bytes marks → IsAllocatedCell bytes at → IsWholeCell bytes at
+allocated_within bytes marks at m found = whole_at_mark bytes marks m at (mark_at_start bytes marks m found.0.0 at found.0.1)

@@ -110,3 +110,11 @@ pub record Allocates (old new : List ℕ) (len offset : ℕ) : Type 0 where
   pub most : cell_size new offset ≤ least_size len + 8
   pub others : OthersStay old new offset
   pub written : WritesWithin old new offset (offset + cell_size new offset + 4)
+
+-- bytes of the data of the allocated cell at an offset are written, from one offset up to another
+pub record Writes (old new : List ℕ) (at from to : ℕ) : Type 0 where
+  pub was : IsAllocatedCell old at
+  pub begins : IsAllocatedCell new at
+  pub size : cell_size new at ≡ cell_size old at
+  pub others : OthersStay old new at
+  pub within : RewritesWithin old new from to

@@ -1,8 +1,8 @@
 //! Changes of cells in place: each leaves data that bins and cells tile, with their marks.
-ghost use Rattle.std.specs.Prelude.{◌≡◌, ◌≢◌, ◌+◌, ◌*◌, ◌%◌, ◌^◌, ◌<◌, ◌≤◌, false, length};
+ghost use Rattle.std.specs.Prelude.{◌≡◌, ◌≢◌, ◌+◌, ◌*◌, ◌%◌, ◌^◌, ◌<◌, ◌≤◌, false, length, slice_range};
 ghost use Rattle.hive_cells.specs.Tiles.{IsAllocatedCell, cell_size, is_allocated};
 ghost use Rattle.hive_cells.specs.Marks.{IsMarked, IsCellMarkedAt};
-ghost use Rattle.hive_cells.specs.Changes.{OthersStay, AllStay, PutsSize, IsFreeCell, RewritesWithin, Frees, Takes};
+ghost use Rattle.hive_cells.specs.Changes.{OthersStay, AllStay, PutsSize, IsFreeCell, RewritesWithin, Frees, Takes, Writes};
 
 use crate::lookup::{free_before, is_free_cell};
 use crate::marks::Mark;
@@ -161,4 +161,27 @@ fn fit(bytes: &mut [u8], marks: &mut [Mark], at: usize, size: usize)
     if cell_size(bytes, at) > size + MARKED_BYTES {
         split(bytes, marks, at, size);
     }
+}
+
+/// Writes bytes of the data of the allocated cell at an offset, from an offset of the data on.
+pub(crate) fn write_data(bytes: &mut [u8], marks: &[Mark], at: usize, from: usize, source: &[u8])
+    requires marked { IsMarked bytes.old marks.now }
+    requires allocated { IsAllocatedCell bytes.old at }
+    requires low { at + 4 ≤ from }
+    requires high { from + length source.now ≤ at + cell_size bytes.old at }
+    ensures marked { IsMarked bytes.new marks.now }
+    ensures written { Writes bytes.old bytes.new at from (from + length source.now) }
+    ensures text { slice_range bytes.new from (from + length source.now) ≡ source.now }
+{
+    let _ = marks;
+    put_bytes(bytes, from, source);
+}
+
+// writes bytes from an offset on
+fn put_bytes(bytes: &mut [u8], from: usize, source: &[u8])
+    requires { from + length source.now ≤ length bytes.old }
+    ensures written { RewritesWithin bytes.old bytes.new from (from + length source.now) }
+    ensures text { slice_range bytes.new from (from + length source.now) ≡ source.now }
+{
+    bytes[from..from + source.len()].copy_from_slice(source);
 }

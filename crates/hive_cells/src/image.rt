@@ -1,11 +1,11 @@
 //! Hive bins data whose bins and cells tile, with its cells by their offsets.
-ghost use Rattle.std.specs.Prelude.{◌≡◌, ◌+◌, ◌-◌, ◌^◌, ◌<◌, ◌*◌, ◌/◌, ◌%◌, ◌≤◌, List, ℕ, MatchResult, IsTrue, ◌↔◌, min, length};
+ghost use Rattle.std.specs.Prelude.{◌≡◌, ◌+◌, ◌-◌, ◌^◌, ◌<◌, ◌*◌, ◌/◌, ◌%◌, ◌≤◌, List, ℕ, MatchResult, IsTrue, ◌↔◌, min, length, slice_range};
 ghost use Rattle.hive_cells.specs.Tiles.{Tiles, LiesInOneTile, DataRefused, IsAllocatedCell, cell_data, cell_size, is_allocated};
 ghost use Rattle.hive_cells.specs.Marks.{IsMarked, IsWholeCell};
-ghost use Rattle.hive_cells.specs.Changes.{Frees, FreeRefused, Allocates, BinRefused, HasRoom, least_size};
+ghost use Rattle.hive_cells.specs.Changes.{Frees, FreeRefused, Allocates, BinRefused, HasRoom, Writes, least_size};
 
 use crate::bins::add_bin;
-use crate::edits::{give_back, take};
+use crate::edits::{give_back, take, write_data};
 use crate::free_cells::FreeCells;
 use crate::looks::Looks;
 use crate::lookup::{is_cell_allocated, is_free_cell};
@@ -104,6 +104,28 @@ impl Image {
         } else {
             Err(damaged(Cause::BadOffset))
         }
+    }
+
+    /// Writes bytes into the data of the allocated cell that begins at an offset, from the byte `at` of the data
+    /// on. The caller sees that they fit the cell. Of the image, only these bytes are written. Takes no memory.
+    ///
+    /// Refused with `HiveDamaged` of hive 0 and `BadOffset` exactly where no allocated cell begins there.
+    pub fn write(&mut self, offset: u32, at: usize, source: &[u8]) -> Result<(), Refusal>
+        requires { IsAllocatedCell self.old offset → 4 + at + length source.now ≤ cell_size self.old offset }
+        ensures { MatchResult result (λ _. Writes self.old self.new offset (offset + 4 + at) (offset + 4 + at + length source.now) × (slice_range self.new (offset + 4 + at) (offset + 4 + at + length source.now) ≡ source.now)) (λ refusal. (self.new ≡ self.old) × (refusal ≡ Refusal.HiveDamaged 0 Cause.BadOffset) × (¬ IsAllocatedCell self.old offset)) }
+    {
+        let cell = offset as usize;
+        if !is_cell_allocated(&self.bytes, &self.marks, cell) {
+            return Err(damaged(Cause::BadOffset));
+        }
+        write_data(
+            &mut self.bytes,
+            &self.marks,
+            cell,
+            cell + SIZE_BYTES + at,
+            source,
+        );
+        Ok(())
     }
 
     /// Frees the allocated cell that begins at an offset, and merges it with the free cell behind it and with
