@@ -1,5 +1,5 @@
 -- The rows that a change of nodes leaves are those of the operation.
-use Rattle.std.proofs.Common.{◌≡◌, ℕ, ◌+◌, ◌-◌, ◌<◌, suc, Bool, true, false, ◌&&◌, ◌⊎◌, inl, inr, cond, List, [], ◌∷◌, ◌++◌, length, take, drop, map, Option, Some, None, IsSome, is_some, refl, sym, ◌∙◌, ap, subst, append-nil, append_assoc, arith}
+use Rattle.std.proofs.Common.{◌≡◌, ℕ, ◌+◌, ◌-◌, ◌<◌, Bool, true, false, ◌&&◌, cond, List, [], ◌∷◌, ◌++◌, length, take, map, Option, Some, None, IsSome, is_some, refl, sym, ◌∙◌, ap, subst, append_assoc, arith}
 use Rattle.std.specs.Prelude.{nat_lt, slice_index_or}
 use Rattle.std.specs.Ordering.{eq_by_cmp}
 use Rattle.std.specs.Option.{option_map}
@@ -11,14 +11,14 @@ use Rattle.std.proofs.lemmas.List.{length-map, length-append, map-append}
 use Rattle.std.proofs.Math.Seq.{take-append_seam, take-append-add}
 use mathlib.Core.Bool.{false≢true}
 use Rattle.reg_names.specs.Names.{folded, folded_path}
-use Rattle.reg_tree_parts.specs.Orders.{name_order, path_order}
+use Rattle.reg_tree_parts.specs.Orders.{path_order}
 use Rattle.reg_tree_parts.specs.Rows.{Row}
 use Rattle.reg_tree_parts.specs.NewRows.{new_row}
 use Rattle.reg_tree_parts.specs.Nodes.{Entries, begins_path, one_below, names_below}
-use Rattle.reg_tree.specs.Maps.{TreeMap, row, is_there, subkeys, IsTree}
+use Rattle.reg_tree.specs.Maps.{TreeMap, row, subkeys, IsTree}
 use Rattle.reg_tree.specs.Operations.{touched, depth_there, descriptor_of, row_created, row_edited}
 use Rattle.reg_tree.proofs.Depths.{beginning_there}
-use Rattle.reg_tree.proofs.Paths.{told, eq_is, one_below-append}
+use Rattle.reg_tree.proofs.Paths.{eq_is, one_below-append}
 
 -- one row replaced is the row of an edit
 pub edited_is : (tree : TreeMap) (p : List (List ℕ)) (key new : Row) (edit : Row → Row) (moment : ℕ) → row tree p ≡ Some key → new ≡ touched moment (edit key) → (q : List (List ℕ))

@@ -1,14 +1,12 @@
 -- A node without subkeys, with the row of a new hive's root, stands for the tree of a new hive.
-use Rattle.std.proofs.Common.{◌≡◌, ℕ, cond, List, [], ◌∷◌, ◌++◌, Option, Some, None, IsSome, is_some, refl, sym, ◌∙◌, ap}
-use Rattle.std.specs.Ordering.{eq_by_cmp}
+use Rattle.std.proofs.Common.{◌≡◌, ℕ, List, [], ◌∷◌, ◌++◌, Some, None, is_some, sym, ◌∙◌, ap}
 use Rattle.std.specs.FinMap as finite
 use Rattle.std.specs.FinMap.{get-insert, get-empty, same_map}
 use mathlib.Core.Bool.{false≢true}
 use Rattle.reg_tree_parts.specs.Orders.{path_order}
-use Rattle.reg_tree_parts.specs.Rows.{Row}
 use Rattle.reg_tree_parts.specs.Nodes.{Entries, row_at, IsNode}
 use Rattle.reg_tree_parts.proofs.Keys.{paths_total, paths_apart}
-use Rattle.reg_tree.specs.Maps.{row, IsTree, IsRooted}
+use Rattle.reg_tree.specs.Maps.{row, IsRooted}
 use Rattle.reg_tree.specs.Fresh.{fresh_row, fresh_tree}
 use Rattle.reg_tree.proofs.Rows.{row_is}
 

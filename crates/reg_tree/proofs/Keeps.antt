@@ -1,28 +1,27 @@
 -- An operation that may be carried out keeps a tree a tree.
-use Rattle.std.proofs.Common.{◌≡◌, ℕ, zero, suc, ◌+◌, ◌-◌, ◌<◌, ◌≤◌, Bool, true, false, not, ◌&&◌, ◌⊎◌, inl, inr, cond, List, [], ◌∷◌, ◌++◌, length, take, map, Option, Some, None, IsSome, is_some, Result, Ok, Err, refl, sym, ◌∙◌, ap, subst, append-nil, append_assoc, arith}
+use Rattle.std.proofs.Common.{◌≡◌, ℕ, zero, suc, ◌+◌, ◌-◌, ◌<◌, ◌≤◌, Bool, true, false, not, ◌&&◌, ◌⊎◌, inl, inr, cond, List, [], ◌∷◌, ◌++◌, length, take, Option, Some, None, IsSome, is_some, Result, Ok, Err, refl, sym, ◌∙◌, ap, subst, append_assoc, arith}
 use Rattle.std.specs.Prelude.{nat_lt, slice_index_or}
 use Rattle.std.specs.Ordering.{eq_by_cmp}
 use Rattle.std.specs.Option.{option_map}
-use Rattle.std.specs.FinMap as finite
 use Rattle.std.proofs.lemmas.Bool.{and_parts}
 use Rattle.std.proofs.lemmas.Bool.Decides.{nat_tests}
-use Rattle.std.proofs.lemmas.List.{length-append, length-take-le}
+use Rattle.std.proofs.lemmas.List.{length-append}
 use mathlib.Core.Bool.{false≢true}
 use Rattle.reg_names.specs.Names.{folded, folded_path}
 use Rattle.reg_names.specs.declared.refusal.Refusal.{Refusal}
-use Rattle.reg_tree_parts.specs.Orders.{name_order, path_order}
+use Rattle.reg_tree_parts.specs.Orders.{path_order}
 use Rattle.reg_tree_parts.specs.Rows.{Row}
 use Rattle.reg_tree_parts.specs.NewRows.{new_row}
 use Rattle.reg_tree_parts.specs.Nodes.{begins_path, one_below}
-use Rattle.reg_tree.specs.Maps.{TreeMap, row, is_there, subkeys, missing, IsTree}
-use Rattle.reg_tree.specs.Operations.{touched, depth_there, descriptor_of, spelled_path, row_created, row_deleted, row_edited, row_after, tree_after}
+use Rattle.reg_tree.specs.Maps.{TreeMap, row, subkeys, missing, IsTree}
+use Rattle.reg_tree.specs.Operations.{touched, depth_there, descriptor_of, row_created, row_deleted, row_edited, tree_after}
 use Rattle.reg_tree.specs.Judgement.{judged, judged_there, judged_delete, judged_delete_at, changed, changed_if}
 use Rattle.reg_tree.specs.declared.op.Op.{Op}
 use Rattle.reg_tree.specs.declared.op.Op.TheVariants.{CreateKey, DeleteKey, SetValue, DeleteValue}
 use Rattle.reg_tree.specs.declared.op.Legality.{Legality}
 use Rattle.reg_tree.specs.declared.op.Legality.TheVariants.{Legal, Opened}
 use Rattle.reg_tree.proofs.Depths.{beginning_there, levels_missing}
-use Rattle.reg_tree.proofs.Paths.{told, eq_is, eq_self, same_name, name_self, begins-append, split_begins}
+use Rattle.reg_tree.proofs.Paths.{told, eq_is, eq_self, begins-append, split_begins}
 use Rattle.std.proofs.Math.Seq.{take-append_seam}
 use Rattle.std.proofs.Common.{eqb}
 use Rattle.reg_names.specs.declared.refusal.Refusal.TheVariants.{Fixed, HasSubkeys}

@@ -6,3 +6,5 @@ pub mod Changes
 pub mod Made
 pub mod Keeps
 pub mod FreshTrees
+pub mod Sums
+pub mod Stays

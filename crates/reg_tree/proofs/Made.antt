@@ -1,5 +1,5 @@
 -- The tree after an operation has the rows that the operation says, at every path.
-use Rattle.std.proofs.Common.{◌≡◌, ℕ, zero, suc, ◌+◌, ◌-◌, ◌<◌, Bool, true, false, ◌&&◌, ◌||◌, ◌⊎◌, inl, inr, cond, List, [], ◌∷◌, ◌++◌, length, take, map, Option, Some, None, IsSome, is_some, refl, sym, ◌∙◌, ap, subst, arith}
+use Rattle.std.proofs.Common.{◌≡◌, ℕ, ◌-◌, Bool, true, false, ◌&&◌, ◌||◌, ◌⊎◌, inl, inr, cond, List, [], ◌∷◌, ◌++◌, length, take, map, Option, Some, None, IsSome, is_some, refl, sym, ◌∙◌, ap, subst, arith}
 use Rattle.std.specs.Prelude.{nat_lt, slice_index_or}
 use Rattle.std.specs.List.{list_any, filter_map, cons_option}
 use Rattle.std.proofs.lemmas.Bool.{and_parts}
@@ -19,10 +19,10 @@ use Rattle.reg_tree_parts.specs.ValueEdits.{values_with, values_without}
 use Rattle.reg_tree_parts.specs.Nodes.{Entries, begins_path, one_below, IsNode, row_at}
 use Rattle.reg_tree_parts.proofs.Keys.{paths_total, paths_apart}
 use Rattle.reg_tree.specs.Maps.{TreeMap, row, beginnings}
-use Rattle.reg_tree.specs.Operations.{touched, depth_there, descriptor_of, spelled_path, row_created, row_deleted, row_edited, row_after, tree_of, tree_after}
+use Rattle.reg_tree.specs.Operations.{touched, depth_there, descriptor_of, row_created, row_deleted, row_edited, row_after, tree_of, tree_after}
 use Rattle.reg_tree.specs.declared.op.Op.{Op}
 use Rattle.reg_tree.specs.declared.op.Op.TheVariants.{CreateKey, DeleteKey, SetValue, DeleteValue}
-use Rattle.reg_tree.proofs.Paths.{same_front, told, eq_is, eq_self, same_name, name_self}
+use Rattle.reg_tree.proofs.Paths.{same_front, told, eq_is, eq_self, same_name}
 use Rattle.reg_tree.proofs.Rows.{row_is}
 
 -- nothing, whichever is chosen

@@ -1,5 +1,5 @@
 -- What a tree says of the entries that it stands for.
-use Rattle.std.proofs.Common.{◌≡◌, ℕ, List, [], ◌∷◌, ◌++◌, Some, None, sym, ◌∙◌, ap}
+use Rattle.std.proofs.Common.{◌≡◌, ℕ, List, sym, ◌∙◌, ap}
 use Rattle.std.specs.FinMap as finite
 use Rattle.std.specs.FinMap.{entries-from_sorted, get-from_sorted}
 use Rattle.reg_tree_parts.specs.Orders.{path_order}

@@ -1,5 +1,5 @@
 -- What stands where after a node was replaced on a path.
-use Rattle.std.proofs.Common.{◌≡◌, ℕ, ◌+◌, suc, Bool, true, false, ◌&&◌, ◌⊎◌, inl, inr, cond, List, [], ◌∷◌, ◌++◌, length, Option, Some, None, refl, sym, ◌∙◌, ap, subst, append-nil, arith, ◌-◌}
+use Rattle.std.proofs.Common.{◌≡◌, ℕ, Bool, true, false, ◌&&◌, ◌⊎◌, inl, inr, cond, List, [], ◌∷◌, ◌++◌, length, Option, Some, None, refl, sym, ◌∙◌, ap, subst, append-nil, arith, ◌-◌}
 use Rattle.std.specs.Prelude.{nat_lt, slice_index_or}
 use Rattle.std.proofs.lemmas.Bool.Decides.{nat_tests}
 use Rattle.std.proofs.lemmas.List.{length-append, length-map}
@@ -12,7 +12,7 @@ use Rattle.reg_tree_parts.specs.NewRows.{new_row}
 use Rattle.reg_tree_parts.specs.Nodes.{Entries, row_at, begins_path, one_below, branch_row}
 use mathlib.Core.Bool.{false≢true}
 use Rattle.reg_tree.specs.Operations.{touched}
-use Rattle.reg_tree.proofs.Paths.{same_name, swapped_name, longer_begins, begins_past, behind, begins_shorter, same_front, shorter_apart, names_differ, not_one_below, same_parent, told, eq_self, eq_is, name_self, begins-append, split_begins, longer_apart, unbegun_apart, one_below-append, split_below}
+use Rattle.reg_tree.proofs.Paths.{same_name, swapped_name, longer_begins, begins_past, behind, begins_shorter, same_front, names_differ, not_one_below, same_parent, told, eq_self, name_self, begins-append, split_begins, longer_apart, unbegun_apart, one_below-append, split_below}
 
 -- rows at paths
 abbrev Rows : Type 0

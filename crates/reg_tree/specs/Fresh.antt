@@ -1,5 +1,5 @@
 -- The tree of a new hive.
-use Rattle.std.specs.Prelude.{ℕ, List, [], ◌∷◌, ◌++◌, replicate}
+use Rattle.std.specs.Prelude.{[], ◌∷◌, replicate}
 use Rattle.std.specs.FinMap as finite
 use Rattle.reg_tree_parts.specs.Rows.{Row}
 use Rattle.reg_tree.specs.Maps.{TreeMap}

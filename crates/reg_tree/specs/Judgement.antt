@@ -1,5 +1,5 @@
 -- Whether an operation may be carried out, and its first refusal.
-use Rattle.std.specs.Prelude.{ℕ, nat_lt, ◌==◌, not, is_none, is_some, if◌then◌else◌, List, [], ◌∷◌, length, map, slice_get, slice_set, Option, Some, None, Result, Ok, Err, bit_and}
+use Rattle.std.specs.Prelude.{ℕ, nat_lt, ◌==◌, not, is_none, if◌then◌else◌, List, [], ◌∷◌, length, slice_get, slice_set, Option, Some, None, Result, Ok, Err, bit_and}
 use Rattle.std.specs.FinMap as finite
 use Rattle.reg_names.specs.Names.{folded, folded_path}
 use Rattle.reg_names.specs.declared.refusal.Refusal.{Refusal}

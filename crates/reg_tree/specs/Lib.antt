@@ -5,3 +5,4 @@ pub mod Reads
 pub mod Fresh
 pub mod Texts
 pub mod TreeLists
+pub mod Sequences

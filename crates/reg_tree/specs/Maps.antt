@@ -1,5 +1,5 @@
 -- Registry trees as finite maps from folded paths to rows.
-use Rattle.std.specs.Prelude.{◌≡◌, ℕ, Bool, not, List, [], ◌∷◌, ◌++◌, map, filter, length, Option, Some, None, is_some, IsSome}
+use Rattle.std.specs.Prelude.{◌≡◌, ℕ, Bool, not, List, [], ◌∷◌, ◌++◌, map, filter, Option, Some, is_some, IsSome}
 use Rattle.std.specs.FinMap as finite
 use Rattle.reg_names.specs.Names.{folded}
 use Rattle.reg_tree_parts.specs.Orders.{path_order}

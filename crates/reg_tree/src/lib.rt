@@ -9,6 +9,7 @@
 #![tactic(auto)]
 
 mod element;
+pub mod laws;
 mod op;
 mod tree;
 mod trees;

@@ -1,7 +1,7 @@
-use Rattle.std.proofs.Common.{◌≡◌, ◌∷◌, ◌++◌, [], Some, length, take, drop, subst, sym, ◌∙◌, ap, append_assoc, arith}
+use Rattle.std.proofs.Common.{◌≡◌, ◌∷◌, ◌++◌, [], Some, subst, sym, ◌∙◌, ap, append_assoc}
 use Rattle.std.specs.Arc.{arc_value}
 use Rattle.reg_names.specs.Names.{folded, folded_path}
-use Rattle.reg_tree_parts.specs.Nodes.{row_at, root_name}
+use Rattle.reg_tree_parts.specs.Nodes.{row_at}
 use Rattle.reg_tree.specs.Maps.{row, IsTree}
 use Rattle.reg_tree.proofs.Rows.{rows_of}
 use Rattle.std.proofs.lemmas.List.{map-append}

@@ -1,6 +1,6 @@
-use Rattle.std.proofs.Common.{◌≡◌, ◌∷◌, ◌++◌, [], Some, length, refl, sym, ◌∙◌, ap, append_assoc, arith}
+use Rattle.std.proofs.Common.{sym, ◌∙◌}
 use Rattle.std.specs.Arc.{arc_value}
-use Rattle.reg_names.specs.Names.{folded, folded_path}
+use Rattle.reg_names.specs.Names.{folded_path}
 use Rattle.reg_tree_parts.specs.Nodes.{row_at}
 use Rattle.reg_tree.specs.Maps.{row}
 use Rattle.reg_tree.proofs.Rows.{rows_of}

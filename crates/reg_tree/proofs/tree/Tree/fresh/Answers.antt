@@ -1,7 +1,4 @@
-use Rattle.std.proofs.Common.{◌≡◌, Some, [], List, ℕ, ◌∷◌, None, subst, sym, ◌∙◌, ap}
-use Rattle.reg_tree_parts.specs.Nodes.{row_at}
-use Rattle.reg_tree.specs.Maps.{IsRooted}
-use Rattle.reg_tree.specs.Fresh.{fresh_row}
+use Rattle.std.proofs.Common.{Some, ◌∙◌, ap}
 use Rattle.reg_tree.proofs.FreshTrees.{fresh_is, fresh_rooted}
 use Rattle.reg_tree.proofs.tree.Tree.fresh.Goals as goal
 

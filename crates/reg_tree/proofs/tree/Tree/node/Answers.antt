@@ -1,8 +1,7 @@
-use Rattle.std.proofs.Common.{◌≡◌, List, ℕ, [], ◌++◌, append-nil, sym, ◌∙◌, ap}
+use Rattle.std.proofs.Common.{[], append-nil, sym, ◌∙◌, ap}
 use Rattle.std.specs.Arc.{arc_value}
 use Rattle.reg_names.specs.Names.{folded_path}
-use Rattle.reg_tree_parts.specs.Nodes.{row_at, names_below}
-use Rattle.reg_tree.specs.Maps.{row}
+use Rattle.reg_tree_parts.specs.Nodes.{row_at}
 use Rattle.reg_tree.proofs.Rows.{row_is, subkeys_are}
 use Rattle.reg_tree.proofs.tree.Tree.node.Goals as goal
 

@@ -1,8 +1,7 @@
-use Rattle.std.proofs.Common.{◌≡◌, cond, ◌∷◌, ◌++◌, [], Some, length, refl, sym, ◌∙◌, ap, append_assoc, arith}
+use Rattle.std.proofs.Common.{◌≡◌, cond, Some, sym, ◌∙◌, ap}
 use Rattle.std.specs.Ordering.{eq_by_cmp}
 use Rattle.reg_tree_parts.specs.Orders.{path_order}
 use Rattle.reg_names.specs.Names.{folded, folded_path}
-use Rattle.reg_tree_parts.specs.Nodes.{row_at}
 use Rattle.reg_tree.specs.Maps.{row}
 use Rattle.reg_tree_parts.specs.ValueEdits.{values_with}
 use Rattle.reg_tree.proofs.Changes.{edited_is}

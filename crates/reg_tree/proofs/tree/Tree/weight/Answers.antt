@@ -1,6 +1,3 @@
-use Rattle.std.proofs.Common.{min, ◌∙◌, ap}
-use Rattle.std.specs.Arc.{arc_value}
-use Rattle.reg_tree_parts.specs.Nodes.{entries_weight}
 use Rattle.reg_tree.proofs.Rows.{weight_is}
 use Rattle.reg_tree.proofs.tree.Tree.weight.Goals as goal
 

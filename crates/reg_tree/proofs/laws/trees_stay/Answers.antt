@@ -1,0 +1,9 @@
+use Rattle.reg_tree.proofs.Keeps.{changed_stays}
+use Rattle.reg_tree.proofs.Stays.{trees_stay_all}
+use Rattle.reg_tree.proofs.laws.trees_stay.Goals as goal
+
+pub returns-clause-one : goal.returns-clause-one
+returns-clause-one c = changed_stays
+
+pub returns-clause-all : goal.returns-clause-all
+returns-clause-all c = trees_stay_all
