@@ -1,5 +1,5 @@
 //! Hive bins data whose bins and cells tile, with its cells by their offsets.
-ghost use Rattle.std.specs.Prelude.{◌≡◌, ◌+◌, ◌-◌, ◌^◌, ◌<◌, ◌*◌, ◌/◌, ◌%◌, ◌≤◌, List, ℕ, MatchResult, IsTrue, ◌↔◌, min, length, slice_range};
+ghost use Rattle.std.specs.Prelude.{◌≡◌, ◌+◌, ◌-◌, ◌^◌, ◌<◌, ◌*◌, ◌/◌, ◌%◌, ◌≤◌, List, ℕ, MatchResult, IfOk, IsTrue, ◌↔◌, min, length, slice_range};
 ghost use Rattle.hive_cells.specs.Tiles.{Tiles, LiesInOneTile, DataRefused, IsAllocatedCell, cell_data, cell_size, is_allocated};
 ghost use Rattle.hive_cells.specs.Marks.{IsMarked, IsWholeCell};
 ghost use Rattle.hive_cells.specs.Changes.{Frees, FreeRefused, Allocates, BinRefused, HasRoom, Writes, least_size};
@@ -22,7 +22,8 @@ const SIZE_BYTES: usize = 4;
 /// Hive bins data that bins and cells tile: bins follow one another and fill the data, and the cells of a
 /// bin follow its header of 32 bytes and fill the bin. Contracts see an image as its bytes.
 ///
-/// An image keeps its bytes and a mark for each 8 of them, by which a cell is found without a walk.
+/// An image keeps its bytes, a mark for each 8 of them, by which a cell is found without a walk, and notes of
+/// where free cells are, by which one is found for an allocation.
 #[derive(Drop)]
 pub struct Image {
     bytes: Vec<u8>,
@@ -44,8 +45,8 @@ impl Image {
     /// Refused with `HiveDamaged` of hive 0 exactly where bins and cells don't tile the data, with a cause
     /// that stands in them: `Truncated` where they are not whole pages of 4,096 bytes, `BadBin` where a bin's
     /// signature, offset or size is wrong or the bin doesn't end within the data, `BadCell` where a cell's
-    /// size is no multiple of 8, is below 8, or passes the end of its bin. Refused with `NoMemory` where an
-    /// eighth of the data's length was asked for and not given.
+    /// size is no multiple of 8, is below 8, or passes the end of its bin. Refused with `NoMemory` where memory
+    /// for the marks, an eighth of the data's length, or for the notes of free cells was not given.
     pub fn open(alloc: Global, bytes: Vec<u8>) -> Result<Image, Refusal>
         ensures { MatchResult result (λ image. (image ≡ bytes.items) × Tiles bytes.items) (DataRefused bytes.items) }
     {
@@ -94,7 +95,8 @@ impl Image {
     ///
     /// Refused with `HiveDamaged` of hive 0 and `BadOffset` exactly where no allocated cell begins there.
     pub fn cell(&self, offset: u32, looks: &mut Looks) -> Result<&[u8], Refusal>
-        ensures data { MatchResult result (λ lent. IsAllocatedCell self.now offset × (lent.now ≡ cell_data self.now offset)) (λ refusal. (refusal ≡ Refusal.HiveDamaged 0 Cause.BadOffset) × (¬ IsAllocatedCell self.now offset)) }
+        ensures found { MatchResult result (λ lent. IsAllocatedCell self.now offset × (lent.now ≡ cell_data self.now offset)) (λ refusal. (refusal ≡ Refusal.HiveDamaged 0 Cause.BadOffset) × (¬ IsAllocatedCell self.now offset)) }
+        ensures size { IfOk result (λ lent. length lent.now + 4 ≡ cell_size self.now offset) }
         ensures look { looks.new ≡ min (looks.old + 1) (2 ^ 64 - 1) }
     {
         looks.raise();
@@ -130,10 +132,12 @@ impl Image {
 
     /// Frees the allocated cell that begins at an offset, and merges it with the free cell behind it and with
     /// a near free cell before it. Answers where the free cell begins in which it now lies; of the data only
-    /// the four bytes there and those at the offset are written. Takes no memory.
+    /// the four bytes there and those at the offset are written. Never refused for want of memory: where a note
+    /// of the free cell can't be kept, `alloc` just doesn't find it.
     ///
-    /// Refused with `TooLarge` exactly where the data are longer than the limit, and else with `HiveDamaged` of
-    /// hive 0 and `BadOffset` exactly where no allocated cell begins there.
+    /// Refused with `TooLarge` only where the data are longer than the limit, and with `HiveDamaged` of hive 0
+    /// and `BadOffset` only where no allocated cell begins there; one that begins in data within the limit is
+    /// freed.
     pub fn free(&mut self, offset: u32) -> Result<u32, Refusal>
         ensures { MatchResult result (λ from. Frees self.old self.new offset from) (λ refusal. (self.new ≡ self.old) × FreeRefused self.old offset refusal) }
     {
@@ -175,7 +179,8 @@ impl Image {
 // the data of the cell at an offset
 fn data_of(bytes: &[u8], at: usize) -> &[u8]
     requires { IsWholeCell bytes.now at }
-    ensures { result.now ≡ cell_data bytes.now at }
+    ensures text { result.now ≡ cell_data bytes.now at }
+    ensures size { length result.now + 4 ≡ cell_size bytes.now at }
 {
     &bytes[at + SIZE_BYTES..at + cell_size(bytes, at)]
 }
