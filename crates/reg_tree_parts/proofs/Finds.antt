@@ -1,14 +1,13 @@
 -- What stands at a path among the entries of a key and its subkeys.
-use Rattle.std.proofs.Common.{◌≡◌, ℕ, ◌+◌, Bool, true, false, ◌&&◌, cond, T, List, [], ◌∷◌, ◌++◌, map, Option, Some, None, refl, sym, ◌∙◌, ap, subst}
+use Rattle.std.proofs.Common.{◌≡◌, ℕ, true, false, cond, T, List, [], ◌∷◌, ◌++◌, Option, Some, None, refl, ◌∙◌, ap}
 use Rattle.std.specs.declared.cmp.Ordering.{Ordering}
 use Rattle.std.specs.declared.cmp.Ordering.TheVariants.{Less, Equal, Greater}
 use Rattle.std.specs.Ordering.{is_lt, is_eq, ordering_then, eq_by_cmp}
-use Rattle.std.specs.Cmp.{IsTotalOrder, alike_right}
 use Rattle.std.specs.FinMap.Entries.{find, is_sorted, below_all}
 use Rattle.reg_tree_parts.specs.Orders.{name_order, path_order}
 use Rattle.reg_tree_parts.specs.Rows.{Row}
-use Rattle.reg_tree_parts.specs.Nodes.{Entries, root_name, below, all_below, entries_of, row_at, row_in, IsNode, AreNodes}
-use Rattle.reg_tree_parts.proofs.Keys.{names_total, paths_total}
+use Rattle.reg_tree_parts.specs.Nodes.{Entries, below, all_below, row_at, row_in}
+use Rattle.reg_tree_parts.proofs.Keys.{names_total}
 use Rattle.reg_tree_parts.proofs.Places.{front_of, back_of, less_of}
 
 -- the first of two that is there
@@ -61,9 +60,9 @@ find-all_below n q (kid ∷ kids) h =
     ∙ ap (or_else (find path_order (n ∷ q) (below kid.0 kid.1))) (find-all_below n q kids (back_of _ _ h))
     ∙ elim (eq_by_cmp name_order n kid.0) as (λ b. eq_by_cmp name_order n kid.0 ≡ b → or_else (find path_order (n ∷ q) (below kid.0 kid.1)) (row_in (find name_order n kids) q) ≡ row_in (cond b (Some kid.1) (find name_order n kids)) q) [
       | true ↦ λ e.
-        let tied : name_order n kid.0 ≡ Equal = equal_of _ e in
-        ap (λ o. or_else (find path_order (n ∷ q) (below kid.0 kid.1)) (row_in o q)) (find_below_all n kid.0 kids tied (front_of _ _ h))
-        ∙ or_else_none _ ∙ find-below_tied n kid.0 q kid.1 tied
+          let tied : name_order n kid.0 ≡ Equal = equal_of _ e in
+          ap (λ o. or_else (find path_order (n ∷ q) (below kid.0 kid.1)) (row_in o q)) (find_below_all n kid.0 kids tied (front_of _ _ h))
+          ∙ or_else_none _ ∙ find-below_tied n kid.0 q kid.1 tied
       | false ↦ λ e. ap (λ o. or_else o (row_in (find name_order n kids) q)) (find-below_apart n kid.0 q kid.1 e)
     ] refl
   where

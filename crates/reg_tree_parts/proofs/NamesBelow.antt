@@ -1,8 +1,7 @@
 -- The names one level below a path, among the entries of a key and its subkeys.
-use Rattle.std.proofs.Common.{◌≡◌, ℕ, Bool, true, false, ◌&&◌, cond, T, List, [], ◌∷◌, ◌++◌, map, length, Option, Some, None, refl, sym, ◌∙◌, ap, subst}
+use Rattle.std.proofs.Common.{◌≡◌, ℕ, true, false, ◌&&◌, cond, T, List, [], ◌∷◌, ◌++◌, map, Option, Some, None, refl, sym, ◌∙◌, ap, subst}
 use Rattle.std.specs.List.{filter}
-use Rattle.std.specs.declared.cmp.Ordering.TheVariants.{Less, Equal, Greater}
-use Rattle.std.specs.Ordering.{is_lt, is_eq, eq_by_cmp}
+use Rattle.std.specs.Ordering.{eq_by_cmp}
 use Rattle.std.specs.FinMap.Entries.{find, is_sorted, below_all}
 use Rattle.reg_tree_parts.specs.Orders.{name_order, path_order}
 use Rattle.reg_tree_parts.specs.Rows.{Row}
@@ -68,7 +67,7 @@ names-all_below n p (kid ∷ kids) h =
     ∙ ap (λ ns. names_below (n ∷ p) (below kid.0 kid.1) ++ ns) (names-all_below n p kids (back_of (below_all name_order kid.0 kids) (is_sorted name_order kids) h))
     ∙ elim (eq_by_cmp name_order n kid.0) as (λ b. eq_by_cmp name_order n kid.0 ≡ b → names_below (n ∷ p) (below kid.0 kid.1) ++ names_in (find name_order n kids) p ≡ names_in (cond b (Some kid.1) (find name_order n kids)) p) [
       | true ↦ λ e.
-        ap (λ o. names_below (n ∷ p) (below kid.0 kid.1) ++ names_in o p) (find_below_all n kid.0 kids (equal_of (name_order n kid.0) e) (front_of (below_all name_order kid.0 kids) (is_sorted name_order kids) h))
-        ∙ append-nil (names_below (n ∷ p) (below kid.0 kid.1)) ∙ names-below_tied n kid.0 p kid.1 e
+          ap (λ o. names_below (n ∷ p) (below kid.0 kid.1) ++ names_in o p) (find_below_all n kid.0 kids (equal_of (name_order n kid.0) e) (front_of (below_all name_order kid.0 kids) (is_sorted name_order kids) h))
+          ∙ append-nil (names_below (n ∷ p) (below kid.0 kid.1)) ∙ names-below_tied n kid.0 p kid.1 e
       | false ↦ λ e. ap (λ ns. ns ++ names_in (find name_order n kids) p) (names-below_apart n kid.0 p kid.1 e)
     ] refl

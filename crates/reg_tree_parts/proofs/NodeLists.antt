@@ -1,5 +1,5 @@
 -- What a list of shared nodes says of the entries that it stands for, and what an edit of it does.
-use Rattle.std.proofs.Common.{◌≡◌, ℕ, ◌+◌, ◌<◌, ◌≤◌, slice_get, Bool, true, false, not, cond, T, List, [], ◌∷◌, ◌++◌, length, get_or, set, map, min, sum_by, Option, Some, None, refl, sym, ◌∙◌, ap, subst, arith}
+use Rattle.std.proofs.Common.{◌≡◌, ℕ, ◌+◌, ◌<◌, ◌≤◌, slice_get, Bool, true, false, not, cond, T, List, [], ◌∷◌, length, get_or, set, map, sum_by, Option, Some, None, refl, sym, ◌∙◌, ap, subst, arith}
 use Rattle.std.specs.List.{insert, remove}
 use Rattle.std.specs.declared.sync.Arc.{Arc}
 use Rattle.std.specs.declared.alloc.Global.{Global}
@@ -11,7 +11,7 @@ use Rattle.std.specs.declared.cmp.Ordering.TheVariants.{Less, Equal, Greater}
 use Rattle.std.proofs.lemmas.Simd.{map-map}
 use Rattle.std.proofs.lemmas.List.{length-map}
 use Rattle.std.proofs.lemmas.List.Sums.{sum_by-append, sum_by-cons}
-use Rattle.reg_tree_parts.specs.Orders.{name_order, path_order}
+use Rattle.reg_tree_parts.specs.Orders.{name_order}
 use Rattle.reg_tree_parts.specs.Rows.{Row, row_weight}
 use Rattle.reg_tree_parts.specs.Searches.{IsFound, IsGap}
 use Rattle.reg_tree_parts.specs.Nodes.{Entries, root_name, below, all_below, entries_of, entries_weight, kid_name, kid_entry, kid_entries, row_at, row_in, names_below, spelled_root, IsNode, AreNodes}

@@ -53,10 +53,10 @@ rows_branch made leaf child name next bytes rest time here root below others alo
 rows_branch made leaf child name next bytes rest time here root below others alone rows further is (m ∷ q) =
     rw is (elim (told (eq_by_cmp name_order m (folded next))) [
       | inl tied ↦
-        let at : m ≡ folded next = same_name m (folded next) tied in
-        ap (λ n. row_at made (n ∷ q)) (at ∙ sym root) ∙ below q ∙ rows q ∙ sym (ap (λ b. cond b (branch_row next rest bytes time q) None) tied)
+          let at : m ≡ folded next = same_name m (folded next) tied in
+          ap (λ n. row_at made (n ∷ q)) (at ∙ sym root) ∙ below q ∙ rows q ∙ sym (ap (λ b. cond b (branch_row next rest bytes time q) None) tied)
       | inr apart ↦
-        others m q (ap (eq_by_cmp name_order m) root ∙ apart) ∙ alone m q ∙ sym (ap (λ b. cond b (branch_row next rest bytes time q) None) apart)
+          others m q (ap (eq_by_cmp name_order m) root ∙ apart) ∙ alone m q ∙ sym (ap (λ b. cond b (branch_row next rest bytes time q) None) apart)
     ])
 
 -- where a subkey was replaced, what stands at a path through it
@@ -76,8 +76,8 @@ others_step made self new old row name rest path is here was root below others t
     let off : (eq_by_cmp name_order m (folded name) && begins_path (folded_path rest) q) ≡ false = rw is at apart in
     elim (told (eq_by_cmp name_order m (folded name))) [
       | inl tied ↦
-        let at : m ≡ folded name = same_name m (folded name) tied in
-        let deeper : begins_path (folded_path rest) q ≡ false = sym (ap (λ b. b && begins_path (folded_path rest) q) tied) ∙ off in
-        ap (λ n. row_at made (n ∷ q)) (at ∙ sym root) ∙ below q ∙ inner q deeper ∙ sym (there q) ∙ ap (λ n. row_at self (n ∷ q)) (sym at)
+          let at : m ≡ folded name = same_name m (folded name) tied in
+          let deeper : begins_path (folded_path rest) q ≡ false = sym (ap (λ b. b && begins_path (folded_path rest) q) tied) ∙ off in
+          ap (λ n. row_at made (n ∷ q)) (at ∙ sym root) ∙ below q ∙ inner q deeper ∙ sym (there q) ∙ ap (λ n. row_at self (n ∷ q)) (sym at)
       | inr differs ↦ others m q (ap (eq_by_cmp name_order m) root ∙ differs)
     ]

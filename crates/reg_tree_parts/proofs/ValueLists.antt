@@ -1,5 +1,5 @@
 -- What a list of shared values in order says of the map that it stands for.
-use Rattle.std.proofs.Common.{◌≡◌, ℕ, zero, suc, ◌<◌, ◌≤◌, [], ◌∷◌, arith, Bool, true, false, not, cond, T, List, length, get_or, set, map, Option, Some, None, slice_get, refl, sym, ◌∙◌, ap, subst}
+use Rattle.std.proofs.Common.{◌≡◌, ℕ, zero, suc, ◌<◌, ◌≤◌, [], ◌∷◌, arith, Bool, true, false, not, cond, T, List, length, get_or, set, map, Some, None, slice_get, refl, sym, ◌∙◌, ap, subst}
 use Rattle.std.specs.declared.sync.Arc.{Arc}
 use Rattle.std.specs.declared.alloc.Global.{Global}
 use Rattle.std.specs.Arc.{arc_value}
@@ -90,12 +90,12 @@ module _ (items : List (Arc Value Global)) (sorted : T (is_sorted name_order (va
   removed_is k made is =
       let in_order : T (is_sorted name_order (value_entries made)) = subst (λ es. T (is_sorted name_order es)) (sym is) (is_sorted-where_key name_order _ (value_entries items) sorted) in
       let same : (q : List ℕ) → finite.get (finite.from_sorted {R = name_order} (value_entries made)) q ≡ finite.get (finite.remove (finite.from_sorted (value_entries items)) k) q =
-          λ q. get-from_sorted name_order (value_entries made) q in_order ∙ ap (find name_order q) is
-          ∙ find-where_key name_order _ q (λ x tied. ap (λ o. not (is_eq o)) (sym (alike_right names_total q x k tied))) (value_entries items)
-          ∙ turned (eq_by_cmp name_order k q) (find name_order q (value_entries items)) None
-          ∙ ap (λ b. cond b None (find name_order q (value_entries items))) ((eq_by_cmp_equiv names_total).symm k q)
-          ∙ ap (cond (eq_by_cmp name_order q k) None) (sym (get-from_sorted name_order (value_entries items) q sorted))
-          ∙ sym (get-remove names_total _ k q) in
+      λ q. get-from_sorted name_order (value_entries made) q in_order ∙ ap (find name_order q) is
+      ∙ find-where_key name_order _ q (λ x tied. ap (λ o. not (is_eq o)) (sym (alike_right names_total q x k tied))) (value_entries items)
+      ∙ turned (eq_by_cmp name_order k q) (find name_order q (value_entries items)) None
+      ∙ ap (λ b. cond b None (find name_order q (value_entries items))) ((eq_by_cmp_equiv names_total).symm k q)
+      ∙ ap (cond (eq_by_cmp name_order q k) None) (sym (get-from_sorted name_order (value_entries items) q sorted))
+      ∙ sym (get-remove names_total _ k q) in
       (in_order, same_map names_total names_apart _ _ same)
 
   module _ (made : List (Arc Value Global)) (same : map arc_value made ≡ map arc_value items) where

@@ -1,5 +1,5 @@
 -- A node's entries are more than those of each subkey.
-use Rattle.std.specs.Prelude.{ℕ, ◌+◌, ◌≤◌, List, [], ◌∷◌, ◌++◌, length, map}
+use Rattle.std.specs.Prelude.{ℕ, ◌+◌, ◌≤◌, List, [], ◌∷◌, length}
 use Rattle.std.proofs.Common.{◌≡◌, suc, refl, ap, arith, length-append}
 use denote.Param.Weighed.{most}
 use Rattle.std.specs.declared.sync.Arc.{Arc}

@@ -1,5 +1,5 @@
 -- What a node stands for: the entries of the key and of all keys below it, each a path from it on and a row.
-use Rattle.std.specs.Prelude.{if◌then◌else◌, ◌≡◌, ℕ, ◌+◌, min, Bool, true, false, ◌&&◌, Option, Some, None, filter, List, [], ◌∷◌, ◌++◌, map, sum_by, T}
+use Rattle.std.specs.Prelude.{if◌then◌else◌, ◌≡◌, ℕ, min, Bool, true, false, ◌&&◌, Option, Some, None, filter, List, [], ◌∷◌, ◌++◌, map, sum_by, T}
 use Rattle.std.specs.FinMap.Entries.{is_sorted, find}
 use Rattle.std.specs.Ordering.{eq_by_cmp}
 use Rattle.std.below.core.specs.declared.int.u64.TheConstants.{MAX}

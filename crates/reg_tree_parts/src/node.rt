@@ -136,12 +136,7 @@ impl Node {
     }
 
     // the key with this subkey in the place of its name
-    fn with_child(
-        &self,
-        alloc: Global,
-        key: Arc<Key>,
-        child: Arc<Node>,
-    ) -> Result<Node, AllocError>
+    fn with_child(&self, alloc: Global, key: Arc<Key>, child: Arc<Node>) -> Result<Node, AllocError>
         requires named { folded key.value.name ≡ root_name self.now }
         requires node { IsNode child.value }
         ensures here { IfOk result (λ made. row_at made [] ≡ Some key.value) }
@@ -156,12 +151,7 @@ impl Node {
     }
 
     /// The key with another row of the same name, and with this subkey in the place of its name.
-    pub fn with_new_child(
-        &self,
-        alloc: Global,
-        key: Key,
-        child: Node,
-    ) -> Result<Node, AllocError>
+    pub fn with_new_child(&self, alloc: Global, key: Key, child: Node) -> Result<Node, AllocError>
         requires named { folded key.name ≡ root_name self.now }
         requires node { IsNode child }
         ensures here { IfOk result (λ made. row_at made [] ≡ Some key) }
@@ -176,12 +166,7 @@ impl Node {
     }
 
     /// The key with another row of the same name, and without the subkey of this name.
-    pub fn without_child(
-        &self,
-        alloc: Global,
-        key: Key,
-        name: &Name,
-    ) -> Result<Node, AllocError>
+    pub fn without_child(&self, alloc: Global, key: Key, name: &Name) -> Result<Node, AllocError>
         requires { folded key.name ≡ root_name self.now }
         ensures here { IfOk result (λ made. row_at made [] ≡ Some key) }
         ensures gone { IfOk result (λ made. (rest : List (List ℕ)) → row_at made (folded name.now ∷ rest) ≡ None) }
@@ -207,12 +192,7 @@ impl Node {
     }
 
     /// The key with the one at this path, and all below that, replaced by another of the same name.
-    pub fn replaced(
-        &self,
-        alloc: Global,
-        path: &[Name],
-        with: Node,
-    ) -> Result<Node, AllocError>
+    pub fn replaced(&self, alloc: Global, path: &[Name], with: Node) -> Result<Node, AllocError>
         requires named { (row : Row) × (row_at self.now (folded_path path.now) ≡ Some row) × (folded row.name ≡ root_name with) }
         requires node { IsNode with }
         ensures within { IfOk result (λ made. (rest : List (List ℕ)) → row_at made (folded_path path.now ++ rest) ≡ row_at with rest) }
@@ -290,11 +270,7 @@ fn weight_of(kids: &[Arc<Node>]) -> u64
 }
 
 // the subkeys with this one in the place of its name
-fn placed(
-    alloc: Global,
-    kids: &[Arc<Node>],
-    child: Arc<Node>,
-) -> Result<Vec<Arc<Node>>, AllocError>
+fn placed(alloc: Global, kids: &[Arc<Node>], child: Arc<Node>) -> Result<Vec<Arc<Node>>, AllocError>
     requires { T (is_sorted name_order (kid_entries kids.now)) }
     ensures { IfOk result (λ made. kid_entries made.items ≡ put name_order (root_name child.value) child.value (kid_entries kids.now)) }
 {
@@ -312,11 +288,7 @@ fn placed(
 }
 
 // the subkeys without the one of this name
-fn taken_out(
-    alloc: Global,
-    kids: &[Arc<Node>],
-    name: &Name,
-) -> Result<Vec<Arc<Node>>, AllocError>
+fn taken_out(alloc: Global, kids: &[Arc<Node>], name: &Name) -> Result<Vec<Arc<Node>>, AllocError>
     requires { T (is_sorted name_order (kid_entries kids.now)) }
     ensures { IfOk result (λ made. kid_entries made.items ≡ where_key name_order (λ key. not (eq_by_cmp name_order (folded name.now) key)) (kid_entries kids.now)) }
 {

@@ -25,7 +25,10 @@ impl Value {
     {
         let units = self.name.units().len() as u64;
         let bytes = self.data.bytes().len() as u64;
-        units.saturating_mul(2).saturating_add(bytes).saturating_add(128)
+        units
+            .saturating_mul(2)
+            .saturating_add(bytes)
+            .saturating_add(128)
     }
 
     /// A copy that shares the units of the name and the data.

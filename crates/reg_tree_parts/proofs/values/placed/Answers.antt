@@ -1,7 +1,3 @@
-use Rattle.std.proofs.Common.{◌≡◌, T, ap, subst, sym, ◌∙◌}
-use Rattle.std.specs.FinMap.Entries.{is_sorted}
-use Rattle.reg_tree_parts.specs.Orders.{name_order}
-use Rattle.reg_tree_parts.specs.Held.{value_entries}
 use Rattle.reg_tree_parts.proofs.ValueLists.{entries_of_values, written_is, added_is}
 use Rattle.reg_tree_parts.proofs.values.placed.Goals as goal
 

@@ -1,4 +1,4 @@
-use Rattle.std.proofs.Common.{◌≡◌, ◌∷◌, ◌∙◌, IfSome}
+use Rattle.std.proofs.Common.{◌≡◌, ◌∷◌, ◌∙◌}
 use Rattle.reg_tree_parts.proofs.PathSteps.{some_of, none_of}
 use Rattle.reg_tree_parts.proofs.node.Node.+find.Goals as goal
 

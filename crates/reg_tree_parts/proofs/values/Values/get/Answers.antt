@@ -1,4 +1,3 @@
-use Rattle.std.proofs.Common.{sym, ◌∙◌, ap}
 use Rattle.reg_tree_parts.proofs.ValueLists.{get_found, get_gap, found_name}
 use Rattle.reg_tree_parts.proofs.values.Values.get.Goals as goal
 

@@ -1,4 +1,4 @@
-use Rattle.std.proofs.Common.{◌≡◌, sym, ◌∙◌, ap}
+use Rattle.std.proofs.Common.{◌∙◌, ap}
 use Rattle.std.specs.Arc.{arc_slice_items}
 use Rattle.reg_names.specs.Names.{folded}
 use Rattle.reg_tree_parts.proofs.ValueLists.{inserted_is, with_is}

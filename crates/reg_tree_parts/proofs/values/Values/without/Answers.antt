@@ -1,4 +1,3 @@
-use Rattle.std.proofs.Common.{◌≡◌, sym, ◌∙◌, ap}
 use Rattle.std.specs.Arc.{arc_slice_items}
 use Rattle.reg_names.specs.Names.{folded}
 use Rattle.reg_tree_parts.proofs.ValueLists.{removed_is}
