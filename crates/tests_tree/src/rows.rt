@@ -64,10 +64,8 @@ fn keys_are_deleted_from_below(rt: HostRuntime) -> Result<(), Fail> {
         (create(alloc, 0, "A\\\\B"), Err(Refusal::BadName)),
         (create(alloc, 1, "A"), Err(Refusal::NotFound)),
     ];
-    let mut moment = 10;
-    for (op, wanted) in steps {
+    for (moment, (op, wanted)) in (10..20).zip(steps) {
         assert_eq!(rt; act(alloc, &mut trees, moment, op), wanted, "at {moment}");
-        moment += 1;
     }
     assert_eq!(rt; keys(alloc, &trees, 0, "")?.as_str(), "A ");
     assert_eq!(rt; info(alloc, &trees, 0, "A"), Ok((0, 0, 13)));
@@ -86,10 +84,8 @@ fn a_value_keeps_its_first_spelling_until_it_is_deleted(rt: HostRuntime) -> Resu
         set(alloc, 1, "K", "", 2, &[2]),
         set(alloc, 1, "K", "NAME", 3, &[3, 3]),
     ];
-    let mut moment = 1;
-    for op in ops {
+    for (moment, op) in (1..5).zip(ops) {
         assert_eq!(rt; act(alloc, &mut trees, moment, op), Ok(Legality::Legal));
-        moment += 1;
     }
     assert_eq!(rt; values(alloc, &trees, 1, "K")?.as_str(), " Name ");
     let (kind, bytes) = get(alloc, &trees, 1, "K", "name")?;

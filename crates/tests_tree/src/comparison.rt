@@ -1,0 +1,332 @@
+//! Registry trees compared with a plain slow registry, after each step of many small runs.
+use crate::fixtures;
+use crate::slow::{SlowKey, SlowTree, SlowValue, capital_path, capitals};
+use reg_names::{Path, Refusal, ValueName};
+use reg_tree::{Element, Legality, Op, Trees, Value};
+use std::alloc::{AllocError, Global};
+use std::test::Fail;
+
+enum Step {
+    Create(u8, &'static str),
+    Delete(u8, &'static str),
+    Set(u8, &'static str, &'static str, u32, &'static [u8]),
+    Unset(u8, &'static str, &'static str),
+}
+
+const STEPS: usize = 24;
+
+// steps over two hives and one that isn't there; keys and values in several spellings
+const ALPHABET: [Step; STEPS] = [
+    Step::Create(0, ""),
+    Step::Create(0, "A"),
+    Step::Create(0, "a\\b"),
+    Step::Create(0, "A\\B\\c"),
+    Step::Create(0, "AB"),
+    Step::Create(0, "_"),
+    Step::Create(1, "a"),
+    Step::Create(2, "A"),
+    Step::Delete(0, ""),
+    Step::Delete(0, "A"),
+    Step::Delete(0, "a\\B"),
+    Step::Delete(0, "A\\b\\C"),
+    Step::Delete(0, "ab"),
+    Step::Delete(1, "A"),
+    Step::Set(0, "", "v", 1, b"x"),
+    Step::Set(0, "A", "V", 2, b""),
+    Step::Set(0, "a", "v", 3, b"three"),
+    Step::Set(0, "A\\B", "", 4, b"1234"),
+    Step::Set(0, "a\\b", "_", 5, b"5"),
+    Step::Set(1, "A", "v", 6, b"66"),
+    Step::Unset(0, "", "V"),
+    Step::Unset(0, "A", "v"),
+    Step::Unset(0, "a\\b", ""),
+    Step::Unset(1, "a", "V"),
+];
+
+// the paths that are read after each step
+const READ_PATHS: [&str; 8] = ["", "a", "A\\b", "a\\B\\C", "ab", "_", "B", "A\\B\\C\\D"];
+
+// the value names that are read after each step
+const READ_NAMES: [&str; 4] = ["", "V", "_", "w"];
+
+// a path that is read, and its folded names
+#[derive(Drop)]
+struct Place {
+    path: Path,
+    folded: Vec<Vec<u16>>,
+}
+
+// a value's name that is read, and its folded units
+#[derive(Drop)]
+struct Wanted {
+    name: ValueName,
+    folded: Vec<u16>,
+}
+
+// the steps as changes of one operation, and what is read after each
+#[derive(Drop)]
+struct Plan {
+    elements: Vec<Element>,
+    places: Vec<Place>,
+    wanted: Vec<Wanted>,
+}
+
+fn op_of(alloc: Global, step: &Step) -> Result<Op, Refusal> {
+    match step {
+        Step::Create(hive, at) => fixtures::create(alloc, *hive, at),
+        Step::Delete(hive, at) => fixtures::delete(alloc, *hive, at),
+        Step::Set(hive, at, name, kind, bytes) => {
+            fixtures::set(alloc, *hive, at, name, *kind, bytes)
+        }
+        Step::Unset(hive, at, name) => fixtures::unset(alloc, *hive, at, name),
+    }
+}
+
+fn new_plan(alloc: Global) -> Result<Plan, Fail> {
+    let mut elements = Vec::new(alloc);
+    for step in &ALPHABET {
+        elements.push(fixtures::element(alloc, 0, op_of(alloc, step)?)?)?;
+    }
+    let mut places = Vec::new(alloc);
+    for text in READ_PATHS {
+        let path = fixtures::path(alloc, text)?;
+        let folded = capital_path(alloc, &path)?;
+        places.push(Place { path, folded })?;
+    }
+    let mut wanted = Vec::new(alloc);
+    for text in READ_NAMES {
+        let name = fixtures::value_name(alloc, text)?;
+        let folded = capitals(alloc, name.name())?;
+        wanted.push(Wanted { name, folded })?;
+    }
+    Ok(Plan {
+        elements,
+        places,
+        wanted,
+    })
+}
+
+// both registries
+#[derive(Drop)]
+struct Pair {
+    trees: Trees,
+    slow: Vec<SlowTree>,
+}
+
+impl Pair {
+    fn new(alloc: Global) -> Result<Pair, AllocError> {
+        let mut slow = Vec::new(alloc);
+        slow.push(SlowTree::new(alloc)?)?;
+        slow.push(SlowTree::new(alloc)?)?;
+        let trees = Trees::new(alloc, 2)?;
+        Ok(Pair { trees, slow })
+    }
+
+    // takes a step in both; whether both judge it alike
+    //
+    // An operation that is refused is applied too, and is to change nothing.
+    fn step(&mut self, alloc: Global, element: &Element) -> Result<bool, Fail> {
+        let op = element.ops.list().first().ok_or("no operation")?;
+        let judged = self.trees.legal(alloc, op);
+        self.trees = self.trees.apply(alloc, element)?;
+        let wanted = match self.slow.get_mut(usize::from(op.hive())) {
+            Some(tree) => tree.carry_out(alloc, op, element.moment),
+            None => Err(Refusal::NotFound),
+        };
+        Ok(judged == wanted)
+    }
+
+    // whether both are alike in all that is read
+    fn is_alike(&self, plan: &Plan) -> bool {
+        for hive in 0..3u8 {
+            let tree = self.slow.get(usize::from(hive));
+            let weight = match tree {
+                Some(tree) => Some(tree.weight()),
+                None => None,
+            };
+            if self.trees.weight(hive) != weight {
+                return false;
+            }
+            for place in &plan.places {
+                if !self.is_alike_at(hive, tree, place, &plan.wanted) {
+                    return false;
+                }
+            }
+        }
+        true
+    }
+
+    fn is_alike_at(
+        &self,
+        hive: u8,
+        tree: Option<&SlowTree>,
+        place: &Place,
+        wanted: &[Wanted],
+    ) -> bool {
+        let Some(tree) = tree else {
+            return self.is_missing(hive, place, wanted);
+        };
+        let Some(key) = tree.key(&place.folded) else {
+            return self.is_missing(hive, place, wanted);
+        };
+        self.lists_subkeys(hive, tree, place)
+            && self.lists_values(hive, key, place)
+            && self.gets(hive, key, place, wanted)
+    }
+
+    // whether no read finds the key
+    fn is_missing(&self, hive: u8, place: &Place, wanted: &[Wanted]) -> bool {
+        for each in wanted {
+            let answer = self.trees.get_value(hive, &place.path, each.name.name());
+            if !matches!(answer, Err(Refusal::NotFound)) {
+                return false;
+            }
+        }
+        matches!(
+            self.trees.query_info(hive, &place.path),
+            Err(Refusal::NotFound)
+        ) && matches!(
+            self.trees.enum_key(hive, &place.path, 0),
+            Err(Refusal::NotFound)
+        ) && matches!(
+            self.trees.enum_value(hive, &place.path, 0),
+            Err(Refusal::NotFound)
+        )
+    }
+
+    // whether the subkeys are listed, each behind those of lesser names, and no more
+    fn lists_subkeys(&self, hive: u8, tree: &SlowTree, place: &Place) -> bool {
+        for key in tree.keys.iter().filter(|key| key.is_below(&place.folded)) {
+            let index = tree
+                .keys
+                .iter()
+                .filter(|other| other.is_below(&place.folded) && other.path < key.path)
+                .count();
+            match self.trees.enum_key(hive, &place.path, index) {
+                Ok(name) if name.units() == key.name.as_slice() => {}
+                _ => return false,
+            }
+        }
+        let end = tree.subkeys(&place.folded);
+        matches!(
+            self.trees.enum_key(hive, &place.path, end),
+            Err(Refusal::NotFound)
+        ) && matches!(self.trees.query_info(hive, &place.path), Ok(info) if info.subkeys == end)
+    }
+
+    // whether the values are listed, each behind those of lesser names, and no more
+    fn lists_values(&self, hive: u8, key: &SlowKey, place: &Place) -> bool {
+        for value in &key.values {
+            let index = key
+                .values
+                .iter()
+                .filter(|other| other.folded < value.folded)
+                .count();
+            match self.trees.enum_value(hive, &place.path, index) {
+                Ok(found) if is_same(found, value) => {}
+                _ => return false,
+            }
+        }
+        let end = key.values.len();
+        matches!(
+            self.trees.enum_value(hive, &place.path, end),
+            Err(Refusal::NotFound)
+        ) && matches!(self.trees.query_info(hive, &place.path), Ok(info) if info.values == end && info.time == key.time)
+    }
+
+    // whether each value that is there is found by its name, and no other
+    fn gets(&self, hive: u8, key: &SlowKey, place: &Place, wanted: &[Wanted]) -> bool {
+        for each in wanted {
+            let answer = self.trees.get_value(hive, &place.path, each.name.name());
+            let is_right = match (answer, key.value(&each.folded)) {
+                (Ok(found), Some(value)) => is_same(found, value),
+                (Err(Refusal::NotFound), None) => true,
+                _ => false,
+            };
+            if !is_right {
+                return false;
+            }
+        }
+        true
+    }
+}
+
+fn is_same(found: &Value, value: &SlowValue) -> bool {
+    found.name.units() == value.name.as_slice()
+        && found.kind == value.kind
+        && found.data.bytes() == value.bytes.as_slice()
+}
+
+#[test]
+fn all_runs_of_three_steps_agree(rt: HostRuntime) -> Result<(), Fail> {
+    let alloc = rt.alloc();
+    let mut plan = new_plan(alloc)?;
+    let mut accepted = 0u32;
+    for run in 0..STEPS * STEPS * STEPS {
+        let mut pair = Pair::new(alloc)?;
+        let mut moment = 0u64;
+        for place in [run / STEPS / STEPS, run / STEPS % STEPS, run % STEPS] {
+            moment = moment.wrapping_add(1);
+            let element = plan.elements.get_mut(place).ok_or("no step")?;
+            element.moment = moment;
+            assert!(rt; pair.step(alloc, element)?, "run {run} at {moment}");
+            assert!(rt; pair.is_alike(&plan), "run {run} at {moment}");
+        }
+        if pair.slow.iter().any(|tree| tree.keys.len() > 3) {
+            accepted = accepted.wrapping_add(1);
+        }
+    }
+    // some runs made trees of several keys
+    assert!(rt; accepted > 0);
+    Ok(())
+}
+
+#[test]
+fn long_runs_agree(rt: HostRuntime) -> Result<(), Fail> {
+    let alloc = rt.alloc();
+    let mut plan = new_plan(alloc)?;
+    let mut state = 1u64;
+    for run in 0..40 {
+        let mut pair = Pair::new(alloc)?;
+        for moment in 1..200u64 {
+            state = state
+                .wrapping_mul(6_364_136_223_846_793_005)
+                .wrapping_add(1_442_695_040_888_963_407);
+            let place = (state >> 33) as usize % STEPS;
+            let element = plan.elements.get_mut(place).ok_or("no step")?;
+            element.moment = moment;
+            assert!(rt; pair.step(alloc, element)?, "run {run} at {moment}");
+            assert!(rt; pair.is_alike(&plan), "run {run} at {moment}");
+        }
+    }
+    Ok(())
+}
+
+#[test]
+fn the_comparison_sees_each_change(rt: HostRuntime) -> Result<(), Fail> {
+    let alloc = rt.alloc();
+    let mut plan = new_plan(alloc)?;
+    let mut seen = 0u32;
+    for place in 0..STEPS {
+        let mut pair = Pair::new(alloc)?;
+        // both create `A\\B\\c` and write a value of `A`
+        for before in [3, 15] {
+            let element = plan.elements.get_mut(before).ok_or("no step")?;
+            element.moment = 1;
+            assert!(rt; pair.step(alloc, element)?);
+        }
+        let element = plan.elements.get_mut(place).ok_or("no step")?;
+        element.moment = 2;
+        let op = element.ops.list().first().ok_or("no operation")?;
+        let judged = pair.trees.legal(alloc, op);
+        pair.trees = pair.trees.apply(alloc, element)?;
+        let is_changed = judged == Ok(Legality::Legal);
+        assert!(rt; pair.is_alike(&plan) != is_changed, "at {place}");
+        if is_changed {
+            seen = seen.wrapping_add(1);
+        }
+    }
+    // 2 keys created in hive 0 and one in hive 1, one deleted, 5 values written and one deleted
+    assert_eq!(rt; seen, 10);
+    Ok(())
+}
