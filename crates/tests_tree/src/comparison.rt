@@ -1,17 +1,10 @@
 //! Registry trees compared with a plain slow registry, after each step of many small runs.
-use crate::fixtures;
+use crate::fixtures::{self, Step};
 use crate::slow::{SlowKey, SlowTree, SlowValue, capital_path, capitals};
 use reg_names::{Path, Refusal, ValueName};
-use reg_tree::{Element, Legality, Op, Trees, Value};
+use reg_tree::{Element, Legality, Trees, Value};
 use std::alloc::{AllocError, Global};
 use std::test::Fail;
-
-enum Step {
-    Create(u8, &'static str),
-    Delete(u8, &'static str),
-    Set(u8, &'static str, &'static str, u32, &'static [u8]),
-    Unset(u8, &'static str, &'static str),
-}
 
 const STEPS: usize = 24;
 
@@ -71,21 +64,10 @@ struct Plan {
     wanted: Vec<Wanted>,
 }
 
-fn op_of(alloc: Global, step: &Step) -> Result<Op, Refusal> {
-    match step {
-        Step::Create(hive, at) => fixtures::create(alloc, *hive, at),
-        Step::Delete(hive, at) => fixtures::delete(alloc, *hive, at),
-        Step::Set(hive, at, name, kind, bytes) => {
-            fixtures::set(alloc, *hive, at, name, *kind, bytes)
-        }
-        Step::Unset(hive, at, name) => fixtures::unset(alloc, *hive, at, name),
-    }
-}
-
 fn new_plan(alloc: Global) -> Result<Plan, Fail> {
     let mut elements = Vec::new(alloc);
     for step in &ALPHABET {
-        elements.push(fixtures::element(alloc, 0, op_of(alloc, step)?)?)?;
+        elements.push(fixtures::element(alloc, 0, step.op(alloc)?)?)?;
     }
     let mut places = Vec::new(alloc);
     for text in READ_PATHS {

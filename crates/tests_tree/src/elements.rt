@@ -1,5 +1,5 @@
 //! Accepted changes: their length as journal text, and their operations in order.
-use crate::fixtures::{create, element, get, info, set, unset};
+use crate::fixtures::{create, data_are, element, infos_are, set, unset};
 use reg_names::Refusal;
 use reg_tree::{Element, Ops, Trees};
 use std::test::Fail;
@@ -36,13 +36,14 @@ fn operations_of_a_change_are_applied_in_order_at_its_moment(rt: HostRuntime) ->
     list.push(create(alloc, 0, "B")?)?;
     let ops = Ops::from_vec(list).ok_or("no operations")?;
     let after = trees.apply(alloc, &Element { moment: 5, ops })?;
-    let (kind, bytes) = get(alloc, &after, 1, "A", "v")?;
-    assert_eq!(rt; kind, 2);
-    assert_eq!(rt; bytes.as_slice(), [2].as_slice());
-    assert_eq!(rt; info(alloc, &after, 1, "A"), Ok((0, 1, 5)));
-    assert_eq!(rt; info(alloc, &after, 0, ""), Ok((1, 0, 5)));
-    assert_eq!(rt; info(alloc, &after, 0, "B"), Ok((0, 0, 5)));
-    assert_eq!(rt; info(alloc, &trees, 1, "A"), Err(Refusal::NotFound));
-    assert_eq!(rt; info(alloc, &trees, 0, ""), Ok((0, 0, 0)));
+    data_are(&rt, alloc, &after, &[(1, "A", "v", 2, &[2])])?;
+    let told = [
+        (1, "A", Ok((0, 1, 5))),
+        (0, "", Ok((1, 0, 5))),
+        (0, "B", Ok((0, 0, 5))),
+    ];
+    infos_are(&rt, alloc, &after, &told);
+    let told = [(1, "A", Err(Refusal::NotFound)), (0, "", Ok((0, 0, 0)))];
+    infos_are(&rt, alloc, &trees, &told);
     Ok(())
 }

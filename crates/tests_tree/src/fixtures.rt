@@ -2,7 +2,37 @@
 use reg_names::{Name, Path, Refusal, ValueName};
 use reg_tree::{Data, Element, Legality, Op, Ops, Trees};
 use std::alloc::{AllocError, Global};
+use std::process::Abort;
 use std::test::Fail;
+
+/// An operation, said by texts: its hive and path, and of a value its name, type and data.
+#[derive(Drop)]
+pub enum Step {
+    Create(u8, &'static str),
+    Delete(u8, &'static str),
+    Set(u8, &'static str, &'static str, u32, &'static [u8]),
+    Unset(u8, &'static str, &'static str),
+}
+
+impl Step {
+    pub fn op(&self, alloc: Global) -> Result<Op, Refusal> {
+        match self {
+            Step::Create(hive, at) => create(alloc, *hive, at),
+            Step::Delete(hive, at) => delete(alloc, *hive, at),
+            Step::Set(hive, at, name, kind, bytes) => set(alloc, *hive, at, name, *kind, bytes),
+            Step::Unset(hive, at, name) => unset(alloc, *hive, at, name),
+        }
+    }
+}
+
+/// What a step is answered.
+pub type Answer = Result<Legality, Refusal>;
+
+/// The answer to an operation that changes the tree.
+pub const LEGAL: Answer = Ok(Legality::Legal);
+
+/// A key's subkeys and values, and the moment of its last write.
+pub type Counts = (usize, usize, u64);
 
 /// The units of an ASCII text.
 pub fn units(alloc: Global, text: &str) -> Result<Vec<u16>, AllocError> {
@@ -76,13 +106,7 @@ pub fn element(alloc: Global, moment: u64, op: Op) -> Result<Element, AllocError
 }
 
 /// Judges the operation and, where it is legal, applies it at the moment.
-pub fn act(
-    alloc: Global,
-    trees: &mut Trees,
-    moment: u64,
-    op: Result<Op, Refusal>,
-) -> Result<Legality, Refusal> {
-    let op = op?;
+pub fn act(alloc: Global, trees: &mut Trees, moment: u64, op: Op) -> Answer {
     let legality = trees.legal(alloc, &op)?;
     if legality == Legality::Legal {
         *trees = trees.apply(alloc, &element(alloc, moment, op)?)?;
@@ -90,8 +114,84 @@ pub fn act(
     Ok(legality)
 }
 
-/// The names of a key's subkeys in their order, each with a blank behind it.
-pub fn keys(alloc: Global, trees: &Trees, hive: u8, at: &str) -> Result<String, Fail> {
+/// Takes the steps in turn, each at its moment, and compares what each is answered.
+pub fn take(rt: &impl Abort, alloc: Global, trees: &mut Trees, steps: &[(u64, Step, Answer)]) {
+    for (moment, step, wanted) in steps {
+        let answer = match step.op(alloc) {
+            Ok(op) => act(alloc, trees, *moment, op),
+            Err(refusal) => Err(refusal),
+        };
+        assert_eq!(rt; answer, *wanted, "at {moment}");
+    }
+}
+
+/// Compares what is told of keys.
+pub fn infos_are(
+    rt: &impl Abort,
+    alloc: Global,
+    trees: &Trees,
+    wanted: &[(u8, &str, Result<Counts, Refusal>)],
+) {
+    for (hive, at, told) in wanted {
+        assert_eq!(rt; info(alloc, trees, *hive, at), *told, "at {at}");
+    }
+}
+
+/// Compares the names of keys' subkeys in their order, each with a blank behind it.
+pub fn keys_are(
+    rt: &impl Abort,
+    alloc: Global,
+    trees: &Trees,
+    wanted: &[(u8, &str, &str)],
+) -> Result<(), Fail> {
+    for (hive, at, names) in wanted {
+        assert_eq!(rt; keys(alloc, trees, *hive, at)?.as_str(), *names, "at {at}");
+    }
+    Ok(())
+}
+
+/// Compares the names of keys' values in their order, each with a blank behind it.
+pub fn values_are(
+    rt: &impl Abort,
+    alloc: Global,
+    trees: &Trees,
+    wanted: &[(u8, &str, &str)],
+) -> Result<(), Fail> {
+    for (hive, at, names) in wanted {
+        assert_eq!(rt;
+            values(alloc, trees, *hive, at)?.as_str(),
+            *names,
+            "at {at}"
+        );
+    }
+    Ok(())
+}
+
+/// Compares the type and data of values, each by its key's path and its name.
+pub fn data_are(
+    rt: &impl Abort,
+    alloc: Global,
+    trees: &Trees,
+    wanted: &[(u8, &str, &str, u32, &[u8])],
+) -> Result<(), Fail> {
+    for (hive, at, name, kind, bytes) in wanted {
+        let path = path(alloc, at)?;
+        let name = value_name(alloc, name)?;
+        let value = trees.get_value(*hive, &path, name.name())?;
+        assert_eq!(rt; value.kind, *kind, "at {at}");
+        assert_eq!(rt; value.data.bytes(), *bytes, "at {at}");
+    }
+    Ok(())
+}
+
+/// How many subkeys and values a key has, and when it was last written.
+pub fn info(alloc: Global, trees: &Trees, hive: u8, at: &str) -> Result<Counts, Refusal> {
+    let path = path(alloc, at)?;
+    let info = trees.query_info(hive, &path)?;
+    Ok((info.subkeys, info.values, info.time))
+}
+
+fn keys(alloc: Global, trees: &Trees, hive: u8, at: &str) -> Result<String, Fail> {
     let path = path(alloc, at)?;
     let mut text = String::new(alloc);
     for index in 0..1000 {
@@ -103,8 +203,7 @@ pub fn keys(alloc: Global, trees: &Trees, hive: u8, at: &str) -> Result<String, 
     Ok(text)
 }
 
-/// The names of a key's values in their order, each with a blank behind it.
-pub fn values(alloc: Global, trees: &Trees, hive: u8, at: &str) -> Result<String, Fail> {
+fn values(alloc: Global, trees: &Trees, hive: u8, at: &str) -> Result<String, Fail> {
     let path = path(alloc, at)?;
     let mut text = String::new(alloc);
     for index in 0..1000 {
@@ -124,31 +223,4 @@ fn push_name(text: &mut String, units: &[u16]) -> Result<(), AllocError> {
         }
     }
     text.push(' ')
-}
-
-/// How many subkeys and values a key has, and when it was last written.
-pub fn info(
-    alloc: Global,
-    trees: &Trees,
-    hive: u8,
-    at: &str,
-) -> Result<(usize, usize, u64), Refusal> {
-    let path = path(alloc, at)?;
-    let info = trees.query_info(hive, &path)?;
-    Ok((info.subkeys, info.values, info.time))
-}
-
-/// A value's type and data.
-pub fn get(
-    alloc: Global,
-    trees: &Trees,
-    hive: u8,
-    at: &str,
-    name: &str,
-) -> Result<(u32, Vec<u8>), Refusal> {
-    let path = path(alloc, at)?;
-    let name = value_name(alloc, name)?;
-    let value = trees.get_value(hive, &path, name.name())?;
-    let bytes = Vec::from_slice(alloc, value.data.bytes())?;
-    Ok((value.kind, bytes))
 }
