@@ -249,6 +249,10 @@ module _ (bytes grown bytes' : List ℕ) (marks marks' : List Mark) (m : IsMarke
               let kind : is_allocated bytes' at ≡ is_allocated bytes at = kind_same bytes bytes' at (word_again bytes bytes' marks marks' m g at (omega (arith, new.0))) in
               (starts_at_mark bytes' with_cell laid_marked at new.1, kind ∙ found.1),
         );
+        size = λ found. (
+            let new = marked_again at (mark_at_start bytes marks m found.0.0 at found.0.1) in
+            size_same bytes bytes' at (word_again bytes bytes' marks marks' m g at (omega (arith, new.0)))
+            );
         kept = λ found. kept_data at (mark_at_start bytes marks m found.0.0 at found.0.1);
       }
 

@@ -11,6 +11,7 @@ pub stays_on : (old mid new : List ℕ) (at : ℕ) → StaysAt old mid at → St
 stays_on old mid new at a b =
     record {
       same = (λ found. a.same.0 (b.same.0 found), λ found. b.same.1 (a.same.1 found));
+      size = λ found. b.size (a.same.1 found) ∙ a.size found;
       kept = λ found. b.kept (a.same.1 found) ∙ a.kept found;
     }
 

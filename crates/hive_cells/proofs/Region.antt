@@ -242,6 +242,7 @@ module _ (bytes bytes' : List ℕ) (marks marks' : List Mark) (from to : ℕ) (m
               let kind : is_allocated bytes' at ≡ is_allocated bytes at = kind_same bytes bytes' at (kind_outside at w.eights out) in
               (starts_at_mark bytes' marks' (all_again all) at (record { eights = w.eights; is_cell = mark ∙ w.is_cell }), kind ∙ found.1),
         );
+        size = λ found. size_same bytes bytes' at (kind_outside at (mark_at_start bytes marks all found.0.0 at found.0.1).eights out);
         kept = λ found. data_outside at (mark_at_start bytes marks all found.0.0 at found.0.1) out;
       }
 
@@ -259,6 +260,7 @@ module _ (bytes bytes' : List ℕ) (marks marks' : List Mark) (from to : ℕ) (m
               λ found. absurd (let free : is_allocated bytes' at ≡ false = new_free past inner (mark_at_start bytes' marks' (all_again all) found.0.0 at found.0.1) in let yes : is_allocated bytes' at ≡ true = found.1 in let no : ⊥ = cc in no),
               λ found. absurd (let free : is_allocated bytes at ≡ false = old_free past inner (mark_at_start bytes marks all found.0.0 at found.0.1) in let yes : is_allocated bytes at ≡ true = found.1 in let no : ⊥ = cc in no),
             );
+            size = λ found. absurd (let free : is_allocated bytes at ≡ false = old_free past inner (mark_at_start bytes marks all found.0.0 at found.0.1) in let yes : is_allocated bytes at ≡ true = found.1 in let no : ⊥ = cc in no);
             kept = λ found. absurd (let free : is_allocated bytes at ≡ false = old_free past inner (mark_at_start bytes marks all found.0.0 at found.0.1) in let yes : is_allocated bytes at ≡ true = found.1 in let no : ⊥ = cc in no);
           }
           | inr high ↦ stays_outside all at (inr high)

@@ -8,9 +8,11 @@ use Rattle.hive_cells.specs.declared.marks.Mark.{Mark}
 use Rattle.hive_cells.specs.Tiles.{word_at, bin_size, is_allocated, cell_size, IsAllocatedCell, cell_data}
 use Rattle.hive_cells.specs.Marks.{IsCellMarkedAt, IsMarked}
 
--- at an offset an allocated cell begins after the change exactly where one did before, and its data are the same
+-- at an offset an allocated cell begins after the change exactly where one did before, and its size and its data
+-- are the same
 pub record StaysAt (old new : List ℕ) (at : ℕ) : Type 0 where
   pub same : IsAllocatedCell new at ↔ IsAllocatedCell old at
+  pub size : IsAllocatedCell old at → cell_size new at ≡ cell_size old at
   pub kept : IsAllocatedCell old at → cell_data new at ≡ cell_data old at
 
 -- the allocated cells but for the one at an offset stay
