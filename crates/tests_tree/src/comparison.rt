@@ -239,27 +239,29 @@ fn is_same(found: &Value, value: &SlowValue) -> bool {
         && found.data.bytes() == value.bytes.as_slice()
 }
 
+// The first step changes nothing, so runs of one and two steps are among these too.
 #[test]
 fn all_runs_of_three_steps_agree(rt: HostRuntime) -> Result<(), Fail> {
     let alloc = rt.alloc();
     let mut plan = new_plan(alloc)?;
-    let mut accepted = 0u32;
+    let mut large = 0u32;
     for run in 0..STEPS * STEPS * STEPS {
         let mut pair = Pair::new(alloc)?;
-        let mut moment = 0u64;
-        for place in [run / STEPS / STEPS, run / STEPS % STEPS, run % STEPS] {
-            moment = moment.wrapping_add(1);
-            let element = plan.elements.get_mut(place).ok_or("no step")?;
-            element.moment = moment;
+        for (moment, place) in [run / STEPS / STEPS, run / STEPS % STEPS, run % STEPS]
+            .iter()
+            .enumerate()
+        {
+            let element = plan.elements.get_mut(*place).ok_or("no step")?;
+            element.moment = moment as u64;
             assert!(rt; pair.step(alloc, element)?, "run {run} at {moment}");
-            assert!(rt; pair.is_alike(&plan), "run {run} at {moment}");
         }
-        if pair.slow.iter().any(|tree| tree.keys.len() > 3) {
-            accepted = accepted.wrapping_add(1);
+        assert!(rt; pair.is_alike(&plan), "run {run}");
+        if pair.slow.iter().any(|tree| tree.keys.len() > 4) {
+            large = large.wrapping_add(1);
         }
     }
-    // some runs made trees of several keys
-    assert!(rt; accepted > 0);
+    // some runs made a tree of five keys
+    assert!(rt; large > 0);
     Ok(())
 }
 
@@ -291,7 +293,7 @@ fn the_comparison_sees_each_change(rt: HostRuntime) -> Result<(), Fail> {
     let mut seen = 0u32;
     for place in 0..STEPS {
         let mut pair = Pair::new(alloc)?;
-        // both create `A\\B\\c` and write a value of `A`
+        // both create `A\B\c` and write a value of `A`
         for before in [3, 15] {
             let element = plan.elements.get_mut(before).ok_or("no step")?;
             element.moment = 1;
