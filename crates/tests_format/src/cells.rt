@@ -1,0 +1,234 @@
+//! Bins and cells: what `Image` answers, with bytes written out by hand from the format's description.
+
+use hive_cells::{Image, Looks};
+use reg_names::{Cause, Refusal};
+use std::alloc::{AllocError, Global};
+use std::test::Fail;
+
+const BIN: usize = 4096;
+
+// zeros of a length
+fn zeros(alloc: Global, len: usize) -> Result<Vec<u8>, AllocError> {
+    vec![in alloc; 0u8; len]
+}
+
+// puts bytes at an offset, as far as there is room
+fn put(bytes: &mut Vec<u8>, at: usize, what: &[u8]) {
+    for (i, byte) in what.iter().enumerate() {
+        if let Some(place) = bytes.get_mut(at.saturating_add(i)) {
+            *place = *byte;
+        }
+    }
+}
+
+// one bin: an allocated cell of 16 bytes at 32, a free one behind it
+fn one_bin(alloc: Global) -> Result<Vec<u8>, AllocError> {
+    let mut bytes = zeros(alloc, BIN)?;
+    put(&mut bytes, 0, b"hbin");
+    put(&mut bytes, 8, &[0x00, 0x10, 0, 0]);
+    put(&mut bytes, 32, &[0xf0, 0xff, 0xff, 0xff]);
+    put(&mut bytes, 36, b"hello");
+    put(&mut bytes, 48, &[0xd0, 0x0f, 0, 0]);
+    Ok(bytes)
+}
+
+// what opening one bin answers where four bytes of it are spoiled
+fn spoiled(alloc: Global, at: usize, what: &[u8]) -> Result<Option<Refusal>, AllocError> {
+    let mut bytes = one_bin(alloc)?;
+    put(&mut bytes, at, what);
+    Ok(Image::open(alloc, bytes).err())
+}
+
+fn damaged(cause: Cause) -> Option<Refusal> {
+    Some(Refusal::HiveDamaged { hive: 0, cause })
+}
+
+#[test]
+fn a_cell_is_lent_and_each_look_counts(rt: HostRuntime) -> Result<(), Fail> {
+    let image = Image::open(rt.alloc(), one_bin(rt.alloc())?)?;
+    let mut looks = Looks::new();
+    assert_eq!(rt; image.cell(32, &mut looks)?.len(), 12);
+    assert_eq!(rt; image.cell(32, &mut looks)?.first().copied(), Some(b'h'));
+    assert_eq!(rt;
+        image.cell(48, &mut looks).err(),
+        damaged(Cause::BadOffset),
+        "free"
+    );
+    assert_eq!(rt;
+        image.cell(36, &mut looks).err(),
+        damaged(Cause::BadOffset),
+        "inside"
+    );
+    assert_eq!(rt;
+        image.cell(40, &mut looks).err(),
+        damaged(Cause::BadOffset),
+        "inside"
+    );
+    assert_eq!(rt;
+        image.cell(0, &mut looks).err(),
+        damaged(Cause::BadOffset),
+        "a bin"
+    );
+    assert_eq!(rt;
+        image.cell(4096, &mut looks).err(),
+        damaged(Cause::BadOffset),
+        "past the end"
+    );
+    assert_eq!(rt;
+        image.cell(0xffff_ffff, &mut looks).err(),
+        damaged(Cause::BadOffset),
+        "none"
+    );
+    assert_eq!(rt; looks.count(), 8);
+    Ok(())
+}
+
+#[test]
+fn what_does_not_tile_is_refused(rt: HostRuntime) -> Result<(), Fail> {
+    let alloc = rt.alloc();
+    assert_eq!(rt;
+        spoiled(alloc, 0, b"hbim")?,
+        damaged(Cause::BadBin),
+        "signature"
+    );
+    assert_eq!(rt;
+        spoiled(alloc, 4, &[0, 0x10, 0, 0])?,
+        damaged(Cause::BadBin),
+        "own offset"
+    );
+    assert_eq!(rt;
+        spoiled(alloc, 8, &[0, 0, 0, 0])?,
+        damaged(Cause::BadBin),
+        "size 0"
+    );
+    assert_eq!(rt;
+        spoiled(alloc, 8, &[0, 0x20, 0, 0])?,
+        damaged(Cause::BadBin),
+        "past the data"
+    );
+    assert_eq!(rt;
+        spoiled(alloc, 8, &[8, 0x10, 0, 0])?,
+        damaged(Cause::BadBin),
+        "no whole pages"
+    );
+    assert_eq!(rt;
+        spoiled(alloc, 48, &[0, 0, 0, 0])?,
+        damaged(Cause::BadCell),
+        "size 0"
+    );
+    assert_eq!(rt;
+        spoiled(alloc, 48, &[0, 0, 0, 0x80])?,
+        damaged(Cause::BadCell),
+        "the most negative size"
+    );
+    assert_eq!(rt;
+        spoiled(alloc, 48, &[12, 0, 0, 0])?,
+        damaged(Cause::BadCell),
+        "size 12"
+    );
+    assert_eq!(rt;
+        spoiled(alloc, 48, &[0xd8, 0x0f, 0, 0])?,
+        damaged(Cause::BadCell),
+        "past its bin's end"
+    );
+    let mut short = one_bin(alloc)?;
+    short.truncate(BIN - 1);
+    assert_eq!(rt;
+        Image::open(alloc, short).err(),
+        damaged(Cause::Truncated),
+        "cut by its last byte"
+    );
+    Ok(())
+}
+
+#[test]
+fn bins_of_several_pages_tile(rt: HostRuntime) -> Result<(), Fail> {
+    let mut bytes = zeros(rt.alloc(), 3 * BIN)?;
+    put(&mut bytes, 0, b"hbin");
+    put(&mut bytes, 8, &[0x00, 0x20, 0, 0]);
+    put(&mut bytes, 32, &[0xe0, 0x1f, 0, 0]);
+    put(&mut bytes, 8192, b"hbin");
+    put(&mut bytes, 8196, &[0x00, 0x20, 0, 0]);
+    put(&mut bytes, 8200, &[0x00, 0x10, 0, 0]);
+    put(&mut bytes, 8224, &[0x20, 0xf0, 0xff, 0xff]);
+    let image = Image::open(rt.alloc(), bytes)?;
+    assert_eq!(rt; image.cell(8224, &mut Looks::new())?.len(), 4060);
+    Ok(())
+}
+
+#[test]
+fn a_cell_for_five_bytes_has_sixteen(rt: HostRuntime) -> Result<(), Fail> {
+    let mut image = Image::open(rt.alloc(), Vec::new(rt.alloc()))?;
+    let first = image.alloc(5)?;
+    let second = image.alloc(5)?;
+    assert_eq!(rt; first, 32, "behind the header of a new bin");
+    assert_eq!(rt; second, 48, "where the first ends");
+    assert_eq!(rt; image.cell(first, &mut Looks::new())?.len(), 12);
+    let bytes = image.into_bytes();
+    assert_eq!(rt; bytes.len(), BIN);
+    assert_eq!(rt;
+        bytes.get(32..36),
+        Some([0xf0u8, 0xff, 0xff, 0xff].as_slice())
+    );
+    Ok(())
+}
+
+#[test]
+fn freed_cells_merge_and_are_used_again(rt: HostRuntime) -> Result<(), Fail> {
+    let mut image = Image::open(rt.alloc(), Vec::new(rt.alloc()))?;
+    let first = image.alloc(100)?;
+    let second = image.alloc(100)?;
+    let third = image.alloc(100)?;
+    assert_eq!(rt; image.free(second)?, second);
+    assert_eq!(rt;
+        image.free(second).err(),
+        damaged(Cause::BadOffset),
+        "freed before"
+    );
+    assert_eq!(rt;
+        image.free(third)?,
+        second,
+        "merged with the free cell before it"
+    );
+    assert_eq!(rt; image.free(first)?, first, "and that with this one");
+    assert_eq!(rt;
+        image.alloc(4056)?,
+        32,
+        "the whole bin is one free cell again"
+    );
+    assert_eq!(rt; image.len(), BIN);
+    assert_eq!(rt; image.alloc(1)?, 4096 + 32, "a second bin");
+    assert_eq!(rt; image.alloc(67_108_864).err(), Some(Refusal::TooLarge));
+    assert_eq!(rt; image.len(), 2 * BIN);
+    Ok(())
+}
+
+#[test]
+fn written_bytes_stay_over_other_changes(rt: HostRuntime) -> Result<(), Fail> {
+    let mut image = Image::open(rt.alloc(), Vec::new(rt.alloc()))?;
+    let first = image.alloc(20)?;
+    let second = image.alloc(20)?;
+    let third = image.alloc(20)?;
+    image.write(second, 2, b"registry")?;
+    image.free(first)?;
+    assert_eq!(rt;
+        image.write(first, 0, b"").err(),
+        damaged(Cause::BadOffset),
+        "freed"
+    );
+    image.free(third)?;
+    let _ = image.alloc(8)?;
+    let mut looks = Looks::new();
+    assert_eq!(rt;
+        image.cell(second, &mut looks)?.get(2..10),
+        Some(b"registry".as_slice())
+    );
+    let again = Image::open(rt.alloc(), image.into_bytes())?;
+    assert_eq!(rt;
+        again.cell(second, &mut looks)?.get(2..10),
+        Some(b"registry".as_slice()),
+        "opened again"
+    );
+    assert_eq!(rt; looks.count(), 2);
+    Ok(())
+}
