@@ -1,0 +1,6 @@
+mod Tests
+mod Past
+mod Machine
+mod Closed
+mod Levels
+mod Root
