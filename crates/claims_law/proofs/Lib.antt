@@ -1,6 +1,6 @@
-mod Tests
-mod Past
-mod Machine
-mod Closed
-mod Levels
-mod Root
+pub mod Tests
+pub mod Past
+pub mod Machine
+pub mod Closed
+pub mod Levels
+pub mod Root

@@ -1,0 +1,49 @@
+-- The claims that a table has, and who holds those that conflict with one more.
+use Rattle.std.specs.Prelude.{ℕ, Bool, false, not, ◌&&◌, ◌==◌, if◌then◌else◌, List, [], ◌∷◌, ◌++◌, map, filter, Option, Some, None}
+use Rattle.std.specs.List.{list_any}
+use Rattle.claims_law.specs.Skeleton.{Claim}
+use Rattle.conflicts.specs.Claims.{same_claim, meets}
+
+-- a claim, and the number of the transaction that holds it
+pub record Held : Type 0 where
+  pub owner : ℕ
+  pub claim : Claim
+
+-- whether one is the other
+abbrev pub same_held : Held → Held → Bool
+same_held a b = b.owner == a.owner && same_claim a.claim b.claim
+
+-- whether a claim of a transaction is among them
+abbrev pub holds_claim : List Held → Held → Bool
+holds_claim held one = list_any (same_held one) held
+
+-- the claims with one more: at the end, where it is not among them
+abbrev pub with_claim : List Held → Held → List Held
+with_claim held one = if holds_claim held one then held else held ++ one ∷ []
+
+-- the claims of all others than one transaction
+abbrev pub without_owner : List Held → ℕ → List Held
+without_owner held owner = filter (λ h. not (h.owner == owner)) held
+
+-- whether it is the transaction that asks
+abbrev pub asks : Option ℕ → ℕ → Bool
+asks None owner = false
+asks (Some asker) owner = asker == owner
+
+-- whether a claim is another's than the asker's and conflicts with the claim asked for
+abbrev pub stands_against : Option ℕ → Claim → Held → Bool
+stands_against asker claim held = not (asks asker held.owner) && meets claim held.claim
+
+-- each number once, where it first stands
+abbrev pub each_once : List ℕ → List ℕ
+each_once [] = []
+each_once (x ∷ xs) = x ∷ filter (λ y. not (y == x)) (each_once xs)
+
+-- who holds a claim that conflicts with the one asked for: each transaction once, in the order of its first such
+-- claim; the asker is left out
+abbrev pub holders_of : List Held → Option ℕ → Claim → List ℕ
+holders_of held asker claim = each_once (map (λ h. h.owner) (filter (stands_against asker claim) held))
+
+-- the numbers with one more: at the end, where it is not among them
+abbrev pub with_number : List ℕ → ℕ → List ℕ
+with_number xs x = if list_any (λ y. y == x) xs then xs else xs ++ x ∷ []

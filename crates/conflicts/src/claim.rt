@@ -1,0 +1,96 @@
+//! What an operation claims.
+ghost use Rattle.std.specs.Prelude.{◌≡◌, IsTrue, ◌↔◌};
+ghost use Rattle.claims_law.specs.Skeleton.{Conflict, same_key, begins_key};
+ghost use Rattle.conflicts.specs.Claims.{claim_of, is_shape, meets, reaches, same_claim};
+
+use reg_names::Path;
+use reg_tree::Op;
+use std::marker::Model;
+
+/// How a key is claimed.
+#[derive(Clone, Copy)]
+pub enum Kind {
+    /// The key is made or deleted: no other may touch what lies at or below it.
+    Shape,
+    /// A value of the key is changed.
+    Hold,
+}
+
+/// A key that an operation claims, and how. It borrows the path of the operation.
+#[derive(Drop)]
+pub struct Claim<'a> {
+    pub(crate) hive: u8,
+    pub(crate) path: &'a Path,
+    pub(crate) kind: Kind,
+}
+
+impl<'a> Model for Claim<'a> {
+    ghost use Rattle.claims_law.specs.Skeleton as law;
+
+    ghost Value = { law.Claim };
+
+    ghost use Rattle.conflicts.specs.Claims.{kind_of, key_at};
+
+    ghost view = { λ inside. record { kind = kind_of inside.kind; key = key_at inside.hive inside.path.now } };
+}
+
+/// The claim of an operation. Takes no memory.
+pub fn claims(op: &Op) -> Claim<'_>
+    ensures { result ≡ claim_of op.now }
+{
+    let kind = match op {
+        Op::CreateKey { .. } | Op::DeleteKey { .. } => Kind::Shape,
+        Op::SetValue { .. } | Op::DeleteValue { .. } => Kind::Hold,
+    };
+    Claim {
+        hive: op.hive(),
+        path: op.path(),
+        kind,
+    }
+}
+
+/// Whether two claims conflict: their keys are the same, or one is a Shape and the other's key lies below its key.
+/// Takes no memory.
+pub fn conflict(one: &Claim, other: &Claim) -> bool
+    ensures exactly { IsTrue result ↔ Conflict one.now other.now }
+    ensures test { result ≡ meets one.now other.now }
+{
+    reaches(one, other) || reaches(other, one)
+}
+
+// whether the other's key is its own, or lies below it and it is a Shape
+fn reaches(one: &Claim, other: &Claim) -> bool
+    ensures { result ≡ reaches one.now other.now }
+{
+    begins(one, other) && (is_shape(one) || begins(other, one))
+}
+
+// whether the other's key is its own or lies below it
+fn begins(one: &Claim, other: &Claim) -> bool
+    ensures { result ≡ begins_key one.now.key other.now.key }
+{
+    one.hive == other.hive && one.path.begins(other.path)
+}
+
+fn is_shape(claim: &Claim) -> bool
+    ensures { result ≡ is_shape claim.now.kind }
+{
+    matches!(claim.kind, Kind::Shape)
+}
+
+// whether two claims are the same
+pub(crate) fn same_claim(one: &Claim, other: &Claim) -> bool
+    ensures { result ≡ same_claim one.now other.now }
+{
+    match (one.kind, other.kind) {
+        (Kind::Shape, Kind::Shape) | (Kind::Hold, Kind::Hold) => same_key(one, other),
+        _ => false,
+    }
+}
+
+// whether two claims are of one key
+fn same_key(one: &Claim, other: &Claim) -> bool
+    ensures { result ≡ same_key one.now.key other.now.key }
+{
+    begins(one, other) && begins(other, one)
+}
