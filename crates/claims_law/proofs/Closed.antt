@@ -10,15 +10,15 @@ and_true : (b c : Bool) → b ≡ true → c ≡ true → (if b then c else fals
 and_true true c h g = g
 and_true false c h g = never h
 
-name_same : (xs : List ℕ) → same_name xs xs ≡ true
+pub name_same : (xs : List ℕ) → same_name xs xs ≡ true
 name_same [] = refl
 name_same (x ∷ xs) = and_true (eqb x x) (same_name xs xs) (eq-eqb x x refl) (name_same xs)
 
-path_same : (p : List (List ℕ)) → same_path p p ≡ true
+pub path_same : (p : List (List ℕ)) → same_path p p ≡ true
 path_same [] = refl
 path_same (x ∷ p) = and_true (same_name x x) (same_path p p) (name_same x) (path_same p)
 
-path_begins : (p r : List (List ℕ)) → begins_path p (p ++ r) ≡ true
+pub path_begins : (p r : List (List ℕ)) → begins_path p (p ++ r) ≡ true
 path_begins [] r = refl
 path_begins (x ∷ p) r = and_true (same_name x x) (begins_path p (p ++ r)) (name_same x) (path_begins p r)
 

@@ -11,21 +11,21 @@ pub both : (b c : Bool) → (if b then c else false) ≡ true → (b ≡ true) �
 both true c h = (refl, h)
 both false c h = never h
 
-name_is : (xs ys : List ℕ) → same_name xs ys ≡ true → xs ≡ ys
+pub name_is : (xs ys : List ℕ) → same_name xs ys ≡ true → xs ≡ ys
 name_is [] [] h = refl
 name_is [] (y ∷ ys) h = never h
 name_is (x ∷ xs) [] h = never h
 name_is (x ∷ xs) (y ∷ ys) h = let p : (eqb x y ≡ true) × (same_name xs ys ≡ true) = both (eqb x y) (same_name xs ys) h in
     ap (λ z. z ∷ xs) (eqb-true x y p.0) ∙ ap (λ (zs : List ℕ). y ∷ zs) (name_is xs ys p.1)
 
-path_is : (p q : List (List ℕ)) → same_path p q ≡ true → p ≡ q
+pub path_is : (p q : List (List ℕ)) → same_path p q ≡ true → p ≡ q
 path_is [] [] h = refl
 path_is [] (y ∷ q) h = never h
 path_is (x ∷ p) [] h = never h
 path_is (x ∷ p) (y ∷ q) h = let t : (same_name x y ≡ true) × (same_path p q ≡ true) = both (same_name x y) (same_path p q) h in
     ap (λ z. z ∷ p) (name_is x y t.0) ∙ ap (λ (zs : List (List ℕ)). y ∷ zs) (path_is p q t.1)
 
-begins_is : (p q : List (List ℕ)) → begins_path p q ≡ true → (r : List (List ℕ)) × (q ≡ p ++ r)
+pub begins_is : (p q : List (List ℕ)) → begins_path p q ≡ true → (r : List (List ℕ)) × (q ≡ p ++ r)
 begins_is [] q h = (q, refl)
 begins_is (x ∷ p) [] h = never h
 begins_is (x ∷ p) (y ∷ q) h = let t : (same_name x y ≡ true) × (begins_path p q ≡ true) = both (same_name x y) (begins_path p q) h in

@@ -7,6 +7,7 @@
 #![tactic(auto)]
 
 mod claim;
+pub mod laws;
 mod table;
 
 pub use claim::{Claim, Kind, claims, conflict};

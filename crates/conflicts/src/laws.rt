@@ -1,0 +1,47 @@
+//! Laws of claims, which follow from the definitions alone: why the operations of a transaction stay legal while
+//! others change the trees.
+//!
+//! They have no code of their own: each is the contract of a function that does nothing, for whoever keeps
+//! transactions.
+ghost use Rattle.std.specs.Prelude.{◌≡◌, ◌⊎◌, ◌↔◌, ◌++◌, ◌∷◌, [], ℕ, List};
+ghost use Rattle.reg_names.specs.declared.refusal.Refusal.TheVariants.{TooLarge};
+ghost use Rattle.reg_tree.specs.Maps.{TreeMap};
+ghost use Rattle.reg_tree.specs.Judgement.{legal, applied, applied_one};
+ghost use Rattle.reg_tree.specs.Sequences.{AreTrees};
+ghost use Rattle.reg_tree.specs.declared.op.Op.{Op};
+ghost use Rattle.reg_tree.specs.declared.op.Legality.TheVariants.{Legal};
+ghost use Rattle.claims_law.specs.Skeleton.{apply};
+ghost use Rattle.claims_law.specs.Legal as law;
+ghost use Rattle.conflicts.specs.Skeletons.{skeleton, outline, judged_in, FitsData, AreCarriedOut, AreApart};
+
+/// Operations that may be carried out one after another may be so after any others none of whose claims conflicts
+/// with theirs, at whatever moments. The others need not be legal.
+pub fn stay_legal()
+    ensures { (trees : List TreeMap) (first ops : List Op) (m n k : ℕ) → AreTrees trees → AreApart first ops →
+        AreCarriedOut trees ops m → AreCarriedOut (applied trees first n) ops k }
+{
+    claims_law::stays_legal();
+}
+
+/// One operation more, which may be carried out on the trees after those before it; at whatever moments.
+pub fn one_more()
+    ensures { (trees : List TreeMap) (ops : List Op) (op : Op) (m k : ℕ) → AreTrees trees → AreCarriedOut trees ops m →
+        judged_in (applied trees ops m) op ≡ Ok Legal → AreCarriedOut trees (ops ++ op ∷ []) k }
+{}
+
+/// What may be carried out is legal, or would be too heavy.
+pub fn but_for_weight()
+    ensures { (trees : List TreeMap) (op : Op) → judged_in trees op ≡ Ok Legal →
+        (legal trees op ≡ Ok Legal) ⊎ (legal trees op ≡ Err TooLarge) }
+{}
+
+/// Trees and operations are to the law of claims what their outlines are.
+///
+/// - `follows`: an operation that may be carried out does to the skeleton of the trees what its outline does.
+/// - `judged`: it may be carried out exactly where its outline is legal and its data are not too large.
+pub fn outlines()
+    ensures follows { (trees : List TreeMap) (op : Op) (m : ℕ) → AreTrees trees → judged_in trees op ≡ Ok Legal →
+        skeleton (applied_one trees op m) ≡ apply (outline op) (skeleton trees) }
+    ensures judged { (trees : List TreeMap) (op : Op) → AreTrees trees →
+        (judged_in trees op ≡ Ok Legal) ↔ (law.Legal (skeleton trees) (outline op) × FitsData op) }
+{}
