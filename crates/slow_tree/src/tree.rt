@@ -79,8 +79,8 @@ impl SlowTree {
         None
     }
 
-    /// Whether a key stands at this path.
-    pub fn is_there(&self, path: &[Name]) -> bool
+    // whether a key stands at this path
+    pub(crate) fn is_there(&self, path: &[Name]) -> bool
         ensures { result ≡ is_there self.now (folded_path path.now) }
     {
         self.key(path).is_some()

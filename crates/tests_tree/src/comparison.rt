@@ -1,8 +1,8 @@
 //! Registry trees compared with a plain slow registry, after each step of many small runs.
-use crate::fixtures::{self, Step};
-use crate::slow::{SlowKey, SlowTree, SlowValue, capital_path, capitals};
+use crate::fixtures::{self, Answer, HEAVY, LEGAL, Step};
 use reg_names::{Path, Refusal, ValueName};
-use reg_tree::{Element, Legality, Trees, Value};
+use reg_tree::{Data, Element, Legality, Trees, Value};
+use slow_tree::{SlowKey, SlowTree};
 use std::alloc::{AllocError, Global};
 use std::test::Fail;
 
@@ -42,26 +42,12 @@ const READ_PATHS: [&str; 8] = ["", "a", "A\\b", "a\\B\\C", "ab", "_", "B", "A\\B
 // the value names that are read after each step
 const READ_NAMES: [&str; 4] = ["", "V", "_", "w"];
 
-// a path that is read, and its folded names
-#[derive(Drop)]
-struct Place {
-    path: Path,
-    folded: Vec<Vec<u16>>,
-}
-
-// a value's name that is read, and its folded units
-#[derive(Drop)]
-struct Wanted {
-    name: ValueName,
-    folded: Vec<u16>,
-}
-
 // the steps as changes of one operation, and what is read after each
 #[derive(Drop)]
 struct Plan {
     elements: Vec<Element>,
-    places: Vec<Place>,
-    wanted: Vec<Wanted>,
+    places: Vec<Path>,
+    wanted: Vec<ValueName>,
 }
 
 fn new_plan(alloc: Global) -> Result<Plan, Fail> {
@@ -71,15 +57,11 @@ fn new_plan(alloc: Global) -> Result<Plan, Fail> {
     }
     let mut places = Vec::new(alloc);
     for text in READ_PATHS {
-        let path = fixtures::path(alloc, text)?;
-        let folded = capital_path(alloc, &path)?;
-        places.push(Place { path, folded })?;
+        places.push(fixtures::path(alloc, text)?)?;
     }
     let mut wanted = Vec::new(alloc);
     for text in READ_NAMES {
-        let name = fixtures::value_name(alloc, text)?;
-        let folded = capitals(alloc, name.name())?;
-        wanted.push(Wanted { name, folded })?;
+        wanted.push(fixtures::value_name(alloc, text)?)?;
     }
     Ok(Plan {
         elements,
@@ -106,15 +88,17 @@ impl Pair {
 
     // takes a step in both; whether both judge it alike
     //
-    // An operation that is refused is applied too, and is to change nothing.
+    // An operation that is refused is applied too: it changes nothing, unless it was refused for the weight
+    // alone.
     fn step(&mut self, alloc: Global, element: &Element) -> Result<bool, Fail> {
         let op = element.ops.list().first().ok_or("no operation")?;
         let judged = self.trees.legal(alloc, op);
         self.trees = self.trees.apply(alloc, element)?;
-        let wanted = match self.slow.get_mut(usize::from(op.hive())) {
-            Some(tree) => tree.carry_out(alloc, op, element.moment),
-            None => Err(Refusal::NotFound),
+        let Some(tree) = self.slow.get_mut(usize::from(op.hive())) else {
+            return Ok(judged == Err(Refusal::NotFound));
         };
+        let wanted = tree.legal(alloc, op);
+        tree.apply(alloc, op, element.moment)?;
         Ok(judged == wanted)
     }
 
@@ -142,13 +126,13 @@ impl Pair {
         &self,
         hive: u8,
         tree: Option<&SlowTree>,
-        place: &Place,
-        wanted: &[Wanted],
+        place: &Path,
+        wanted: &[ValueName],
     ) -> bool {
         let Some(tree) = tree else {
             return self.is_missing(hive, place, wanted);
         };
-        let Some(key) = tree.key(&place.folded) else {
+        let Some(key) = tree.key(place.names()) else {
             return self.is_missing(hive, place, wanted);
         };
         self.lists_subkeys(hive, tree, place)
@@ -157,70 +141,67 @@ impl Pair {
     }
 
     // whether no read finds the key
-    fn is_missing(&self, hive: u8, place: &Place, wanted: &[Wanted]) -> bool {
+    fn is_missing(&self, hive: u8, place: &Path, wanted: &[ValueName]) -> bool {
         for each in wanted {
-            let answer = self.trees.get_value(hive, &place.path, each.name.name());
+            let answer = self.trees.get_value(hive, place, each.name());
             if !matches!(answer, Err(Refusal::NotFound)) {
                 return false;
             }
         }
-        matches!(
-            self.trees.query_info(hive, &place.path),
-            Err(Refusal::NotFound)
-        ) && matches!(
-            self.trees.enum_key(hive, &place.path, 0),
-            Err(Refusal::NotFound)
-        ) && matches!(
-            self.trees.enum_value(hive, &place.path, 0),
-            Err(Refusal::NotFound)
-        )
+        matches!(self.trees.query_info(hive, place), Err(Refusal::NotFound))
+            && matches!(self.trees.enum_key(hive, place, 0), Err(Refusal::NotFound))
+            && matches!(
+                self.trees.enum_value(hive, place, 0),
+                Err(Refusal::NotFound)
+            )
     }
 
     // whether the subkeys are listed, each behind those of lesser names, and no more
-    fn lists_subkeys(&self, hive: u8, tree: &SlowTree, place: &Place) -> bool {
-        for key in tree.keys.iter().filter(|key| key.is_below(&place.folded)) {
+    fn lists_subkeys(&self, hive: u8, tree: &SlowTree, place: &Path) -> bool {
+        let path = place.names();
+        for row in tree.rows().iter().filter(|row| row.is_below(path)) {
             let index = tree
-                .keys
+                .rows()
                 .iter()
-                .filter(|other| other.is_below(&place.folded) && other.path < key.path)
+                .filter(|other| other.is_below(path) && other.path < row.path)
                 .count();
-            match self.trees.enum_key(hive, &place.path, index) {
-                Ok(name) if name.units() == key.name.as_slice() => {}
+            match self.trees.enum_key(hive, place, index) {
+                Ok(name) if name.units() == row.key.name().units() => {}
                 _ => return false,
             }
         }
-        let end = tree.subkeys(&place.folded);
+        let end = tree.subkeys(path);
         matches!(
-            self.trees.enum_key(hive, &place.path, end),
+            self.trees.enum_key(hive, place, end),
             Err(Refusal::NotFound)
-        ) && matches!(self.trees.query_info(hive, &place.path), Ok(info) if info.subkeys == end)
+        ) && matches!(self.trees.query_info(hive, place), Ok(info) if info.subkeys == end)
     }
 
     // whether the values are listed, each behind those of lesser names, and no more
-    fn lists_values(&self, hive: u8, key: &SlowKey, place: &Place) -> bool {
-        for value in &key.values {
+    fn lists_values(&self, hive: u8, key: &SlowKey, place: &Path) -> bool {
+        for value in key.values() {
             let index = key
-                .values
+                .values()
                 .iter()
-                .filter(|other| other.folded < value.folded)
+                .filter(|other| other.name < value.name)
                 .count();
-            match self.trees.enum_value(hive, &place.path, index) {
+            match self.trees.enum_value(hive, place, index) {
                 Ok(found) if is_same(found, value) => {}
                 _ => return false,
             }
         }
-        let end = key.values.len();
+        let end = key.values().len();
         matches!(
-            self.trees.enum_value(hive, &place.path, end),
+            self.trees.enum_value(hive, place, end),
             Err(Refusal::NotFound)
-        ) && matches!(self.trees.query_info(hive, &place.path), Ok(info) if info.values == end && info.time == key.time)
+        ) && matches!(self.trees.query_info(hive, place), Ok(info) if info.values == end && info.time == key.time())
     }
 
     // whether each value that is there is found by its name, and no other
-    fn gets(&self, hive: u8, key: &SlowKey, place: &Place, wanted: &[Wanted]) -> bool {
+    fn gets(&self, hive: u8, key: &SlowKey, place: &Path, wanted: &[ValueName]) -> bool {
         for each in wanted {
-            let answer = self.trees.get_value(hive, &place.path, each.name.name());
-            let is_right = match (answer, key.value(&each.folded)) {
+            let answer = self.trees.get_value(hive, place, each.name());
+            let is_right = match (answer, key.value(each.name())) {
                 (Ok(found), Some(value)) => is_same(found, value),
                 (Err(Refusal::NotFound), None) => true,
                 _ => false,
@@ -233,10 +214,10 @@ impl Pair {
     }
 }
 
-fn is_same(found: &Value, value: &SlowValue) -> bool {
-    found.name.units() == value.name.as_slice()
+fn is_same(found: &Value, value: &Value) -> bool {
+    found.name.units() == value.name.units()
         && found.kind == value.kind
-        && found.data.bytes() == value.bytes.as_slice()
+        && found.data.bytes() == value.data.bytes()
 }
 
 // The first step changes nothing, so runs of one and two steps are among these too.
@@ -256,7 +237,7 @@ fn all_runs_of_three_steps_agree(rt: HostRuntime) -> Result<(), Fail> {
             assert!(rt; pair.step(alloc, element)?, "run {run} at {moment}");
         }
         assert!(rt; pair.is_alike(&plan), "run {run}");
-        if pair.slow.iter().any(|tree| tree.keys.len() > 4) {
+        if pair.slow.iter().any(|tree| tree.rows().len() > 4) {
             large = large.wrapping_add(1);
         }
     }
@@ -312,5 +293,44 @@ fn the_comparison_sees_each_change(rt: HostRuntime) -> Result<(), Fail> {
     }
     // 2 keys created in hive 0 and one in hive 1, one deleted, 5 values written and one deleted
     assert_eq!(rt; seen, 10);
+    Ok(())
+}
+
+// values of the root and keys that are written in turn after 15 values of the greatest length, what each is
+// answered, and the weight after it: the bytes of a value, or none for a key; one that is refused for the
+// weight is written all the same
+const WEIGHTS: [(&str, usize, Answer, u64); 6] = [
+    ("p", 1_046_285, Err(Refusal::TooLarge), 16_777_217),
+    ("P", 1_046_284, LEGAL, 16_777_216),
+    ("p", 1_046_283, LEGAL, 16_777_215),
+    ("K", 0, Err(Refusal::TooLarge), 16_777_429),
+    ("P", 1_046_070, LEGAL, 16_777_216),
+    ("k", 0, Ok(Legality::Opened), 16_777_216),
+];
+
+#[test]
+fn trees_agree_at_their_limit_of_weight(rt: HostRuntime) -> Result<(), Fail> {
+    let alloc = rt.alloc();
+    let plan = new_plan(alloc)?;
+    let mut pair = Pair::new(alloc)?;
+    let most = Data::from_vec(vec![in alloc; 0; 1_048_576]?)?;
+    for name in HEAVY {
+        let op = fixtures::set_data(alloc, 0, "", name, 3, most.clone()?)?;
+        let element = fixtures::element(alloc, 1, op)?;
+        assert!(rt; pair.step(alloc, &element)?, "{name}");
+    }
+    for (name, count, wanted, weight) in WEIGHTS {
+        let op = if count == 0 {
+            fixtures::create(alloc, 0, name)?
+        } else {
+            let bytes = vec![in alloc; 0; count]?;
+            fixtures::set(alloc, 0, "", name, 3, &bytes)?
+        };
+        assert_eq!(rt; pair.trees.legal(alloc, &op), wanted, "{name} of {count}");
+        let element = fixtures::element(alloc, 2, op)?;
+        assert!(rt; pair.step(alloc, &element)?, "{name} of {count}");
+        assert_eq!(rt; pair.trees.weight(0), Some(weight), "{name} of {count}");
+        assert!(rt; pair.is_alike(&plan), "{name} of {count}");
+    }
     Ok(())
 }

@@ -31,6 +31,11 @@ pub type Answer = Result<Legality, Refusal>;
 /// The answer to an operation that changes the tree.
 pub const LEGAL: Answer = Ok(Legality::Legal);
 
+/// Names of as many values of the greatest length as a new tree may have.
+pub const HEAVY: [&str; 15] = [
+    "a", "b", "c", "d", "e", "f", "g", "h", "i", "j", "k", "l", "m", "n", "o",
+];
+
 /// A key's subkeys and values, and the moment of its last write.
 pub type Counts = (usize, usize, u64);
 

@@ -16,5 +16,3 @@ mod names;
 mod refusals;
 #[cfg(test)]
 mod rows;
-#[cfg(test)]
-mod slow;

@@ -1,6 +1,7 @@
 //! The limits of names, paths, levels, value data and weights: what is allowed at each, and one past it.
 use crate::fixtures::{
-    Answer, Counts, LEGAL, Step, act, create, delete, info, path, set, set_data, take, value_name,
+    Answer, Counts, HEAVY, LEGAL, Step, act, create, delete, info, path, set, set_data, take,
+    value_name,
 };
 use reg_names::{Name, Refusal};
 use reg_tree::{Data, Trees};
@@ -147,9 +148,7 @@ fn heavy(alloc: Global) -> Result<Trees, Fail> {
     let mut trees = Trees::new(alloc, 1)?;
     let bytes = vec![in alloc; 0; 1_048_576]?;
     let data = Data::from_vec(bytes)?;
-    for name in [
-        "a", "b", "c", "d", "e", "f", "g", "h", "i", "j", "k", "l", "m", "n", "o",
-    ] {
+    for name in HEAVY {
         let op = set_data(alloc, 0, "", name, 3, data.clone()?)?;
         let _ = act(alloc, &mut trees, 1, op)?;
     }
