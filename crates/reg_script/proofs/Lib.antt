@@ -1,0 +1,5 @@
+mod Digits
+mod Escapes
+mod Refusing
+mod WordLists
+mod Written

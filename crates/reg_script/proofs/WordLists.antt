@@ -1,0 +1,15 @@
+-- The words behind a line's first.
+use Rattle.std.proofs.Common.{◌≡◌, ℕ, ◌+◌, ◌<◌, List, [], ◌∷◌, ◌==◌, length, None, refl, arith, ◌∙◌, ap}
+use Rattle.std.specs.List.{slice_split}
+use Rattle.std.proofs.lemmas.List.Splits.{length-slice_split}
+use Rattle.reg_script.specs.Lines.{one_of}
+
+more_than_one : (word : List ℕ) (parts : List (List ℕ)) → 0 < length parts → one_of (word ∷ parts) ≡ None
+more_than_one word [] h = absurd (omega (arith, h))
+more_than_one word (part ∷ parts) h = refl
+
+-- a word and a blank are not one word
+pub not_one : (args : List (List ℕ)) (word rest : List ℕ) → args ≡ word ∷ slice_split (λ byte. byte == 32) rest → one_of args ≡ None
+not_one args word rest e =
+    let long = length-slice_split (λ byte. byte == 32) rest in
+    ap one_of e ∙ more_than_one word (slice_split (λ byte. byte == 32) rest) (omega (arith, long))
