@@ -6,3 +6,4 @@ pub mod RowsAfter
 pub mod OnSkeletons
 pub mod LegalOnSkeletons
 pub mod StaysLegal
+pub mod Members

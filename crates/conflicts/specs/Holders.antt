@@ -1,7 +1,7 @@
 -- The claims that a table has, and who holds those that conflict with one more.
-use Rattle.std.specs.Prelude.{ℕ, Bool, false, not, ◌&&◌, ◌==◌, if◌then◌else◌, List, [], ◌∷◌, ◌++◌, map, filter, Option, Some, None}
+use Rattle.std.specs.Prelude.{ℕ, Bool, false, not, ◌&&◌, ◌==◌, if◌then◌else◌, List, [], ◌∷◌, ◌++◌, map, filter, Option, Some, None, Contains, ◌≢◌}
 use Rattle.std.specs.List.{list_any}
-use Rattle.claims_law.specs.Skeleton.{Claim}
+use Rattle.claims_law.specs.Skeleton.{Claim, Conflict}
 use Rattle.conflicts.specs.Claims.{same_claim, meets}
 
 -- a claim, and the number of the transaction that holds it
@@ -47,3 +47,7 @@ holders_of held asker claim = each_once (map (λ h. h.owner) (filter (stands_aga
 -- the numbers with one more: at the end, where it is not among them
 abbrev pub with_number : List ℕ → ℕ → List ℕ
 with_number xs x = if list_any (λ y. y == x) xs then xs else xs ++ x ∷ []
+
+-- a transaction holds a claim that conflicts with the one asked for, and is not the asker
+abbrev pub IsHolder : List Held → Option ℕ → Claim → ℕ → Type 0
+IsHolder held asker claim owner = (one : Claim) × Contains held (record { owner = owner; claim = one }) × Conflict claim one × (asker ≢ Some owner)

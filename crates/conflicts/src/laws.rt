@@ -3,16 +3,18 @@
 //!
 //! They have no code of their own: each is the contract of a function that does nothing, for whoever keeps
 //! transactions.
-ghost use Rattle.std.specs.Prelude.{◌≡◌, ◌⊎◌, ◌↔◌, ◌++◌, ◌∷◌, [], ℕ, List};
+ghost use Rattle.std.specs.Prelude.{◌≡◌, ◌⊎◌, ◌↔◌, ◌++◌, ◌∷◌, [], ℕ, List, Option, Contains, ◌≢◌, nat_eq};
+ghost use Rattle.std.specs.List.{IsDistinct};
 ghost use Rattle.reg_names.specs.declared.refusal.Refusal.TheVariants.{TooLarge};
 ghost use Rattle.reg_tree.specs.Maps.{TreeMap};
 ghost use Rattle.reg_tree.specs.Judgement.{legal, applied, applied_one};
 ghost use Rattle.reg_tree.specs.Sequences.{AreTrees};
 ghost use Rattle.reg_tree.specs.declared.op.Op.{Op};
 ghost use Rattle.reg_tree.specs.declared.op.Legality.TheVariants.{Legal};
-ghost use Rattle.claims_law.specs.Skeleton.{apply};
+ghost use Rattle.claims_law.specs.Skeleton.{apply, Claim};
 ghost use Rattle.claims_law.specs.Legal as law;
 ghost use Rattle.conflicts.specs.Skeletons.{skeleton, outline, judged_in, FitsData, AreCarriedOut, AreApart};
+ghost use Rattle.conflicts.specs.Holders.{Held, with_claim, without_owner, holders_of, IsHolder};
 
 /// Operations that may be carried out one after another may be so after any others none of whose claims conflicts
 /// with theirs, at whatever moments. The others need not be legal.
@@ -44,4 +46,21 @@ pub fn outlines()
         skeleton (applied_one trees op m) ≡ apply (outline op) (skeleton trees) }
     ensures judged { (trees : List TreeMap) (op : Op) → AreTrees trees →
         (judged_in trees op ≡ Ok Legal) ↔ (law.Legal (skeleton trees) (outline op) × FitsData op) }
+{}
+
+/// The holders of a claim are exactly the transactions that hold a claim which conflicts with it, the asker left
+/// out; and each is listed once.
+pub fn holders_are_exact()
+    ensures who { (held : List Held) (asker : Option ℕ) (claim : Claim) (owner : ℕ) →
+        Contains (holders_of held asker claim) owner ↔ IsHolder held asker claim owner }
+    ensures once { (held : List Held) (asker : Option ℕ) (claim : Claim) → IsDistinct nat_eq (holders_of held asker claim) }
+{}
+
+/// Which claims a table has: after one more was added those before and this one, and after those of a transaction
+/// were dropped the claims of all others.
+pub fn claims_kept()
+    ensures added { (held : List Held) (one other : Held) →
+        Contains (with_claim held one) other ↔ (Contains held other ⊎ (one ≡ other)) }
+    ensures dropped { (held : List Held) (owner : ℕ) (other : Held) →
+        Contains (without_owner held owner) other ↔ (Contains held other × (other.owner ≢ owner)) }
 {}
