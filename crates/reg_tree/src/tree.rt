@@ -64,6 +64,15 @@ impl Tree {
         self.root.weight()
     }
 
+    /// How many keys are missing on the way to this path, its own included: what a creation would make.
+    pub fn missing_levels(&self, path: &Path) -> usize
+        ensures { result ≡ length (missing self.now (folded_path path.now)) }
+    {
+        let names = path.names();
+        let (_, depth) = self.nearest(names);
+        names.len() - depth
+    }
+
     /// The value of this name. Refused with `NotFound` exactly where there is no such key or value.
     pub fn get_value(&self, path: &Path, name: &Name) -> Result<&Value, Refusal>
         ensures { MatchResult result (λ value. value_at self.now (folded_path path.now) name.now ≡ Some value.now) (IsMissing (value_at self.now (folded_path path.now) name.now)) }
