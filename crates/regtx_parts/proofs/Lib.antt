@@ -1,0 +1,4 @@
+mod Listed
+mod Grown
+mod LineEnds
+mod Runs

@@ -1,0 +1,130 @@
+-- The run of a script, turn by turn.
+use Rattle.std.proofs.Common.{◌≡◌, ℕ, ◌+◌, ◌⊎◌, Bool, true, false, ◌||◌, List, [], ◌∷◌, ◌++◌, Option, Some, None, Result, Ok, Err, refl, sym, ◌∙◌, ap, inl, inr, subst, append_assoc}
+use Rattle.std.specs.Prelude.{IfSome, IfOk}
+use Rattle.std.specs.Io.KnownBytes.{Appends, Keeps}
+use Rattle.std.proofs.lemmas.List.{append-nil}
+use Rattle.std.proofs.lemmas.Option.{none-some}
+use Rattle.reg_script.specs.Replies.{reply_line}
+use Rattle.reg_script.specs.declared.line.Line.{Line}
+use Rattle.reg_script.specs.declared.reply.Reply.{Reply}
+use Rattle.reg_script.specs.declared.reply.Reply.TheVariants as reply
+use Rattle.regtx_parts.specs.Endings.{with_refusal}
+use Rattle.regtx_parts.specs.Scripts.{Script, Answers, fresh_script, hives_asked, line_asked}
+use Rattle.regtx_parts.specs.Plays.{lines_of, AreFirst, AreReadOf, WereRead, wrong_text, is_refusal, IsWrong, Ends, PlaysOn, Plays, IsPlayed, IsPlayedOn}
+use Rattle.regtx_parts.specs.Turns.{TakesLine, Turns}
+use Rattle.regtx_parts.specs.declared.ending.Ending.{Ending}
+use Rattle.regtx_parts.specs.declared.ending.Ending.TheVariants.{Ended, Broken, OutOfMemory}
+use Rattle.regtx_parts.specs.declared.ending.Status.{Status}
+use Rattle.regtx_parts.specs.declared.ending.Status.TheVariants.{Clean, Refused, Wrong}
+use Rattle.regtx_parts.specs.declared.runner.Turn.{Turn}
+use Rattle.regtx_parts.specs.declared.runner.Turn.TheVariants.{Replied, Over}
+
+-- one write and another
+pub appends_more : (old mid new : Option (List ℕ)) (front back : List ℕ) → Appends old mid front → Appends mid new back → Appends old new (front ++ back)
+appends_more None mid new front back a b = tt
+appends_more (Some xs) None new front back a b = absurd a
+appends_more (Some xs) (Some ys) None front back a b = absurd b
+appends_more (Some xs) (Some ys) (Some zs) front back a b = b ∙ ap (λ bytes. bytes ++ back) a ∙ append_assoc xs front back
+
+-- a write, and nothing more
+pub appends_kept : (old mid new : Option (List ℕ)) (text : List ℕ) → Appends old mid text → Keeps mid new → Appends old new text
+appends_kept None mid new text a k = tt
+appends_kept (Some xs) None new text a k = absurd a
+appends_kept (Some xs) (Some ys) None text a k = absurd k
+appends_kept (Some xs) (Some ys) (Some zs) text a k = k ∙ a
+
+-- some first line was read, and nothing behind it
+first_alone : (bytes left line : List ℕ) → lines_of bytes ≡ line ∷ lines_of left → AreFirst (line ∷ []) (lines_of bytes)
+first_alone bytes left line e = (lines_of left, e)
+
+pub one_read : (known rest : Option (List ℕ)) (line : List ℕ) → TakesLine known rest line → WereRead known (line ∷ []) None
+one_read None rest line taken = tt
+one_read (Some bytes) rest line taken = first_alone bytes taken.0 line taken.2
+
+-- lines behind the first
+more_first : (bytes left line : List ℕ) (lines : List (List ℕ)) → lines_of bytes ≡ line ∷ lines_of left → AreFirst lines (lines_of left) → AreFirst (line ∷ lines) (lines_of bytes)
+more_first bytes left line lines e first = (first.0, e ∙ ap (λ others. line ∷ others) first.1)
+
+more_of : (bytes left line : List ℕ) (lines : List (List ℕ)) (ending : Option Ending) → lines_of bytes ≡ line ∷ lines_of left → AreReadOf left lines ending → AreReadOf bytes (line ∷ lines) ending
+more_of bytes left line lines None e first = more_first bytes left line lines e first
+more_of bytes left line lines (Some Ended) e whole = ap (λ others. line ∷ others) whole ∙ sym e
+more_of bytes left line lines (Some Broken) e first = more_first bytes left line lines e first
+more_of bytes left line lines (Some OutOfMemory) e first = more_first bytes left line lines e first
+
+pub more_read : (known rest : Option (List ℕ)) (line : List ℕ) (lines : List (List ℕ)) (ending : Option Ending) → TakesLine known rest line → WereRead rest lines ending → WereRead known (line ∷ lines) ending
+more_read None rest line lines ending taken read = tt
+more_read (Some bytes) rest line lines ending taken read =
+    more_of bytes taken.0 line lines ending taken.2 (subst (λ r. WereRead r lines ending) taken.1 read)
+
+-- nothing is read when memory for it is refused, or when it can't be
+pub none_read : (known : Option (List ℕ)) (ending : Ending) → (ending ≡ Ended → ⊥) → WereRead known [] (Some ending)
+none_read None ending h = tt
+none_read (Some bytes) Ended h = absurd (h refl)
+none_read (Some bytes) Broken h = (lines_of bytes, refl)
+none_read (Some bytes) OutOfMemory h = (lines_of bytes, refl)
+
+-- a line that is none ends the run
+pub stops_wrong : (old : Script) (number : ℕ) (known rest before after : Option (List ℕ)) (line : List ℕ) (status : Status) → TakesLine known rest line → line_asked line ≡ None → status ≡ Wrong → Appends before after (wrong_text number) → IsPlayedOn old number known before after status
+stops_wrong old number known rest before after line status taken none wrong written =
+    (line ∷ [], None, wrong_text number, one_read known rest line taken, inl (none, record { last = refl; stopped = refl; printed = refl; wrong = wrong }), written)
+
+-- there is no further line
+pub ends_here : (old : Script) (number : ℕ) (known before after : Option (List ℕ)) (ending : Ending) (text : List ℕ) (status : Status) → WereRead known [] (Some ending) → Ends ending text status → Appends before after text → IsPlayedOn old number known before after status
+ends_here old number known before after ending text status read how written = ([], Some ending, text, read, how, written)
+
+-- a line was answered, and the run goes on
+pub goes_on : (old new : Script) (number : ℕ) (known rest before mid after : Option (List ℕ)) (refused : Bool) (status : Status) → Turns old number known before (Replied refused) new rest mid → IsPlayedOn new (number + 1) rest mid after status → IsPlayedOn old number known before after (with_refusal refused status)
+goes_on old new number known rest before mid after refused status turn on =
+    let line = turn.0 in
+    let told = turn.2 in (
+      line ∷ on.0,
+      on.1,
+      reply_line told ++ on.2,
+      more_read known rest line on.0 on.1 turn.3 on.3,
+      inr (turn.1, told, new, on.2, status, turn.4, turn.5, on.4, refl, ap (λ b. with_refusal b status) turn.7),
+      appends_more before mid after (reply_line told) on.2 turn.6 on.5,
+    )
+
+-- refusals before and after
+pub refusals_join : (before now : Bool) (status : Status) → with_refusal before (with_refusal now status) ≡ with_refusal (before || now) status
+refusals_join false now status = refl
+refusals_join true false status = refl
+refusals_join true true Clean = refl
+refusals_join true true Refused = refl
+refusals_join true true Wrong = refl
+
+-- want of memory is no end of the script
+pub is_end : OutOfMemory ≡ Ended → ⊥
+is_end e = cc
+
+-- the run from its second line on is the run from where it stands
+pub begins_here : (old : Script) (number : ℕ) (known before : Option (List ℕ)) (status : Status) (after : Option (List ℕ)) → IsPlayedOn old number known before after status → IsPlayedOn old number known before after (with_refusal false status)
+begins_here old number known before status after on = on
+
+pub broken_is_no_end : Broken ≡ Ended → ⊥
+broken_is_no_end e = cc
+
+-- a first line that says how many hives there are
+pub begins : (known rest before mid after : Option (List ℕ)) (line : List ℕ) (hives : ℕ) (old : Script) (status : Status) → TakesLine known rest line → hives_asked line ≡ Some hives → old ≡ fresh_script hives → Appends before mid (reply_line reply.Done) → IsPlayedOn old 2 rest mid after status → IsPlayed known before after status
+begins known rest before mid after line hives old status taken asked fresh written on = (
+  line ∷ on.0,
+  on.1,
+  reply_line reply.Done ++ on.2,
+  more_read known rest line on.0 on.1 taken on.3,
+  inr (hives, on.2, asked, subst (λ script. PlaysOn script 2 on.0 on.1 on.2 status) fresh on.4, refl),
+  appends_more before mid after (reply_line reply.Done) on.2 written on.5,
+)
+
+-- a first line that is none
+pub begins_wrong : (known rest before after : Option (List ℕ)) (line : List ℕ) (status : Status) → TakesLine known rest line → hives_asked line ≡ None → status ≡ Wrong → Appends before after (wrong_text 1) → IsPlayed known before after status
+begins_wrong known rest before after line status taken none wrong written =
+    (line ∷ [], None, wrong_text 1, one_read known rest line taken, inl (none, record { last = refl; stopped = refl; printed = refl; wrong = wrong }), written)
+
+-- memory for the first line is refused
+pub begins_without_memory : (known before after : Option (List ℕ)) (text : List ℕ) (status : Status) → Ends OutOfMemory text status → Appends before after text → IsPlayed known before after status
+begins_without_memory known before after text status how written = ([], Some OutOfMemory, text, none_read known OutOfMemory is_end, how, written)
+
+-- what holds of an answer holds of another that follows from it
+pub if_ok : {A E : Type 0} (P Q : A → Type 0) (r : Result A E) → ((a : A) → P a → Q a) → IfOk r P → IfOk r Q
+if_ok P Q (Ok a) f p = f a p
+if_ok P Q (Err e) f p = tt

@@ -1,0 +1,21 @@
+-- One turn of a script's run.
+use Rattle.std.specs.Prelude.{◌≡◌, ℕ, List, ◌∷◌, Option, Some, IfSome}
+use Rattle.std.specs.Io.KnownBytes.{Appends}
+use Rattle.reg_script.specs.Replies.{reply_line}
+use Rattle.reg_script.specs.declared.line.Line.{Line}
+use Rattle.reg_script.specs.declared.reply.Reply.{Reply}
+use Rattle.regtx_parts.specs.Scripts.{Script, Answers, line_asked}
+use Rattle.regtx_parts.specs.Plays.{lines_of, is_refusal, IsPlayedOn}
+use Rattle.regtx_parts.specs.declared.runner.Turn.{Turn}
+use Rattle.regtx_parts.specs.declared.runner.Turn.TheVariants.{Replied, Over}
+
+-- where the bytes are known, the first line was taken of them
+abbrev pub TakesLine : Option (List ℕ) → Option (List ℕ) → List ℕ → Type 0
+TakesLine known rest line = IfSome known (λ bytes. (left : List ℕ) × (rest ≡ Some left) × (lines_of bytes ≡ line ∷ lines_of left))
+
+-- a line was answered, or the run is over
+abbrev pub Turns : Script → ℕ → Option (List ℕ) → Option (List ℕ) → Turn → Script → Option (List ℕ) → Option (List ℕ) → Type 0
+Turns old number known before (Over status) new rest after = IsPlayedOn old number known before after status
+Turns old number known before (Replied refused) new rest after =
+    (line : List ℕ) × (asked : Line) × (told : Reply) × TakesLine known rest line × (line_asked line ≡ Some asked) × Answers old asked told new
+    × Appends before after (reply_line told) × (refused ≡ is_refusal told)

@@ -1,0 +1,16 @@
+//! The parts of the program: a plain store, and the run of a script over it.
+//!
+//! [`play`] reads a script line by line, and writes the reply to each line. What it writes is stated apart from it: the
+//! lines by the grammar of `reg_script`, the answers by the machine (`specs/Machine`), which knows no bytes, and the
+//! text by `specs/Plays`.
+#![tactic(auto)]
+
+mod ending;
+pub mod event;
+mod player;
+mod runner;
+mod store;
+
+pub use ending::Status;
+pub use runner::{play, refuse_script};
+pub use store::PlainStore;

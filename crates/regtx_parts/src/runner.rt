@@ -1,0 +1,191 @@
+//! Runs a script over a store in memory.
+ghost use Rattle.std.specs.Prelude.{◌≡◌, ℕ, List, [], ◌++◌, ◌∷◌, Some, OnOk, IfOk, IfErr, codes};
+ghost use Rattle.std.specs.Io.KnownBytes.{Appends};
+ghost use Rattle.std.specs.Io.BufRead.{strip_last};
+ghost use Rattle.regtx_parts.specs.Plays.{Ends, WereRead, IsPlayed, IsPlayedOn, is_refusal, wrong_text};
+ghost use Rattle.regtx_parts.specs.Players.{script_of};
+ghost use Rattle.regtx_parts.specs.Turns.{TakesLine, Turns};
+
+use crate::ending::{Ending, Status};
+use crate::player::Player;
+use reg_names::Refusal;
+use reg_script::Reply;
+use std::alloc::{AllocError, Global};
+use std::io;
+use std::io::{BufRead, Write};
+
+/// The byte that ends a line.
+const LINE_END: u8 = b'\n';
+
+/// What one turn of a run came to.
+enum Turn {
+    /// A line was answered.
+    Replied {
+        /// Whether the reply was a refusal.
+        is_refusal: bool,
+    },
+    /// The run is over.
+    Over {
+        /// How it went from this line on.
+        status: Status,
+    },
+}
+
+/// Runs a script over a store in memory, and writes the replies to its lines, in order, each as soon as its line is
+/// read. No more of the script is held than one line.
+///
+/// `Err` says that a write failed, which ends the run; the program then ends with the status of a refusal.
+pub fn play<R: BufRead, W: Write>(
+    alloc: Global,
+    reader: &mut R,
+    writer: &mut W,
+) -> io::Result<Status>
+    ensures { IfOk result (λ status. IsPlayed (R.remaining reader.old) (W.contents writer.old) (W.contents writer.new) status) }
+{
+    let status = run(alloc, reader, writer)?;
+    writer.flush()?;
+    Ok(status)
+}
+
+/// Writes that a script can't be read at all. `Err` says that the write failed.
+pub fn refuse_script<W: Write>(writer: &mut W) -> io::Result<Status>
+    ensures { IfOk result (λ status. (status ≡ Status.Refused) × Appends (W.contents writer.old) (W.contents writer.new) (codes "cannot read script\n")) }
+{
+    writer.write_all(b"cannot read script\n")?;
+    writer.flush()?;
+    Ok(Status::Refused)
+}
+
+fn run<R: BufRead, W: Write>(alloc: Global, reader: &mut R, writer: &mut W) -> io::Result<Status>
+    ensures { IfOk result (λ status. IsPlayed (R.remaining reader.old) (W.contents writer.old) (W.contents writer.new) status) }
+{
+    let mut line = Vec::new(alloc);
+    match next_line(reader, &mut line) {
+        Ok(()) => {}
+        Err(Ending::Ended) => return wrong(writer, 1),
+        Err(ending) => return end(writer, ending),
+    }
+    match Player::begin(alloc, &line) {
+        Ok(Some(mut player)) => {
+            Reply::Done.write(writer)?;
+            go_on(alloc, &mut player, reader, &mut line, writer)
+        }
+        Ok(None) => wrong(writer, 1),
+        Err(AllocError) => end(writer, Ending::OutOfMemory),
+    }
+}
+
+// runs the script from its second line on
+fn go_on<R: BufRead, W: Write>(
+    alloc: Global,
+    player: &mut Player,
+    reader: &mut R,
+    line: &mut Vec<u8>,
+    writer: &mut W,
+) -> io::Result<Status>
+    ensures { IfOk result (λ status. IsPlayedOn (script_of player.old) 2 (R.remaining reader.old) (W.contents writer.old) (W.contents writer.new) status) }
+{
+    let mut has_refusal = false;
+    for number in 2..u64::MAX {
+        match take_turn(alloc, player, reader, line, writer, number)? {
+            Turn::Replied { is_refusal } => has_refusal |= is_refusal,
+            Turn::Over { status } => return Ok(status.after(has_refusal)),
+        }
+    }
+    // a script of so many lines isn't read on
+    let status = end(writer, Ending::Broken)?;
+    Ok(status.after(has_refusal))
+}
+
+// reads the line of this number, answers it, and writes the reply
+fn take_turn<R: BufRead, W: Write>(
+    alloc: Global,
+    player: &mut Player,
+    reader: &mut R,
+    line: &mut Vec<u8>,
+    writer: &mut W,
+    number: u64,
+) -> io::Result<Turn>
+    ensures { IfOk result (λ told. Turns (script_of player.old) number (R.remaining reader.old) (W.contents writer.old) told (script_of player.new) (R.remaining reader.new) (W.contents writer.new)) }
+{
+    if let Err(ending) = next_line(reader, line) {
+        let status = end(writer, ending)?;
+        return Ok(Turn::Over { status });
+    }
+    match player.hear(alloc, line) {
+        Ok(Some(told)) => {
+            told.write(writer)?;
+            let is_refusal = is_refusal(&told);
+            Ok(Turn::Replied { is_refusal })
+        }
+        Ok(None) => {
+            let status = wrong(writer, number)?;
+            Ok(Turn::Over { status })
+        }
+        Err(AllocError) => {
+            let status = end(writer, Ending::OutOfMemory)?;
+            Ok(Turn::Over { status })
+        }
+    }
+}
+
+fn is_refusal(told: &Reply) -> bool
+    ensures { result ≡ is_refusal told.now }
+{
+    match told {
+        Reply::Refused { .. } => true,
+        _ => false,
+    }
+}
+
+// reads the next line into the buffer, without the byte that ends it
+fn next_line<R: BufRead>(reader: &mut R, line: &mut Vec<u8>) -> Result<(), Ending>
+    ensures line { OnOk result (TakesLine (R.remaining reader.old) (R.remaining reader.new) line.new.items) }
+    ensures none { IfErr result (λ ending. WereRead (R.remaining reader.old) [] (Some ending)) }
+{
+    line.clear();
+    match reader.read_until(LINE_END, line) {
+        Ok(0) => Err(Ending::Ended),
+        Ok(_) => {
+            strip_end(line);
+            Ok(())
+        }
+        Err(error) if error.kind() == io::ErrorKind::OutOfMemory => Err(Ending::OutOfMemory),
+        Err(_) => Err(Ending::Broken),
+    }
+}
+
+// takes the byte that ends a line from its end, where it is there
+fn strip_end(line: &mut Vec<u8>)
+    ensures { line.new.items ≡ strip_last 10 line.old.items }
+{
+    let len = line.len();
+    if len > 0 && line[len - 1] == LINE_END {
+        line.truncate(len - 1);
+    }
+}
+
+// writes why there is no further line
+fn end<W: Write>(writer: &mut W, ending: Ending) -> io::Result<Status>
+    ensures { IfOk result (λ status. (text : List ℕ) × Ends ending text status × Appends (W.contents writer.old) (W.contents writer.new) text) }
+{
+    match ending {
+        Ending::Ended => Ok(Status::Clean),
+        Ending::Broken => {
+            writer.write_all(b"cannot read script\n")?;
+            Ok(Status::Refused)
+        }
+        Ending::OutOfMemory => {
+            writeln!(writer, "{}", Refusal::NoMemory)?;
+            Ok(Status::Refused)
+        }
+    }
+}
+
+// writes that the line of this number is none
+fn wrong<W: Write>(writer: &mut W, number: u64) -> io::Result<Status>
+    ensures { IfOk result (λ status. (status ≡ Status.Wrong) × Appends (W.contents writer.old) (W.contents writer.new) (wrong_text number)) }
+{
+    writeln!(writer, "line {number}: not understood")?;
+    Ok(Status::Wrong)
+}
