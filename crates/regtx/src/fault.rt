@@ -1,0 +1,57 @@
+//! What the program says where it can't begin its work.
+use reg_names::Refusal;
+use regtx_parts::Status;
+use std::alloc::{AllocError, AllocFailed};
+use std::io;
+use thiserror::Error;
+
+/// Why the program can't begin its work. Its text is what the program prints.
+#[derive(Debug, Drop, Error)]
+pub enum Fault {
+    /// The words of the command line are not understood, a request for help or version among them.
+    #[error("wrong words")]
+    WrongWords,
+    /// Memory was asked for and not given.
+    #[error("{0}")]
+    Refused(Refusal),
+}
+
+impl Fault {
+    /// The status that the program ends with.
+    pub fn status(&self) -> Status {
+        match self {
+            Fault::WrongWords => Status::Wrong,
+            Fault::Refused(_) => Status::Refused,
+        }
+    }
+}
+
+impl From<AllocError> for Fault {
+    fn from(_error: AllocError) -> Fault {
+        Fault::Refused(Refusal::NoMemory)
+    }
+}
+
+impl<T: Drop> From<AllocFailed<T>> for Fault {
+    fn from(_error: AllocFailed<T>) -> Fault {
+        Fault::Refused(Refusal::NoMemory)
+    }
+}
+
+impl From<io::Error> for Fault {
+    fn from(error: io::Error) -> Fault {
+        match error.kind() {
+            io::ErrorKind::OutOfMemory => Fault::Refused(Refusal::NoMemory),
+            _ => Fault::WrongWords,
+        }
+    }
+}
+
+impl From<clap::Error> for Fault {
+    fn from(error: clap::Error) -> Fault {
+        match error.kind() {
+            clap::error::ErrorKind::OutOfMemory => Fault::Refused(Refusal::NoMemory),
+            _ => Fault::WrongWords,
+        }
+    }
+}
