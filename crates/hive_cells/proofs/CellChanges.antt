@@ -2,14 +2,13 @@
 use Rattle.std.proofs.Common.{◌≡◌, ◌≢◌, ℕ, ◌+◌, ◌-◌, ◌*◌, ◌%◌, ◌/◌, ◌<◌, ◌≤◌, Bool, false, List, length, refl, sym, ◌∙◌, subst, inl, inr, arith, ap, true}
 use Rattle.std.specs.Prelude.{slice_set, ◌⊎◌}
 use Rattle.std.proofs.lemmas.Bool.{cases_eq, cases_lt, cases_order}
-use Rattle.hive_cells.specs.declared.marks.Mark.{Mark}
-use Rattle.hive_cells.specs.declared.marks.Mark.TheVariants.{Inside, Bin, Cell}
-use Rattle.hive_cells.specs.Tiles.{word_at, cell_size, is_allocated, IsAllocatedCell}
-use Rattle.hive_cells.specs.Marks.{mark_at, CellMarked, IsMarked, IsCellMarkedAt, IsWholeCell}
-use Rattle.hive_cells.specs.Changes.{OthersStay, AllStay, PutsSize, IsFreeCell, RewritesWithin, Writes}
+use Rattle.hive_cells.specs.Tiles.{word_at, cell_size, is_allocated, BeginsCell, IsAllocatedCell, IsFreeCell}
+use Rattle.hive_cells.specs.Marks.{Mark, Inside, Bin, Cell, mark_at, CellMarked, IsMarked, IsCellMarkedAt, IsWholeCell}
+use Rattle.hive_cells.specs.Changes.{OthersStay, AllStay, PutsSize, RewritesWithin, Writes}
+use Rattle.hive_cells.specs.Starts.{IsKept, AreStarts, PutsStart, is_cell_mark, is_start, OtherCells}
 use Rattle.hive_cells.proofs.Reached.{whole_at_mark, starts_at_mark, mark_at_start}
 use Rattle.hive_cells.proofs.Marking.{SetsMark, set_mark}
-use Rattle.hive_cells.proofs.Region.{ChangesCells, size_same, kind_same, all_again, stays_at, words_same}
+use Rattle.hive_cells.proofs.Region.{ChangesCells, size_same, kind_same, all_again, stays_at, same_at, words_same}
 
 -- a size that is put leaves the words before and behind it
 puts_beside : (old new : List ℕ) (at size : ℕ) (kind : Bool) → PutsSize old new at size kind → (other : ℕ) → ((other + 4 ≤ at) ⊎ (at + 4 ≤ other)) → word_at new other ≡ word_at old other
@@ -70,6 +69,19 @@ module _ (bytes bytes' : List ℕ) (marks : List Mark) (k : ℕ) (m : IsMarked b
       let found : mark_at marks (at / 8) ≡ Cell = w.is_cell in
       cc) in
       stays_at bytes bytes' marks marks k (k + cell_size bytes (8 * k) / 8) m.all turns m at (λ after before w. absurd (other after before w)) (λ after before w. absurd (other after before w))
+
+  -- and all other cells are the same
+  pub turned_same : OtherCells bytes bytes' (8 * k) (8 * k)
+  turned_same at apart _ =
+      let c : CellMarked bytes marks (length bytes) k = m.all.cells k is_cell in
+      let eights : cell_size bytes (8 * k) % 8 ≡ 0 = c.sound.eights in
+      let other : k ≤ at / 8 → at / 8 < k + cell_size bytes (8 * k) / 8 → IsCellMarkedAt marks at → ⊥ =
+      (λ after before w.
+      let slot : 8 * (at / 8) ≡ at = omega (arith, w.eights) in
+      let inside : mark_at marks (at / 8) ≡ Inside = c.inside (at / 8) (omega arith) (omega arith) in
+      let found : mark_at marks (at / 8) ≡ Cell = w.is_cell in
+      cc) in
+      same_at bytes bytes' marks marks k (k + cell_size bytes (8 * k) / 8) m.all turns m at other other
 
 -- ---- a free cell is split
 
@@ -181,6 +193,38 @@ module _ (bytes half bytes' : List ℕ) (marks : List Mark) (k a rest : ℕ) (m 
         ]
       ])
 
+  -- and all other cells are the same
+  pub split_same : OtherCells bytes bytes' (8 * k) (8 * (k + a))
+  split_same at not_first not_second =
+      let c : CellMarked bytes marks (length bytes) k = m.all.cells k is_cell in
+      let s : SetsMark marks split_marks (k + a) Cell = split_set in
+      let eights : cell_size bytes (8 * k) % 8 ≡ 0 = c.sound.eights in
+      same_at bytes bytes' marks split_marks k (k + a + rest / 8) m.all splits m at
+      (λ after before w.
+      let slot : 8 * (at / 8) ≡ at = omega (arith, w.eights) in
+      let found : mark_at marks (at / 8) ≡ Cell = w.is_cell in
+      let inside : mark_at marks (at / 8) ≡ Inside = c.inside (at / 8) (omega arith) (omega arith) in
+      cc)
+      (λ after before w.
+      let slot : 8 * (at / 8) ≡ at = omega (arith, w.eights) in
+      let found : mark_at split_marks (at / 8) ≡ Cell = w.is_cell in
+      let was : mark_at marks (at / 8) ≡ Cell = sym (s.others (at / 8) (omega arith)) ∙ found in
+      let inside : mark_at marks (at / 8) ≡ Inside = c.inside (at / 8) (omega arith) (omega arith) in
+      cc)
+
+  -- both cells begin
+  pub split_first : BeginsCell bytes' (8 * k)
+  unfolding split_marks
+  split_first =
+      let slot : 8 * k / 8 ≡ k = omega arith in
+      starts_at_mark bytes' split_marks split_marked (8 * k) (record { eights = omega arith; is_cell = ap (mark_at split_marks) slot ∙ split_set.others k (omega arith) ∙ is_cell })
+
+  pub split_second : BeginsCell bytes' (8 * (k + a))
+  unfolding split_marks
+  split_second =
+      let slot : 8 * (k + a) / 8 ≡ k + a = omega arith in
+      starts_at_mark bytes' split_marks split_marked (8 * (k + a)) (record { eights = omega arith; is_cell = ap (mark_at split_marks) slot ∙ split_set.here })
+
 -- ---- two free cells are joined
 
 module _ (bytes bytes' : List ℕ) (marks : List Mark) (k a rest : ℕ) (m : IsMarked bytes marks) (is_cell : mark_at marks k ≡ Cell) (is_next : mark_at marks (k + a) ≡ Cell)
@@ -288,79 +332,184 @@ module _ (bytes bytes' : List ℕ) (marks : List Mark) (k a rest : ℕ) (m : IsM
         ]
       ])
 
--- ---- the same by offsets
+  -- and all other cells are the same
+  pub joined_same : OtherCells bytes bytes' (8 * k) (8 * (k + a))
+  joined_same at not_first not_next =
+      let c : CellMarked bytes marks (length bytes) k = m.all.cells k is_cell in
+      let d : CellMarked bytes marks (length bytes) (k + a) = m.all.cells (k + a) is_next in
+      let s : SetsMark marks join_marks (k + a) Inside = join_set in
+      let next_eights : cell_size bytes (8 * (k + a)) % 8 ≡ 0 = d.sound.eights in
+      let was_inside : (j : ℕ) → k < j → j ≢ k + a → j < k + a + rest / 8 → mark_at marks j ≡ Inside =
+      (λ j after apart before. elim (cases_lt j (k + a)) [
+        | inl low ↦ c.inside j after (omega arith)
+        | inr high ↦ d.inside j (omega arith) (omega arith)
+      ]) in
+      same_at bytes bytes' marks join_marks k (k + a + rest / 8) m.all joins m at
+      (λ after before w.
+      let slot : 8 * (at / 8) ≡ at = omega (arith, w.eights) in
+      let found : mark_at marks (at / 8) ≡ Cell = w.is_cell in
+      let inside : mark_at marks (at / 8) ≡ Inside = was_inside (at / 8) (omega arith) (omega arith) before in
+      cc)
+      (λ after before w.
+      let slot : 8 * (at / 8) ≡ at = omega (arith, w.eights) in
+      let found : mark_at join_marks (at / 8) ≡ Cell = w.is_cell in
+      let was : mark_at marks (at / 8) ≡ Cell = sym (s.others (at / 8) (omega arith)) ∙ found in
+      let inside : mark_at marks (at / 8) ≡ Inside = was_inside (at / 8) (omega arith) (omega arith) before in
+      cc)
+
+  -- the first cell begins where it did, and the other one no more
+  pub joined_first : BeginsCell bytes' (8 * k)
+  unfolding join_marks
+  joined_first =
+      let slot : 8 * k / 8 ≡ k = omega arith in
+      let least : 8 ≤ cell_size bytes (8 * k) = (m.all.cells k is_cell).sound.least in
+      starts_at_mark bytes' join_marks joined_marked (8 * k) (record { eights = omega arith; is_cell = ap (mark_at join_marks) slot ∙ join_set.others k (omega arith) ∙ is_cell })
+
+  pub joined_gone : ¬ BeginsCell bytes' (8 * (k + a))
+  unfolding join_marks
+  joined_gone found =
+      let slot : 8 * (k + a) / 8 ≡ k + a = omega arith in
+      let marked : mark_at join_marks (k + a) ≡ Cell = ap (mark_at join_marks) (sym slot) ∙ (mark_at_start bytes' join_marks joined_marked found.0 (8 * (k + a)) found.1).is_cell in
+      let here : mark_at join_marks (k + a) ≡ Inside = join_set.here in
+      cc
+
+-- ---- the same by offsets, with the bits
+
+-- a change leaves what is kept, what stays, and all cells but for those at two offsets, at the first of which a cell
+-- begins
+pub record Changed (old new words : List ℕ) (Stay : Type 0) (a b : ℕ) : Type 0 where
+  pub kept : IsKept new words
+  pub stay : Stay
+  pub cells : OtherCells old new a b
+  pub begins : BeginsCell new a
+
+-- the bits where one mark is set
+pub puts_same : (bytes bytes' : List ℕ) (marks marks' : List Mark) (words words' : List ℕ) (n : ℕ) (kind : Mark) → AreStarts bytes marks words → SetsMark marks marks' n kind → PutsStart words words' n (is_cell_mark kind) → length bytes' ≡ length bytes → AreStarts bytes' marks' words'
+puts_same bytes bytes' marks marks' words words' n kind b s p len =
+    record {
+      len = omega (arith, b.len, p.len);
+      same = λ j. elim (cases_eq j n) [
+        | inl same ↦ ap (is_start words') same ∙ p.here ∙ ap is_cell_mark (sym s.here) ∙ ap (λ (x : ℕ). is_cell_mark (mark_at marks' x)) (sym same)
+        | inr other ↦ p.others j other ∙ b.same j ∙ ap is_cell_mark (sym (s.others j other))
+      ];
+    }
+
+-- where a cell that begins is marked
+pub slot_of : (bytes words : List ℕ) (k : IsKept bytes words) (at : ℕ) → BeginsCell bytes at → IsCellMarkedAt k.marks at
+slot_of bytes words k at found = mark_at_start bytes k.marks k.all found.0 at found.1
 
 -- a cell that was written and kept its size
-pub rewritten : (bytes bytes' : List ℕ) (marks : List Mark) (at : ℕ) → IsMarked bytes marks → IsCellMarkedAt marks at → RewritesWithin bytes bytes' at (at + cell_size bytes at) → cell_size bytes' at ≡ cell_size bytes at → IsMarked bytes' marks × OthersStay bytes bytes' at
-rewritten bytes bytes' marks at m w r same =
+pub rewritten : (bytes bytes' words : List ℕ) (at : ℕ) → IsKept bytes words → BeginsCell bytes at → RewritesWithin bytes bytes' at (at + cell_size bytes at) → cell_size bytes' at ≡ cell_size bytes at → Changed bytes bytes' words (OthersStay bytes bytes' at) at at
+rewritten bytes bytes' words at k found r same =
+    let w : IsCellMarkedAt k.marks at = slot_of bytes words k at found in
     let slot : 8 * (at / 8) ≡ at = omega (arith, w.eights) in
     let here : RewritesWithin bytes bytes' (8 * (at / 8)) (8 * (at / 8) + cell_size bytes (8 * (at / 8))) = subst (λ (x : ℕ). RewritesWithin bytes bytes' x (x + cell_size bytes x)) (sym slot) r in
-    let size : cell_size bytes' (8 * (at / 8)) ≡ cell_size bytes (8 * (at / 8)) = subst (λ (x : ℕ). cell_size bytes' x ≡ cell_size bytes x) (sym slot) same in (
-      turned_marked bytes bytes' marks (at / 8) m w.is_cell here size,
-      subst (λ (x : ℕ). OthersStay bytes bytes' x) slot (turned_stay bytes bytes' marks (at / 8) m w.is_cell here size),
-    )
+    let size : cell_size bytes' (8 * (at / 8)) ≡ cell_size bytes (8 * (at / 8)) = subst (λ (x : ℕ). cell_size bytes' x ≡ cell_size bytes x) (sym slot) same in
+    let all : IsMarked bytes' k.marks = turned_marked bytes bytes' k.marks (at / 8) k.all w.is_cell here size in
+    record {
+      kept = record { marks = k.marks; all = all; starts = record { len = r.len ∙ k.starts.len; same = k.starts.same } };
+      stay = subst (λ (x : ℕ). OthersStay bytes bytes' x) slot (turned_stay bytes bytes' k.marks (at / 8) k.all w.is_cell here size);
+      cells = subst (λ (x : ℕ). OtherCells bytes bytes' x x) slot (turned_same bytes bytes' k.marks (at / 8) k.all w.is_cell here size);
+      begins = starts_at_mark bytes' k.marks all at w;
+    }
 
 -- a cell that turned
-pub turned : (bytes bytes' : List ℕ) (marks : List Mark) (at size : ℕ) (kind : Bool) → IsMarked bytes marks → IsCellMarkedAt marks at → size ≡ cell_size bytes at → PutsSize bytes bytes' at size kind → IsMarked bytes' marks × OthersStay bytes bytes' at
-turned bytes bytes' marks at size kind m w size_is p =
-    let least : 8 ≤ cell_size bytes at = (whole_at_mark bytes marks m at w).least in
-    rewritten bytes bytes' marks at m w (record { len = p.len; others = λ i out. p.others i (elim out [ inl low ↦ inl low | inr high ↦ inr (omega arith) ]) }) (p.size_is ∙ size_is)
+pub turned : (bytes bytes' words : List ℕ) (at size : ℕ) (kind : Bool) → IsKept bytes words → BeginsCell bytes at → size ≡ cell_size bytes at → PutsSize bytes bytes' at size kind → Changed bytes bytes' words (OthersStay bytes bytes' at) at at
+turned bytes bytes' words at size kind k found size_is p =
+    let least : 8 ≤ cell_size bytes at = (whole_at_mark bytes k.marks k.all at (slot_of bytes words k at found)).least in
+    rewritten bytes bytes' words at k found (record { len = p.len; others = λ i out. p.others i (elim out [ inl low ↦ inl low | inr high ↦ inr (omega arith) ]) }) (p.size_is ∙ size_is)
 
 -- a free cell that was split
-pub was_split : (bytes half bytes' : List ℕ) (marks : List Mark) (at size rest : ℕ) → IsMarked bytes marks → IsFreeCell bytes marks at (cell_size bytes at) → cell_size bytes at ≡ size + rest → size % 8 ≡ 0 → 8 ≤ size → 8 ≤ rest
-    → PutsSize bytes half (at + size) rest false → PutsSize half bytes' at size false → IsMarked bytes' (slice_set marks ((at + size) / 8) Cell) × AllStay bytes bytes'
-was_split bytes half bytes' marks at size rest m w whole eights least more p q =
-    let slot : at ≡ 8 * (at / 8) = omega (arith, w.marked.eights) in
+pub was_split : (bytes half bytes' words words' : List ℕ) (at size rest : ℕ) → IsKept bytes words → IsFreeCell bytes at → cell_size bytes at ≡ size + rest → size % 8 ≡ 0 → 8 ≤ size → 8 ≤ rest
+    → PutsSize bytes half (at + size) rest false → PutsSize half bytes' at size false → PutsStart words words' ((at + size) / 8) true
+    → Changed bytes bytes' words' (AllStay bytes bytes') at (at + size) × IsFreeCell bytes' (at + size)
+was_split bytes half bytes' words words' at size rest k f whole eights least more p q put =
+    let w : IsCellMarkedAt k.marks at = slot_of bytes words k at f.0 in
+    let slot : at ≡ 8 * (at / 8) = omega (arith, w.eights) in
     let size_is : size ≡ 8 * (size / 8) = omega arith in
     let whole_here : cell_size bytes (8 * (at / 8)) ≡ 8 * (size / 8) + rest = ap (cell_size bytes) (sym slot) ∙ whole ∙ ap (λ (x : ℕ). x + rest) size_is in
-    let free : is_allocated bytes (8 * (at / 8)) ≡ false = ap (is_allocated bytes) (sym slot) ∙ w.is_free in
+    let free : is_allocated bytes (8 * (at / 8)) ≡ false = ap (is_allocated bytes) (sym slot) ∙ f.1 in
     let sum_is : at + size ≡ 8 * (at / 8 + size / 8) = omega arith in
     let mid : (at + size) / 8 ≡ at / 8 + size / 8 = omega arith in
     let second : PutsSize bytes half (8 * (at / 8 + size / 8)) rest false = subst (λ (x : ℕ). PutsSize bytes half x rest false) sum_is p in
     let first : PutsSize half bytes' (8 * (at / 8)) size false = subst (λ (x : ℕ). PutsSize half bytes' x size false) slot q in
-    let first_put : PutsSize half bytes' (8 * (at / 8)) (8 * (size / 8)) false = subst (λ (x : ℕ). PutsSize half bytes' (8 * (at / 8)) x false) size_is first in (
-      subst (λ (x : ℕ). IsMarked bytes' (slice_set marks x Cell)) (sym mid) (split_marked bytes half bytes' marks (at / 8) (size / 8) rest m w.marked.is_cell free whole_here (omega arith) more second first_put),
-      split_stay bytes half bytes' marks (at / 8) (size / 8) rest m w.marked.is_cell free whole_here (omega arith) more second first_put,
+    let first_put : PutsSize half bytes' (8 * (at / 8)) (8 * (size / 8)) false = subst (λ (x : ℕ). PutsSize half bytes' (8 * (at / 8)) x false) size_is first in
+    let within : at + cell_size bytes at ≤ length bytes = (whole_at_mark bytes k.marks k.all at w).within in
+    let set : SetsMark k.marks (slice_set k.marks ((at + size) / 8) Cell) ((at + size) / 8) Cell = set_mark k.marks ((at + size) / 8) Cell (omega (arith, k.all.all.len)) in (
+      record {
+        kept = record {
+          marks = slice_set k.marks ((at + size) / 8) Cell;
+          all = subst (λ (x : ℕ). IsMarked bytes' (slice_set k.marks x Cell)) (sym mid) (split_marked bytes half bytes' k.marks (at / 8) (size / 8) rest k.all w.is_cell free whole_here (omega arith) more second first_put);
+          starts = puts_same bytes bytes' k.marks (slice_set k.marks ((at + size) / 8) Cell) words words' ((at + size) / 8) Cell k.starts set put (q.len ∙ p.len);
+        };
+        stay = split_stay bytes half bytes' k.marks (at / 8) (size / 8) rest k.all w.is_cell free whole_here (omega arith) more second first_put;
+        cells = subst (λ (x : ℕ). OtherCells bytes bytes' x (at + size)) (sym slot) (subst (λ (x : ℕ). OtherCells bytes bytes' (8 * (at / 8)) x) (sym sum_is)
+            (split_same bytes half bytes' k.marks (at / 8) (size / 8) rest k.all w.is_cell free whole_here (omega arith) more second first_put));
+        begins = subst (λ (x : ℕ). BeginsCell bytes' x) (sym slot) (split_first bytes half bytes' k.marks (at / 8) (size / 8) rest k.all w.is_cell free whole_here (omega arith) more second first_put);
+      },
+      (
+        subst (λ (x : ℕ). BeginsCell bytes' x) (sym sum_is) (split_second bytes half bytes' k.marks (at / 8) (size / 8) rest k.all w.is_cell free whole_here (omega arith) more second first_put),
+        kind_same half bytes' (at + size) (puts_beside half bytes' at size false q (at + size) (inr (omega arith))) ∙ p.kind_is,
+      ),
     )
 
 -- two free cells that were joined
-pub were_joined : (bytes bytes' : List ℕ) (marks : List Mark) (at next size : ℕ) → IsMarked bytes marks → IsFreeCell bytes marks at (cell_size bytes at) → IsFreeCell bytes marks next (cell_size bytes next) → next ≡ at + cell_size bytes at
-    → size ≡ cell_size bytes at + cell_size bytes next → PutsSize bytes bytes' at size false → IsMarked bytes' (slice_set marks (next / 8) Inside) × AllStay bytes bytes'
-were_joined bytes bytes' marks at next size m w v behind sum_is q =
-    let slot : at ≡ 8 * (at / 8) = omega (arith, w.marked.eights) in
-    let next_slot : next ≡ 8 * (next / 8) = omega (arith, v.marked.eights) in
+pub were_joined : (bytes bytes' words words' : List ℕ) (at next size : ℕ) → IsKept bytes words → IsFreeCell bytes at → IsFreeCell bytes next → next ≡ at + cell_size bytes at
+    → size ≡ cell_size bytes at + cell_size bytes next → PutsSize bytes bytes' at size false → PutsStart words words' (next / 8) false
+    → Changed bytes bytes' words' (AllStay bytes bytes') at next × (¬ BeginsCell bytes' next)
+were_joined bytes bytes' words words' at next size k f g behind sum_is q put =
+    let w : IsCellMarkedAt k.marks at = slot_of bytes words k at f.0 in
+    let v : IsCellMarkedAt k.marks next = slot_of bytes words k next g.0 in
+    let slot : at ≡ 8 * (at / 8) = omega (arith, w.eights) in
+    let next_slot : next ≡ 8 * (next / 8) = omega (arith, v.eights) in
     let a : ℕ = next / 8 - at / 8 in
     let later : next / 8 ≡ at / 8 + a = omega arith in
     let next_is : next ≡ 8 * (at / 8 + a) = omega arith in
     let first_size : cell_size bytes (8 * (at / 8)) ≡ 8 * a = ap (cell_size bytes) (sym slot) ∙ omega arith in
     let next_size : cell_size bytes (8 * (at / 8 + a)) ≡ cell_size bytes next = ap (cell_size bytes) (sym next_is) in
-    let free : is_allocated bytes (8 * (at / 8)) ≡ false = ap (is_allocated bytes) (sym slot) ∙ w.is_free in
-    let next_free : is_allocated bytes (8 * (at / 8 + a)) ≡ false = ap (is_allocated bytes) (sym next_is) ∙ v.is_free in
-    let is_next : mark_at marks (at / 8 + a) ≡ Cell = ap (mark_at marks) (sym later) ∙ v.marked.is_cell in
+    let free : is_allocated bytes (8 * (at / 8)) ≡ false = ap (is_allocated bytes) (sym slot) ∙ f.1 in
+    let next_free : is_allocated bytes (8 * (at / 8 + a)) ≡ false = ap (is_allocated bytes) (sym next_is) ∙ g.1 in
+    let is_next : mark_at k.marks (at / 8 + a) ≡ Cell = ap (mark_at k.marks) (sym later) ∙ v.is_cell in
     let size_is : size ≡ 8 * a + cell_size bytes next = omega arith in
     let here : PutsSize bytes bytes' (8 * (at / 8)) size false = subst (λ (x : ℕ). PutsSize bytes bytes' x size false) slot q in
-    let put : PutsSize bytes bytes' (8 * (at / 8)) (8 * a + cell_size bytes next) false = subst (λ (x : ℕ). PutsSize bytes bytes' (8 * (at / 8)) x false) size_is here in (
-      subst (λ (x : ℕ). IsMarked bytes' (slice_set marks x Inside)) (sym later) (joined_marked bytes bytes' marks (at / 8) a (cell_size bytes next) m w.marked.is_cell is_next free next_free first_size next_size put),
-      joined_stay bytes bytes' marks (at / 8) a (cell_size bytes next) m w.marked.is_cell is_next free next_free first_size next_size put,
+    let puts : PutsSize bytes bytes' (8 * (at / 8)) (8 * a + cell_size bytes next) false = subst (λ (x : ℕ). PutsSize bytes bytes' (8 * (at / 8)) x false) size_is here in
+    let within : next + cell_size bytes next ≤ length bytes = (whole_at_mark bytes k.marks k.all next v).within in
+    let least : 8 ≤ cell_size bytes next = (whole_at_mark bytes k.marks k.all next v).least in
+    let set : SetsMark k.marks (slice_set k.marks (next / 8) Inside) (next / 8) Inside = set_mark k.marks (next / 8) Inside (omega (arith, k.all.all.len)) in (
+      record {
+        kept = record {
+          marks = slice_set k.marks (next / 8) Inside;
+          all = subst (λ (x : ℕ). IsMarked bytes' (slice_set k.marks x Inside)) (sym later) (joined_marked bytes bytes' k.marks (at / 8) a (cell_size bytes next) k.all w.is_cell is_next free next_free first_size next_size puts);
+          starts = puts_same bytes bytes' k.marks (slice_set k.marks (next / 8) Inside) words words' (next / 8) Inside k.starts set put q.len;
+        };
+        stay = joined_stay bytes bytes' k.marks (at / 8) a (cell_size bytes next) k.all w.is_cell is_next free next_free first_size next_size puts;
+        cells = subst (λ (x : ℕ). OtherCells bytes bytes' x next) (sym slot) (subst (λ (x : ℕ). OtherCells bytes bytes' (8 * (at / 8)) x) (sym next_is)
+            (joined_same bytes bytes' k.marks (at / 8) a (cell_size bytes next) k.all w.is_cell is_next free next_free first_size next_size puts));
+        begins = subst (λ (x : ℕ). BeginsCell bytes' x) (sym slot) (joined_first bytes bytes' k.marks (at / 8) a (cell_size bytes next) k.all w.is_cell is_next free next_free first_size next_size puts);
+      },
+      subst (λ (x : ℕ). ¬ BeginsCell bytes' x) (sym next_is) (joined_gone bytes bytes' k.marks (at / 8) a (cell_size bytes next) k.all w.is_cell is_next free next_free first_size next_size puts),
     )
 
 -- a cell whose data were written
-pub written : (bytes bytes' : List ℕ) (marks : List Mark) (at from len : ℕ) → IsMarked bytes marks → IsCellMarkedAt marks at → is_allocated bytes at ≡ true → at + 4 ≤ from → from + len ≤ at + cell_size bytes at
-    → RewritesWithin bytes bytes' from (from + len) → IsMarked bytes' marks × Writes bytes bytes' at from (from + len)
-written bytes bytes' marks at from len m w kind low high r =
+pub written : (bytes bytes' words : List ℕ) (at from len : ℕ) → IsKept bytes words → IsAllocatedCell bytes at → at + 4 ≤ from → from + len ≤ at + cell_size bytes at
+    → RewritesWithin bytes bytes' from (from + len) → Changed bytes bytes' words (Writes bytes bytes' at from (from + len)) at at
+written bytes bytes' words at from len k found low high r =
     let word : word_at bytes' at ≡ word_at bytes at = words_same bytes bytes' at (λ i after before. r.others i (inl (omega arith))) in
     let wide : RewritesWithin bytes bytes' at (at + cell_size bytes at) = record { len = r.len; others = λ i out. r.others i (elim out [ inl under ↦ inl (omega arith) | inr over ↦ inr (omega arith) ]) } in
-    let all = rewritten bytes bytes' marks at m w wide (size_same bytes bytes' at word) in (
-      all.0,
-      record {
-        was = (starts_at_mark bytes marks m at w, kind);
-        begins = (starts_at_mark bytes' marks all.0 at w, kind_same bytes bytes' at word ∙ kind);
+    let all : Changed bytes bytes' words (OthersStay bytes bytes' at) at at = rewritten bytes bytes' words at k found.0 wide (size_same bytes bytes' at word) in
+    record {
+      kept = all.kept;
+      stay = record {
+        was = found;
+        begins = (all.begins, kind_same bytes bytes' at word ∙ found.1);
         size = size_same bytes bytes' at word;
-        others = all.1;
+        others = all.stay;
         within = r;
-      },
-    )
+      };
+      cells = all.cells;
+      begins = all.begins;
+    }
 
--- an allocated cell lies within the data
-pub allocated_within : (bytes : List ℕ) (marks : List Mark) (at : ℕ) → IsMarked bytes marks → IsAllocatedCell bytes at → IsWholeCell bytes at
-allocated_within bytes marks at m found = whole_at_mark bytes marks m at (mark_at_start bytes marks m found.0.0 at found.0.1)
+-- a cell that begins lies within the data
+pub cell_within : (bytes words : List ℕ) (at : ℕ) → IsKept bytes words → BeginsCell bytes at → IsWholeCell bytes at
+cell_within bytes words at k found = whole_at_mark bytes k.marks k.all at (slot_of bytes words k at found)

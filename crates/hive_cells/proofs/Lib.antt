@@ -1,7 +1,11 @@
+pub mod Bits
+pub mod Bounds
 pub mod CellChanges
+pub mod Lookups
 pub mod Marking
 pub mod NewBin
 pub mod OneTile
 pub mod Outcomes
 pub mod Reached
 pub mod Region
+pub mod Walk

@@ -3,10 +3,8 @@ use Rattle.std.proofs.Common.{◌≡◌, ◌≢◌, ℕ, ◌+◌, ◌*◌, ◌%�
 use Rattle.std.specs.Prelude.{slice_set, replicate}
 use Rattle.std.proofs.lemmas.Bool.{cases_eq, cases_lt, cases_order}
 use Rattle.std.proofs.lemmas.List.{length-set, length-replicate, get_or-set_same, get_or-set_other, get_or-replicate, get_or_past}
-use Rattle.hive_cells.specs.declared.marks.Mark.{Mark}
-use Rattle.hive_cells.specs.declared.marks.Mark.TheVariants.{Inside, Bin, Cell}
 use Rattle.hive_cells.specs.Tiles.{first_bin, next_bin, first_cell, next_cell, IsBin, bin_size, IsCell, cell_size}
-use Rattle.hive_cells.specs.Marks.{mark_at, BinMarked, CellMarked, IsMarkedTo, IsMarked, IsBetweenBins, IsInBin}
+use Rattle.hive_cells.specs.Marks.{Mark, Inside, Bin, Cell, mark_at, BinMarked, CellMarked, IsMarkedTo, IsMarked, IsBetweenBins, IsInBin}
 
 -- one mark is set
 pub record SetsMark (old new : List Mark) (n : ℕ) (mark : Mark) : Type 0 where

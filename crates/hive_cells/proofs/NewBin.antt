@@ -1,17 +1,19 @@
 -- A bin that is laid behind the data.
-use Rattle.std.proofs.Common.{◌≡◌, ◌≢◌, ℕ, ◌+◌, ◌-◌, ◌*◌, ◌%◌, ◌/◌, ◌<◌, ◌≤◌, true, false, List, ◌++◌, length, refl, sym, ◌∙◌, subst, inl, inr, arith, ap}
+use Rattle.std.proofs.Common.{eqb, ◌≡◌, ◌≢◌, ℕ, ◌+◌, ◌-◌, ◌*◌, ◌%◌, ◌/◌, ◌<◌, ◌≤◌, true, false, List, ◌++◌, length, refl, sym, ◌∙◌, subst, inl, inr, arith, ap}
 use Rattle.std.specs.Prelude.{slice_index, slice_range, slice_set, replicate, ◌⊎◌}
 use Rattle.std.proofs.lemmas.List.{length-append, length-replicate, get_or_append_left, get_or-append_right, get_or-replicate, get_or_past}
 use Rattle.reg_names.specs.declared.limits.TheConstants.{MOST_BINS_BYTES}
 use Rattle.std.proofs.lemmas.Bool.{cases_eq, cases_lt}
-use Rattle.hive_cells.specs.declared.marks.Mark.{Mark}
-use Rattle.hive_cells.specs.declared.marks.Mark.TheVariants.{Inside, Bin, Cell}
-use Rattle.hive_cells.specs.Tiles.{word_at, BinStart, first_bin, next_bin, IsBin, bin_size, IsCell, cell_size, is_allocated, cell_data}
-use Rattle.hive_cells.specs.Marks.{mark_at, BinMarked, CellMarked, IsMarked, IsBetweenBins, IsCellMarkedAt}
-use Rattle.hive_cells.specs.Changes.{AllStay, LaysBin, PutsSize, HasRoom}
+use Rattle.hive_cells.specs.Tiles.{word_at, BinStart, first_bin, next_bin, IsBin, bin_size, IsCell, cell_size, is_allocated, cell_data, BeginsCell, IsFreeCell, HasFree}
+use Rattle.hive_cells.specs.Marks.{Mark, Inside, Bin, Cell, mark_at, BinMarked, CellMarked, IsMarked, IsBetweenBins, IsCellMarkedAt}
+use Rattle.hive_cells.specs.Changes.{AllStay, LaysBin, PutsSize, HasRoom, least_bin}
+use Rattle.hive_cells.specs.Starts.{IsKept, AreBounds, Raises, IsIndexed, PutsStart, SameCell, is_start, is_cell_mark, bound_at}
 use Rattle.hive_cells.proofs.Marking.{SetsMark, set_mark, bin_set, cell_set, bin_ended, all_marked}
 use Rattle.hive_cells.proofs.Reached.{LiesInBin, bin_over, starts_at_mark, mark_at_start}
 use Rattle.hive_cells.proofs.Region.{words_same, size_same, kind_same, range_same}
+use Rattle.hive_cells.proofs.Bounds.{free_was}
+use Rattle.std.proofs.lemmas.Nat.Bits.{bit_at-zero}
+use Rattle.std.specs.Int.{bit_at}
 
 -- the data and the marks get longer, the marks by none
 pub record Grows (bytes bytes' : List ℕ) (marks marks' : List Mark) : Type 0 where
@@ -256,8 +258,20 @@ module _ (bytes grown bytes' : List ℕ) (marks marks' : List Mark) (m : IsMarke
         kept = λ found. kept_data at (mark_at_start bytes marks m found.0.0 at found.0.1);
       }
 
+  -- and all other cells are the same
+  laid_same : (at : ℕ) → at ≢ length bytes + 32 → SameCell bytes bytes' at
+  laid_same at apart =
+      record {
+        begins = λ found. starts_at_mark bytes' with_cell laid_marked at (marked_again at (mark_at_start bytes marks m found.0 at found.1)).1;
+        began = λ found. starts_at_mark bytes marks m at (marked_before at (mark_at_start bytes' with_cell laid_marked found.0 at found.1) apart).1;
+        word = λ found. word_again bytes bytes' marks marks' m g at (omega (arith, (marked_again at (mark_at_start bytes marks m found.0 at found.1)).0));
+      }
+
+  laid_begins : BeginsCell bytes' (length bytes + 32)
+  laid_begins = starts_at_mark bytes' with_cell laid_marked (length bytes + 32) laid_cell_marked
+
 -- no mark is among none
-inside_marks : (n k : ℕ) → mark_at (replicate n Inside) k ≡ Inside
+pub inside_marks : (n k : ℕ) → mark_at (replicate n Inside) k ≡ Inside
 inside_marks n k = elim (cases_lt k n) [
   | inl within ↦ get_or-replicate n k Inside Inside within
   | inr past ↦ get_or_past (replicate n Inside) k Inside (omega (arith, length-replicate {A = Mark} n Inside))
@@ -312,31 +326,78 @@ grows bytes grown bytes' marks marks' more m some pages bytes_are marks_are l =
       clear = λ j past. rw marks_are (get_or-append_right marks (replicate (more / 8) Inside) (length marks) j Inside refl (omega arith) ∙ inside_marks (more / 8) (j - length marks));
     }
 
--- the bin and its cell, ready to be allocated
-pub room : (bytes grown bytes' : List ℕ) (marks marks' : List Mark) (more size : ℕ) → IsMarked bytes marks → 0 < more → more % 4096 ≡ 0
-    → grown ≡ bytes ++ replicate more 0 → marks' ≡ marks ++ replicate (more / 8) Inside → LaysBin grown bytes' (length bytes)
-    → length bytes + more ≤ MOST_BINS_BYTES → size + 32 ≤ more
-    → HasRoom bytes bytes' (slice_set (slice_set marks' (length bytes / 8) Bin) ((length bytes + 32) / 8) Cell) (length bytes + 32) size
+-- the bits of the longer data
+module _ (bytes : List ℕ) (words : List ℕ) (n : ℕ) where
+  zeros_behind : (i : ℕ) → length words ≤ i → slice_index (words ++ replicate n 0) i ≡ 0
+  zeros_behind i past = get_or-append_right words (replicate n 0) (length words) i 0 refl past ∙ elim (cases_lt (i - length words) n) [
+    | inl within ↦ get_or-replicate n (i - length words) 0 0 within
+    | inr over ↦ get_or_past (replicate n 0) (i - length words) 0 (omega (arith, length-replicate {A = ℕ} n 0))
+  ]
+
+  none_behind : (k : ℕ) → 64 * length words ≤ k → is_start (words ++ replicate n 0) k ≡ false
+  none_behind k past = ap (λ (w : ℕ). eqb (bit_at w (k % 64)) 1) (zeros_behind (k / 64) (omega arith)) ∙ ap (λ (b : ℕ). eqb b 1) (bit_at-zero (k % 64))
+
+  starts_before : (k : ℕ) → k < 64 * length words → is_start (words ++ replicate n 0) k ≡ is_start words k
+  starts_before k low = ap (λ (w : ℕ). eqb (bit_at w (k % 64)) 1) (get_or_append_left words (replicate n 0) 0 (k / 64) (omega arith))
+
+-- the bin and its cell, ready to be allocated, with the bits and the bounds
+pub room : (bytes grown bytes' words words' bounds bounds' bounds'' : List ℕ) (more size at : ℕ) → at ≡ length bytes → (k : IsKept bytes words) → AreBounds bytes bounds → more ≡ least_bin size
+    → grown ≡ bytes ++ replicate more 0 → PutsStart (words ++ replicate (more / 512) 0) words' ((at + 32) / 8) true → LaysBin grown bytes' at
+    → at + more ≤ MOST_BINS_BYTES → (¬ HasFree bytes size)
+    → at + more ≤ 4096 * length bounds' → ((j : ℕ) → slice_index bounds' j ≡ slice_index bounds j) → Raises bounds' bounds'' ((at + 32) / 4096) (cell_size bytes' (at + 32))
+    → HasRoom bytes bytes' (at + 32) size × IsIndexed bytes' words' bounds''
 unfolding with_bin with_cell
-room bytes grown bytes' marks marks' more size m some pages bytes_are marks_are l limit fits =
-    let g : Grows bytes bytes' marks marks' = grows bytes grown bytes' marks marks' more m some pages bytes_are marks_are l in
+room bytes grown bytes' words words' bounds bounds' bounds'' more size at at_is k b more_is bytes_are put l' limit none enough same raised =
+    let m : IsMarked bytes k.marks = k.all in
+    let l : LaysBin grown bytes' (length bytes) = subst (λ (x : ℕ). LaysBin grown bytes' x) at_is l' in
+    let pages : more % 4096 ≡ 0 = omega arith in
+    let some : 0 < more = omega arith in
+    let marks' : List Mark = k.marks ++ replicate (more / 8) Inside in
+    let g : Grows bytes bytes' k.marks (k.marks ++ replicate (more / 8) Inside) = grows bytes grown bytes' k.marks (k.marks ++ replicate (more / 8) Inside) more m some pages bytes_are refl l in
     let long : length grown ≡ length bytes + more = rw bytes_are (length-append bytes (replicate more 0) ∙ ap (λ (x : ℕ). length bytes + x) (length-replicate {A = ℕ} more 0)) in
     let len : length bytes' ≡ length grown = l.len in
     let cell_is : length bytes + (32 + cell_size bytes' (length bytes + 32)) ≡ length bytes' = l.cell_is in
-    record {
-      marked = laid_marked bytes grown bytes' marks marks' m g l;
-      limit = omega arith;
-      cell = record { marked = laid_cell_marked bytes grown bytes' marks marks' m g l; size_is = refl; is_free = l.is_free };
-      fits = omega arith;
-      stay = laid_stay bytes grown bytes' marks marks' m g l;
-      longer = omega arith;
-      same = g.same;
-    }
-
--- the same at an offset that is the old end
-pub room_at : (bytes grown bytes' : List ℕ) (marks marks' : List Mark) (more size at : ℕ) → at ≡ length bytes → IsMarked bytes marks → 0 < more → more % 4096 ≡ 0
-    → grown ≡ bytes ++ replicate more 0 → marks' ≡ marks ++ replicate (more / 8) Inside → LaysBin grown bytes' at → at + more ≤ MOST_BINS_BYTES → size + 32 ≤ more
-    → HasRoom bytes bytes' (slice_set (slice_set marks' (at / 8) Bin) ((at + 32) / 8) Cell) (at + 32) size
-room_at bytes grown bytes' marks marks' more size at e m some pages bytes_are marks_are l limit fits =
-    subst (λ (x : ℕ). HasRoom bytes bytes' (slice_set (slice_set marks' (x / 8) Bin) ((x + 32) / 8) Cell) (x + 32) size) (sym e)
-    (room bytes grown bytes' marks marks' more size m some pages bytes_are marks_are (subst (λ (x : ℕ). LaysBin grown bytes' x) e l) (omega arith) fits)
+    let cell : IsFreeCell bytes' (length bytes + 32) = (laid_begins bytes grown bytes' k.marks (k.marks ++ replicate (more / 8) Inside) m g l, l.is_free) in
+    let words_long : length (words ++ replicate (more / 512) 0) ≡ length words + more / 512 = length-append words (replicate (more / 512) 0) ∙ ap (λ (x : ℕ). length words + x) (length-replicate {A = ℕ} (more / 512) 0) in
+    let bin : SetsMark (k.marks ++ replicate (more / 8) Inside) (slice_set (k.marks ++ replicate (more / 8) Inside) (length bytes / 8) Bin) (length bytes / 8) Bin = bin_set_here bytes grown bytes' k.marks (k.marks ++ replicate (more / 8) Inside) m g l in
+    let set : SetsMark (slice_set (k.marks ++ replicate (more / 8) Inside) (length bytes / 8) Bin) (slice_set (slice_set (k.marks ++ replicate (more / 8) Inside) (length bytes / 8) Bin) ((length bytes + 32) / 8) Cell) ((length bytes + 32) / 8) Cell = cell_set_here bytes grown bytes' k.marks (k.marks ++ replicate (more / 8) Inside) m g l in
+    let data_pages : length bytes % 4096 ≡ 0 = m.pages in
+    let data_len : length bytes ≡ 512 * length words = k.starts.len in
+    let same_starts : (j : ℕ) → is_start words' j ≡ is_cell_mark (mark_at (slice_set (slice_set (k.marks ++ replicate (more / 8) Inside) (length bytes / 8) Bin) ((length bytes + 32) / 8) Cell) j) =
+    (λ j. elim (cases_eq j ((length bytes + 32) / 8)) [
+      | inl here ↦ ap (is_start words') (here ∙ ap (λ (x : ℕ). (x + 32) / 8) (sym at_is)) ∙ put.here ∙ ap is_cell_mark (sym set.here) ∙ ap (λ (x : ℕ). is_cell_mark (mark_at (slice_set (slice_set (k.marks ++ replicate (more / 8) Inside) (length bytes / 8) Bin) ((length bytes + 32) / 8) Cell) x)) (sym here)
+      | inr apart ↦ put.others j (λ e. apart (e ∙ ap (λ (x : ℕ). (x + 32) / 8) at_is)) ∙ elim (cases_eq j (length bytes / 8)) [
+        | inl at_bin ↦ none_behind bytes words (more / 512) j (omega arith) ∙ ap is_cell_mark (sym bin.here) ∙ ap (λ (x : ℕ). is_cell_mark (mark_at (slice_set (k.marks ++ replicate (more / 8) Inside) (length bytes / 8) Bin) x)) (sym at_bin) ∙ ap is_cell_mark (sym (set.others j apart))
+        | inr beside ↦ elim (cases_lt (8 * j) (length bytes)) [
+          | inl low ↦ starts_before bytes words (more / 512) j (omega arith) ∙ k.starts.same j ∙ ap is_cell_mark (sym (g.marks_same j low)) ∙ ap is_cell_mark (sym (bin.others j beside)) ∙ ap is_cell_mark (sym (set.others j apart))
+          | inr high ↦ none_behind bytes words (more / 512) j (omega arith) ∙ ap is_cell_mark (sym (g.clear j high)) ∙ ap is_cell_mark (sym (bin.others j beside)) ∙ ap is_cell_mark (sym (set.others j apart))
+        ]
+      ]
+    ]) in (
+      record {
+        limit = omega arith;
+        cell = subst (λ (x : ℕ). IsFreeCell bytes' (x + 32)) (sym at_is) cell;
+        fits = subst (λ (x : ℕ). size ≤ cell_size bytes' (x + 32)) (sym at_is) (omega arith);
+        stay = laid_stay bytes grown bytes' k.marks (k.marks ++ replicate (more / 8) Inside) m g l;
+        longer = omega arith;
+        same = g.same;
+        grows = inr (none, omega arith);
+        has_place = λ no. elim no [ inl over ↦ omega arith | inr needs ↦ omega (arith, needs.1) ];
+      },
+      record {
+        cells = record {
+          marks = slice_set (slice_set (k.marks ++ replicate (more / 8) Inside) (length bytes / 8) Bin) ((length bytes + 32) / 8) Cell;
+          all = laid_marked bytes grown bytes' k.marks (k.marks ++ replicate (more / 8) Inside) m g l;
+          starts = record { len = omega (arith, put.len); same = same_starts };
+        };
+        free = record {
+          len = omega (arith, raised.len);
+          most = λ other free. elim (cases_eq other (length bytes + 32)) [
+            | inl here ↦ subst (λ (x : ℕ). cell_size bytes' x ≤ bound_at bounds'' x) (ap (λ (x : ℕ). x + 32) at_is ∙ sym here) raised.here
+            | inr apart ↦
+                let was = free_was bytes bytes' other (laid_same bytes grown bytes' k.marks (k.marks ++ replicate (more / 8) Inside) m g l other apart) free in
+                omega (arith, was.1, b.most other was.0, same (other / 4096), raised.more (other / 4096))
+          ];
+        };
+      },
+    )

@@ -1,10 +1,8 @@
 -- Each byte of data that bins and cells tile lies in one tile.
 use Rattle.std.proofs.Common.{◌≡◌, ◌≢◌, ℕ, ◌+◌, ◌*◌, ◌%◌, ◌/◌, ◌<◌, ◌≤◌, List, length, refl, sym, ◌∙◌, inl, inr, arith, ap}
 use Rattle.std.proofs.lemmas.Bool.{cases_lt, cases_order}
-use Rattle.hive_cells.specs.declared.marks.Mark.{Mark}
-use Rattle.hive_cells.specs.declared.marks.Mark.TheVariants.{Inside, Bin, Cell}
 use Rattle.hive_cells.specs.Tiles.{BinStart, CellStart, bin_size, cell_size, Tile, header, cell, IsTile, HoldsByte, LiesInOneTile}
-use Rattle.hive_cells.specs.Marks.{mark_at, IsMarkedTo, IsMarked}
+use Rattle.hive_cells.specs.Marks.{Mark, Inside, Bin, Cell, mark_at, IsMarkedTo, IsMarked}
 use Rattle.hive_cells.proofs.Reached.{BinSlot, CellSlot, LiesInBin, LiesInCell, bin_reached, cell_reached, bin_over, cell_over}
 
 -- the slot that a tile begins at which holds a byte: behind it and up to the byte nothing else begins

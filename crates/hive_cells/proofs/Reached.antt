@@ -2,10 +2,8 @@
 use Rattle.std.proofs.Common.{◌≡◌, ◌≢◌, ℕ, zero, suc, ◌+◌, ◌*◌, ◌%◌, ◌/◌, ◌<◌, ◌≤◌, List, length, refl, sym, ◌∙◌, subst, inl, inr, arith, ap}
 use Rattle.std.specs.Prelude.{◌⊎◌}
 use Rattle.std.proofs.lemmas.Bool.{cases_eq, cases_lt}
-use Rattle.hive_cells.specs.declared.marks.Mark.{Mark}
-use Rattle.hive_cells.specs.declared.marks.Mark.TheVariants.{Inside, Bin, Cell}
 use Rattle.hive_cells.specs.Tiles.{BinStart, first_bin, next_bin, CellStart, first_cell, next_cell, IsBin, bin_size, IsCell, cell_size, Tiles}
-use Rattle.hive_cells.specs.Marks.{mark_at, BinMarked, CellMarked, IsMarkedTo, IsMarked, IsCellMarkedAt, IsWholeCell}
+use Rattle.hive_cells.specs.Marks.{Mark, Inside, Bin, Cell, mark_at, BinMarked, CellMarked, IsMarkedTo, IsMarked, IsCellMarkedAt, IsWholeCell}
 
 -- what a mark may be
 kinds : (m : Mark) → (m ≡ Inside) ⊎ ((m ≡ Bin) ⊎ (m ≡ Cell))

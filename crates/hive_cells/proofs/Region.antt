@@ -3,12 +3,11 @@ use Rattle.std.proofs.Common.{◌≡◌, ◌≢◌, ℕ, ◌+◌, ◌-◌, ◌*�
 use Rattle.std.specs.Prelude.{slice_index, slice_range, ◌⊎◌}
 use Rattle.std.proofs.lemmas.List.{length-take, length-drop, get_or-take, get_or-drop, ext_get_or}
 use Rattle.std.proofs.lemmas.Bool.{cases_eq, cases_lt, cases_order}
-use Rattle.hive_cells.specs.declared.marks.Mark.{Mark}
-use Rattle.hive_cells.specs.declared.marks.Mark.TheVariants.{Inside, Bin, Cell}
 use Rattle.hive_cells.specs.Changes.{StaysAt}
+use Rattle.hive_cells.specs.Starts.{SameCell}
 use Rattle.hive_cells.proofs.Reached.{starts_at_mark, mark_at_start}
-use Rattle.hive_cells.specs.Tiles.{word_at, cell_size, is_allocated, cell_data}
-use Rattle.hive_cells.specs.Marks.{mark_at, BinMarked, CellMarked, IsMarkedTo, IsMarked, IsCellMarkedAt}
+use Rattle.hive_cells.specs.Tiles.{BeginsCell, word_at, cell_size, is_allocated, cell_data}
+use Rattle.hive_cells.specs.Marks.{Mark, Inside, Bin, Cell, mark_at, BinMarked, CellMarked, IsMarkedTo, IsMarked, IsCellMarkedAt}
 
 -- the cells from the slot `from` on, up to the slot `to`, become others; `from` and `to` are in 8 bytes
 pub record ChangesCells (bytes bytes' : List ℕ) (marks marks' : List Mark) (from to : ℕ) : Type 0 where
@@ -266,3 +265,32 @@ module _ (bytes bytes' : List ℕ) (marks marks' : List Mark) (from to : ℕ) (m
           | inr high ↦ stays_outside all at (inr high)
         ]
       ]
+
+  -- an offset that isn't among the changed cells
+  outside : (at : ℕ) → (from ≤ at / 8 → at / 8 < to → ⊥) → ((at / 8 < from) ⊎ (to ≤ at / 8))
+  outside at not_inner = elim (cases_lt (at / 8) from) [
+    | inl low ↦ inl low
+    | inr past ↦ elim (cases_lt (at / 8) to) [ inl inner ↦ absurd (not_inner past inner) | inr high ↦ inr high ]
+  ]
+
+  -- where no cell begins among the changed ones, before and after, the cells are the same
+  pub same_at : IsMarked bytes marks → (at : ℕ)
+      → (from ≤ at / 8 → at / 8 < to → IsCellMarkedAt marks at → ⊥)
+      → (from ≤ at / 8 → at / 8 < to → IsCellMarkedAt marks' at → ⊥)
+      → SameCell bytes bytes' at
+  same_at all at old_none new_none =
+      let was : BeginsCell bytes at → IsCellMarkedAt marks at = (λ found. mark_at_start bytes marks all found.0 at found.1) in
+      let now : BeginsCell bytes' at → IsCellMarkedAt marks' at = (λ found. mark_at_start bytes' marks' (all_again all) found.0 at found.1) in
+      record {
+        begins = λ found.
+            let w : IsCellMarkedAt marks at = was found in
+            let out : (at / 8 < from) ⊎ (to ≤ at / 8) = outside at (λ past inner. old_none past inner w) in
+            starts_at_mark bytes' marks' (all_again all) at (record { eights = w.eights; is_cell = mark_outside (at / 8) out ∙ w.is_cell });
+        began = λ found.
+            let w : IsCellMarkedAt marks' at = now found in
+            let out : (at / 8 < from) ⊎ (to ≤ at / 8) = outside at (λ past inner. new_none past inner w) in
+            starts_at_mark bytes marks all at (record { eights = w.eights; is_cell = sym (mark_outside (at / 8) out) ∙ w.is_cell });
+        word = λ found.
+            let w : IsCellMarkedAt marks at = was found in
+            kind_outside at w.eights (outside at (λ past inner. old_none past inner w));
+      }

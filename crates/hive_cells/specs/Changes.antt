@@ -4,9 +4,7 @@ use Rattle.reg_names.specs.declared.refusal.Refusal.{Refusal}
 use Rattle.reg_names.specs.declared.refusal.Refusal.TheVariants as refusal
 use Rattle.reg_names.specs.declared.refusal.Cause.TheVariants as cause
 use Rattle.reg_names.specs.declared.limits.TheConstants.{MOST_BINS_BYTES}
-use Rattle.hive_cells.specs.declared.marks.Mark.{Mark}
-use Rattle.hive_cells.specs.Tiles.{word_at, bin_size, is_allocated, cell_size, IsAllocatedCell, cell_data}
-use Rattle.hive_cells.specs.Marks.{IsCellMarkedAt, IsMarked}
+use Rattle.hive_cells.specs.Tiles.{word_at, bin_size, is_allocated, cell_size, IsAllocatedCell, IsFreeCell, HasFree, cell_data}
 
 -- at an offset an allocated cell begins after the change exactly where one did before, and its size and its data
 -- are the same
@@ -44,12 +42,6 @@ pub record PutsSize (old new : List ℕ) (at size : ℕ) (allocated : Bool) : Ty
   pub kind_is : is_allocated new at ≡ allocated
   pub others : (i : ℕ) → ((i < at) ⊎ (at + 4 ≤ i)) → slice_index new i ≡ slice_index old i
 
--- a free cell of a size is marked at an offset
-pub record IsFreeCell (bytes : List ℕ) (marks : List Mark) (at size : ℕ) : Type 0 where
-  pub marked : IsCellMarkedAt marks at
-  pub size_is : cell_size bytes at ≡ size
-  pub is_free : is_allocated bytes at ≡ false
-
 -- a bin with one free cell is laid behind the data, from an offset up to the new end
 pub record LaysBin (old new : List ℕ) (at : ℕ) : Type 0 where
   pub signature : word_at new at ≡ 0x6e69_6268
@@ -60,25 +52,35 @@ pub record LaysBin (old new : List ℕ) (at : ℕ) : Type 0 where
   pub len : length new ≡ length old
   pub others : (i : ℕ) → i < at → slice_index new i ≡ slice_index old i
 
--- a free cell of at least a size is marked at an offset; the data may have got longer, and what they were stays
-pub record HasRoom (old new : List ℕ) (marks : List Mark) (at size : ℕ) : Type 0 where
-  pub marked : IsMarked new marks
-  pub limit : length new ≤ MOST_BINS_BYTES
-  pub cell : IsFreeCell new marks at (cell_size new at)
-  pub fits : size ≤ cell_size new at
-  pub stay : AllStay old new
-  pub longer : length old ≤ length new
-  pub same : (i : ℕ) → i < length old → slice_index new i ≡ slice_index old i
-
 -- the size of a bin for a cell of a size: with its header of 32 bytes, rounded up to a multiple of 4,096
 abbrev pub least_bin : ℕ → ℕ
 least_bin size = (size + 4127) / 4096 * 4096
 
--- why no bin is added
-abbrev pub BinRefused : List ℕ → ℕ → Refusal → Type 0
-BinRefused bytes size refusal.NoMemory = Unit {0}
-BinRefused bytes size refusal.TooLarge = MOST_BINS_BYTES < length bytes + least_bin size
-BinRefused bytes size _ = ⊥
+-- the data stay as long as they are, or get longer by a bin for a cell of a size, where no free cell is as long
+abbrev pub GrowsForNeed : List ℕ → List ℕ → ℕ → Type 0
+GrowsForNeed old new size = (length new ≡ length old) ⊎ ((¬ HasFree old size) × (length new ≡ length old + least_bin size))
+
+-- a cell of a size has no place: the data are over the limit, or no free cell is as long and a bin for it would take
+-- the data over the limit
+abbrev pub HasNoPlace : List ℕ → ℕ → Type 0
+HasNoPlace bytes size = (MOST_BINS_BYTES < length bytes) ⊎ ((¬ HasFree bytes size) × (MOST_BINS_BYTES < length bytes + least_bin size))
+
+-- a free cell of at least a size is at an offset; the data may have got longer, and what they were stays
+pub record HasRoom (old new : List ℕ) (at size : ℕ) : Type 0 where
+  pub limit : length new ≤ MOST_BINS_BYTES
+  pub cell : IsFreeCell new at
+  pub fits : size ≤ cell_size new at
+  pub stay : AllStay old new
+  pub longer : length old ≤ length new
+  pub same : (i : ℕ) → i < length old → slice_index new i ≡ slice_index old i
+  pub grows : GrowsForNeed old new size
+  pub has_place : ¬ HasNoPlace old size
+
+-- why no cell of a size is allocated
+abbrev pub PlaceRefused : List ℕ → ℕ → Refusal → Type 0
+PlaceRefused bytes size refusal.NoMemory = ¬ HasNoPlace bytes size
+PlaceRefused bytes size refusal.TooLarge = HasNoPlace bytes size
+PlaceRefused bytes size _ = ⊥
 
 -- a free cell is allocated at an offset, of at least a size and at most 8 bytes more
 pub record Takes (old new : List ℕ) (at size : ℕ) : Type 0 where
@@ -89,28 +91,40 @@ pub record Takes (old new : List ℕ) (at size : ℕ) : Type 0 where
   pub others : OthersStay old new at
   pub written : RewritesWithin old new at (at + cell_size new at + 4)
 
+-- the free cell at an offset, in which a freed cell lies, has taken in the free cell that ended where the freed one
+-- began, and the one that began where it ended
+pub record Merges (old new : List ℕ) (offset from : ℕ) : Type 0 where
+  pub free : IsFreeCell new from
+  pub before : from ≤ offset
+  pub behind : offset + cell_size old offset ≤ from + cell_size new from
+  pub free_before : (at : ℕ) → IsFreeCell old at → at + cell_size old at ≡ offset → from ≡ at
+  pub free_behind : (at : ℕ) → IsFreeCell old at → at ≡ offset + cell_size old offset → from + cell_size new from ≡ at + cell_size old at
+
 -- the allocated cell at an offset is freed, and lies in a free cell that begins at another
 pub record Frees (old new : List ℕ) (offset from : ℕ) : Type 0 where
   pub was : IsAllocatedCell old offset
+  pub limit : length old ≤ MOST_BINS_BYTES
   pub gone : ¬ IsAllocatedCell new offset
   pub others : OthersStay old new offset
   pub len : length new ≡ length old
-  pub before : from ≤ offset
+  pub merges : Merges old new offset from
   pub written : (i : ℕ) → ((i < offset) ⊎ (offset + 4 ≤ i)) → ((i < from) ⊎ (from + 4 ≤ i)) → slice_index new i ≡ slice_index old i
 
--- why a cell isn't freed
+-- why a cell isn't freed: the data are over the limit, or within it and no allocated cell begins there
 abbrev pub FreeRefused : List ℕ → ℕ → Refusal → Type 0
 FreeRefused bytes offset refusal.TooLarge = MOST_BINS_BYTES < length bytes
-FreeRefused bytes offset (refusal.HiveDamaged zero cause.BadOffset) = ¬ IsAllocatedCell bytes offset
+FreeRefused bytes offset (refusal.HiveDamaged zero cause.BadOffset) = (length bytes ≤ MOST_BINS_BYTES) × (¬ IsAllocatedCell bytes offset)
 FreeRefused bytes offset _ = ⊥
 
 -- a cell for data of a length is allocated at an offset, and all other allocated cells stay
 pub record Allocates (old new : List ℕ) (len offset : ℕ) : Type 0 where
+  pub has_place : ¬ HasNoPlace old (least_size len)
   pub fresh : ¬ IsAllocatedCell old offset
   pub begins : IsAllocatedCell new offset
   pub least : least_size len ≤ cell_size new offset
   pub most : cell_size new offset ≤ least_size len + 8
   pub others : OthersStay old new offset
+  pub grows : GrowsForNeed old new (least_size len)
   pub written : WritesWithin old new offset (offset + cell_size new offset + 4)
 
 -- bytes of the data of the allocated cell at an offset are written, from one offset up to another

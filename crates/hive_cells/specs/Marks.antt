@@ -1,8 +1,12 @@
--- What is kept of where bins and cells begin: a mark for each 8 bytes of the data.
+-- Where bins and cells begin: a mark for each 8 bytes of the data.
 use Rattle.std.specs.Prelude.{◌≡◌, ◌≢◌, ℕ, ◌+◌, ◌*◌, ◌/◌, ◌%◌, ◌<◌, ◌≤◌, List, length, slice_index_or}
-use Rattle.hive_cells.specs.declared.marks.Mark.{Mark}
-use Rattle.hive_cells.specs.declared.marks.Mark.TheVariants.{Inside, Bin, Cell}
 use Rattle.hive_cells.specs.Tiles.{BinStart, CellStart, IsBin, bin_size, IsCell, cell_size}
+
+-- what begins at 8 bytes of the data: nothing, a bin, or a cell
+pub data Mark : Type 0 where
+  Inside : Mark
+  Bin : Mark
+  Cell : Mark
 
 -- the mark of the k-th 8 bytes
 abbrev pub mark_at : List Mark → ℕ → Mark

@@ -1,6 +1,6 @@
 -- How bins and cells tile hive bins data (regf format: hive bins; cells). Offsets and sizes are in bytes, and
 -- offsets are counted from the start of the data.
-use Rattle.std.specs.Prelude.{◌≡◌, ◌≢◌, ℕ, zero, ◌+◌, ◌-◌, ◌*◌, ◌%◌, ◌^◌, ◌<◌, ◌≤◌, nat_le, Bool, IsTrue, if◌then◌else◌, List, length, slice_index, slice_range}
+use Rattle.std.specs.Prelude.{◌≡◌, ◌≢◌, ℕ, zero, ◌+◌, ◌-◌, ◌*◌, ◌%◌, ◌^◌, ◌<◌, ◌≤◌, nat_le, Bool, false, IsTrue, if◌then◌else◌, List, length, slice_index, slice_range}
 use Rattle.reg_names.specs.declared.refusal.Refusal.{Refusal}
 use Rattle.reg_names.specs.declared.refusal.Refusal.TheVariants as refusal
 use Rattle.reg_names.specs.declared.refusal.Cause.{Cause}
@@ -69,9 +69,21 @@ DataRefused bytes refusal.NoMemory = Unit {0}
 DataRefused bytes (refusal.HiveDamaged zero c) = Fault bytes c
 DataRefused bytes _ = ⊥
 
+-- a cell begins at the offset
+abbrev pub BeginsCell : List ℕ → ℕ → Type 0
+BeginsCell bytes at = (end : ℕ) × CellStart bytes end at
+
 -- an allocated cell begins at the offset
 abbrev pub IsAllocatedCell : List ℕ → ℕ → Type 0
-IsAllocatedCell bytes at = ((end : ℕ) × CellStart bytes end at) × IsTrue (is_allocated bytes at)
+IsAllocatedCell bytes at = BeginsCell bytes at × IsTrue (is_allocated bytes at)
+
+-- a free cell begins at the offset
+abbrev pub IsFreeCell : List ℕ → ℕ → Type 0
+IsFreeCell bytes at = BeginsCell bytes at × (is_allocated bytes at ≡ false)
+
+-- a free cell of at least a size begins somewhere
+abbrev pub HasFree : List ℕ → ℕ → Type 0
+HasFree bytes size = (at : ℕ) × IsFreeCell bytes at × (size ≤ cell_size bytes at)
 
 -- the data of a cell: its bytes behind its size
 abbrev pub cell_data : List ℕ → ℕ → List ℕ

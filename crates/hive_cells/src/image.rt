@@ -1,16 +1,16 @@
 //! Hive bins data whose bins and cells tile, with its cells by their offsets.
 ghost use Rattle.std.specs.Prelude.{◌≡◌, ◌+◌, ◌-◌, ◌^◌, ◌<◌, ◌*◌, ◌/◌, ◌%◌, ◌≤◌, List, ℕ, MatchResult, IfOk, IsTrue, ◌↔◌, min, length, slice_range};
 ghost use Rattle.hive_cells.specs.Tiles.{Tiles, LiesInOneTile, DataRefused, IsAllocatedCell, cell_data, cell_size, is_allocated};
-ghost use Rattle.hive_cells.specs.Marks.{IsMarked, IsWholeCell};
-ghost use Rattle.hive_cells.specs.Changes.{Frees, FreeRefused, Allocates, BinRefused, HasRoom, Writes, least_size};
+ghost use Rattle.hive_cells.specs.Marks.{IsWholeCell};
+ghost use Rattle.hive_cells.specs.Starts.{IsIndexed};
+ghost use Rattle.hive_cells.specs.Changes.{Frees, FreeRefused, Allocates, PlaceRefused, HasRoom, Writes, least_size};
 
 use crate::bins::add_bin;
 use crate::edits::{give_back, take, write_data};
-use crate::free_cells::FreeCells;
+use crate::free_bounds::FreeBounds;
 use crate::looks::Looks;
-use crate::lookup::{is_cell_allocated, is_free_cell};
-use crate::marks::Mark;
-use crate::tiling::{MARKED_BYTES, cell_size, damaged, marks_of};
+use crate::lookup::{find_free, is_cell_allocated};
+use crate::tiling::{MARKED_BYTES, cell_size, damaged, index_of};
 use reg_names::limits::MOST_BINS_BYTES;
 use reg_names::{Cause, Refusal};
 use std::alloc::Global;
@@ -22,13 +22,14 @@ const SIZE_BYTES: usize = 4;
 /// Hive bins data that bins and cells tile: bins follow one another and fill the data, and the cells of a
 /// bin follow its header of 32 bytes and fill the bin. Contracts see an image as its bytes.
 ///
-/// An image keeps its bytes, a mark for each 8 of them, by which a cell is found without a walk, and notes of
-/// where free cells are, by which one is found for an allocation.
+/// An image keeps its bytes, a bit for each 8 of them, by which a cell is found without a walk, and for each page
+/// of 4,096 a bound of the sizes of its free cells, by which one is found for an allocation: together about 1/56
+/// of the bytes.
 #[derive(Drop)]
 pub struct Image {
     bytes: Vec<u8>,
-    marks: Vec<Mark>,
-    free: FreeCells,
+    starts: Vec<u64>,
+    free: FreeBounds,
 }
 
 impl Model for Image {
@@ -36,7 +37,7 @@ impl Model for Image {
 
     ghost view = { λ image. image.bytes.items };
 
-    ghost invariant = { λ image. IsMarked image.bytes.items image.marks.items };
+    ghost invariant = { λ image. IsIndexed image.bytes.items image.starts.items image.free };
 }
 
 impl Image {
@@ -46,13 +47,16 @@ impl Image {
     /// that stands in them: `Truncated` where they are not whole pages of 4,096 bytes, `BadBin` where a bin's
     /// signature, offset or size is wrong or the bin doesn't end within the data, `BadCell` where a cell's
     /// size is no multiple of 8, is below 8, or passes the end of its bin. Refused with `NoMemory` where memory
-    /// for the marks, an eighth of the data's length, or for the notes of free cells was not given.
+    /// for the bits and the bounds, about 1/56 of the data's length, was not given.
     pub fn open(alloc: Global, bytes: Vec<u8>) -> Result<Image, Refusal>
         ensures { MatchResult result (λ image. (image ≡ bytes.items) × Tiles bytes.items) (DataRefused bytes.items) }
     {
-        let marks = marks_of(alloc, &bytes)?;
-        let free = FreeCells::of(alloc, &bytes, &marks)?;
-        Ok(Image { bytes, marks, free })
+        let (starts, free) = index_of(alloc, &bytes)?;
+        Ok(Image {
+            bytes,
+            starts,
+            free,
+        })
     }
 
     /// The law of every image: bins and cells tile it, and each byte lies in the header of one bin or in one
@@ -84,7 +88,7 @@ impl Image {
     {
         let Image {
             bytes,
-            marks: _,
+            starts: _,
             free: _,
         } = self;
         bytes
@@ -101,7 +105,7 @@ impl Image {
     {
         looks.raise();
         let at = offset as usize;
-        if is_cell_allocated(&self.bytes, &self.marks, at) {
+        if is_cell_allocated(&self.bytes, &self.starts, at) {
             Ok(data_of(&self.bytes, at))
         } else {
             Err(damaged(Cause::BadOffset))
@@ -117,12 +121,12 @@ impl Image {
         ensures { MatchResult result (λ _. Writes self.old self.new offset (offset + 4 + at) (offset + 4 + at + length source.now) × (slice_range self.new (offset + 4 + at) (offset + 4 + at + length source.now) ≡ source.now)) (λ refusal. (self.new ≡ self.old) × (refusal ≡ Refusal.HiveDamaged 0 Cause.BadOffset) × (¬ IsAllocatedCell self.old offset)) }
     {
         let cell = offset as usize;
-        if !is_cell_allocated(&self.bytes, &self.marks, cell) {
+        if !is_cell_allocated(&self.bytes, &self.starts, cell) {
             return Err(damaged(Cause::BadOffset));
         }
         write_data(
             &mut self.bytes,
-            &self.marks,
+            &self.starts,
             cell,
             cell + SIZE_BYTES + at,
             source,
@@ -130,14 +134,12 @@ impl Image {
         Ok(())
     }
 
-    /// Frees the allocated cell that begins at an offset, and merges it with the free cell behind it and with
-    /// a near free cell before it. Answers where the free cell begins in which it now lies; of the data only
-    /// the four bytes there and those at the offset are written. Never refused for want of memory: where a note
-    /// of the free cell can't be kept, `alloc` just doesn't find it.
+    /// Frees the allocated cell that begins at an offset, and merges it with the free cell that ends there and with
+    /// the one that begins where it ends. Answers where the free cell begins in which it now lies; of the data only
+    /// the four bytes there and those at the offset are written. Never refused for want of memory.
     ///
-    /// Refused with `TooLarge` only where the data are longer than the limit, and with `HiveDamaged` of hive 0
-    /// and `BadOffset` only where no allocated cell begins there; one that begins in data within the limit is
-    /// freed.
+    /// Refused with `TooLarge` exactly where the data are longer than the limit, and else with `HiveDamaged` of hive
+    /// 0 and `BadOffset` exactly where no allocated cell begins there.
     pub fn free(&mut self, offset: u32) -> Result<u32, Refusal>
         ensures { MatchResult result (λ from. Frees self.old self.new offset from) (λ refusal. (self.new ≡ self.old) × FreeRefused self.old offset refusal) }
     {
@@ -145,33 +147,29 @@ impl Image {
         if self.bytes.len() > MOST_BINS_BYTES {
             return Err(Refusal::TooLarge);
         }
-        if !is_cell_allocated(&self.bytes, &self.marks, at) {
+        if !is_cell_allocated(&self.bytes, &self.starts, at) {
             return Err(damaged(Cause::BadOffset));
         }
-        let from = give_back(&mut self.bytes, &mut self.marks, at);
-        note_free(&self.bytes, &self.marks, &mut self.free, from);
+        let from = give_back(&mut self.bytes, &mut self.starts, &mut self.free, at);
         Ok(from as u32)
     }
 
     /// Allocates a cell for data of a length, and answers where it begins. Its size is the length and four
-    /// bytes, rounded up to a multiple of 8, or 8 bytes more. A free cell is taken, and what is over stays
-    /// free; where none of those that are looked at fits, a bin is added behind the data. Of the data before,
-    /// only bytes of the cell and the four bytes behind it are written. What the new cell's data hold is not
-    /// said.
+    /// bytes, rounded up to a multiple of 8, or 8 bytes more. A free cell that is as long is taken, and what is over
+    /// stays free; where there is none, the least bin for the cell is added behind the data. Of the data before, only
+    /// bytes of the cell and the four bytes behind it are written. What the new cell's data hold is not said.
     ///
-    /// Refused with `TooLarge` only where the data with a new bin for the cell would be longer than the limit,
-    /// and with `NoMemory`.
+    /// Refused with `TooLarge` exactly where the data are longer than the limit, or no free cell is as long and the
+    /// data with a new bin for the cell would be longer than the limit; and else with `NoMemory`.
     pub fn alloc(&mut self, len: usize) -> Result<u32, Refusal>
-        ensures { MatchResult result (λ offset. Allocates self.old self.new len offset) (λ refusal. (self.new ≡ self.old) × BinRefused self.old (least_size len) refusal) }
+        ensures { MatchResult result (λ offset. Allocates self.old self.new len offset) (λ refusal. (self.new ≡ self.old) × PlaceRefused self.old (least_size len) refusal) }
     {
         if self.bytes.len() > MOST_BINS_BYTES || len > MOST_BINS_BYTES {
             return Err(Refusal::TooLarge);
         }
-        let size = (len + SIZE_BYTES).div_ceil(MARKED_BYTES) * MARKED_BYTES;
-        let at = find_room(&mut self.bytes, &mut self.marks, &mut self.free, size)?;
-        take(&mut self.bytes, &mut self.marks, at, size);
-        let behind = at + cell_size(&self.bytes, at);
-        note_free(&self.bytes, &self.marks, &mut self.free, behind);
+        let size = size_for(len);
+        let at = find_room(&mut self.bytes, &mut self.starts, &mut self.free, size)?;
+        take(&mut self.bytes, &mut self.starts, &mut self.free, at, size);
         Ok(at as u32)
     }
 }
@@ -185,29 +183,32 @@ fn data_of(bytes: &[u8], at: usize) -> &[u8]
     &bytes[at + SIZE_BYTES..at + cell_size(bytes, at)]
 }
 
-// notes the free cell at an offset, if there is one; where memory is refused it is not noted
-fn note_free(bytes: &[u8], marks: &[Mark], free: &mut FreeCells, at: usize)
-    requires { IsMarked bytes.now marks.now }
+// the least size of a cell for data of a length
+fn size_for(len: usize) -> usize
+    requires { len ≤ MOST_BINS_BYTES }
+    ensures size { result ≡ least_size len }
+    ensures eights { result % 8 ≡ 0 }
+    ensures least { 8 ≤ result }
+    ensures most { result ≤ MOST_BINS_BYTES + 16 }
 {
-    if is_free_cell(bytes, marks, at) {
-        let _ = free.note(at, cell_size(bytes, at));
-    }
+    (len + SIZE_BYTES).div_ceil(MARKED_BYTES) * MARKED_BYTES
 }
 
-// a free cell of at least a size, in the data or in a bin that is added
+// a free cell of at least a size, in the data or, where there is none, in a bin that is added
 fn find_room(
     bytes: &mut Vec<u8>,
-    marks: &mut Vec<Mark>,
-    free: &mut FreeCells,
+    starts: &mut Vec<u64>,
+    free: &mut FreeBounds,
     size: usize,
 ) -> Result<usize, Refusal>
-    requires marked { IsMarked bytes.old.items marks.old.items }
+    requires indexed { IsIndexed bytes.old.items starts.old.items free.old }
     requires limit { length bytes.old.items ≤ MOST_BINS_BYTES }
+    requires some { 0 < size }
     requires fits { size ≤ MOST_BINS_BYTES + 16 }
-    ensures { MatchResult result (λ at. HasRoom bytes.old.items bytes.new.items marks.new.items at size) (λ refusal. (bytes.new.items ≡ bytes.old.items) × (marks.new.items ≡ marks.old.items) × BinRefused bytes.old.items size refusal) }
+    ensures { MatchResult result (λ at. HasRoom bytes.old.items bytes.new.items at size × IsIndexed bytes.new.items starts.new.items free.new) (λ refusal. (bytes.new.items ≡ bytes.old.items) × IsIndexed bytes.old.items starts.new.items free.new × PlaceRefused bytes.old.items size refusal) }
 {
-    match free.find(bytes, marks, size) {
+    match find_free(bytes, starts, free, size) {
         Some(at) => Ok(at),
-        None => add_bin(bytes, marks, size),
+        None => add_bin(bytes, starts, free, size),
     }
 }

@@ -4,19 +4,25 @@
 //! [`Image::open`] takes exactly the bytes that bins and cells tile, and says of all others what is wrong
 //! with them. [`Image::cell`] lends the data of the allocated cell that begins at an offset, or refuses the
 //! offset; it copies nothing, and each call counts one look of the [`Looks`] that it is lent. [`Image::alloc`]
-//! and [`Image::free`] leave every other allocated cell and its data as they were, and say which bytes they
+//! takes a free cell wherever one is long enough, and else adds the least bin; [`Image::free`] merges a cell with
+//! its free neighbours. Both leave every other allocated cell and its data as they were, and say which bytes they
 //! wrote, so that a caller knows which pages changed; [`Image::write`] writes into one cell's data. Each
 //! leaves data that bins and cells tile. A refused call changes nothing. Offsets are counted from the start
 //! of the hive bins data.
+//!
+//! Not promised: which free cell is taken, and how long a call takes. A look, a write and a free go over no cells;
+//! a free goes back over the bits of the one before, 512 bytes of data a word. A search for a free cell goes over
+//! bounds of groups of 128 pages, those of one group's pages, and the cells of a page; a page that has no fitting
+//! cell although its bound says so is looked at once, and then has its exact bound.
 #![tactic(auto)]
 
 mod bins;
 mod edits;
-mod free_cells;
+mod free_bounds;
 mod image;
 mod looks;
 mod lookup;
-mod marks;
+mod starts;
 mod tiling;
 mod words;
 

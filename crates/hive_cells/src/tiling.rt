@@ -1,9 +1,10 @@
 //! The one walk over hive bins data that finds where bins and cells begin.
 ghost use Rattle.std.specs.Prelude.{◌≡◌, ◌+◌, ◌≤◌, ◌<◌, ◌*◌, ◌%◌, ◌^◌, length, MatchResult, IfOk};
 ghost use Rattle.hive_cells.specs.Tiles.{IsBin, IsCell, DataRefused, bin_size, cell_size, is_allocated};
-ghost use Rattle.hive_cells.specs.Marks.{IsMarked, IsBetweenBins, IsInBin};
+ghost use Rattle.hive_cells.specs.Starts.{IsIndexed, StandsBetween, StandsIn};
 
-use crate::marks::Mark;
+use crate::free_bounds::FreeBounds;
+use crate::starts::put_start;
 use crate::words::word_at;
 use reg_names::{Cause, Refusal};
 use std::alloc::Global;
@@ -14,8 +15,11 @@ pub(crate) const PAGE_BYTES: usize = 4096;
 /// The bytes of a bin's header.
 pub(crate) const BIN_HEADER_BYTES: usize = 32;
 
-/// The bytes that sizes and offsets of cells are multiples of: there is one mark for each.
+/// The bytes that sizes and offsets of cells are multiples of: there is one bit for each.
 pub(crate) const MARKED_BYTES: usize = 8;
+
+/// The bytes that have their bits in one word of 64.
+pub(crate) const WORD_BYTES: usize = 512;
 
 /// `hbin`, as the number of these four bytes.
 pub(crate) const BIN_SIGNATURE: u32 = 0x6e69_6268;
@@ -86,54 +90,59 @@ fn cell_end(bytes: &[u8], at: usize, end: usize) -> Result<usize, Refusal>
     }
 }
 
-// marks the cell at an offset, in the bin that has this end, and gives the cell's end
-fn mark_cell(bytes: &[u8], marks: &mut [Mark], at: usize, end: usize) -> Result<usize, Refusal>
-    requires walk { IsInBin bytes.now marks.old end at }
+// takes in the cell at an offset, in the bin that has this end, and gives the cell's end
+fn walk_cell(
+    bytes: &[u8],
+    starts: &mut [u64],
+    free: &mut FreeBounds,
+    at: usize,
+    end: usize,
+) -> Result<usize, Refusal>
+    requires walk { StandsIn bytes.now starts.old free.old end at }
     requires before { at < end }
-    ensures { MatchResult result (λ behind. (at < behind) × IsInBin bytes.now marks.new end behind) (DataRefused bytes.now) }
+    ensures { MatchResult result (λ behind. (at < behind) × StandsIn bytes.now starts.new free.new end behind) (DataRefused bytes.now) }
 {
     let behind = cell_end(bytes, at, end)?;
-    marks[at / MARKED_BYTES] = Mark::Cell;
+    put_start(starts, at / MARKED_BYTES, true);
+    if !is_allocated(bytes, at) {
+        free.note(bytes, at);
+    }
     Ok(behind)
 }
 
-// marks the header of the bin at an offset, and gives the bin's end
-fn mark_header(bytes: &[u8], marks: &mut [Mark], at: usize) -> Result<usize, Refusal>
-    requires walk { IsBetweenBins bytes.now marks.old at }
+// takes in the bin at an offset and its cells, and gives the bin's end
+fn walk_bin(
+    bytes: &[u8],
+    starts: &mut [u64],
+    free: &mut FreeBounds,
+    at: usize,
+) -> Result<usize, Refusal>
+    requires walk { StandsBetween bytes.now starts.old free.old at }
     requires before { at < length bytes.now }
-    ensures { MatchResult result (λ end. (at + 32 < end) × IsInBin bytes.now marks.new end (at + 32)) (DataRefused bytes.now) }
+    ensures { MatchResult result (λ end. (at < end) × StandsBetween bytes.now starts.new free.new end) (DataRefused bytes.now) }
 {
     let end = bin_end(bytes, at)?;
-    marks[at / MARKED_BYTES] = Mark::Bin;
-    Ok(end)
-}
-
-// marks the bin at an offset and its cells, and gives the bin's end
-fn mark_bin(bytes: &[u8], marks: &mut [Mark], at: usize) -> Result<usize, Refusal>
-    requires walk { IsBetweenBins bytes.now marks.old at }
-    requires before { at < length bytes.now }
-    ensures { MatchResult result (λ end. (at < end) × IsBetweenBins bytes.now marks.new end) (DataRefused bytes.now) }
-{
-    let end = mark_header(bytes, marks, at)?;
     let mut cell = at + BIN_HEADER_BYTES;
     while cell < end {
-        cell = mark_cell(bytes, marks, cell, end)?;
+        cell = walk_cell(bytes, starts, free, cell, end)?;
     }
     Ok(end)
 }
 
-/// Marks all bins and cells of hive bins data. Refused with `Truncated` where the data are not whole pages,
-/// with `BadBin` and `BadCell` where a bin or a cell begins that is none, and with `NoMemory`.
-pub(crate) fn marks_of(alloc: Global, bytes: &[u8]) -> Result<Vec<Mark>, Refusal>
-    ensures { MatchResult result (λ marks. IsMarked bytes.now marks.items) (DataRefused bytes.now) }
+/// Finds where the cells of hive bins data begin, and bounds of the free ones. Refused with `Truncated` where the
+/// data are not whole pages, with `BadBin` and `BadCell` where a bin or a cell begins that is none, and with
+/// `NoMemory`.
+pub(crate) fn index_of(alloc: Global, bytes: &[u8]) -> Result<(Vec<u64>, FreeBounds), Refusal>
+    ensures { MatchResult result (λ index. IsIndexed bytes.now index.0.items index.1) (DataRefused bytes.now) }
 {
     if bytes.len() % PAGE_BYTES != 0 {
         return Err(damaged(Cause::Truncated));
     }
-    let mut marks = vec![in alloc; Mark::Inside; bytes.len() / MARKED_BYTES]?;
+    let mut starts = vec![in alloc; 0; bytes.len() / WORD_BYTES]?;
+    let mut free = FreeBounds::none(alloc, bytes.len() / PAGE_BYTES)?;
     let mut bin = 0;
     while bin < bytes.len() {
-        bin = mark_bin(bytes, &mut marks, bin)?;
+        bin = walk_bin(bytes, &mut starts, &mut free, bin)?;
     }
-    Ok(marks)
+    Ok((starts, free))
 }

@@ -3,4 +3,4 @@ use Rattle.hive_cells.proofs.Reached.{marked_tiles}
 use Rattle.hive_cells.proofs.image.Image.open.Goals as goal
 
 pub returns : goal.returns
-returns c = (refl, rw (← c.deref.ensures.value) (marked_tiles _ _ c.in_ok-marks.ensures))
+returns c = (refl, rw (← c.deref.ensures.value) (marked_tiles _ c.in_ok-starts.ensures.cells.marks c.in_ok-starts.ensures.cells.all))
