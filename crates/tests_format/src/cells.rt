@@ -83,54 +83,30 @@ fn a_cell_is_lent_and_each_look_counts(rt: HostRuntime) -> Result<(), Fail> {
     Ok(())
 }
 
+// where four bytes of the one bin are spoiled, with which bytes, the cause that is told, and what is wrong then
+const SPOILED: [(usize, [u8; 4], Cause, &str); 9] = [
+    (0, *b"hbim", Cause::BadBin, "signature"),
+    (4, [0, 0x10, 0, 0], Cause::BadBin, "own offset"),
+    (8, [0, 0, 0, 0], Cause::BadBin, "a bin of size 0"),
+    (8, [0, 0x20, 0, 0], Cause::BadBin, "past the data"),
+    (8, [8, 0x10, 0, 0], Cause::BadBin, "no whole pages"),
+    (48, [0, 0, 0, 0], Cause::BadCell, "a cell of size 0"),
+    (
+        48,
+        [0, 0, 0, 0x80],
+        Cause::BadCell,
+        "the most negative size",
+    ),
+    (48, [12, 0, 0, 0], Cause::BadCell, "size 12"),
+    (48, [0xd8, 0x0f, 0, 0], Cause::BadCell, "past its bin's end"),
+];
+
 #[test]
 fn what_does_not_tile_is_refused(rt: HostRuntime) -> Result<(), Fail> {
     let alloc = rt.alloc();
-    assert_eq!(rt;
-        spoiled(alloc, 0, b"hbim")?,
-        damaged(Cause::BadBin),
-        "signature"
-    );
-    assert_eq!(rt;
-        spoiled(alloc, 4, &[0, 0x10, 0, 0])?,
-        damaged(Cause::BadBin),
-        "own offset"
-    );
-    assert_eq!(rt;
-        spoiled(alloc, 8, &[0, 0, 0, 0])?,
-        damaged(Cause::BadBin),
-        "size 0"
-    );
-    assert_eq!(rt;
-        spoiled(alloc, 8, &[0, 0x20, 0, 0])?,
-        damaged(Cause::BadBin),
-        "past the data"
-    );
-    assert_eq!(rt;
-        spoiled(alloc, 8, &[8, 0x10, 0, 0])?,
-        damaged(Cause::BadBin),
-        "no whole pages"
-    );
-    assert_eq!(rt;
-        spoiled(alloc, 48, &[0, 0, 0, 0])?,
-        damaged(Cause::BadCell),
-        "size 0"
-    );
-    assert_eq!(rt;
-        spoiled(alloc, 48, &[0, 0, 0, 0x80])?,
-        damaged(Cause::BadCell),
-        "the most negative size"
-    );
-    assert_eq!(rt;
-        spoiled(alloc, 48, &[12, 0, 0, 0])?,
-        damaged(Cause::BadCell),
-        "size 12"
-    );
-    assert_eq!(rt;
-        spoiled(alloc, 48, &[0xd8, 0x0f, 0, 0])?,
-        damaged(Cause::BadCell),
-        "past its bin's end"
-    );
+    for (at, what, cause, wrong) in SPOILED {
+        assert_eq!(rt; spoiled(alloc, at, &what)?, damaged(cause), "{wrong}");
+    }
     let mut short = one_bin(alloc)?;
     short.truncate(BIN - 1);
     assert_eq!(rt;
@@ -230,5 +206,73 @@ fn written_bytes_stay_over_other_changes(rt: HostRuntime) -> Result<(), Fail> {
         "opened again"
     );
     assert_eq!(rt; looks.count(), 2);
+    Ok(())
+}
+
+#[test]
+fn a_free_cell_in_read_bytes_is_found(rt: HostRuntime) -> Result<(), Fail> {
+    let mut image = Image::open(rt.alloc(), one_bin(rt.alloc())?)?;
+    assert_eq!(rt;
+        image.alloc(4045)?,
+        4096 + 32,
+        "one byte too long for the free cell"
+    );
+    assert_eq!(rt; image.len(), 2 * BIN);
+    assert_eq!(rt; image.alloc(4044)?, 48, "just as long");
+    assert_eq!(rt; image.len(), 2 * BIN);
+    Ok(())
+}
+
+#[test]
+fn a_free_cell_is_found_among_many_that_are_too_short(rt: HostRuntime) -> Result<(), Fail> {
+    let mut image = Image::open(rt.alloc(), Vec::new(rt.alloc()))?;
+    let long = image.alloc(200)?;
+    for _ in 0..300 {
+        let short = image.alloc(60)?;
+        let _ = image.alloc(4)?;
+        image.free(short)?;
+    }
+    let len = image.len();
+    image.free(long)?;
+    assert_eq!(rt; image.alloc(200)?, long);
+    assert_eq!(rt; image.len(), len, "no bin was added");
+    Ok(())
+}
+
+#[test]
+fn free_cells_of_several_pages_merge(rt: HostRuntime) -> Result<(), Fail> {
+    let mut image = Image::open(rt.alloc(), Vec::new(rt.alloc()))?;
+    let long = image.alloc(20_000)?;
+    image.free(long)?;
+    let first = image.alloc(16_000)?;
+    let second = image.alloc(100)?;
+    let third = image.alloc(100)?;
+    assert_eq!(rt; (first, second, third), (32, 16_040, 16_144));
+    assert_eq!(rt; image.free(first)?, first);
+    assert_eq!(rt;
+        image.free(second)?,
+        first,
+        "with a free cell of four pages before it"
+    );
+    assert_eq!(rt; image.free(third)?, first, "and the free cell behind it");
+    assert_eq!(rt; image.alloc(20_444)?, first, "the whole bin of five pages");
+    assert_eq!(rt; image.len(), 5 * BIN);
+    Ok(())
+}
+
+#[test]
+fn an_image_grows_up_to_the_limit(rt: HostRuntime) -> Result<(), Fail> {
+    let mut image = Image::open(rt.alloc(), Vec::new(rt.alloc()))?;
+    assert_eq!(rt; image.alloc(67_108_829).err(), Some(Refusal::TooLarge));
+    let all = image.alloc(67_108_828)?;
+    assert_eq!(rt; image.len(), 67_108_864);
+    assert_eq!(rt;
+        image.alloc(0).err(),
+        Some(Refusal::TooLarge),
+        "no free cell, no bin"
+    );
+    image.free(all)?;
+    assert_eq!(rt; image.alloc(67_108_829).err(), Some(Refusal::TooLarge));
+    assert_eq!(rt; image.alloc(0)?, all, "at the limit a free cell is taken");
     Ok(())
 }
