@@ -1,0 +1,159 @@
+//! Makes each call on bins and cells that takes memory, for runs in which memory is refused.
+//!
+//! `tools/failalloc each` runs it once for each allocation, which is refused. A call that is refused has to answer
+//! want of memory and nothing else, and the image has to be as it was. The status is 0 where nothing was refused, 1
+//! where memory was and each call took it well, and 2 where a call answered wrongly.
+#![tactic(auto)]
+
+use hive_cells::{Image, Looks};
+use reg_names::Refusal;
+use std::alloc::{AllocError, Global};
+use std::process::ExitCode;
+
+// how a call ended
+#[derive(Clone, Copy, PartialEq, Eq)]
+enum Outcome {
+    Done,
+    Refused,
+    Wrong,
+}
+
+impl Outcome {
+    // of two calls together
+    fn and(self, other: Outcome) -> Outcome {
+        match (self, other) {
+            (Outcome::Wrong, _) | (_, Outcome::Wrong) => Outcome::Wrong,
+            (Outcome::Refused, _) | (_, Outcome::Refused) => Outcome::Refused,
+            _ => Outcome::Done,
+        }
+    }
+
+    fn right_if(is_right: bool) -> Outcome {
+        if is_right {
+            Outcome::Done
+        } else {
+            Outcome::Wrong
+        }
+    }
+
+    // a refusal that is no want of memory is wrong
+    fn of_refusal(refusal: Refusal) -> Outcome {
+        match refusal {
+            Refusal::NoMemory => Outcome::Refused,
+            _ => Outcome::Wrong,
+        }
+    }
+}
+
+const BIN: usize = 4096;
+
+// the bytes of one bin that aren't 0: an allocated cell of 16 bytes at 32, and a free one behind it
+const WRITTEN: [(usize, u8); 13] = [
+    (0, b'h'),
+    (1, b'b'),
+    (2, b'i'),
+    (3, b'n'),
+    (9, 0x10),
+    (32, 0xf0),
+    (33, 0xff),
+    (34, 0xff),
+    (35, 0xff),
+    (36, b'h'),
+    (37, b'i'),
+    (48, 0xd0),
+    (49, 0x0f),
+];
+
+// the byte of the one bin at an offset
+fn byte_at(at: usize) -> u8 {
+    for (place, byte) in WRITTEN {
+        if place == at {
+            return byte;
+        }
+    }
+    0
+}
+
+fn one_bin(alloc: Global) -> Result<Vec<u8>, AllocError> {
+    let mut bytes = vec![in alloc; 0u8; BIN]?;
+    for (place, byte) in WRITTEN {
+        if let Some(slot) = bytes.get_mut(place) {
+            *slot = byte;
+        }
+    }
+    Ok(bytes)
+}
+
+// whether the image is the one bin, to the byte
+fn is_one_bin(image: Image) -> bool {
+    let bytes = image.into_bytes();
+    let mut same = bytes.len() == BIN;
+    for (at, byte) in bytes.iter().enumerate() {
+        same = same && *byte == byte_at(at);
+    }
+    same
+}
+
+fn opened(alloc: Global) -> Result<Image, Refusal> {
+    let bytes = one_bin(alloc)?;
+    Image::open(alloc, bytes)
+}
+
+// a cell in a new bin; where memory is refused, no byte changes
+fn grown(alloc: Global) -> Result<Outcome, Refusal> {
+    let mut image = opened(alloc)?;
+    match image.alloc(5000) {
+        Ok(offset) => Ok(Outcome::right_if(offset == 4128 && image.len() == 3 * BIN)),
+        Err(refusal) => Ok(Outcome::of_refusal(refusal).and(Outcome::right_if(is_one_bin(image)))),
+    }
+}
+
+// a cell in a new bin; where memory is refused, cells are found, taken and freed as before, without memory
+fn used_on(alloc: Global) -> Result<Outcome, Refusal> {
+    let mut image = opened(alloc)?;
+    let added = match image.alloc(5000) {
+        Ok(_) => Outcome::Done,
+        Err(refusal) => Outcome::of_refusal(refusal).and(Outcome::right_if(image.len() == BIN)),
+    };
+    let taken = Outcome::right_if(image.alloc(10).ok() == Some(48));
+    let freed = Outcome::right_if(image.free(48).ok() == Some(48));
+    let lent = match image.cell(32, &mut Looks::new()) {
+        Ok(data) => Outcome::right_if(data.len() == 12 && data.first().copied() == Some(b'h')),
+        Err(_) => Outcome::Wrong,
+    };
+    Ok(added.and(taken).and(freed).and(lent))
+}
+
+// many bins, one after another; a refused one is left out
+fn many(alloc: Global) -> Result<Outcome, Refusal> {
+    let mut image = opened(alloc)?;
+    let mut outcome = Outcome::Done;
+    for _ in 0..40 {
+        let len = image.len();
+        let added = match image.alloc(4060) {
+            Ok(_) => Outcome::right_if(image.len() == len.saturating_add(BIN)),
+            Err(refusal) => Outcome::of_refusal(refusal).and(Outcome::right_if(image.len() == len)),
+        };
+        outcome = outcome.and(added);
+    }
+    Ok(outcome)
+}
+
+fn outcome_of(ended: Result<Outcome, Refusal>) -> Outcome {
+    match ended {
+        Ok(outcome) => outcome,
+        Err(refusal) => Outcome::of_refusal(refusal),
+    }
+}
+
+fn main(rt: HostRuntime) -> ExitCode {
+    let alloc = rt.alloc();
+    let all = outcome_of(grown(alloc))
+        .and(outcome_of(used_on(alloc)))
+        .and(outcome_of(many(alloc)));
+    match all {
+        Outcome::Done => ExitCode::from(0),
+        Outcome::Refused => ExitCode::from(1),
+        Outcome::Wrong => ExitCode::from(2),
+    }
+}
