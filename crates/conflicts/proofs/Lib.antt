@@ -7,3 +7,7 @@ pub mod OnSkeletons
 pub mod LegalOnSkeletons
 pub mod StaysLegal
 pub mod Members
+pub mod SpotRanges
+pub mod OnWays
+pub mod Looks
+pub mod Filing

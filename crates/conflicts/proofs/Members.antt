@@ -23,10 +23,10 @@ pub first_or_later : {X : Type 0} (x : X) (xs : List X) (y : X) → Contains (x 
 first_or_later x xs y (zero, lt, e) = inl e
 first_or_later x xs y (suc k, lt, e) = inr (k, omega (arith, lt), e)
 
-none_empty : {X : Type 0} (y : X) → Contains [] y → ⊥
+pub none_empty : {X : Type 0} (y : X) → Contains [] y → ⊥
 none_empty y (k, lt, e) = omega (arith, lt)
 
-filter_has : {X : Type 0} (p : X → Bool) (xs : List X) (y : X) → Contains xs y → p y ≡ true → Contains (filter p xs) y
+pub filter_has : {X : Type 0} (p : X → Bool) (xs : List X) (y : X) → Contains xs y → p y ≡ true → Contains (filter p xs) y
 filter_has p [] y c t = absurd (none_empty y c)
 filter_has p (x ∷ xs) y c t = by_case (λ d. filter_has p xs y d t) (first_or_later x xs y c) (p x) refl
   where
@@ -36,7 +36,7 @@ filter_has p (x ∷ xs) y c t = by_case (λ d. filter_has p xs y d t) (first_or_
     by_case rest (inr c) true h = later x (filter p xs) y (rest c)
     by_case rest (inr c) false h = rest c
 
-has_filter : {X : Type 0} (p : X → Bool) (xs : List X) (y : X) → Contains (filter p xs) y → Contains xs y × (p y ≡ true)
+pub has_filter : {X : Type 0} (p : X → Bool) (xs : List X) (y : X) → Contains (filter p xs) y → Contains xs y × (p y ≡ true)
 has_filter p [] y c = absurd (none_empty y c)
 has_filter p (x ∷ xs) y c = by_case (has_filter p xs y) (p x) refl c
   where
@@ -47,14 +47,14 @@ has_filter p (x ∷ xs) y c = by_case (has_filter p xs y) (p x) refl c
     ]
     by_case rest false h c = (later x xs y (rest c).0, (rest c).1)
 
-map_has : {X : Type 0} (f : X → ℕ) (xs : List X) (x : X) → Contains xs x → Contains (map f xs) (f x)
+pub map_has : {X : Type 0} (f : X → ℕ) (xs : List X) (x : X) → Contains xs x → Contains (map f xs) (f x)
 map_has f [] x c = absurd (none_empty x c)
 map_has f (z ∷ xs) x c = elim (first_or_later z xs x c) [
   | inl e ↦ subst (λ w. Contains (f w ∷ map f xs) (f x)) (sym e) (here (f x) (map f xs))
   | inr d ↦ later (f z) (map f xs) (f x) (map_has f xs x d)
 ]
 
-has_map : {X : Type 0} (f : X → ℕ) (xs : List X) (n : ℕ) → Contains (map f xs) n → (x : X) × Contains xs x × (f x ≡ n)
+pub has_map : {X : Type 0} (f : X → ℕ) (xs : List X) (n : ℕ) → Contains (map f xs) n → (x : X) × Contains xs x × (f x ≡ n)
 has_map f [] n c = absurd (none_empty n c)
 has_map f (z ∷ xs) n c = elim (first_or_later (f z) (map f xs) n c) [
   | inl e ↦ (z, here z xs, e)
@@ -127,7 +127,7 @@ not_asker (Some a) owner ne = by_case (a == owner) refl
     by_case false e = ap not e
     by_case true e = absurd (ne (ap Some (eqb-true a owner e)))
 
-parts : (a b : Bool) → (a && b) ≡ true → (a ≡ true) × (b ≡ true)
+pub parts : (a b : Bool) → (a && b) ≡ true → (a ≡ true) × (b ≡ true)
 parts true b h = (refl, h)
 parts false b h = never h
 

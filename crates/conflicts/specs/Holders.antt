@@ -13,6 +13,11 @@ pub record Held : Type 0 where
 abbrev pub same_held : Held → Held → Bool
 same_held a b = b.owner == a.owner && same_claim a.claim b.claim
 
+-- whether there is one, and it is another
+abbrev pub is_some_same : Held → Option Held → Bool
+is_some_same one None = false
+is_some_same one (Some held) = same_held one held
+
 -- whether a claim of a transaction is among them
 abbrev pub holds_claim : List Held → Held → Bool
 holds_claim held one = list_any (same_held one) held
@@ -47,6 +52,11 @@ holders_of held asker claim = each_once (map (λ h. h.owner) (filter (stands_aga
 -- the numbers with one more: at the end, where it is not among them
 abbrev pub with_number : List ℕ → ℕ → List ℕ
 with_number xs x = if list_any (λ y. y == x) xs then xs else xs ++ x ∷ []
+
+-- the numbers with the owner of a claim, where there is one and it stands against the claim asked for
+abbrev pub with_holder : List ℕ → Option Held → Option ℕ → Claim → List ℕ
+with_holder xs None asker claim = xs
+with_holder xs (Some one) asker claim = if stands_against asker claim one then with_number xs one.owner else xs
 
 -- a transaction holds a claim that conflicts with the one asked for, and is not the asker
 abbrev pub IsHolder : List Held → Option ℕ → Claim → ℕ → Type 0

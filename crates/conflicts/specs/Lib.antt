@@ -1,3 +1,5 @@
 pub mod Claims
 pub mod Holders
 pub mod Skeletons
+pub mod Spots
+pub mod Filed

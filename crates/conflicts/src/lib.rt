@@ -8,6 +8,7 @@
 
 mod claim;
 pub mod laws;
+mod spots;
 mod table;
 
 pub use claim::{Claim, Kind, claims, conflict};

@@ -1,12 +1,17 @@
 //! The claims of all active transactions, in the order in which they were added.
-ghost use Rattle.std.specs.Prelude.{◌≡◌, ◌==◌, [], map, OnOk, OnErr, IfOk, Option};
+ghost use Rattle.std.specs.Prelude.{◌≡◌, ◌==◌, ◌∷◌, ◌++◌, ◌<◌, ◌^◌, [], true, ℕ, map, Contains, OnOk, OnErr, IfOk, IfSome, IfNone, Option};
 ghost use Rattle.std.specs.List.{list_any};
 ghost use Rattle.std.specs.Option.{option_map};
-ghost use Rattle.conflicts.specs.Holders.{Held, same_held, with_claim, without_owner, stands_against, holds_claim, with_number, holders_of};
+ghost use Rattle.std.specs.BTreeSet.{contains_by};
+ghost use Rattle.conflicts.specs.Spots.{pair_order};
+ghost use Rattle.conflicts.specs.Filed.{TakesOwn, LeavesOthers};
+ghost use Rattle.conflicts.specs.Holders.{Held, same_held, with_claim, without_owner, stands_against, holds_claim, with_number, with_holder, is_some_same, holders_of};
 
 use crate::claim::{Claim, Kind, conflict, same_claim};
+use crate::spots::{Spot, copied, near, spot_of};
 use reg_names::Path;
 use std::alloc::{AllocError, Global};
+use std::collections::{BTreeMap, BTreeSet};
 use std::marker::Model;
 
 /// The number by which a table of claims knows a transaction.
@@ -79,11 +84,28 @@ impl Entry {
     }
 }
 
+// a claim, and its spot
+#[derive(Drop)]
+struct Kept {
+    entry: Entry,
+    spot: Spot,
+}
+
 /// The claims of all active transactions, each claim of a transaction once, in the order in which they were first
 /// added.
+///
+/// Claims are numbered as they are added. A claim that may conflict with another is found by its key, and a
+/// transaction's claims by the transaction, so that no call goes through the claims of all.
 #[derive(Drop)]
 pub struct ClaimTable {
-    entries: Vec<Entry>,
+    // the claims by their numbers
+    kept: BTreeMap<u64, Kept>,
+    // their spots
+    spots: BTreeSet<Spot>,
+    // each owner with the numbers of its claims
+    owned: BTreeSet<(u64, u64)>,
+    // as long as claims were added; it takes no memory
+    added: Vec<()>,
 }
 
 impl Model for ClaimTable {
@@ -92,7 +114,12 @@ impl Model for ClaimTable {
 
     ghost Value = { List Held };
 
-    ghost view = { λ inside. inside.entries.items };
+    ghost use Rattle.std.specs.Prelude.{vec_len};
+    ghost use Rattle.conflicts.specs.Filed.{claims_of, AreFiled};
+
+    ghost view = { λ inside. claims_of inside.kept.entries };
+
+    ghost invariant = { λ inside. AreFiled (vec_len inside.added) inside.spots.keys inside.owned.keys inside.kept.entries };
 }
 
 impl ClaimTable {
@@ -101,7 +128,10 @@ impl ClaimTable {
         ensures { result ≡ [] }
     {
         ClaimTable {
-            entries: Vec::new(alloc),
+            kept: BTreeMap::new(alloc),
+            spots: BTreeSet::new(alloc),
+            owned: BTreeSet::new(alloc),
+            added: Vec::new(alloc),
         }
     }
 
@@ -111,26 +141,61 @@ impl ClaimTable {
         ensures ok { OnOk result (self.new ≡ with_claim self.old (record { owner = owner.0; claim = claim.now })) }
         ensures err { OnErr result (self.new ≡ self.old) }
     {
-        if self.has(owner, claim) {
+        if self.has(owner, claim)? {
             return Ok(());
         }
+        self.put(owner, claim)
+    }
+
+    // adds a claim that the transaction does not have
+    fn put(&mut self, owner: Owner, claim: &Claim) -> Result<(), AllocError>
+        ensures ok { OnOk result (self.new ≡ self.old ++ record { owner = owner.0; claim = claim.now } ∷ []) }
+        ensures err { OnErr result (self.new ≡ self.old) }
+    {
+        let number = self.added.len() as u64;
         let entry = Entry::new(owner, claim)?;
-        self.entries.push(entry)?;
-        Ok(())
+        let alloc = *self.added.allocator();
+        let spot = spot_of(alloc, claim, number)?;
+        let copy = (copied(alloc, &spot.0)?, number);
+        self.added.push(())?;
+        self.owned.insert((owner.0, number))?;
+        self.kept.insert(number, Kept { entry, spot })?;
+        match self.spots.insert(copy) {
+            Ok(_) => Ok(()),
+            Err(refused) => {
+                self.kept.remove(&number);
+                Err(AllocError::from(refused))
+            }
+        }
     }
 
     // whether the transaction has the claim
-    fn has(&self, owner: Owner, claim: &Claim) -> bool
-        ensures { result ≡ holds_claim self.now (record { owner = owner.0; claim = claim.now }) }
+    fn has(&self, owner: Owner, claim: &Claim) -> Result<bool, AllocError>
+        ensures { IfOk result (λ has. has ≡ holds_claim self.now (record { owner = owner.0; claim = claim.now })) }
     {
-        self.entries.iter().any(|entry| entry.is(owner, claim))
+        let numbers = near(*self.added.allocator(), &self.spots, claim)?;
+        let mut has = false;
+        for number in &numbers {
+            if is_kept(self.kept.get(number), owner, claim) {
+                has = true;
+            }
+        }
+        Ok(has)
     }
 
     /// Drops all claims of a transaction. Takes no memory.
     pub fn drop_of(&mut self, owner: Owner)
         ensures { self.new ≡ without_owner self.old owner.0 }
     {
-        self.entries.retain(|entry| entry.owner().0 != owner.0);
+        while let Some(listed) = first_of(&self.owned, owner) {
+            self.owned.remove(&listed);
+            match take_own(&mut self.kept, owner, listed.1) {
+                Some(kept) => {
+                    self.spots.remove(&kept.spot);
+                }
+                None => {}
+            }
+        }
     }
 
     /// The transactions that hold a claim which conflicts with this one: each once, in the order of its first such
@@ -138,13 +203,66 @@ impl ClaimTable {
     pub fn holders(&self, asker: Option<Owner>, claim: &Claim) -> Result<Vec<Owner>, AllocError>
         ensures { IfOk result (λ found. map (λ o. o.0) found.items ≡ holders_of self.now (option_map (λ o. o.0) asker) claim.now) }
     {
-        let mut found = Vec::new(*self.entries.allocator());
-        for entry in &self.entries {
-            if entry.stands_against(asker, claim) {
-                list_once(&mut found, entry.owner())?;
-            }
+        let alloc = *self.added.allocator();
+        let numbers = near(alloc, &self.spots, claim)?;
+        let mut found = Vec::new(alloc);
+        for number in &numbers {
+            list_holder(&mut found, self.kept.get(number), asker, claim)?;
         }
         Ok(found)
+    }
+}
+
+// the first number that is listed under an owner
+fn first_of(owned: &BTreeSet<(u64, u64)>, owner: Owner) -> Option<(u64, u64)>
+    ensures some { IfSome result (λ listed. (listed.0 ≡ owner.0) × (contains_by (pair_order listed) owned.now ≡ true)) }
+    ensures none { IfNone result ((number : ℕ) → number < 2 ^ 64 → Contains owned.now.keys (owner.0, number) → ⊥) }
+{
+    let from = (owner.0, 0);
+    let to = (owner.0, u64::MAX);
+    match owned.range(&from..=&to).next() {
+        Some(listed) => Some(*listed),
+        None => None,
+    }
+}
+
+// takes the claim of a number out, where it is the owner's
+fn take_own(kept: &mut BTreeMap<u64, Kept>, owner: Owner, number: u64) -> Option<Kept>
+    ensures some { IfSome result (λ one. TakesOwn kept.old.entries kept.new.entries owner.0 number one) }
+    ensures none { IfNone result (LeavesOthers kept.old.entries kept.new.entries owner.0 number) }
+{
+    let own = match kept.get(&number) {
+        Some(one) => one.entry.owner().0 == owner.0,
+        None => false,
+    };
+    if own { kept.remove(&number) } else { None }
+}
+
+// whether it is this claim of this transaction
+fn is_kept(kept: Option<&Kept>, owner: Owner, claim: &Claim) -> bool
+    ensures { result ≡ is_some_same (record { owner = owner.0; claim = claim.now }) (option_map (λ k. k.now.entry) kept.entry) }
+{
+    match kept {
+        Some(kept) => kept.entry.is(owner, claim),
+        None => false,
+    }
+}
+
+// lists the owner of a claim, where it stands against the one asked for and is not in the list
+fn list_holder(
+    found: &mut Vec<Owner>,
+    kept: Option<&Kept>,
+    asker: Option<Owner>,
+    claim: &Claim,
+) -> Result<(), AllocError>
+    ensures { OnOk result (map (λ o. o.0) found.new.items ≡ with_holder (map (λ o. o.0) found.old.items) (option_map (λ k. k.now.entry) kept.entry) (option_map (λ o. o.0) asker) claim.now) }
+{
+    match kept {
+        Some(kept) if kept.entry.stands_against(asker, claim) => list_once(
+            found,
+            kept.entry.owner(),
+        ),
+        _ => Ok(()),
     }
 }
 

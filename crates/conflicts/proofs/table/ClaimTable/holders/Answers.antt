@@ -1,12 +1,17 @@
 use Rattle.std.proofs.Common.{map, ap, ◌∙◌}
-use Rattle.conflicts.proofs.Once.{found_more, found_same}
+use Rattle.std.specs.Option.{option_map}
+use Rattle.conflicts.specs.Holders.{with_holder, holders_of}
+use Rattle.conflicts.proofs.Looks.{looked, all_holders, holders_turn, all_taken, lent_entry, covered}
 use Rattle.conflicts.proofs.table.ClaimTable.holders.Goals as goal
-use Rattle.conflicts.proofs.table.ClaimTable.holders.Goals.{then-stands_against+in_ok-list_once, else-stands_against}
 
-pub loop-entry-preserved : goal.loop-entry-preserved
-loop-entry-preserved c = elim c.if-stands_against.branch [
-  | then-stands_against+in_ok-list_once w ↦
-      found_more c.deref-entry-items.result.now c.loop-entry.entry-index c.entry-item.result _ c.args.claim.now _ _ _ _ c.loop-entry-test.true c.entry-item.is c.stands_against.ensures w.if-stands_against.true c.loop-entry.invariant w.owner.ensures (ap (λ f. map (λ o. o.0) f.items) w.found-is ∙ w.in_ok-list_once.ensures)
-  | else-stands_against w ↦
-      ap (λ f. map (λ o. o.0) f.items) w.found-is ∙ found_same c.deref-entry-items.result.now c.loop-entry.entry-index c.entry-item.result _ c.args.claim.now _ _ c.loop-entry-test.true c.entry-item.is c.stands_against.ensures w.if-stands_against.false c.loop-entry.invariant
-]
+pub loop-number-preserved : goal.loop-number-preserved
+loop-number-preserved c =
+    holders_turn c.self.inside.kept.entries c.deref-number-items.result.now c.loop-number.number-index (option_map (λ o. o.0) c.args.asker) c.args.claim.now (map (λ o. o.0) c.loop-number.found.items) _ c.loop-number-test.true c.loop-number.invariant
+    (c.in_ok-list_holder.ensures ∙ ap (λ o. with_holder (map (λ o. o.0) c.loop-number.found.items) o (option_map (λ o. o.0) c.args.asker) c.args.claim.now) (lent_entry c.get.result ∙ ap (option_map (λ k. k.entry)) c.get.ensures.value))
+
+pub returns : goal.returns
+returns c =
+    c.loop-number.invariant
+    ∙ ap (λ ns. holders_of (looked c.self.inside.kept.entries ns) (option_map (λ o. o.0) c.args.asker) c.args.claim.now) (all_taken c.loop-number.number-index c.deref-number-items.result.now c.loop-number-test.false ∙ c.deref-number-items.ensures.value)
+    ∙ all_holders c.self.inside.kept.entries c.in_ok-numbers.numbers.items (option_map (λ o. o.0) c.args.asker) c.args.claim.now c.self.invariant.rises c.in_ok-numbers.ensures.rises (covered _ _ _ c.self.inside.kept.entries c.self.invariant (option_map (λ o. o.0) c.args.asker) c.args.claim.now c.in_ok-numbers.numbers.items c.in_ok-numbers.ensures.complete)
+    ∙ ap (λ hs. holders_of hs (option_map (λ o. o.0) c.args.asker) c.args.claim.now) c.self.view_is

@@ -1,0 +1,44 @@
+-- What a table keeps of its indexes: each claim's number is below the next one, the claim has a spot, and its number
+-- is listed under its owner.
+use Rattle.std.specs.Prelude.{◌≡◌, ℕ, ◌<◌, ◌≢◌, List, map, Contains, Some}
+use Rattle.std.specs.Map.{lookup, remove_entry}
+use Rattle.std.specs.BTreeMap.{is_at}
+use Rattle.std.specs.Ordering.{nat_cmp}
+use Rattle.std.specs.List.Sorted.{IsStrictlySortedBy}
+use Rattle.conflicts.specs.Holders.{Held}
+use Rattle.conflicts.specs.Spots.{Spot, spot_text}
+use Rattle.conflicts.specs.declared.table.Kept.{Kept}
+
+-- a claim with its number
+abbrev pub Numbered : Type 0
+Numbered = ℕ × Kept
+
+-- the claims in order
+abbrev pub claims_of : List Numbered → List Held
+claims_of kept = map (λ (e : Numbered). e.1.entry) kept
+
+pub record IsFiled (next : ℕ) (spots : List Spot) (owned : List (ℕ × ℕ)) (number : ℕ) (one : Held) : Type 0 where
+  pub below : number < next
+  pub spot : Spot
+  pub listed : Contains spots spot
+  pub text : spot.0.items ≡ spot_text one.claim
+  pub numbered : spot.1 ≡ number
+  pub owner : Contains owned (one.owner, number)
+
+-- all numbers rise, and each claim is filed and knows the number of its spot
+pub record AreFiled (next : ℕ) (spots : List Spot) (owned : List (ℕ × ℕ)) (kept : List Numbered) : Type 0 where
+  pub rises : IsStrictlySortedBy nat_cmp (map (λ e. e.0) kept)
+  pub filed : (number : ℕ) (one : Kept) → Contains kept (number, one) → IsFiled next spots owned number one.entry
+  pub spots_known : (number : ℕ) (one : Kept) → Contains kept (number, one) → one.spot.1 ≡ number
+
+-- one claim, which was the owner's and had this number, is taken out
+pub record TakesOwn (old new : List Numbered) (owner number : ℕ) (one : Kept) : Type 0 where
+  pub was : lookup (is_at (nat_cmp number)) old ≡ Some one
+  pub own : one.entry.owner ≡ owner
+  pub is : new ≡ remove_entry (is_at (nat_cmp number)) old
+  pub rises : IsStrictlySortedBy nat_cmp (map (λ e. e.0) new)
+
+-- all claims stay, and that of the number, if there is one, is not the owner's
+pub record LeavesOthers (old new : List Numbered) (owner number : ℕ) : Type 0 where
+  pub same : new ≡ old
+  pub others : (one : Kept) → lookup (is_at (nat_cmp number)) old ≡ Some one → one.entry.owner ≢ owner

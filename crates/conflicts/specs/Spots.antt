@@ -1,0 +1,51 @@
+-- Where claims lie in an index: texts of keys, of which those of keys below a key go on from its own.
+use Rattle.std.specs.Prelude.{◌≡◌, ℕ, ◌<◌, min, List, [], ◌∷◌, ◌++◌, map, filter}
+use Rattle.std.specs.Global.{Vec}
+use Rattle.std.specs.Ordering.{nat_cmp, ordering_then}
+use Rattle.std.specs.Cmp.Lexicographic.{slice_cmp}
+use Rattle.std.specs.declared.cmp.Ordering.{Ordering}
+use Rattle.std.specs.declared.ops.Bound.TheVariants.{Included}
+use Rattle.std.specs.BTreeMap.Range.{range_contains}
+use Rattle.claims_law.specs.Skeleton.{Key, Kind, Shape, Hold, Claim}
+
+-- a name's text: its folded units, each at most 65,534, and a backslash
+abbrev pub name_text : List ℕ → List ℕ
+name_text name = map (λ u. min u 65534) name ++ 92 ∷ []
+
+-- a path's text: those of its names in order
+abbrev pub path_text : List (List ℕ) → List ℕ
+path_text [] = []
+path_text (name ∷ path) = name_text name ++ path_text path
+
+-- a key's text: its hive's number and its path's text
+abbrev pub key_text : Key → List ℕ
+key_text key = key.hive ∷ path_text key.path
+
+-- the text of a claim's spot: that of its key, and a zero that ends the path
+abbrev pub spot_text : Claim → List ℕ
+spot_text claim = key_text claim.key ++ 0 ∷ []
+
+-- the bound below which a spot's text goes on from that of a claim's key, where the two may conflict: for a Shape
+-- that of all keys at or below it, for a Hold that of the key itself
+abbrev pub past_of : Kind → ℕ
+past_of Shape = 65535
+past_of Hold = 1
+
+-- a text goes on from another with a unit below a bound
+abbrev pub GoesOn : List ℕ → ℕ → List ℕ → Type 0
+GoesOn text past longer = (u : ℕ) × (rest : List ℕ) × (u < past) × (longer ≡ text ++ u ∷ rest)
+
+-- a spot of an index: a text and a number, in the order of texts and then of numbers
+abbrev pub Spot : Type 0
+Spot = Vec ℕ × ℕ
+
+abbrev pub spot_order : Spot → Spot → Ordering
+spot_order s t = ordering_then (slice_cmp nat_cmp s.0.items t.0.items) (nat_cmp s.1 t.1)
+
+-- the numbers of the spots from one to another, both included
+abbrev pub numbers_between : Spot → Spot → List Spot → List ℕ
+numbers_between from to spots = map (λ s. s.1) (filter (λ s. range_contains spot_order (Included from) (Included to) s) spots)
+
+-- pairs of numbers, by the first and then the second
+abbrev pub pair_order : ℕ × ℕ → ℕ × ℕ → Ordering
+pair_order p q = ordering_then (nat_cmp p.0 q.0) (nat_cmp p.1 q.1)
