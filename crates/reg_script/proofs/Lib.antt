@@ -3,3 +3,7 @@ mod Escapes
 mod Refusing
 mod WordLists
 mod Written
+mod Cuts
+mod SpelledUnits
+mod SpelledWords
+mod SpelledLines

@@ -1,4 +1,5 @@
 pub mod Words
 pub mod Reads
 pub mod Lines
+pub mod Grammar
 pub mod Replies

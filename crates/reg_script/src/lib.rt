@@ -1,6 +1,7 @@
 //! The script language of the program: which lines there are, how bytes spell them, and the text of replies.
 #![tactic(auto)]
 
+pub mod grammar;
 mod line;
 mod numbers;
 mod reading;
