@@ -150,36 +150,6 @@ fn a_cell_for_five_bytes_has_sixteen(rt: HostRuntime) -> Result<(), Fail> {
 }
 
 #[test]
-fn freed_cells_merge_and_are_used_again(rt: HostRuntime) -> Result<(), Fail> {
-    let mut image = Image::open(rt.alloc(), Vec::new(rt.alloc()))?;
-    let first = image.alloc(100)?;
-    let second = image.alloc(100)?;
-    let third = image.alloc(100)?;
-    assert_eq!(rt; image.free(second)?, second);
-    assert_eq!(rt;
-        image.free(second).err(),
-        damaged(Cause::BadOffset),
-        "freed before"
-    );
-    assert_eq!(rt;
-        image.free(third)?,
-        second,
-        "merged with the free cell before it"
-    );
-    assert_eq!(rt; image.free(first)?, first, "and that with this one");
-    assert_eq!(rt;
-        image.alloc(4056)?,
-        32,
-        "the whole bin is one free cell again"
-    );
-    assert_eq!(rt; image.len(), BIN);
-    assert_eq!(rt; image.alloc(1)?, 4096 + 32, "a second bin");
-    assert_eq!(rt; image.alloc(67_108_864).err(), Some(Refusal::TooLarge));
-    assert_eq!(rt; image.len(), 2 * BIN);
-    Ok(())
-}
-
-#[test]
 fn written_bytes_stay_over_other_changes(rt: HostRuntime) -> Result<(), Fail> {
     let mut image = Image::open(rt.alloc(), Vec::new(rt.alloc()))?;
     let first = image.alloc(20)?;
@@ -209,70 +179,141 @@ fn written_bytes_stay_over_other_changes(rt: HostRuntime) -> Result<(), Fail> {
     Ok(())
 }
 
+// a call that changes an image, and what it is to answer
+#[derive(Clone, Copy)]
+enum Step {
+    // a cell for data of a length is allocated at an offset
+    Takes(usize, u32),
+    // one of a length is too large
+    TooLarge(usize),
+    // the cell at an offset is freed, and lies in the free cell that begins at another
+    Frees(u32, u32),
+    // the data have so many pages
+    Pages(usize),
+}
+
+// whether a step goes as it is to go
+fn goes(image: &mut Image, step: Step) -> bool {
+    match step {
+        Step::Takes(len, at) => image.alloc(len).ok() == Some(at),
+        Step::TooLarge(len) => image.alloc(len).err() == Some(Refusal::TooLarge),
+        Step::Frees(at, from) => image.free(at).ok() == Some(from),
+        Step::Pages(count) => image.len() / BIN == count,
+    }
+}
+
+// the first step that goes otherwise
+fn first_wrong(image: &mut Image, steps: &[Step]) -> Option<usize> {
+    for (place, step) in steps.iter().enumerate() {
+        if !goes(image, *step) {
+            return Some(place);
+        }
+    }
+    None
+}
+
+// the free cell of the one bin has 4,044 bytes of data
+const FOUND: [Step; 4] = [
+    Step::Takes(4045, 4128),
+    Step::Pages(2),
+    Step::Takes(4044, 48),
+    Step::Pages(2),
+];
+
 #[test]
 fn a_free_cell_in_read_bytes_is_found(rt: HostRuntime) -> Result<(), Fail> {
     let mut image = Image::open(rt.alloc(), one_bin(rt.alloc())?)?;
-    assert_eq!(rt;
-        image.alloc(4045)?,
-        4096 + 32,
-        "one byte too long for the free cell"
-    );
-    assert_eq!(rt; image.len(), 2 * BIN);
-    assert_eq!(rt; image.alloc(4044)?, 48, "just as long");
-    assert_eq!(rt; image.len(), 2 * BIN);
+    assert_eq!(rt; first_wrong(&mut image, &FOUND), None);
+    Ok(())
+}
+
+// cells of 64 bytes, each second one freed again, so that none has a free neighbour
+fn with_short_free_cells(image: &mut Image) -> Result<(), Refusal> {
+    for _ in 0..300 {
+        let short = image.alloc(60)?;
+        image.alloc(4)?;
+        image.free(short)?;
+    }
     Ok(())
 }
 
 #[test]
 fn a_free_cell_is_found_among_many_that_are_too_short(rt: HostRuntime) -> Result<(), Fail> {
     let mut image = Image::open(rt.alloc(), Vec::new(rt.alloc()))?;
-    let long = image.alloc(200)?;
-    for _ in 0..300 {
-        let short = image.alloc(60)?;
-        let _ = image.alloc(4)?;
-        image.free(short)?;
-    }
+    image.alloc(200)?;
+    with_short_free_cells(&mut image)?;
     let len = image.len();
-    image.free(long)?;
-    assert_eq!(rt; image.alloc(200)?, long);
+    let steps = [Step::Frees(32, 32), Step::Takes(200, 32)];
+    assert_eq!(rt; first_wrong(&mut image, &steps), None);
     assert_eq!(rt; image.len(), len, "no bin was added");
     Ok(())
 }
 
+// three cells of 104 bytes are freed and become one free cell of the whole bin
+const USED_AGAIN: [Step; 11] = [
+    Step::Takes(100, 32),
+    Step::Takes(100, 136),
+    Step::Takes(100, 240),
+    Step::Frees(136, 136),
+    Step::Frees(240, 136),
+    Step::Frees(32, 32),
+    Step::Takes(4056, 32),
+    Step::Pages(1),
+    Step::Takes(1, 4128),
+    Step::TooLarge(67_108_864),
+    Step::Pages(2),
+];
+
 #[test]
-fn free_cells_of_several_pages_merge(rt: HostRuntime) -> Result<(), Fail> {
+fn freed_cells_merge_and_are_used_again(rt: HostRuntime) -> Result<(), Fail> {
     let mut image = Image::open(rt.alloc(), Vec::new(rt.alloc()))?;
-    let long = image.alloc(20_000)?;
-    image.free(long)?;
-    let first = image.alloc(16_000)?;
-    let second = image.alloc(100)?;
-    let third = image.alloc(100)?;
-    assert_eq!(rt; (first, second, third), (32, 16_040, 16_144));
-    assert_eq!(rt; image.free(first)?, first);
-    assert_eq!(rt;
-        image.free(second)?,
-        first,
-        "with a free cell of four pages before it"
-    );
-    assert_eq!(rt; image.free(third)?, first, "and the free cell behind it");
-    assert_eq!(rt; image.alloc(20_444)?, first, "the whole bin of five pages");
-    assert_eq!(rt; image.len(), 5 * BIN);
+    assert_eq!(rt; first_wrong(&mut image, &USED_AGAIN), None);
     Ok(())
 }
 
 #[test]
+fn a_freed_cell_is_not_freed_again(rt: HostRuntime) -> Result<(), Fail> {
+    let mut image = Image::open(rt.alloc(), one_bin(rt.alloc())?)?;
+    image.free(32)?;
+    assert_eq!(rt; image.free(32).err(), damaged(Cause::BadOffset));
+    Ok(())
+}
+
+// a bin of five pages; the third cell is freed with a free cell of four pages before it and one behind it
+const MERGED: [Step; 9] = [
+    Step::Takes(20_000, 32),
+    Step::Frees(32, 32),
+    Step::Takes(16_000, 32),
+    Step::Takes(100, 16_040),
+    Step::Takes(100, 16_144),
+    Step::Frees(32, 32),
+    Step::Frees(16_040, 32),
+    Step::Frees(16_144, 32),
+    Step::Takes(20_444, 32),
+];
+
+#[test]
+fn free_cells_of_several_pages_merge(rt: HostRuntime) -> Result<(), Fail> {
+    let mut image = Image::open(rt.alloc(), Vec::new(rt.alloc()))?;
+    assert_eq!(rt; first_wrong(&mut image, &MERGED), None);
+    assert_eq!(rt; image.len(), 5 * BIN);
+    Ok(())
+}
+
+// 64 MiB are the limit: 16,384 pages
+const AT_THE_LIMIT: [Step; 7] = [
+    Step::TooLarge(67_108_829),
+    Step::Takes(67_108_828, 32),
+    Step::Pages(16_384),
+    Step::TooLarge(0),
+    Step::Frees(32, 32),
+    Step::TooLarge(67_108_829),
+    Step::Takes(0, 32),
+];
+
+#[test]
 fn an_image_grows_up_to_the_limit(rt: HostRuntime) -> Result<(), Fail> {
     let mut image = Image::open(rt.alloc(), Vec::new(rt.alloc()))?;
-    assert_eq!(rt; image.alloc(67_108_829).err(), Some(Refusal::TooLarge));
-    let all = image.alloc(67_108_828)?;
-    assert_eq!(rt; image.len(), 67_108_864);
-    assert_eq!(rt;
-        image.alloc(0).err(),
-        Some(Refusal::TooLarge),
-        "no free cell, no bin"
-    );
-    image.free(all)?;
-    assert_eq!(rt; image.alloc(67_108_829).err(), Some(Refusal::TooLarge));
-    assert_eq!(rt; image.alloc(0)?, all, "at the limit a free cell is taken");
+    assert_eq!(rt; first_wrong(&mut image, &AT_THE_LIMIT), None);
     Ok(())
 }
