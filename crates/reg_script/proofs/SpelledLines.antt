@@ -8,10 +8,10 @@ use Rattle.std.proofs.lemmas.Slice.Eq.{bytes_eq-Decides}
 use Rattle.std.proofs.lemmas.Bool.Decides.{nat_tests}
 use Rattle.reg_names.specs.declared.limits.TheConstants.{MOST_HIVES}
 use Rattle.reg_script.specs.Words.{words, number_of, data_of, name_of, place_of}
-use Rattle.reg_script.specs.Lines.{one_of, two_of, four_of, hives_of, hives_line, at_line, create_line, set_line, get_line, keys_line, line_with, line_of_words, line_of}
+use Rattle.reg_script.specs.Lines.{one_of, two_of, four_of, hives_of, hives_line, at_line, create_line, delete_line, set_line, unset_line, get_line, keys_line, values_line, info_line, line_with, line_of_words, line_of}
 use Rattle.reg_script.specs.Grammar.{IsDecimal, IsPlace, IsName, IsData, SpelledBy, Spells}
 use Rattle.reg_script.specs.declared.line.Line.{Line}
-use Rattle.reg_script.specs.declared.line.Line.TheVariants.{Hives, At, Create, Set, Get, Keys}
+use Rattle.reg_script.specs.declared.line.Line.TheVariants.{Hives, At, Create, Delete, Set, Unset, Get, Keys, Values, Info}
 use Rattle.reg_script.proofs.Cuts.{is_or_not}
 use Rattle.reg_script.proofs.SpelledUnits.{map_some, then_some}
 use Rattle.reg_script.proofs.SpelledWords.{read_number, spelled_number, read_place, spelled_place, read_name, spelled_name, read_data, spelled_data}
@@ -24,6 +24,7 @@ read_words said (At moment) (number, e, d, most) =
     let within : moment ≤ 2 ^ 64 - 1 = omega (arith, most) in
     ap line_of_words e ∙ ap (option_map (λ n. At n)) (read_number (2 ^ 64 - 1) number moment d within)
 read_words said (Create at) (place, e, p) = ap line_of_words e ∙ ap (option_map (λ a. Create a)) (read_place place at p)
+read_words said (Delete at) (place, e, p) = ap line_of_words e ∙ ap (option_map (λ a. Delete a)) (read_place place at p)
 read_words said (Set at name kind bytes) (place, named, number, digits, e, p, n, d, most, b) =
     let within : kind ≤ 2 ^ 32 - 1 = omega (arith, most) in
     ap line_of_words e
@@ -31,9 +32,13 @@ read_words said (Set at name kind bytes) (place, named, number, digits, e, p, n,
     ∙ ap (option_and_then (λ units. option_and_then (λ k. option_map (λ contents. Set at units k contents) (data_of digits)) (number_of (2 ^ 32 - 1) number))) (read_name named name n)
     ∙ ap (option_and_then (λ k. option_map (λ contents. Set at name k contents) (data_of digits))) (read_number (2 ^ 32 - 1) number kind d within)
     ∙ ap (option_map (λ contents. Set at name kind contents)) (read_data digits bytes b)
+read_words said (Unset at name) (place, named, e, p, n) =
+    ap line_of_words e ∙ ap (option_and_then (λ a. option_map (λ units. Unset a units) (name_of named))) (read_place place at p) ∙ ap (option_map (λ units. Unset at units)) (read_name named name n)
 read_words said (Get at name) (place, named, e, p, n) =
     ap line_of_words e ∙ ap (option_and_then (λ a. option_map (λ units. Get a units) (name_of named))) (read_place place at p) ∙ ap (option_map (λ units. Get at units)) (read_name named name n)
 read_words said (Keys at) (place, e, p) = ap line_of_words e ∙ ap (option_map (λ a. Keys a)) (read_place place at p)
+read_words said (Values at) (place, e, p) = ap line_of_words e ∙ ap (option_map (λ a. Values a)) (read_place place at p)
+read_words said (Info at) (place, e, p) = ap line_of_words e ∙ ap (option_map (λ a. Info a)) (read_place place at p)
 
 -- a line that is spelled is read
 pub read_line : (bytes : List ℕ) (line : Line) → Spells bytes line → line_of bytes ≡ Some line
@@ -87,6 +92,24 @@ spelled_create args line e =
     let at = map_some (λ a. Create a) (place_of word.0) line word.2 in
     subst (λ l. SpelledBy l (codes "create" ∷ args)) at.2 (word.0, ap (λ ws. codes "create" ∷ ws) (one_word args word.0 word.1), spelled_place word.0 at.0 at.1)
 
+spelled_delete : (args : List (List ℕ)) (line : Line) → option_and_then delete_line (one_of args) ≡ Some line → SpelledBy line (codes "delete" ∷ args)
+spelled_delete args line e =
+    let word = then_some delete_line (one_of args) line e in
+    let at = map_some (λ a. Delete a) (place_of word.0) line word.2 in
+    subst (λ l. SpelledBy l (codes "delete" ∷ args)) at.2 (word.0, ap (λ ws. codes "delete" ∷ ws) (one_word args word.0 word.1), spelled_place word.0 at.0 at.1)
+
+spelled_values : (args : List (List ℕ)) (line : Line) → option_and_then values_line (one_of args) ≡ Some line → SpelledBy line (codes "values" ∷ args)
+spelled_values args line e =
+    let word = then_some values_line (one_of args) line e in
+    let at = map_some (λ a. Values a) (place_of word.0) line word.2 in
+    subst (λ l. SpelledBy l (codes "values" ∷ args)) at.2 (word.0, ap (λ ws. codes "values" ∷ ws) (one_word args word.0 word.1), spelled_place word.0 at.0 at.1)
+
+spelled_info : (args : List (List ℕ)) (line : Line) → option_and_then info_line (one_of args) ≡ Some line → SpelledBy line (codes "info" ∷ args)
+spelled_info args line e =
+    let word = then_some info_line (one_of args) line e in
+    let at = map_some (λ a. Info a) (place_of word.0) line word.2 in
+    subst (λ l. SpelledBy l (codes "info" ∷ args)) at.2 (word.0, ap (λ ws. codes "info" ∷ ws) (one_word args word.0 word.1), spelled_place word.0 at.0 at.1)
+
 spelled_keys : (args : List (List ℕ)) (line : Line) → option_and_then keys_line (one_of args) ≡ Some line → SpelledBy line (codes "keys" ∷ args)
 spelled_keys args line e =
     let word = then_some keys_line (one_of args) line e in
@@ -102,6 +125,16 @@ spelled_get args line e =
     let name = map_some (λ units. Get at.0 units) (name_of named) line at.2 in
     subst (λ l. SpelledBy l (codes "get" ∷ args)) name.2
     (place, named, ap (λ ws. codes "get" ∷ ws) (two_words args found.0 found.1), spelled_place place at.0 at.1, spelled_name named name.0 name.1)
+
+spelled_unset : (args : List (List ℕ)) (line : Line) → option_and_then unset_line (two_of args) ≡ Some line → SpelledBy line (codes "unset" ∷ args)
+spelled_unset args line e =
+    let found = then_some unset_line (two_of args) line e in
+    let place = found.0.0 in
+    let named = found.0.1 in
+    let at = then_some (λ a. option_map (λ units. Unset a units) (name_of named)) (place_of place) line found.2 in
+    let name = map_some (λ units. Unset at.0 units) (name_of named) line at.2 in
+    subst (λ l. SpelledBy l (codes "unset" ∷ args)) name.2
+    (place, named, ap (λ ws. codes "unset" ∷ ws) (two_words args found.0 found.1), spelled_place place at.0 at.1, spelled_name named name.0 name.1)
 
 spelled_set : (args : List (List ℕ)) (line : Line) → option_and_then set_line (four_of args) ≡ Some line → SpelledBy line (codes "set" ∷ args)
 spelled_set args line e =
@@ -133,10 +166,14 @@ spelled_with verb args line e =
     first_word verb (codes "hives") args line _ _ (spelled_hives args line)
     (first_word verb (codes "at") args line _ _ (spelled_at args line)
     (first_word verb (codes "create") args line _ _ (spelled_create args line)
+    (first_word verb (codes "delete") args line _ _ (spelled_delete args line)
     (first_word verb (codes "set") args line _ _ (spelled_set args line)
+    (first_word verb (codes "unset") args line _ _ (spelled_unset args line)
     (first_word verb (codes "get") args line _ _ (spelled_get args line)
     (first_word verb (codes "keys") args line _ _ (spelled_keys args line)
-    (λ none. absurd (none-some line none))))))) e
+    (first_word verb (codes "values") args line _ _ (spelled_values args line)
+    (first_word verb (codes "info") args line _ _ (spelled_info args line)
+    (λ none. absurd (none-some line none))))))))))) e
 
 spelled_words : (said : List (List ℕ)) (line : Line) → line_of_words said ≡ Some line → SpelledBy line said
 spelled_words [] line e = absurd (none-some line e)

@@ -9,7 +9,7 @@ use Rattle.reg_names.specs.declared.limits.TheConstants.{MOST_HIVES}
 use Rattle.reg_script.specs.Words.{words}
 use Rattle.reg_script.specs.declared.line.Place.{Place}
 use Rattle.reg_script.specs.declared.line.Line.{Line}
-use Rattle.reg_script.specs.declared.line.Line.TheVariants.{Hives, At, Create, Set, Get, Keys}
+use Rattle.reg_script.specs.declared.line.Line.TheVariants.{Hives, At, Create, Delete, Set, Unset, Get, Keys, Values, Info}
 
 -- one decimal digit or more, and the number that they write
 pub record IsDecimal (word : List ℕ) (number : ℕ) : Type 0 where
@@ -56,11 +56,16 @@ abbrev pub SpelledBy : Line → List (List ℕ) → Type 0
 SpelledBy (Hives count) said = (number : List ℕ) × (said ≡ codes "hives" ∷ number ∷ []) × IsDecimal number count × (1 ≤ count) × (count ≤ MOST_HIVES)
 SpelledBy (At moment) said = (number : List ℕ) × (said ≡ codes "at" ∷ number ∷ []) × IsDecimal number moment × (moment < 2 ^ 64)
 SpelledBy (Create at) said = (place : List ℕ) × (said ≡ codes "create" ∷ place ∷ []) × IsPlace place at
+SpelledBy (Delete at) said = (place : List ℕ) × (said ≡ codes "delete" ∷ place ∷ []) × IsPlace place at
 SpelledBy (Set at name kind bytes) said =
     (place : List ℕ) × (named : List ℕ) × (number : List ℕ) × (digits : List ℕ) × (said ≡ codes "set" ∷ place ∷ named ∷ number ∷ digits ∷ [])
     × IsPlace place at × IsName named name × IsDecimal number kind × (kind < 2 ^ 32) × IsData digits bytes
+SpelledBy (Unset at name) said =
+    (place : List ℕ) × (named : List ℕ) × (said ≡ codes "unset" ∷ place ∷ named ∷ []) × IsPlace place at × IsName named name
 SpelledBy (Get at name) said = (place : List ℕ) × (named : List ℕ) × (said ≡ codes "get" ∷ place ∷ named ∷ []) × IsPlace place at × IsName named name
 SpelledBy (Keys at) said = (place : List ℕ) × (said ≡ codes "keys" ∷ place ∷ []) × IsPlace place at
+SpelledBy (Values at) said = (place : List ℕ) × (said ≡ codes "values" ∷ place ∷ []) × IsPlace place at
+SpelledBy (Info at) said = (place : List ℕ) × (said ≡ codes "info" ∷ place ∷ []) × IsPlace place at
 
 -- bytes spell a line where their parts between blanks do
 abbrev pub Spells : List ℕ → Line → Type 0

@@ -7,7 +7,7 @@ use Rattle.std.specs.Str.{bytes_eq}
 use Rattle.hex.specs.Hex.{encode_lower}
 use Rattle.reg_names.specs.Refusals.{refusal_text}
 use Rattle.reg_script.specs.declared.reply.Reply.{Reply}
-use Rattle.reg_script.specs.declared.reply.Reply.TheVariants.{Done, Created, Opened, Accepted, Value, Keys, Refused}
+use Rattle.reg_script.specs.declared.reply.Reply.TheVariants.{Done, Created, Opened, Accepted, Value, Keys, Values, Info, Refused}
 
 -- a unit stands for itself from 0x21 to 0x7e, but for `%`; any other is `%` and four hex digits
 abbrev pub unit_text : ℕ → List ℕ
@@ -32,6 +32,8 @@ reply_text Opened = codes "opened"
 reply_text (Accepted number) = codes "accepted " ++ decimal number
 reply_text (Value kind bytes) = codes "value " ++ decimal kind ++ codes " " ++ data_text bytes
 reply_text (Keys names) = codes "keys " ++ decimal (length names) ++ names_text names
+reply_text (Values names) = codes "values " ++ decimal (length names) ++ names_text names
+reply_text (Info subkeys values time) = codes "info " ++ decimal subkeys ++ codes " " ++ decimal values ++ codes " " ++ decimal time
 reply_text (Refused refusal) = refusal_text refusal
 
 -- a reply's line: its text and the byte that ends it

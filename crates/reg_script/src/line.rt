@@ -61,6 +61,11 @@ pub enum Line {
         /// Where the key stands.
         place: Place,
     },
+    /// `delete P`: deletes a key.
+    Delete {
+        /// Where the key stands.
+        place: Place,
+    },
     /// `set P NAME TYPE HEX`: writes a value.
     Set {
         /// Where the key stands.
@@ -72,6 +77,13 @@ pub enum Line {
         /// The value's data.
         data: Data,
     },
+    /// `unset P NAME`: deletes a value.
+    Unset {
+        /// Where the key stands.
+        place: Place,
+        /// The value's name.
+        name: Text,
+    },
     /// `get P NAME`: reads a value.
     Get {
         /// Where the key stands.
@@ -81,6 +93,16 @@ pub enum Line {
     },
     /// `keys P`: lists the names of subkeys.
     Keys {
+        /// Where the key stands.
+        place: Place,
+    },
+    /// `values P`: lists the names of values.
+    Values {
+        /// Where the key stands.
+        place: Place,
+    },
+    /// `info P`: counts subkeys and values, and tells the moment of the last write.
+    Info {
         /// Where the key stands.
         place: Place,
     },

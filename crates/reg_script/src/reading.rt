@@ -1,7 +1,7 @@
 //! Reads the lines of a script.
 ghost use Rattle.std.specs.Prelude.{◌≡◌};
 ghost use Rattle.reg_script.specs.Words.{number_of};
-ghost use Rattle.reg_script.specs.Lines.{line_of, hives_line, at_line, create_line, set_line, get_line, keys_line};
+ghost use Rattle.reg_script.specs.Lines.{line_of, hives_line, at_line, create_line, delete_line, set_line, unset_line, get_line, keys_line, values_line, info_line};
 ghost use Rattle.reg_script.specs.Reads.{Reads};
 
 use crate::line::Line;
@@ -26,12 +26,20 @@ pub fn read_line(alloc: Global, bytes: &[u8]) -> Result<Line, Unread>
         at(one_word(rest)?)
     } else if verb == b"create".as_slice() {
         create(alloc, one_word(rest)?)
+    } else if verb == b"delete".as_slice() {
+        delete(alloc, one_word(rest)?)
     } else if verb == b"set".as_slice() {
         set(alloc, four_words(rest)?)
+    } else if verb == b"unset".as_slice() {
+        unset(alloc, two_words(rest)?)
     } else if verb == b"get".as_slice() {
         get(alloc, two_words(rest)?)
     } else if verb == b"keys".as_slice() {
         keys(alloc, one_word(rest)?)
+    } else if verb == b"values".as_slice() {
+        values(alloc, one_word(rest)?)
+    } else if verb == b"info".as_slice() {
+        info(alloc, one_word(rest)?)
     } else {
         Err(Unread::NotUnderstood)
     }
@@ -62,6 +70,13 @@ fn create(alloc: Global, at: &[u8]) -> Result<Line, Unread>
     Ok(Line::Create { place })
 }
 
+fn delete(alloc: Global, at: &[u8]) -> Result<Line, Unread>
+    ensures { Reads result (delete_line at.now) }
+{
+    let place = place(alloc, at)?;
+    Ok(Line::Delete { place })
+}
+
 fn set(alloc: Global, words: (&[u8], &[u8], &[u8], &[u8])) -> Result<Line, Unread>
     ensures { Reads result (set_line (words.entry.0.now, words.entry.1.now, words.entry.2.now, words.entry.3.now)) }
 {
@@ -87,6 +102,14 @@ fn type_number(word: &[u8]) -> Result<u32, Unread>
     }
 }
 
+fn unset(alloc: Global, words: (&[u8], &[u8])) -> Result<Line, Unread>
+    ensures { Reads result (unset_line (words.entry.0.now, words.entry.1.now)) }
+{
+    let place = place(alloc, words.0)?;
+    let name = name(alloc, words.1)?;
+    Ok(Line::Unset { place, name })
+}
+
 fn get(alloc: Global, words: (&[u8], &[u8])) -> Result<Line, Unread>
     ensures { Reads result (get_line (words.entry.0.now, words.entry.1.now)) }
 {
@@ -100,4 +123,18 @@ fn keys(alloc: Global, at: &[u8]) -> Result<Line, Unread>
 {
     let place = place(alloc, at)?;
     Ok(Line::Keys { place })
+}
+
+fn values(alloc: Global, at: &[u8]) -> Result<Line, Unread>
+    ensures { Reads result (values_line at.now) }
+{
+    let place = place(alloc, at)?;
+    Ok(Line::Values { place })
+}
+
+fn info(alloc: Global, at: &[u8]) -> Result<Line, Unread>
+    ensures { Reads result (info_line at.now) }
+{
+    let place = place(alloc, at)?;
+    Ok(Line::Info { place })
 }

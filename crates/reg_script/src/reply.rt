@@ -76,6 +76,20 @@ pub enum Reply {
         /// The names, in their order.
         names: Names,
     },
+    /// `values COUNT NAME..`: the names of values.
+    Values {
+        /// The names, in their order.
+        names: Names,
+    },
+    /// `info SUBKEYS VALUES TIME`: what a key has.
+    Info {
+        /// How many subkeys.
+        subkeys: usize,
+        /// How many values.
+        values: usize,
+        /// The moment of its last write.
+        time: u64,
+    },
     /// `E` with its number, a blank and its name: a refusal.
     Refused {
         /// Why the line was refused.
@@ -97,6 +111,12 @@ impl Reply {
             Reply::Accepted { number } => writeln!(writer, "accepted {number}"),
             Reply::Value { kind, data } => write_value(writer, *kind, data),
             Reply::Keys { names } => write_keys(writer, names),
+            Reply::Values { names } => write_values(writer, names),
+            Reply::Info {
+                subkeys,
+                values,
+                time,
+            } => writeln!(writer, "info {subkeys} {values} {time}"),
             Reply::Refused { refusal } => writeln!(writer, "{refusal}"),
         }
     }
@@ -114,6 +134,14 @@ fn write_keys<W: Write>(writer: &mut W, names: &Names) -> io::Result<()>
     ensures { OnOk result (Appends (W.contents writer.old) (W.contents writer.new) (reply_line (Reply.Keys names.now))) }
 {
     write!(writer, "keys {}", names.list().len())?;
+    write_names(writer, names.list())?;
+    writer.write_all(b"\n")
+}
+
+fn write_values<W: Write>(writer: &mut W, names: &Names) -> io::Result<()>
+    ensures { OnOk result (Appends (W.contents writer.old) (W.contents writer.new) (reply_line (Reply.Values names.now))) }
+{
+    write!(writer, "values {}", names.list().len())?;
     write_names(writer, names.list())?;
     writer.write_all(b"\n")
 }
