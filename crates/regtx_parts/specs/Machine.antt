@@ -1,7 +1,8 @@
 -- The machine: what a store answers to events, one after another, and what it is after each. It has no disk yet: each
 -- accepted change is durable at once.
-use Rattle.std.specs.Prelude.{◌≡◌, ℕ, ◌+◌, ◌||◌, nat_lt, nat_le, if◌then◌else◌, List, [], ◌∷◌, ◌++◌, length, sum_by, replicate, slice_get, Option, Some, None, Result, Ok, Err, ◌⊎◌}
+use Rattle.std.specs.Prelude.{◌≡◌, ℕ, ◌+◌, ◌||◌, nat_lt, nat_le, if◌then◌else◌, List, [], ◌∷◌, ◌++◌, length, map, sum_by, replicate, slice_get, Option, Some, None, Result, Ok, Err, ◌⊎◌}
 use Rattle.std.specs.Option.{option_map, option_and_then}
+use Rattle.std.specs.FinMap as finite
 use Rattle.reg_names.specs.Names.{folded_path}
 use Rattle.reg_names.specs.declared.refusal.Refusal.{Refusal}
 use Rattle.reg_names.specs.declared.refusal.Refusal.TheVariants.{NoMemory, NotFound, JournalFull, HistoryFull}
@@ -11,7 +12,7 @@ use Rattle.reg_tree.specs.Maps.{TreeMap, row, subkeys, missing}
 use Rattle.reg_tree.specs.Fresh.{fresh_tree}
 use Rattle.reg_tree.specs.Texts.{element_text_len}
 use Rattle.reg_tree.specs.Judgement.{legal}
-use Rattle.reg_tree.specs.TreeLists.{value_in}
+use Rattle.reg_tree.specs.TreeLists.{value_in, info_in}
 use Rattle.reg_tree.specs.Sequences.{after_elements}
 use Rattle.reg_tree.specs.declared.element.Element.{Element}
 use Rattle.reg_tree.specs.declared.op.Op.{Op}
@@ -21,7 +22,7 @@ use Rattle.reg_tree.specs.declared.op.Legality.TheVariants.{Legal, Opened}
 use Rattle.regtx_parts.specs.declared.event.Event.{Event}
 use Rattle.regtx_parts.specs.declared.event.Event.TheVariants.{Write, Read}
 use Rattle.regtx_parts.specs.declared.event.Question.{Question}
-use Rattle.regtx_parts.specs.declared.event.Question.TheVariants.{ValueOf, KeysOf}
+use Rattle.regtx_parts.specs.declared.event.Question.TheVariants.{ValueOf, KeysOf, ValuesOf, InfoOf}
 use Rattle.regtx_parts.specs.declared.event.Answer.{Answer}
 use Rattle.regtx_parts.specs.declared.event.Answer.TheVariants as answer
 
@@ -103,6 +104,13 @@ subkeys_at tree path = option_map (λ key. subkeys tree path) (row tree path)
 abbrev pub subkeys_in : List TreeMap → ℕ → List (List ℕ) → Option (List (List ℕ))
 subkeys_in trees hive path = option_and_then (λ tree. subkeys_at tree path) (slice_get trees hive)
 
+-- the names of a key's values, where the key is there
+abbrev pub value_names_at : TreeMap → List (List ℕ) → Option (List (List ℕ))
+value_names_at tree path = option_map (λ key. map (λ value. value.name) (finite.values key.values)) (row tree path)
+
+abbrev pub value_names_in : List TreeMap → ℕ → List (List ℕ) → Option (List (List ℕ))
+value_names_in trees hive path = option_and_then (λ tree. value_names_at tree path) (slice_get trees hive)
+
 -- what is not there is not found
 abbrev pub read_refusal : {A : Type 0} → Option A → Option Refusal
 read_refusal (Some found) = None
@@ -120,11 +128,28 @@ Step old (Read hive path (ValueOf name)) (answer.Found value) new = (value_in (t
 Step old (Read hive path (ValueOf name)) (answer.Refused refusal) new = Refuses old (read_refusal (value_in (trees_now old) hive (folded_path path) name)) refusal new
 Step old (Read hive path KeysOf) (answer.Listed names) new = (subkeys_in (trees_now old) hive (folded_path path) ≡ Some names) × (new ≡ old)
 Step old (Read hive path KeysOf) (answer.Refused refusal) new = Refuses old (read_refusal (subkeys_in (trees_now old) hive (folded_path path))) refusal new
+Step old (Read hive path ValuesOf) (answer.ValuesListed names) new = (value_names_in (trees_now old) hive (folded_path path) ≡ Some names) × (new ≡ old)
+Step old (Read hive path ValuesOf) (answer.Refused refusal) new = Refuses old (read_refusal (value_names_in (trees_now old) hive (folded_path path))) refusal new
+Step old (Read hive path InfoOf) (answer.Counted subkeys values time) new =
+    (info_in (trees_now old) hive (folded_path path) ≡ Some (record { subkeys = subkeys; values = values; time = time })) × (new ≡ old)
+Step old (Read hive path InfoOf) (answer.Refused refusal) new = Refuses old (read_refusal (info_in (trees_now old) hive (folded_path path))) refusal new
 -- no other answer is given
 Step old (Write moment op) (answer.Found value) new = ⊥
 Step old (Write moment op) (answer.Listed names) new = ⊥
+Step old (Write moment op) (answer.ValuesListed names) new = ⊥
+Step old (Write moment op) (answer.Counted subkeys values time) new = ⊥
 Step old (Read hive path question) (answer.Created levels number) new = ⊥
 Step old (Read hive path question) (answer.Accepted number) new = ⊥
 Step old (Read hive path question) answer.Opened new = ⊥
 Step old (Read hive path (ValueOf name)) (answer.Listed names) new = ⊥
+Step old (Read hive path (ValueOf name)) (answer.ValuesListed names) new = ⊥
+Step old (Read hive path (ValueOf name)) (answer.Counted subkeys values time) new = ⊥
 Step old (Read hive path KeysOf) (answer.Found value) new = ⊥
+Step old (Read hive path KeysOf) (answer.ValuesListed names) new = ⊥
+Step old (Read hive path KeysOf) (answer.Counted subkeys values time) new = ⊥
+Step old (Read hive path ValuesOf) (answer.Found value) new = ⊥
+Step old (Read hive path ValuesOf) (answer.Listed names) new = ⊥
+Step old (Read hive path ValuesOf) (answer.Counted subkeys values time) new = ⊥
+Step old (Read hive path InfoOf) (answer.Found value) new = ⊥
+Step old (Read hive path InfoOf) (answer.Listed names) new = ⊥
+Step old (Read hive path InfoOf) (answer.ValuesListed names) new = ⊥

@@ -51,6 +51,8 @@ is_refusal reply.Opened = false
 is_refusal (reply.Accepted number) = false
 is_refusal (reply.Value kind bytes) = false
 is_refusal (reply.Keys names) = false
+is_refusal (reply.Values names) = false
+is_refusal (reply.Info subkeys values time) = false
 is_refusal (reply.Refused refusal) = true
 
 -- a line is not understood, and nothing more is read

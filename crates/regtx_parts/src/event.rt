@@ -13,6 +13,10 @@ pub enum Question {
     },
     /// The names of its subkeys.
     KeysOf,
+    /// The names of its values.
+    ValuesOf,
+    /// How many subkeys and values it has, and when it was last written.
+    InfoOf,
 }
 
 /// One event of a store.
@@ -62,6 +66,20 @@ pub enum Answer {
     Listed {
         /// The names, in their order.
         names: Names,
+    },
+    /// The names of values.
+    ValuesListed {
+        /// The names, in their order.
+        names: Names,
+    },
+    /// What a key has.
+    Counted {
+        /// How many subkeys.
+        subkeys: usize,
+        /// How many values.
+        values: usize,
+        /// The moment of its last write.
+        time: u64,
     },
     /// The event was refused, and changed nothing.
     Refused {

@@ -1,7 +1,7 @@
 //! A script's store, asked line by line.
 ghost use Rattle.std.specs.Prelude.{◌≡◌, ℕ, Some, None, MatchResult, MatchOption, IfOk, IfSome, IfNone};
 ghost use Rattle.reg_script.specs.declared.line.Line.{Line as AnyLine};
-ghost use Rattle.regtx_parts.specs.Scripts.{Asks, Answers, reply_of, later_line, line_asked, hives_asked, fresh_script};
+ghost use Rattle.regtx_parts.specs.Scripts.{Asks, Answers, Reads, reply_of, later_line, line_asked, hives_asked, fresh_script};
 ghost use Rattle.regtx_parts.specs.Players.{script_of};
 
 use crate::event::{Answer, Event, Question};
@@ -31,6 +31,16 @@ impl From<Answer> for Reply {
                 Reply::Value { kind, data }
             }
             Answer::Listed { names } => Reply::Keys { names },
+            Answer::ValuesListed { names } => Reply::Values { names },
+            Answer::Counted {
+                subkeys,
+                values,
+                time,
+            } => Reply::Info {
+                subkeys,
+                values,
+                time,
+            },
             Answer::Refused { refusal } => Reply::Refused { refusal },
         }
     }
@@ -76,14 +86,18 @@ impl Player {
                 Ok(Reply::Done)
             }
             Line::Create { place } => self.create(alloc, &place),
+            Line::Delete { place } => self.delete(alloc, &place),
             Line::Set {
                 place,
                 name,
                 kind,
                 data,
             } => self.set(alloc, &place, &name, kind, data),
+            Line::Unset { place, name } => self.unset(alloc, &place, &name),
             Line::Get { place, name } => self.get(alloc, &place, &name),
-            Line::Keys { place } => self.keys(alloc, &place),
+            Line::Keys { place } => self.ask(alloc, &place, Question::KeysOf),
+            Line::Values { place } => self.ask(alloc, &place, Question::ValuesOf),
+            Line::Info { place } => self.ask(alloc, &place, Question::InfoOf),
         };
         match told {
             Ok(told) => Some(told),
@@ -96,6 +110,17 @@ impl Player {
     {
         let path = Path::parse(alloc, place.path.units())?;
         let op = Op::CreateKey {
+            hive: place.hive,
+            path,
+        };
+        Ok(self.write(alloc, op))
+    }
+
+    fn delete(&mut self, alloc: Global, place: &Place) -> Result<Reply, Refusal>
+        ensures { MatchResult result (λ told. Answers (script_of self.old) (Line.Delete place.now) told (script_of self.new)) (λ refusal. Answers (script_of self.old) (Line.Delete place.now) (Reply.Refused refusal) (script_of self.new)) }
+    {
+        let path = Path::parse(alloc, place.path.units())?;
+        let op = Op::DeleteKey {
             hive: place.hive,
             path,
         };
@@ -124,6 +149,19 @@ impl Player {
         Ok(self.write(alloc, op))
     }
 
+    fn unset(&mut self, alloc: Global, place: &Place, name: &Text) -> Result<Reply, Refusal>
+        ensures { MatchResult result (λ told. Answers (script_of self.old) (Line.Unset place.now name.now) told (script_of self.new)) (λ refusal. Answers (script_of self.old) (Line.Unset place.now name.now) (Reply.Refused refusal) (script_of self.new)) }
+    {
+        let path = Path::parse(alloc, place.path.units())?;
+        let name = Name::value(alloc, name.units())?;
+        let op = Op::DeleteValue {
+            hive: place.hive,
+            path,
+            name,
+        };
+        Ok(self.write(alloc, op))
+    }
+
     fn get(&mut self, alloc: Global, place: &Place, name: &Text) -> Result<Reply, Refusal>
         ensures { MatchResult result (λ told. Answers (script_of self.old) (Line.Get place.now name.now) told (script_of self.new)) (λ refusal. Answers (script_of self.old) (Line.Get place.now name.now) (Reply.Refused refusal) (script_of self.new)) }
     {
@@ -132,11 +170,12 @@ impl Player {
         Ok(self.read(alloc, place.hive, path, Question::ValueOf { name }))
     }
 
-    fn keys(&mut self, alloc: Global, place: &Place) -> Result<Reply, Refusal>
-        ensures { MatchResult result (λ told. Answers (script_of self.old) (Line.Keys place.now) told (script_of self.new)) (λ refusal. Answers (script_of self.old) (Line.Keys place.now) (Reply.Refused refusal) (script_of self.new)) }
+    // reads what a line without a value's name asks of a key
+    fn ask(&mut self, alloc: Global, place: &Place, question: Question) -> Result<Reply, Refusal>
+        ensures { MatchResult result (λ told. Reads (script_of self.old) place.now question told (script_of self.new)) (λ refusal. Reads (script_of self.old) place.now question (Reply.Refused refusal) (script_of self.new)) }
     {
         let path = Path::parse(alloc, place.path.units())?;
-        Ok(self.read(alloc, place.hive, path, Question::KeysOf))
+        Ok(self.read(alloc, place.hive, path, question))
     }
 
     fn write(&mut self, alloc: Global, op: Op) -> Reply

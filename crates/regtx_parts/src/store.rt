@@ -2,7 +2,7 @@
 ghost use Rattle.std.specs.Prelude.{◌≡◌, ◌+◌, ◌⊎◌, IfOk, MatchResult};
 ghost use Rattle.reg_tree.specs.Texts.{element_text_len};
 ghost use Rattle.reg_names.specs.Names.{folded_path};
-ghost use Rattle.regtx_parts.specs.Machine.{Step, Refuses, fresh_machine, last_number, levels_made, room_refusal, room_of, used_room, with_change, subkeys_in};
+ghost use Rattle.regtx_parts.specs.Machine.{Step, Refuses, fresh_machine, last_number, levels_made, room_refusal, room_of, used_room, with_change, subkeys_in, value_names_in};
 
 use crate::event::{Answer, Event, Question};
 use reg_names::limits::{MOST_HISTORY, MOST_JOURNAL_BYTES};
@@ -137,6 +137,8 @@ impl PlainStore {
         match question {
             Question::ValueOf { name } => self.value(hive, path, &name),
             Question::KeysOf => self.keys(alloc, hive, path),
+            Question::ValuesOf => self.values(alloc, hive, path),
+            Question::InfoOf => self.info(hive, path),
         }
     }
 
@@ -155,6 +157,26 @@ impl PlainStore {
         let names = subkey_names(alloc, &self.trees, hive, path)?;
         Ok(Answer::Listed {
             names: Names::new(names),
+        })
+    }
+
+    fn values(&self, alloc: Global, hive: u8, path: &Path) -> Result<Answer, Refusal>
+        ensures { MatchResult result (λ answer. Step self.now (Event.Read hive path.now Question.ValuesOf) answer self.now) (λ refusal. Step self.now (Event.Read hive path.now Question.ValuesOf) (Answer.Refused refusal) self.now) }
+    {
+        let names = value_names(alloc, &self.trees, hive, path)?;
+        Ok(Answer::ValuesListed {
+            names: Names::new(names),
+        })
+    }
+
+    fn info(&self, hive: u8, path: &Path) -> Result<Answer, Refusal>
+        ensures { MatchResult result (λ answer. Step self.now (Event.Read hive path.now Question.InfoOf) answer self.now) (λ refusal. Step self.now (Event.Read hive path.now Question.InfoOf) (Answer.Refused refusal) self.now) }
+    {
+        let info = self.trees.query_info(hive, path)?;
+        Ok(Answer::Counted {
+            subkeys: info.subkeys,
+            values: info.values,
+            time: info.time,
         })
     }
 }
@@ -180,6 +202,18 @@ fn subkey_names(alloc: Global, trees: &Trees, hive: u8, path: &Path) -> Result<V
     let mut names = Vec::with_capacity(alloc, count)?;
     for index in 0..count {
         names.push(trees.enum_key(hive, path, index)?.clone()?)?;
+    }
+    Ok(names)
+}
+
+// the names of the key's values, in their order
+fn value_names(alloc: Global, trees: &Trees, hive: u8, path: &Path) -> Result<Vec<Name>, Refusal>
+    ensures { MatchResult result (λ names. value_names_in trees.now hive (folded_path path.now) ≡ Some names.items) (λ refusal. ((value_names_in trees.now hive (folded_path path.now) ≡ None) × (refusal ≡ Refusal.NotFound)) ⊎ (refusal ≡ Refusal.NoMemory)) }
+{
+    let count = trees.query_info(hive, path)?.values;
+    let mut names = Vec::with_capacity(alloc, count)?;
+    for index in 0..count {
+        names.push(trees.enum_value(hive, path, index)?.name.clone()?)?;
     }
     Ok(names)
 }
