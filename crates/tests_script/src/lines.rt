@@ -60,7 +60,13 @@ fn what_is_no_line_is_not_understood(rt: HostRuntime) -> Result<(), Fail> {
         "set 0: v x -",
         // a line is understood whole before anything of it is tested
         "set 0:\\ v x -",
-        "delete 0:A",
+        "delete",
+        "delete 0:A b",
+        "unset 0:A",
+        "unset 0:A b c",
+        "values",
+        "values 0: 1",
+        "info 0",
         "flush",
         "jstep",
     ];

@@ -89,3 +89,52 @@ fn names_are_printed_with_their_escapes(rt: HostRuntime) -> Result<(), Fail> {
     play_all(&rt, rt.alloc(), &cases)?;
     Ok(())
 }
+
+#[test]
+fn keys_and_values_are_deleted(rt: HostRuntime) -> Result<(), Fail> {
+    let cases: [Case; 3] = [
+        (
+            "hives 1\ncreate 0:A\\B\ndelete 0:A\ndelete 0:\ndelete 0:a\\b\ndelete 0:A\\B\n",
+            "ok\ncreated 2 accepted 1\nE3 HasSubkeys\nE18 Fixed\naccepted 2\nE2 NotFound\n",
+            Refused,
+        ),
+        (
+            "hives 1\nset 0: v 4 01\nunset 0: V\nunset 0: v\nget 0: v\nunset 0:A v\n",
+            "ok\naccepted 1\naccepted 2\nE2 NotFound\nE2 NotFound\nE2 NotFound\n",
+            Refused,
+        ),
+        // a hive that isn't there is told before the root, and a bad name before all
+        (
+            "hives 1\ndelete 1:\nunset 0:\\ v\nunset 0: %0001\n",
+            "ok\nE2 NotFound\nE4 BadName\nE4 BadName\n",
+            Refused,
+        ),
+    ];
+    play_all(&rt, rt.alloc(), &cases)?;
+    Ok(())
+}
+
+#[test]
+fn values_are_listed_and_keys_counted(rt: HostRuntime) -> Result<(), Fail> {
+    let cases: [Case; 3] = [
+        // a value is spelled as at its first writing since it was last missing
+        (
+            "hives 1\nat 5\nset 0: b 1 -\nset 0: @ 1 -\nset 0: A 1 -\nset 0: B 2 -\nvalues 0:\nunset 0: b\nset 0: B 1 -\nvalues 0:\n",
+            "ok\nok\naccepted 1\naccepted 2\naccepted 3\naccepted 4\nvalues 3 @ A b\naccepted 5\naccepted 6\nvalues 3 @ A B\n",
+            Clean,
+        ),
+        // the moment of a change is that of the key it touches, and of a made or deleted key's parent
+        (
+            "hives 1\ninfo 0:\nat 5\ncreate 0:A\\B\ninfo 0:\ninfo 0:A\nat 6\nset 0:A v 1 -\ninfo 0:A\nat 7\ndelete 0:A\\B\ninfo 0:A\ninfo 0:\n",
+            "ok\ninfo 0 0 0\nok\ncreated 2 accepted 1\ninfo 1 0 5\ninfo 1 0 5\nok\naccepted 2\ninfo 1 1 6\nok\naccepted 3\ninfo 0 1 7\ninfo 1 0 5\n",
+            Clean,
+        ),
+        (
+            "hives 1\nvalues 0:A\ninfo 0:A\nvalues 1:\ninfo 0:\\\n",
+            "ok\nE2 NotFound\nE2 NotFound\nE2 NotFound\nE4 BadName\n",
+            Refused,
+        ),
+    ];
+    play_all(&rt, rt.alloc(), &cases)?;
+    Ok(())
+}
