@@ -1,0 +1,7 @@
+//! Tests of claims: which conflict, and who holds them. Expected answers are worked by hand from the stated rules.
+#![tactic(auto)]
+
+#[cfg(test)]
+mod held;
+#[cfg(test)]
+mod operations;
