@@ -26,9 +26,15 @@ get 0:Software\\A a%0020long%0020name
 keys 0:
 create 0:Software\\A
 keys 0:SOFTWARE
+values 0:Software\\A
+info 0:Software\\A
+unset 0:Software\\A v
+values 0:Software\\A
+delete 0:Software\\A
+keys 0:Software
 ";
 
-const CLEAN_STEPS: [Step; 10] = [
+const CLEAN_STEPS: [Step; 16] = [
     Step::Hives,
     Step::At,
     Step::Create,
@@ -38,6 +44,12 @@ const CLEAN_STEPS: [Step; 10] = [
     Step::GetSecond,
     Step::KeysOfRoot,
     Step::Create,
+    Step::KeysOfKey,
+    Step::Values,
+    Step::Info,
+    Step::UnsetFirst,
+    Step::Values,
+    Step::Delete,
     Step::KeysOfKey,
 ];
 
