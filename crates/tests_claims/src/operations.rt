@@ -6,6 +6,7 @@ use std::alloc::Global;
 use std::test::Fail;
 
 /// An operation: its hive and the text of its path.
+#[derive(Drop)]
 pub enum Step {
     Create(u8, &'static str),
     Delete(u8, &'static str),
