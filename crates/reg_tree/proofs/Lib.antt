@@ -8,3 +8,4 @@ pub mod Keeps
 pub mod FreshTrees
 pub mod Sums
 pub mod Stays
+pub mod Listed

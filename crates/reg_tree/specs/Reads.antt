@@ -1,10 +1,10 @@
 -- What is read of a tree.
-use Rattle.std.specs.Prelude.{◌≡◌, ℕ, List, length, slice_get, Option, None}
+use Rattle.std.specs.Prelude.{◌≡◌, ℕ, List, length, slice_get, Option, None, ◌⊎◌}
 use Rattle.std.specs.Option.{option_map, option_and_then}
 use Rattle.std.specs.FinMap as finite
 use Rattle.reg_names.specs.Names.{folded}
 use Rattle.reg_names.specs.declared.refusal.Refusal.{Refusal}
-use Rattle.reg_names.specs.declared.refusal.Refusal.TheVariants.{NotFound}
+use Rattle.reg_names.specs.declared.refusal.Refusal.TheVariants.{NoMemory, NotFound}
 use Rattle.reg_tree_parts.specs.declared.value.Value.{Value}
 use Rattle.reg_tree.specs.Maps.{TreeMap, row, subkeys}
 use Rattle.reg_tree.specs.declared.tree.Info.{Info}
@@ -28,3 +28,7 @@ info_of tree path = option_map (λ key. record { subkeys = length (subkeys tree 
 -- nothing is there, and that is what the call says
 abbrev pub IsMissing : {A : Type 0} → Option A → Refusal → Type 0
 IsMissing there refusal = (there ≡ None) × (refusal ≡ NotFound)
+
+-- nothing is there, and that is what the call says, or memory was refused
+abbrev pub IsMissingOrNoMemory : {A : Type 0} → Option A → Refusal → Type 0
+IsMissingOrNoMemory there refusal = IsMissing there refusal ⊎ (refusal ≡ NoMemory)

@@ -1,9 +1,10 @@
 -- What is read of the trees of all hives, by the hive's number.
-use Rattle.std.specs.Prelude.{ℕ, List, slice_get, min, Option}
+use Rattle.std.specs.Prelude.{ℕ, List, length, map, slice_get, min, Option}
 use Rattle.std.specs.Option.{option_map, option_and_then}
+use Rattle.std.specs.FinMap as finite
 use Rattle.std.below.core.specs.declared.int.u64.TheConstants.{MAX}
 use Rattle.reg_tree_parts.specs.declared.value.Value.{Value}
-use Rattle.reg_tree.specs.Maps.{TreeMap, weight}
+use Rattle.reg_tree.specs.Maps.{TreeMap, row, subkeys, missing, weight}
 use Rattle.reg_tree.specs.Reads.{value_at, value_index, subkey_index, info_of}
 use Rattle.reg_tree.specs.declared.tree.Info.{Info}
 
@@ -26,3 +27,21 @@ info_in trees hive path = option_and_then (λ tree. info_of tree path) (slice_ge
 -- the weight of a hive's tree, as far as 64 bits hold it
 abbrev pub weight_in : List TreeMap → ℕ → Option ℕ
 weight_in trees hive = option_map (λ tree. min (weight tree) MAX) (slice_get trees hive)
+
+-- the names of a key's subkeys, in their order, where the key is there
+abbrev pub subkeys_at : TreeMap → List (List ℕ) → Option (List (List ℕ))
+subkeys_at tree path = option_map (λ key. subkeys tree path) (row tree path)
+
+abbrev pub subkeys_in : List TreeMap → ℕ → List (List ℕ) → Option (List (List ℕ))
+subkeys_in trees hive path = option_and_then (λ tree. subkeys_at tree path) (slice_get trees hive)
+
+-- the names of a key's values, in their order, where the key is there
+abbrev pub value_names_at : TreeMap → List (List ℕ) → Option (List (List ℕ))
+value_names_at tree path = option_map (λ key. map (λ value. value.name) (finite.values key.values)) (row tree path)
+
+abbrev pub value_names_in : List TreeMap → ℕ → List (List ℕ) → Option (List (List ℕ))
+value_names_in trees hive path = option_and_then (λ tree. value_names_at tree path) (slice_get trees hive)
+
+-- how many keys are missing on the way to a path, its own included: what its creation would make
+abbrev pub levels_in : List TreeMap → ℕ → List (List ℕ) → Option ℕ
+levels_in trees hive path = option_map (λ tree. length (missing tree path)) (slice_get trees hive)

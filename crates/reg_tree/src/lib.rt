@@ -10,11 +10,13 @@
 
 mod element;
 pub mod laws;
+mod names;
 mod op;
 mod tree;
 mod trees;
 
 pub use element::{Element, Ops};
+pub use names::Names;
 pub use op::{Legality, Op};
 pub use reg_tree_parts::{Data, Key, Value};
 pub use tree::{Info, Tree};

@@ -8,6 +8,7 @@ ghost use Rattle.reg_tree.specs.Judgement.{judged, judged_create, judged_delete_
 ghost use Rattle.reg_tree.specs.Reads.{value_at, value_index, subkey_index, info_of, IsMissing};
 
 mod change;
+mod lists;
 
 use crate::op::{Legality, Op};
 use reg_names::limits::{MOST_NEW_LEVELS, MOST_VALUE_BYTES};

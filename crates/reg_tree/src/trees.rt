@@ -1,17 +1,16 @@
 //! The trees of all hives of a store.
-ghost use Rattle.std.specs.Prelude.{◌≡◌, length, replicate, IfOk, MatchResult, slice_get};
+ghost use Rattle.std.specs.Prelude.{◌≡◌, length, replicate, IfOk, slice_get};
 ghost use Rattle.std.specs.Option.{option_copied};
-ghost use Rattle.reg_names.specs.Names.{folded_path, IsOrNoMemory};
+ghost use Rattle.reg_names.specs.Names.{IsOrNoMemory};
 ghost use Rattle.reg_tree.specs.Fresh.{fresh_tree};
 ghost use Rattle.reg_tree.specs.Judgement.{legal, applied, applied_one};
-ghost use Rattle.reg_tree.specs.Reads.{IsMissing};
-ghost use Rattle.reg_tree.specs.TreeLists.{value_in, value_index_in, subkey_index_in, info_in, weight_in};
+
+mod reads;
 
 use crate::element::Element;
 use crate::op::{Legality, Op};
-use crate::tree::{Info, Tree};
-use reg_names::{Name, Path, Refusal};
-use reg_tree_parts::Value;
+use crate::tree::Tree;
+use reg_names::Refusal;
 use std::alloc::{AllocError, Global};
 use std::marker::Model;
 
@@ -90,9 +89,17 @@ impl Trees {
     pub fn apply(&self, alloc: Global, element: &Element) -> Result<Trees, AllocError>
         ensures { IfOk result (λ made. made ≡ applied self.now element.now.ops element.now.moment) }
     {
+        self.apply_ops(alloc, element.ops.list(), element.moment)
+    }
+
+    /// The trees after the operations in order, all at this moment. An operation that may not be carried out
+    /// changes nothing; weights are not looked at.
+    pub fn apply_ops(&self, alloc: Global, ops: &[Op], moment: u64) -> Result<Trees, AllocError>
+        ensures { IfOk result (λ made. made ≡ applied self.now ops.now moment) }
+    {
         let mut made = self.try_clone(alloc)?;
-        for op in element.ops.list() {
-            made.change(alloc, op, element.moment)?;
+        for op in ops {
+            made.change(alloc, op, moment)?;
         }
         Ok(made)
     }
@@ -107,59 +114,5 @@ impl Trees {
             self.hives[hive] = made;
         }
         Ok(())
-    }
-
-    /// The weight of a hive's tree, or the greatest number of 64 bits where it is more; nothing for a hive that
-    /// isn't there.
-    pub fn weight(&self, hive: u8) -> Option<u64>
-        ensures { result ≡ weight_in self.now hive }
-    {
-        match self.tree(hive) {
-            Some(tree) => Some(tree.weight()),
-            None => None,
-        }
-    }
-
-    /// The value of this name. Refused with `NotFound` exactly where there is no such hive, key or value.
-    pub fn get_value(&self, hive: u8, path: &Path, name: &Name) -> Result<&Value, Refusal>
-        ensures { MatchResult result (λ value. value_in self.now hive (folded_path path.now) name.now ≡ Some value.now) (IsMissing (value_in self.now hive (folded_path path.now) name.now)) }
-    {
-        match self.tree(hive) {
-            Some(tree) => tree.get_value(path, name),
-            None => Err(Refusal::NotFound),
-        }
-    }
-
-    /// The value at this index, in the order of names. Refused with `NotFound` exactly where there is no such
-    /// hive or key, or the index is past its last value.
-    pub fn enum_value(&self, hive: u8, path: &Path, index: usize) -> Result<&Value, Refusal>
-        ensures { MatchResult result (λ value. value_index_in self.now hive (folded_path path.now) index ≡ Some value.now) (IsMissing (value_index_in self.now hive (folded_path path.now) index)) }
-    {
-        match self.tree(hive) {
-            Some(tree) => tree.enum_value(path, index),
-            None => Err(Refusal::NotFound),
-        }
-    }
-
-    /// The name of the subkey at this index, in the order of names. Refused with `NotFound` exactly where there
-    /// is no such hive or key, or the index is past its last subkey.
-    pub fn enum_key(&self, hive: u8, path: &Path, index: usize) -> Result<&Name, Refusal>
-        ensures { MatchResult result (λ name. subkey_index_in self.now hive (folded_path path.now) index ≡ Some name.now) (IsMissing (subkey_index_in self.now hive (folded_path path.now) index)) }
-    {
-        match self.tree(hive) {
-            Some(tree) => tree.enum_key(path, index),
-            None => Err(Refusal::NotFound),
-        }
-    }
-
-    /// How many subkeys and values the key has, and when it was last written. Refused with `NotFound` exactly
-    /// where there is no such hive or key.
-    pub fn query_info(&self, hive: u8, path: &Path) -> Result<Info, Refusal>
-        ensures { MatchResult result (λ info. info_in self.now hive (folded_path path.now) ≡ Some info) (IsMissing (info_in self.now hive (folded_path path.now))) }
-    {
-        match self.tree(hive) {
-            Some(tree) => tree.query_info(path),
-            None => Err(Refusal::NotFound),
-        }
     }
 }

@@ -1,6 +1,0 @@
-use Rattle.std.proofs.Common.{◌≡◌, drop}
-use Rattle.reg_tree.specs.Judgement.{applied}
-use Rattle.reg_tree.proofs.trees.Trees.apply.Given as goal
-
-abbrev pub invariant-loop-op : goal.invariant-loop-op
-invariant-loop-op l = applied l.made (drop l.op-index l.op-items) l.element.moment ≡ applied l.self l.element.ops l.element.moment
