@@ -9,3 +9,5 @@ pub mod FreshTrees
 pub mod Sums
 pub mod Stays
 pub mod Listed
+pub mod Times
+pub mod Weighing

@@ -1,6 +1,6 @@
 -- Laws of operations: trees stay trees, rows and hives that an operation does not name stay, and no legal
 -- operation takes a tree over the limit of weight.
-use Rattle.std.proofs.Common.{◌≡◌, ℕ, zero, suc, ◌+◌, ◌-◌, ◌≤◌, Bool, true, false, ◌&&◌, cond, ◌⊎◌, inl, inr, List, [], ◌∷◌, length, map, take, drop, sum_by, append-nil, Option, Some, None, IsOk, Result, Ok, Err, refl, sym, ◌∙◌, ap, subst, arith}
+use Rattle.std.proofs.Common.{◌≡◌, ℕ, zero, suc, ◌+◌, ◌-◌, ◌≤◌, Bool, true, false, ◌&&◌, cond, ◌⊎◌, inl, inr, List, [], ◌∷◌, ◌++◌, length, map, take, drop, sum_by, append-nil, Option, Some, None, IsOk, Result, Ok, Err, refl, sym, ◌∙◌, ap, subst, arith}
 use Rattle.std.specs.Prelude.{nat_lt, slice_get, slice_set, slice_index_or, ◌≢◌}
 use Rattle.std.specs.Option.{option_map}
 use Rattle.std.specs.Ordering.{eq_by_cmp}
@@ -35,6 +35,7 @@ use Rattle.reg_tree.proofs.Paths.{told, eq_is, begins-append, split_below}
 use Rattle.reg_tree.proofs.Made.{row-tree_after}
 use Rattle.reg_tree.proofs.Keeps.{changed_stays}
 use Rattle.reg_tree.proofs.Sums.{of_option, less_in_all}
+use Rattle.reg_tree.proofs.Times.{weight_same, tree_after_same}
 
 -- Trees of all hives
 
@@ -87,6 +88,11 @@ hives_stay trees op moment hive apart = by_case (slice_get trees (hive_of op))
     by_case None = refl
     by_case (Some tree) = set_elsewhere trees (hive_of op) hive (changed tree op moment) apart
 
+-- operations after others at the same moment make what they all make together
+pub one_by_one : (trees : List TreeMap) (ops others : List Op) (moment : ℕ) → applied trees (ops ++ others) moment ≡ applied (applied trees ops moment) others moment
+one_by_one trees [] others moment = refl
+one_by_one trees (op ∷ ops) others moment = one_by_one (applied_one trees op moment) ops others moment
+
 -- Rows of one tree
 
 -- a path that begins none of those an operation names is none of them
@@ -135,22 +141,9 @@ rows_stay tree is op moment q off = by_case (judged tree op)
 -- Weights
 
 -- the moment of a row weighs nothing
-timeless : (edit : Row → Row) (m n : ℕ) (o : Option Row) → of_option row_weight (option_map (λ key. touched m (edit key)) o) ≡ of_option row_weight (option_map (λ key. touched n (edit key)) o)
-timeless edit m n None = refl
-timeless edit m n (Some key) = refl
-
 touched_same : (m : ℕ) (o : Option Row) → of_option row_weight (option_map (touched m) o) ≡ of_option row_weight o
 touched_same m None = refl
 touched_same m (Some key) = refl
-
-same_edited : (edit : Row → Row) (m n : ℕ) (b : Bool) (o : Option Row) → of_option row_weight (cond b (option_map (λ key. touched m (edit key)) o) o) ≡ of_option row_weight (cond b (option_map (λ key. touched n (edit key)) o) o)
-same_edited edit m n true o = timeless edit m n o
-same_edited edit m n false o = refl
-
-same_created : (name descriptor : List ℕ) (m n : ℕ) (a b : Bool) (o : Option Row) → of_option row_weight (cond a (option_map (touched m) o) (cond b (Some (new_row name descriptor m)) o)) ≡ of_option row_weight (cond a (option_map (touched n) o) (cond b (Some (new_row name descriptor n)) o))
-same_created name descriptor m n true b o = timeless (λ key. key) m n o
-same_created name descriptor m n false true o = refl
-same_created name descriptor m n false false o = refl
 
 deleted_less : (m : ℕ) (a b : Bool) (o : Option Row) → of_option row_weight (cond a None (cond b (option_map (touched m) o) o)) ≤ of_option row_weight o
 deleted_less m true b o = omega arith
@@ -181,22 +174,8 @@ module _ (tree : TreeMap) (is : IsTree tree) where
   by_rows : (op : Op) (m : ℕ) (other : TreeMap) → ((q : List (List ℕ)) → of_option row_weight (row_after tree op m q) ≤ of_option row_weight (row other q)) → weight (tree_after tree op m) ≤ weight other
   by_rows op m other less = less_in_all paths_total row_weight paths_apart (tree_after tree op m) other (λ q. subst (λ o. of_option row_weight o ≤ of_option row_weight (row other q)) (sym (row-tree_after tree op m q)) (less q))
 
-  same_rows : (op : Op) (m n : ℕ) (q : List (List ℕ)) → of_option row_weight (row_after tree op m q) ≡ of_option row_weight (row_after tree op n q)
-  same_rows (CreateKey hive spelled) m n q = same_created _ _ m n (eq_by_cmp path_order q (take (depth_there tree (folded_path spelled)) (folded_path spelled))) (begins_path q (folded_path spelled) && nat_lt (depth_there tree (folded_path spelled)) (length q)) (row tree q)
-  same_rows (DeleteKey hive spelled) m n q = same_deleted (eq_by_cmp path_order q (folded_path spelled)) (one_below q (folded_path spelled))
-    where
-      same_deleted : (a b : Bool) → of_option row_weight (cond a None (cond b (option_map (touched m) (row tree q)) (row tree q))) ≡ of_option row_weight (cond a None (cond b (option_map (touched n) (row tree q)) (row tree q)))
-      same_deleted true b = refl
-      same_deleted false true = timeless (λ key. key) m n (row tree q)
-      same_deleted false false = refl
-  same_rows (SetValue hive spelled name kind bytes) m n q = same_edited (λ key. record key { values = values_with key.values name kind bytes }) m n (eq_by_cmp path_order q (folded_path spelled)) (row tree q)
-  same_rows (DeleteValue hive spelled name) m n q = same_edited (λ key. record key { values = values_without key.values name }) m n (eq_by_cmp path_order q (folded_path spelled)) (row tree q)
-
-  any_moment : (op : Op) (m n : ℕ) → weight (tree_after tree op m) ≤ weight (tree_after tree op n)
-  any_moment op m n = by_rows op m (tree_after tree op n) (λ q. subst (λ o. of_option row_weight (row_after tree op m q) ≤ of_option row_weight o) (sym (row-tree_after tree op n q)) (same q))
-    where
-      same : (q : List (List ℕ)) → of_option row_weight (row_after tree op m q) ≤ of_option row_weight (row_after tree op n q)
-      same q = omega (arith, same_rows op m n q)
+  any_moment : (op : Op) (m n : ℕ) → weight (tree_after tree op m) ≡ weight (tree_after tree op n)
+  any_moment op m n = weight_same (tree_after tree op m) (tree_after tree op n) (tree_after_same tree tree refl op m n)
 
   deleted_no_heavier : (hive : ℕ) (spelled : List (List ℕ)) (m : ℕ) → weight (tree_after tree (DeleteKey hive spelled) m) ≤ weight tree
   deleted_no_heavier hive spelled m = by_rows (DeleteKey hive spelled) m tree (λ q. deleted_less m (eq_by_cmp path_order q (folded_path spelled)) (one_below q (folded_path spelled)) (row tree q))

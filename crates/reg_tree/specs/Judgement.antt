@@ -1,5 +1,6 @@
 -- Whether an operation may be carried out, and its first refusal.
-use Rattle.std.specs.Prelude.{ℕ, nat_lt, ◌==◌, not, is_none, if◌then◌else◌, List, [], ◌∷◌, length, slice_get, slice_set, Option, Some, None, Result, Ok, Err, bit_and}
+use Rattle.std.specs.Prelude.{◌≡◌, ℕ, nat_lt, ◌==◌, Bool, false, not, ◌||◌, is_none, if◌then◌else◌, List, [], ◌∷◌, length, slice_get, slice_set, Option, Some, None, Result, Ok, Err, bit_and}
+use Rattle.std.specs.Result.{is_err}
 use Rattle.std.specs.FinMap as finite
 use Rattle.reg_names.specs.Names.{folded, folded_path}
 use Rattle.reg_names.specs.declared.refusal.Refusal.{Refusal}
@@ -95,3 +96,23 @@ applied_one trees op moment = applied_if trees (slice_get trees (hive_of op)) op
 abbrev pub applied : List TreeMap → List Op → ℕ → List TreeMap
 applied trees [] moment = trees
 applied trees (op ∷ ops) moment = applied (applied_one trees op moment) ops moment
+
+-- what a write of an operation answers, by its judgement and by what it would make: that, where the operation is legal, and
+-- nothing where it opens a key
+abbrev pub IsWritten : {T : Type 0} → Result Legality Refusal → T → Option T → Type 0
+IsWritten judgement after (Some made) = (judgement ≡ Ok Legal) × (made ≡ after)
+IsWritten judgement after None = judgement ≡ Ok Opened
+
+-- whether an operation at a moment leaves its hive's tree heavier than the limit: a creation or a value that is written
+-- may, a deletion never does, nor any operation on a hive that isn't there
+abbrev pub outweighs_if : Option TreeMap → Op → ℕ → Bool
+outweighs_if None op moment = false
+outweighs_if (Some tree) op moment = is_err (legal_after op (Ok Legal) (weight (changed tree op moment)))
+
+abbrev pub outweighs : List TreeMap → Op → ℕ → Bool
+outweighs trees op moment = outweighs_if (slice_get trees (hive_of op)) op moment
+
+-- whether some operation of a list does, on the trees after those before it
+abbrev pub any_outweighs : List TreeMap → List Op → ℕ → Bool
+any_outweighs trees [] moment = false
+any_outweighs trees (op ∷ ops) moment = outweighs trees op moment || any_outweighs (applied_one trees op moment) ops moment

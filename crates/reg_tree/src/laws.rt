@@ -1,15 +1,18 @@
 //! Laws of operations, which follow from their definitions alone.
 //!
 //! They have no code: each is the contract of a function with an empty body, for whoever builds on trees.
-ghost use Rattle.std.specs.Prelude.{◌≡◌, ◌≤◌, ◌≢◌, ℕ, List, IsOk, false, slice_get};
+ghost use Rattle.std.specs.Prelude.{◌≡◌, ◌≤◌, ◌≢◌, ℕ, List, ◌++◌, Some, IsOk, Ok, Err, false, if◌then◌else◌, slice_get};
 ghost use Rattle.reg_names.specs.Names.{folded_path};
+ghost use Rattle.reg_names.specs.declared.refusal.Refusal.TheVariants.{TooLarge};
 ghost use Rattle.reg_names.specs.declared.limits.TheConstants.{MOST_WEIGHT};
 ghost use Rattle.reg_tree_parts.specs.Nodes.{begins_path};
 ghost use Rattle.reg_tree.specs.Maps.{TreeMap, IsTree, row, weight};
 ghost use Rattle.reg_tree.specs.Operations.{hive_of, spelled_path};
-ghost use Rattle.reg_tree.specs.Judgement.{changed, legal_in, applied_one};
+ghost use Rattle.reg_tree.specs.Judgement.{judged, changed, legal_in, legal, applied, applied_one, outweighs};
 ghost use Rattle.reg_tree.specs.Sequences.{AreTrees, AreWithin, AreLegalElements, after_elements};
+ghost use Rattle.reg_tree.specs.TreeLists.{value_in, subkeys_in, value_names_in, levels_in};
 ghost use Rattle.reg_tree.specs.declared.op.Op.{Op};
+ghost use Rattle.reg_tree.specs.declared.op.Legality.TheVariants.{Legal};
 ghost use Rattle.reg_tree.specs.declared.element.Element.{Element};
 
 /// After any accepted changes each tree has its root, a key's parent is there, and a key stands under the
@@ -38,4 +41,37 @@ pub fn weights_stay()
         IsOk (legal_in tree op) → weight (changed tree op moment) ≤ MOST_WEIGHT }
     ensures all { (trees : List TreeMap) (elements : List Element) → AreTrees trees → AreWithin trees →
         AreLegalElements trees elements → AreWithin (after_elements trees elements) }
+{}
+
+/// The moment of operations sets the times of rows and nothing else: at any two moments they leave trees on
+/// which the same operations are legal, and which have the same keys, values and names.
+///
+/// - `legal`: whether one more operation is legal, and its refusal.
+/// - `levels`: how many keys are missing on the way to a path.
+/// - `values`, `value_names`, `subkeys`: what is read of a key, but for its time.
+pub fn moments_set_times_alone()
+    ensures legal { (trees : List TreeMap) (ops : List Op) (op : Op) (m n : ℕ) →
+        legal (applied trees ops m) op ≡ legal (applied trees ops n) op }
+    ensures levels { (trees : List TreeMap) (ops : List Op) (m n hive : ℕ) (path : List (List ℕ)) →
+        levels_in (applied trees ops m) hive path ≡ levels_in (applied trees ops n) hive path }
+    ensures values { (trees : List TreeMap) (ops : List Op) (m n hive : ℕ) (path : List (List ℕ)) (name : List ℕ) →
+        value_in (applied trees ops m) hive path name ≡ value_in (applied trees ops n) hive path name }
+    ensures value_names { (trees : List TreeMap) (ops : List Op) (m n hive : ℕ) (path : List (List ℕ)) →
+        value_names_in (applied trees ops m) hive path ≡ value_names_in (applied trees ops n) hive path }
+    ensures subkeys { (trees : List TreeMap) (ops : List Op) (m n hive : ℕ) (path : List (List ℕ)) →
+        subkeys_in (applied trees ops m) hive path ≡ subkeys_in (applied trees ops n) hive path }
+{}
+
+/// Operations after others at the same moment make what they all make together.
+pub fn one_by_one()
+    ensures { (trees : List TreeMap) (ops others : List Op) (moment : ℕ) →
+        applied trees (ops ++ others) moment ≡ applied (applied trees ops moment) others moment }
+{}
+
+/// An operation that may be carried out on its hive's tree is refused exactly where it would leave that tree
+/// over the limit of weight, at whatever moment.
+pub fn weight_alone_refuses()
+    ensures { (trees : List TreeMap) (op : Op) (moment : ℕ) (tree : TreeMap) →
+        slice_get trees (hive_of op) ≡ Some tree → judged tree op ≡ Ok Legal →
+        legal trees op ≡ (if outweighs trees op moment then Err TooLarge else Ok Legal) }
 {}

@@ -6,6 +6,7 @@ ghost use Rattle.reg_tree.specs.Fresh.{fresh_tree};
 ghost use Rattle.reg_tree.specs.Judgement.{legal, applied, applied_one};
 
 mod reads;
+mod writes;
 
 use crate::element::Element;
 use crate::op::{Legality, Op};

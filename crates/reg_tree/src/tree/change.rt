@@ -1,5 +1,6 @@
 //! The node of the root after one operation: a new node along the operation's path, all else shared.
-ghost use Rattle.std.specs.Prelude.{◌≡◌, ◌<◌, List, [], ◌∷◌, ◌++◌, ℕ, cond, length, IsSome, Some, None, IfOk, false};
+ghost use Rattle.std.specs.Prelude.{◌≡◌, ◌<◌, List, [], ◌∷◌, ◌++◌, ℕ, cond, length, IsSome, Some, None, IfOk, MatchResult, ◌⊎◌, false};
+ghost use Rattle.std.specs.Result.{is_err};
 ghost use Rattle.std.specs.Ordering.{eq_by_cmp};
 ghost use Rattle.reg_names.specs.Names.{folded, folded_path, IsOrNoMemory};
 ghost use Rattle.reg_tree_parts.specs.Orders.{path_order};
@@ -8,7 +9,7 @@ ghost use Rattle.reg_tree_parts.specs.ValueEdits.{values_with, values_without};
 ghost use Rattle.reg_tree_parts.specs.Nodes.{row_at, IsNode};
 ghost use Rattle.reg_tree.specs.Maps.{row, is_there, subkeys, weight};
 ghost use Rattle.reg_tree.specs.Operations.{row_created, row_deleted, row_edited, row_after};
-ghost use Rattle.reg_tree.specs.Judgement.{judged, changed, legal_in, legal_after};
+ghost use Rattle.reg_tree.specs.Judgement.{judged, changed, legal_in, legal_after, IsWritten};
 ghost use Rattle.reg_tree.specs.Fresh.{fresh_row, fresh_tree};
 
 use super::Tree;
@@ -136,19 +137,52 @@ impl Tree {
         }
     }
 
+    // the tree after an operation that may be carried out
+    fn carried_out(&self, alloc: Global, op: &Op, moment: u64) -> Result<Tree, AllocError>
+        requires { judged self.now op.now ≡ Ok Legality.Legal }
+        ensures { IfOk result (λ made. made ≡ changed self.now op.now moment) }
+    {
+        let _ = &self.root;
+        let root = self.root_after(alloc, op, moment)?;
+        let root = Arc::new(alloc, root)?;
+        Ok(Tree { root })
+    }
+
     /// The tree after the operation at this moment. One that may not be carried out, or that opens a key,
     /// changes nothing; weights are not looked at.
     pub fn changed(&self, alloc: Global, op: &Op, moment: u64) -> Result<Tree, AllocError>
         ensures { IfOk result (λ made. made ≡ changed self.now op.now moment) }
     {
-        let _ = &self.root;
         match self.judged(op) {
-            Ok(Legality::Legal) => {
-                let root = self.root_after(alloc, op, moment)?;
-                let root = Arc::new(alloc, root)?;
-                Ok(Tree { root })
-            }
+            Ok(Legality::Legal) => self.carried_out(alloc, op, moment),
             _ => self.clone(),
+        }
+    }
+
+    /// The tree after the operation at this moment, or nothing where it opens a key. Refused exactly as
+    /// [`Tree::legal`] says: the operation is judged and carried out in one go.
+    pub fn write(&self, alloc: Global, op: &Op, moment: u64) -> Result<Option<Tree>, Refusal>
+        ensures { MatchResult result (IsWritten (legal_in self.now op.now) (changed self.now op.now moment)) (λ refusal. (legal_in self.now op.now ≡ Err refusal) ⊎ (refusal ≡ Refusal.NoMemory)) }
+    {
+        match self.judged(op)? {
+            Legality::Opened => Ok(None),
+            Legality::Legal => {
+                let made = self.carried_out(alloc, op, moment)?;
+                if made.is_over(op) {
+                    return Err(Refusal::TooLarge);
+                }
+                Ok(Some(made))
+            }
+        }
+    }
+
+    /// Whether this tree, as the operation left it, weighs more than 16,777,216. What a deletion left is let be.
+    pub(crate) fn is_over(&self, op: &Op) -> bool
+        ensures { result ≡ is_err (legal_after op.now (Ok Legality.Legal) (weight self.now)) }
+    {
+        match op {
+            Op::DeleteKey { .. } | Op::DeleteValue { .. } => false,
+            Op::CreateKey { .. } | Op::SetValue { .. } => self.weight() > MOST_WEIGHT,
         }
     }
 
@@ -171,8 +205,8 @@ impl Tree {
         match op {
             Op::DeleteKey { .. } | Op::DeleteValue { .. } => Ok(Legality::Legal),
             Op::CreateKey { .. } | Op::SetValue { .. } => {
-                let after = self.changed(alloc, op, 0)?;
-                if after.weight() > MOST_WEIGHT {
+                let after = self.carried_out(alloc, op, 0)?;
+                if after.is_over(op) {
                     Err(Refusal::TooLarge)
                 } else {
                     Ok(Legality::Legal)

@@ -1,0 +1,5 @@
+use Rattle.reg_tree.proofs.Stays.{one_by_one}
+use Rattle.reg_tree.proofs.laws.one_by_one.Goals as goal
+
+pub returns : goal.returns
+returns c = one_by_one

@@ -1,0 +1,64 @@
+//! Writes: operations that are judged and carried out at once, and lists of them within the limit of weight.
+ghost use Rattle.std.specs.Prelude.{◌≡◌, ◌<◌, ◌⊎◌, length, slice_set, true, false, IfOk, MatchResult};
+ghost use Rattle.reg_tree.specs.Judgement.{legal, applied, applied_one, outweighs, any_outweighs, IsWritten};
+
+use super::Trees;
+use crate::op::Op;
+use crate::tree::Tree;
+use reg_names::Refusal;
+use std::alloc::{AllocError, Global};
+
+impl Trees {
+    /// The trees after the operation at this moment, or nothing where it opens a key. Refused exactly as
+    /// [`Trees::legal`] says: the operation is judged and carried out in one go, which makes the nodes of its
+    /// path once.
+    pub fn write(&self, alloc: Global, op: &Op, moment: u64) -> Result<Option<Trees>, Refusal>
+        ensures { MatchResult result (IsWritten (legal self.now op.now) (applied_one self.now op.now moment)) (λ refusal. (legal self.now op.now ≡ Err refusal) ⊎ (refusal ≡ Refusal.NoMemory)) }
+    {
+        let Some(tree) = self.tree(op.hive()) else {
+            return Err(Refusal::NotFound);
+        };
+        match tree.write(alloc, op, moment)? {
+            Some(made) => Ok(Some(self.with_tree(alloc, op.hive(), made)?)),
+            None => Ok(None),
+        }
+    }
+
+    // the trees with another one in the place of this hive's
+    fn with_tree(&self, alloc: Global, hive: u8, tree: Tree) -> Result<Trees, AllocError>
+        requires { hive < length self.now }
+        ensures { IfOk result (λ made. made ≡ slice_set self.now hive tree) }
+    {
+        let mut trees = self.try_clone(alloc)?;
+        trees.hives[usize::from(hive)] = tree;
+        Ok(trees)
+    }
+
+    /// The trees after the operations in order, all at this moment, as [`Trees::apply_ops`] makes them. Refused
+    /// with `TooLarge` exactly where a creation or a value that is written leaves its hive's tree with a weight
+    /// over 16,777,216, whatever the operations after it do; and with `NoMemory`.
+    pub fn apply_within(&self, alloc: Global, ops: &[Op], moment: u64) -> Result<Trees, Refusal>
+        ensures { MatchResult result (λ made. (any_outweighs self.now ops.now moment ≡ false) × (made ≡ applied self.now ops.now moment)) (λ refusal. ((any_outweighs self.now ops.now moment ≡ true) × (refusal ≡ Refusal.TooLarge)) ⊎ (refusal ≡ Refusal.NoMemory)) }
+    {
+        let mut made = self.try_clone(alloc)?;
+        for op in ops {
+            made.change_within(alloc, op, moment)?;
+        }
+        Ok(made)
+    }
+
+    // one operation more, where it leaves its hive's tree within the limit of weight
+    fn change_within(&mut self, alloc: Global, op: &Op, moment: u64) -> Result<(), Refusal>
+        ensures { MatchResult result (λ _. (outweighs self.old op.now moment ≡ false) × (self.new ≡ applied_one self.old op.now moment)) (λ refusal. ((outweighs self.old op.now moment ≡ true) × (refusal ≡ Refusal.TooLarge)) ⊎ (refusal ≡ Refusal.NoMemory)) }
+    {
+        let hive = usize::from(op.hive());
+        if hive < self.hives.len() {
+            let tree = self.hives[hive].changed(alloc, op, moment)?;
+            if tree.is_over(op) {
+                return Err(Refusal::TooLarge);
+            }
+            self.hives[hive] = tree;
+        }
+        Ok(())
+    }
+}
