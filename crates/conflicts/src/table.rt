@@ -102,7 +102,8 @@ pub struct ClaimTable {
     kept: BTreeMap<u64, Kept>,
     // their spots
     spots: BTreeSet<Spot>,
-    // each owner with the numbers of its claims
+    // each owner with the numbers of its claims; after a refused `add` a number without a claim may stay listed here
+    // until `drop_of`, which changes no answer
     owned: BTreeSet<(u64, u64)>,
     // as long as claims were added; it takes no memory
     added: Vec<()>,
