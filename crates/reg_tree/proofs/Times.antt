@@ -1,8 +1,9 @@
 -- Moments set times alone: trees that operations make at two moments are the same but for the times of their rows, and
 -- nothing but the times is told of them apart.
-use Rattle.std.proofs.Common.{◌≡◌, ℕ, ◌+◌, Bool, true, false, not, ◌&&◌, cond, T, List, [], ◌∷◌, map, filter, length, take, Option, Some, None, is_some, Result, Ok, Err, refl, sym, ◌∙◌, ap, subst}
+use Rattle.std.proofs.Common.{◌≡◌, ℕ, ◌+◌, Bool, true, false, not, ◌&&◌, ◌||◌, cond, T, List, [], ◌∷◌, map, filter, length, take, Option, Some, None, is_some, Result, Ok, Err, refl, sym, ◌∙◌, ap, subst}
 use Rattle.std.specs.Prelude.{nat_lt, is_none, slice_get, slice_set, slice_index_or, ◌-◌}
 use Rattle.std.specs.Option.{option_map, option_and_then}
+use Rattle.std.specs.Result.{is_err}
 use Rattle.std.specs.Ordering.{eq_by_cmp, is_lt}
 use Rattle.std.specs.FinMap as finite
 use Rattle.std.specs.FinMap.{entries_sorted, get-entries}
@@ -14,7 +15,6 @@ use Rattle.reg_names.specs.Names.{folded, folded_path}
 use Rattle.reg_names.specs.declared.refusal.Refusal.{Refusal}
 use Rattle.reg_names.specs.declared.refusal.Refusal.TheVariants.{NotFound, TooDeep, TooLarge}
 use Rattle.reg_names.specs.declared.limits.TheConstants.{MOST_NEW_LEVELS, MOST_VALUE_BYTES}
-use Rattle.reg_tree_parts.specs.declared.value.Value.{Value}
 use Rattle.reg_tree_parts.specs.Orders.{path_order}
 use Rattle.reg_tree_parts.specs.Rows.{Row, row_weight}
 use Rattle.reg_tree_parts.specs.NewRows.{new_row}
@@ -23,7 +23,8 @@ use Rattle.reg_tree_parts.specs.Nodes.{Entries, row_at, begins_path, one_below, 
 use Rattle.reg_tree_parts.proofs.Keys.{paths_total, paths_apart}
 use Rattle.reg_tree.specs.Maps.{TreeMap, row, is_there, subkeys, beginnings, missing, weight}
 use Rattle.reg_tree.specs.Operations.{hive_of, touched, depth_there, descriptor_of, row_after, tree_after}
-use Rattle.reg_tree.specs.Judgement.{judged_there, judged_delete, judged, changed, changed_if, legal_after, legal_if, legal, applied, applied_if, applied_one}
+use Rattle.reg_tree.specs.Judgement.{judged_there, judged_delete, judged, changed, changed_if, legal_after, legal_if, legal, applied, applied_if, applied_one, outweighs, outweighs_if, any_outweighs}
+use Rattle.reg_tree.specs.Times.{timeless, timeless_entry, untimed, SameButTimes}
 use Rattle.reg_tree.specs.TreeLists.{value_in, value_names_in, subkeys_in, levels_in}
 use Rattle.reg_tree.specs.declared.op.Op.{Op}
 use Rattle.reg_tree.specs.declared.op.Op.TheVariants.{CreateKey, DeleteKey, SetValue, DeleteValue}
@@ -32,17 +33,6 @@ use Rattle.reg_tree.specs.declared.op.Legality.TheVariants.{Legal, Opened}
 use Rattle.reg_tree.proofs.Made.{row-tree_after}
 
 -- Trees without times
-
--- a row without its time
-abbrev timeless : Row → Row
-timeless = touched 0
-
-abbrev timeless_entry : List (List ℕ) × Row → List (List ℕ) × Row
-timeless_entry e = (e.0, timeless e.1)
-
--- the entries of a tree without the times of their rows
-abbrev pub untimed : TreeMap → Entries
-untimed tree = map timeless_entry (finite.entries tree)
 
 find-timeless : (q : List (List ℕ)) (es : Entries) → find path_order q (map timeless_entry es) ≡ option_map timeless (find path_order q es)
 find-timeless q [] = refl
@@ -97,24 +87,28 @@ descriptor_of-timeless None = refl
 descriptor_of-timeless (Some key) = refl
 
 judged_there-timeless : (judge : Row → Result Legality Refusal) → ((key : Row) → judge (timeless key) ≡ judge key) → (o : Option Row) → judged_there (option_map timeless o) judge ≡ judged_there o judge
-judged_there-timeless judge same None = refl
-judged_there-timeless judge same (Some key) = same key
+judged_there-timeless judge blind None = refl
+judged_there-timeless judge blind (Some key) = blind key
 
 option_map-timeless : {A : Type 0} (f : Row → A) → ((key : Row) → f (timeless key) ≡ f key) → (o : Option Row) → option_map f (option_map timeless o) ≡ option_map f o
-option_map-timeless f same None = refl
-option_map-timeless f same (Some key) = ap Some (same key)
+option_map-timeless f blind None = refl
+option_map-timeless f blind (Some key) = ap Some (blind key)
 
 option_and_then-timeless : {A : Type 0} (f : Row → Option A) → ((key : Row) → f (timeless key) ≡ f key) → (o : Option Row) → option_and_then f (option_map timeless o) ≡ option_and_then f o
-option_and_then-timeless f same None = refl
-option_and_then-timeless f same (Some key) = same key
+option_and_then-timeless f blind None = refl
+option_and_then-timeless f blind (Some key) = blind key
+
+-- the names of a row's values
+abbrev names_of : Row → List (List ℕ)
+names_of key = map (λ value. value.name) (finite.values key.values)
 
 -- What an operation makes of a row, without times
 
 timeless_edited : (edit : Row → Row) → ((key : Row) → timeless (edit key) ≡ timeless (edit (timeless key))) → (m : ℕ) (b : Bool) (o : Option Row)
     → option_map timeless (cond b (option_map (λ key. touched m (edit key)) o) o) ≡ cond b (option_map (λ key. timeless (edit key)) (option_map timeless o)) (option_map timeless o)
-timeless_edited edit same m true None = refl
-timeless_edited edit same m true (Some key) = ap Some (same key)
-timeless_edited edit same m false o = refl
+timeless_edited edit blind m true None = refl
+timeless_edited edit blind m true (Some key) = ap Some (blind key)
+timeless_edited edit blind m false o = refl
 
 timeless_touched : (m : ℕ) (o : Option Row) → option_map timeless (option_map (touched m) o) ≡ option_map timeless o
 timeless_touched m None = refl
@@ -159,6 +153,13 @@ module _ (a b : TreeMap) (same : untimed a ≡ untimed b) where
       ∙ ap (λ names. judged_there (row b (folded_path (name ∷ path))) (λ key. judged_delete key.flags names)) (subkeys_same (folded_path (name ∷ path)))
   judged_same (SetValue hive path name kind bytes) = judged_there_same (λ key. cond (nat_lt MOST_VALUE_BYTES (length bytes)) (Err TooLarge) (Ok Legal)) (λ key. refl) (folded_path path)
   judged_same (DeleteValue hive path name) = judged_there_same (λ key. cond (is_none (finite.get key.values (folded name))) (Err NotFound) (Ok Legal)) (λ key. refl) (folded_path path)
+
+  -- what is told of a row, and not of its time, is told alike
+  pub mapped_same : {A : Type 0} (f : Row → A) → ((key : Row) → f (timeless key) ≡ f key) → (q : List (List ℕ)) → option_map f (row a q) ≡ option_map f (row b q)
+  mapped_same f blind q = sym (option_map-timeless f blind (row a q)) ∙ ap (option_map f) (rows q) ∙ option_map-timeless f blind (row b q)
+
+  pub found_same : {A : Type 0} (f : Row → Option A) → ((key : Row) → f (timeless key) ≡ f key) → (q : List (List ℕ)) → option_and_then f (row a q) ≡ option_and_then f (row b q)
+  found_same f blind q = sym (option_and_then-timeless f blind (row a q)) ∙ ap (option_and_then f) (rows q) ∙ option_and_then-timeless f blind (row b q)
 
   edited_same : (edit : Row → Row) → ((key : Row) → timeless (edit key) ≡ timeless (edit (timeless key))) → (m n : ℕ) (t : Bool) (q : List (List ℕ))
       → option_map timeless (cond t (option_map (λ key. touched m (edit key)) (row a q)) (row a q)) ≡ option_map timeless (cond t (option_map (λ key. touched n (edit key)) (row b q)) (row b q))
@@ -213,13 +214,13 @@ of_hives tell alike None (Some b) e = cc
 of_hives tell alike (Some a) None e = cc
 of_hives tell alike (Some a) (Some b) e = let same : untimed a ≡ untimed b = cc in alike a b same
 
-hive_same : (xs ys : List TreeMap) → map untimed xs ≡ map untimed ys → (hive : ℕ) → option_map untimed (slice_get xs hive) ≡ option_map untimed (slice_get ys hive)
+hive_same : (xs ys : List TreeMap) → SameButTimes xs ys → (hive : ℕ) → option_map untimed (slice_get xs hive) ≡ option_map untimed (slice_get ys hive)
 hive_same xs ys same hive = sym (slice_get-map untimed xs hive) ∙ ap (λ zs. slice_get zs hive) same ∙ slice_get-map untimed ys hive
 
-applied_one_same : (xs ys : List TreeMap) → map untimed xs ≡ map untimed ys → (op : Op) (m n : ℕ) → map untimed (applied_one xs op m) ≡ map untimed (applied_one ys op n)
+applied_one_same : (xs ys : List TreeMap) → SameButTimes xs ys → (op : Op) (m n : ℕ) → SameButTimes (applied_one xs op m) (applied_one ys op n)
 applied_one_same xs ys same op m n = by_case (slice_get xs (hive_of op)) (slice_get ys (hive_of op)) (hive_same xs ys same (hive_of op))
   where
-    by_case : (o p : Option TreeMap) → option_map untimed o ≡ option_map untimed p → map untimed (applied_if xs o op m) ≡ map untimed (applied_if ys p op n)
+    by_case : (o p : Option TreeMap) → option_map untimed o ≡ option_map untimed p → SameButTimes (applied_if xs o op m) (applied_if ys p op n)
     by_case None None e = same
     by_case None (Some b) e = cc
     by_case (Some a) None e = cc
@@ -227,41 +228,49 @@ applied_one_same xs ys same op m n = by_case (slice_get xs (hive_of op)) (slice_
         let alike : untimed a ≡ untimed b = cc in
         map-set untimed xs (hive_of op) (changed a op m) ∙ (λ i. slice_set (same i) (hive_of op) (changed_same a b alike op m n i)) ∙ sym (map-set untimed ys (hive_of op) (changed b op n))
 
-applied_same : (xs ys : List TreeMap) → map untimed xs ≡ map untimed ys → (ops : List Op) (m n : ℕ) → map untimed (applied xs ops m) ≡ map untimed (applied ys ops n)
+pub applied_same : (xs ys : List TreeMap) → SameButTimes xs ys → (ops : List Op) (m n : ℕ) → SameButTimes (applied xs ops m) (applied ys ops n)
 applied_same xs ys same [] m n = same
 applied_same xs ys same (op ∷ ops) m n = applied_same (applied_one xs op m) (applied_one ys op n) (applied_one_same xs ys same op m n) ops m n
 
--- Operations at two moments
-module _ (trees : List TreeMap) (ops : List Op) (m n : ℕ) where
-  told_alike : {A : Type 0} (tell : Option TreeMap → A) → ((a b : TreeMap) → untimed a ≡ untimed b → tell (Some a) ≡ tell (Some b)) → (hive : ℕ) → tell (slice_get (applied trees ops m) hive) ≡ tell (slice_get (applied trees ops n) hive)
-  told_alike tell alike hive = of_hives tell alike (slice_get (applied trees ops m) hive) (slice_get (applied trees ops n) hive) (hive_same (applied trees ops m) (applied trees ops n) (applied_same trees trees refl ops m n) hive)
+-- What is told of them
+module _ (xs ys : List TreeMap) (same : SameButTimes xs ys) where
+  told_alike : {A : Type 0} (tell : Option TreeMap → A) → ((a b : TreeMap) → untimed a ≡ untimed b → tell (Some a) ≡ tell (Some b)) → (hive : ℕ) → tell (slice_get xs hive) ≡ tell (slice_get ys hive)
+  told_alike tell alike hive = of_hives tell alike (slice_get xs hive) (slice_get ys hive) (hive_same xs ys same hive)
 
-  pub legal_alike : (op : Op) → legal (applied trees ops m) op ≡ legal (applied trees ops n) op
-  legal_alike op = told_alike (λ o. legal_if o op) (λ a b same. λ i. legal_after op (judged_same a b same op i) (weight_same (changed a op 0) (changed b op 0) (changed_same a b same op 0 0) i)) (hive_of op)
+  pub legal_alike : (op : Op) → legal xs op ≡ legal ys op
+  legal_alike op = told_alike (λ o. legal_if o op) (λ a b e. λ i. legal_after op (judged_same a b e op i) (weight_same (changed a op 0) (changed b op 0) (changed_same a b e op 0 0) i)) (hive_of op)
 
-  pub levels_alike : (hive : ℕ) (path : List (List ℕ)) → levels_in (applied trees ops m) hive path ≡ levels_in (applied trees ops n) hive path
-  levels_alike hive path = told_alike (λ o. option_map (λ tree. length (missing tree path)) o) (λ a b same. ap (λ gone. Some (length gone)) (missing_same a b same path)) hive
+  pub levels_alike : (hive : ℕ) (path : List (List ℕ)) → levels_in xs hive path ≡ levels_in ys hive path
+  levels_alike hive path = told_alike (λ o. option_map (λ tree. length (missing tree path)) o) (λ a b e. ap (λ gone. Some (length gone)) (missing_same a b e path)) hive
 
-  pub value_alike : (hive : ℕ) (path : List (List ℕ)) (name : List ℕ) → value_in (applied trees ops m) hive path name ≡ value_in (applied trees ops n) hive path name
-  value_alike hive path name = told_alike (λ o. option_and_then (λ tree. option_and_then (λ key. finite.get key.values (folded name)) (row tree path)) o) alike hive
-    where
-      get : Row → Option Value
-      get key = finite.get key.values (folded name)
+  pub value_alike : (hive : ℕ) (path : List (List ℕ)) (name : List ℕ) → value_in xs hive path name ≡ value_in ys hive path name
+  value_alike hive path name = told_alike (λ o. option_and_then (λ tree. option_and_then (λ key. finite.get key.values (folded name)) (row tree path)) o) (λ a b e. found_same a b e (λ key. finite.get key.values (folded name)) (λ key. refl) path) hive
 
-      alike : (a b : TreeMap) → untimed a ≡ untimed b → option_and_then (λ key. finite.get key.values (folded name)) (row a path) ≡ option_and_then (λ key. finite.get key.values (folded name)) (row b path)
-      alike a b same = sym (option_and_then-timeless (λ key. finite.get key.values (folded name)) (λ key. refl) (row a path)) ∙ ap (option_and_then (λ key. finite.get key.values (folded name))) (rows a b same path) ∙ option_and_then-timeless (λ key. finite.get key.values (folded name)) (λ key. refl) (row b path)
+  pub value_names_alike : (hive : ℕ) (path : List (List ℕ)) → value_names_in xs hive path ≡ value_names_in ys hive path
+  value_names_alike hive path = told_alike (λ o. option_and_then (λ tree. option_map names_of (row tree path)) o) (λ a b e. mapped_same a b e names_of (λ key. refl) path) hive
 
-  pub value_names_alike : (hive : ℕ) (path : List (List ℕ)) → value_names_in (applied trees ops m) hive path ≡ value_names_in (applied trees ops n) hive path
-  value_names_alike hive path = told_alike (λ o. option_and_then (λ tree. option_map (λ key. map (λ value. value.name) (finite.values key.values)) (row tree path)) o) alike hive
-    where
-      alike : (a b : TreeMap) → untimed a ≡ untimed b → option_map (λ key. map (λ value. value.name) (finite.values key.values)) (row a path) ≡ option_map (λ key. map (λ value. value.name) (finite.values key.values)) (row b path)
-      alike a b same = sym (option_map-timeless (λ key. map (λ value. value.name) (finite.values key.values)) (λ key. refl) (row a path)) ∙ ap (option_map (λ key. map (λ value. value.name) (finite.values key.values))) (rows a b same path) ∙ option_map-timeless (λ key. map (λ value. value.name) (finite.values key.values)) (λ key. refl) (row b path)
-
-  pub subkeys_alike : (hive : ℕ) (path : List (List ℕ)) → subkeys_in (applied trees ops m) hive path ≡ subkeys_in (applied trees ops n) hive path
+  pub subkeys_alike : (hive : ℕ) (path : List (List ℕ)) → subkeys_in xs hive path ≡ subkeys_in ys hive path
   subkeys_alike hive path = told_alike (λ o. option_and_then (λ tree. option_map (λ key. subkeys tree path) (row tree path)) o) alike hive
     where
       alike : (a b : TreeMap) → untimed a ≡ untimed b → option_map (λ key. subkeys a path) (row a path) ≡ option_map (λ key. subkeys b path) (row b path)
-      alike a b same =
-          sym (option_map-timeless (λ key. subkeys a path) (λ key. refl) (row a path))
-          ∙ (λ i. option_map (λ key. subkeys_same a b same path i) (rows a b same path i))
-          ∙ option_map-timeless (λ key. subkeys b path) (λ key. refl) (row b path)
+      alike a b e = mapped_same a b e (λ key. subkeys a path) (λ key. refl) path ∙ ap (λ names. option_map (λ key. names) (row b path)) (subkeys_same a b e path)
+
+  pub outweighs_alike : (op : Op) (m n : ℕ) → outweighs xs op m ≡ outweighs ys op n
+  outweighs_alike op m n = of_both (slice_get xs (hive_of op)) (slice_get ys (hive_of op)) (hive_same xs ys same (hive_of op))
+    where
+      of_both : (o p : Option TreeMap) → option_map untimed o ≡ option_map untimed p → outweighs_if o op m ≡ outweighs_if p op n
+      of_both None None e = refl
+      of_both None (Some b) e = cc
+      of_both (Some a) None e = cc
+      of_both (Some a) (Some b) e =
+          let alike : untimed a ≡ untimed b = cc in
+          ap (λ total. is_err (legal_after op (Ok Legal) total)) (weight_same (changed a op m) (changed b op n) (changed_same a b alike op m n))
+
+pub any_outweighs_alike : (xs ys : List TreeMap) → SameButTimes xs ys → (ops : List Op) (m n : ℕ) → any_outweighs xs ops m ≡ any_outweighs ys ops n
+any_outweighs_alike xs ys same [] m n = refl
+any_outweighs_alike xs ys same (op ∷ ops) m n =
+    λ i. outweighs_alike xs ys same op m n i || any_outweighs_alike (applied_one xs op m) (applied_one ys op n) (applied_one_same xs ys same op m n) ops m n i
+
+-- so it is with trees that the same operations left at two moments
+pub moments_alike : (trees : List TreeMap) (ops : List Op) (m n : ℕ) → SameButTimes (applied trees ops m) (applied trees ops n)
+moments_alike trees = applied_same trees trees refl

@@ -6,3 +6,4 @@ pub mod Fresh
 pub mod Texts
 pub mod TreeLists
 pub mod Sequences
+pub mod Times

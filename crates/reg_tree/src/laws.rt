@@ -8,7 +8,8 @@ ghost use Rattle.reg_names.specs.declared.limits.TheConstants.{MOST_WEIGHT};
 ghost use Rattle.reg_tree_parts.specs.Nodes.{begins_path};
 ghost use Rattle.reg_tree.specs.Maps.{TreeMap, IsTree, row, weight};
 ghost use Rattle.reg_tree.specs.Operations.{hive_of, spelled_path};
-ghost use Rattle.reg_tree.specs.Judgement.{judged, changed, legal_in, legal, applied, applied_one, outweighs};
+ghost use Rattle.reg_tree.specs.Judgement.{judged, changed, legal_in, legal, applied, applied_one, outweighs, any_outweighs};
+ghost use Rattle.reg_tree.specs.Times.{SameButTimes};
 ghost use Rattle.reg_tree.specs.Sequences.{AreTrees, AreWithin, AreLegalElements, after_elements};
 ghost use Rattle.reg_tree.specs.TreeLists.{value_in, subkeys_in, value_names_in, levels_in};
 ghost use Rattle.reg_tree.specs.declared.op.Op.{Op};
@@ -43,13 +44,36 @@ pub fn weights_stay()
         AreLegalElements trees elements → AreWithin (after_elements trees elements) }
 {}
 
-/// The moment of operations sets the times of rows and nothing else: at any two moments they leave trees on
-/// which the same operations are legal, and which have the same keys, values and names.
+/// Times decide nothing: trees that differ in the times of their rows alone answer alike, and operations
+/// leave them so, at whatever moments they are applied.
 ///
-/// - `legal`: whether one more operation is legal, and its refusal.
+/// - `kept`: after operations on both they still differ in times alone.
+/// - `legal`: whether an operation is legal, and its refusal.
+/// - `outweighs`: whether some operation of a list takes a tree over the limit of weight.
 /// - `levels`: how many keys are missing on the way to a path.
 /// - `values`, `value_names`, `subkeys`: what is read of a key, but for its time.
+pub fn times_decide_nothing()
+    ensures kept { (trees others : List TreeMap) → SameButTimes trees others → (ops : List Op) (m n : ℕ) →
+        SameButTimes (applied trees ops m) (applied others ops n) }
+    ensures legal { (trees others : List TreeMap) → SameButTimes trees others → (op : Op) →
+        legal trees op ≡ legal others op }
+    ensures outweighs { (trees others : List TreeMap) → SameButTimes trees others → (ops : List Op) (m n : ℕ) →
+        any_outweighs trees ops m ≡ any_outweighs others ops n }
+    ensures levels { (trees others : List TreeMap) → SameButTimes trees others → (hive : ℕ) (path : List (List ℕ)) →
+        levels_in trees hive path ≡ levels_in others hive path }
+    ensures values { (trees others : List TreeMap) → SameButTimes trees others → (hive : ℕ) (path : List (List ℕ)) (name : List ℕ) →
+        value_in trees hive path name ≡ value_in others hive path name }
+    ensures value_names { (trees others : List TreeMap) → SameButTimes trees others → (hive : ℕ) (path : List (List ℕ)) →
+        value_names_in trees hive path ≡ value_names_in others hive path }
+    ensures subkeys { (trees others : List TreeMap) → SameButTimes trees others → (hive : ℕ) (path : List (List ℕ)) →
+        subkeys_in trees hive path ≡ subkeys_in others hive path }
+{}
+
+/// The moment of operations sets the times of rows and nothing else: what they leave at two moments differs in
+/// times alone, and so answers alike, as [`times_decide_nothing`] has it.
 pub fn moments_set_times_alone()
+    ensures same { (trees : List TreeMap) (ops : List Op) (m n : ℕ) →
+        SameButTimes (applied trees ops m) (applied trees ops n) }
     ensures legal { (trees : List TreeMap) (ops : List Op) (op : Op) (m n : ℕ) →
         legal (applied trees ops m) op ≡ legal (applied trees ops n) op }
     ensures levels { (trees : List TreeMap) (ops : List Op) (m n hive : ℕ) (path : List (List ℕ)) →
