@@ -45,7 +45,8 @@ pub fn weights_stay()
 {}
 
 /// Times decide nothing: trees that differ in the times of their rows alone answer alike, and operations
-/// leave them so, at whatever moments they are applied.
+/// leave them so, at whatever moments they are applied. What is told of a key's time is the one answer in which
+/// they may differ.
 ///
 /// - `kept`: after operations on both they still differ in times alone.
 /// - `legal`: whether an operation is legal, and its refusal.
