@@ -72,8 +72,8 @@ impl Op {
         }
     }
 
-    // the bytes of the operation as journal text
-    pub(crate) fn text_len(&self) -> u64
+    /// The bytes of the operation as journal text, or the greatest number of 64 bits where they are more.
+    pub fn text_len(&self) -> u64
         ensures { result ≡ min (op_text_len self.now) u64.MAX }
     {
         let path = path_text_len(self.path());
