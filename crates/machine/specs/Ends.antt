@@ -1,0 +1,11 @@
+-- Why a transaction cannot be ended.
+use Rattle.std.specs.Prelude.{Option, Some, None}
+use Rattle.reg_names.specs.declared.refusal.Refusal.{Refusal}
+use Rattle.reg_names.specs.declared.refusal.Refusal.TheVariants as refusal
+use Rattle.machine.specs.declared.handle.NotEnded.{NotEnded}
+use Rattle.machine.specs.declared.handle.NotEnded.TheVariants.{NoSuchTransaction, NotActive}
+
+-- the refusal that it is
+abbrev pub refusal_of : NotEnded → Refusal
+refusal_of NoSuchTransaction = refusal.NoSuchHandle
+refusal_of NotActive = refusal.NotActive

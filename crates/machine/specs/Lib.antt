@@ -1,0 +1,6 @@
+pub mod Ends
+pub mod Transactions
+pub mod Machine
+pub mod Shapes
+pub mod Steps
+pub mod Codes

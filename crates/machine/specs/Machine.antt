@@ -1,0 +1,178 @@
+-- The machine: the state of a store, and why it refuses an event. It knows no disk.
+use Rattle.std.specs.Prelude.{◌≡◌, ℕ, ◌+◌, ◌-◌, ◌*◌, ◌^◌, ◌==◌, ◌||◌, ◌&&◌, not, nat_lt, nat_le, Bool, true, false, if◌then◌else◌, List, [], ◌∷◌, ◌++◌, length, filter, drop, sum_by, replicate, slice_get, is_some, Option, Some, None, Result, Ok, Err}
+use Rattle.std.specs.List.{list_any}
+use Rattle.std.specs.Option.{option_map}
+use Rattle.reg_names.specs.Names.{folded_path}
+use Rattle.reg_names.specs.declared.refusal.Refusal.{Refusal}
+use Rattle.reg_names.specs.declared.refusal.Refusal.TheVariants.{NotFound, TooLarge, NoSuchHandle, NoSeat, JournalFull, HistoryFull, Faulted}
+use Rattle.reg_names.specs.declared.refusal.Refusal.TheVariants as refusal
+use Rattle.reg_names.specs.declared.limits.TheConstants.{MOST_JOURNAL_BYTES, MOST_HISTORY, GREATEST_NUMBER, MOST_ELEMENT_BYTES, MOST_SESSIONS, MOST_TRANSACTIONS}
+use Rattle.reg_tree.specs.Maps.{TreeMap}
+use Rattle.reg_tree.specs.Fresh.{fresh_tree}
+use Rattle.reg_tree.specs.Texts.{element_text_len}
+use Rattle.reg_tree.specs.Judgement.{legal}
+use Rattle.reg_tree.specs.Judgement.{any_outweighs}
+use Rattle.reg_tree.specs.TreeLists.{value_in, info_in, subkeys_in, value_names_in, levels_in}
+use Rattle.reg_tree.specs.Sequences.{after_elements}
+use Rattle.reg_tree.specs.declared.element.Element.{Element}
+use Rattle.reg_tree.specs.declared.op.Op.{Op}
+use Rattle.reg_tree.specs.declared.op.Op.TheVariants.{CreateKey, DeleteKey, SetValue, DeleteValue}
+use Rattle.reg_tree.specs.declared.op.Legality.{Legality}
+use Rattle.reg_tree.specs.declared.op.Legality.TheVariants.{Legal, Opened}
+use Rattle.conflicts.specs.Claims.{claim_of}
+use Rattle.machine.specs.Transactions.{Transaction, Places, is_claimed, view, own, count_held, missing_refusal, inactive_refusal}
+use Rattle.machine.specs.declared.handle.Tx.{Tx}
+use Rattle.machine.specs.declared.event.Question.{Question}
+use Rattle.machine.specs.declared.event.Question.TheVariants.{ValueOf, KeysOf, ValuesOf, InfoOf}
+use Rattle.machine.specs.declared.event.Found.{Found}
+use Rattle.machine.specs.declared.event.Found.TheVariants as found
+
+-- the trees as the store was opened, the number of the last change before that, and the changes accepted since; the
+-- sessions that are open, in the order in which they were opened; the transaction at each place, and how many were
+-- begun; the number up to which changes are durable; the room that the journal has used; how many calls of the device
+-- have failed, and whether the store is faulted by one
+pub record Machine : Type 0 where
+  pub opened : List TreeMap
+  pub before : ℕ
+  pub accepted : List Element
+  pub sessions : List ℕ
+  pub places : Places
+  pub begun : ℕ
+  pub durable : ℕ
+  pub room : ℕ
+  pub failures : ℕ
+  pub faulted : Bool
+
+-- a store as it was opened: no change was accepted, and nobody is there
+abbrev pub opened_machine : List TreeMap → ℕ → ℕ → ℕ → Machine
+opened_machine trees number room failures =
+    record { opened = trees; before = number; accepted = []; sessions = []; places = []; begun = 0; durable = number; room = room; failures = failures; faulted = false }
+
+-- the journal's header and first gate take 65 bytes, and each change 17 and its length
+abbrev pub room_of : Element → ℕ
+room_of element = 17 + element_text_len element
+
+abbrev pub room_with : List Element → ℕ
+room_with elements = 65 + sum_by room_of elements
+
+-- a store of new hives, whose journal is empty
+abbrev pub fresh_machine : ℕ → Machine
+fresh_machine hives = opened_machine (replicate hives fresh_tree) 0 (room_with []) 0
+
+-- the trees after all accepted changes
+abbrev pub trees_now : Machine → List TreeMap
+trees_now machine = after_elements machine.opened machine.accepted
+
+-- the number of the last accepted change
+abbrev pub last_number : Machine → ℕ
+last_number machine = machine.before + length machine.accepted
+
+-- the changes that are not durable yet
+abbrev pub pending : Machine → List Element
+pending machine = drop (machine.durable - machine.before) machine.accepted
+
+-- whether a session is open
+abbrev pub is_open : Machine → ℕ → Bool
+is_open machine session = list_any (λ s. s == session) machine.sessions
+
+-- the transaction of a handle, where the session is open and it is the session's
+abbrev pub found_in : Machine → ℕ → Tx → Option Transaction
+found_in machine session tx = if is_open machine session then own machine.places session tx else None
+
+-- a change of one operation
+abbrev pub change : ℕ → Op → Element
+change moment op = record { moment = moment; ops = op ∷ [] }
+
+-- the first refusal of two, in this order
+abbrev pub first_of : Option Refusal → Option Refusal → Option Refusal
+first_of (Some first) later = Some first
+first_of None later = later
+
+abbrev pub refused_if : Bool → Refusal → Option Refusal
+refused_if true why = Some why
+refused_if false why = None
+
+-- a store that is faulted takes no change
+abbrev pub fault : Machine → Option Refusal
+fault machine = refused_if machine.faulted Faulted
+
+-- a session that isn't open is none
+abbrev pub closed_refusal : Machine → ℕ → Option Refusal
+closed_refusal machine session = refused_if (not (is_open machine session)) NoSuchHandle
+
+-- 32 sessions are open
+abbrev pub start_refusal : Machine → ℕ → Option Refusal
+start_refusal machine session = first_of (fault machine) (refused_if (not (is_open machine session) && nat_le MOST_SESSIONS (length machine.sessions)) NoSeat)
+
+-- what is read of trees, where it is there
+abbrev pub looked_up : List TreeMap → ℕ → List (List ℕ) → Question → Option Found
+looked_up trees hive path (ValueOf name) = option_map found.Value (value_in trees hive (folded_path path) name)
+looked_up trees hive path KeysOf = option_map found.Keys (subkeys_in trees hive (folded_path path))
+looked_up trees hive path ValuesOf = option_map found.ValueNames (value_names_in trees hive (folded_path path))
+looked_up trees hive path InfoOf = option_map found.Counts (info_in trees hive (folded_path path))
+
+-- what is not there is not found
+abbrev pub read_refusal : Option Found → Option Refusal
+read_refusal (Some found) = None
+read_refusal None = Some NotFound
+
+-- how many keys a creation makes; no other operation makes keys
+abbrev pub levels_made : List TreeMap → Op → Option ℕ
+levels_made trees (CreateKey hive path) = levels_in trees hive (folded_path path)
+levels_made trees (DeleteKey hive path) = None
+levels_made trees (SetValue hive path name kind bytes) = None
+levels_made trees (DeleteValue hive path name) = None
+
+-- the first refusal of an operation: that it is not legal, or what stands against a legal one; a key that is opened
+-- meets nothing more
+abbrev pub refusal_by : Result Legality Refusal → Option Refusal → Option Refusal
+refusal_by (Err refusal) further = Some refusal
+refusal_by (Ok Opened) further = None
+refusal_by (Ok Legal) further = further
+
+-- why a change has no room: 1,048,576 changes were accepted in this opening, or the last number is the greatest; or
+-- the journal has not room enough
+abbrev pub room_refusal : Machine → Element → Option Refusal
+room_refusal machine element =
+    first_of (refused_if (nat_le MOST_HISTORY (length machine.accepted) || nat_le GREATEST_NUMBER (last_number machine)) HistoryFull)
+    (refused_if (nat_lt MOST_JOURNAL_BYTES (machine.room + room_of element)) JournalFull)
+
+-- why an operation is not accepted by itself
+abbrev pub write_refusal : Machine → ℕ → ℕ → Op → Option Refusal
+write_refusal machine session moment op =
+    first_of (fault machine) (first_of (closed_refusal machine session) (refusal_by (legal (trees_now machine) op) (room_refusal machine (change moment op))))
+
+-- 1,024 transactions are held, or 18,446,744,073,709,551,615 were begun
+abbrev pub begin_refusal : Machine → ℕ → Option Refusal
+begin_refusal machine session =
+    first_of (fault machine) (first_of (closed_refusal machine session)
+    (refused_if (nat_le MOST_TRANSACTIONS (count_held machine.places) || nat_le (2 ^ 64 - 1) machine.begun) NoSeat))
+
+-- a transaction that isn't there, or has ended, is not read
+abbrev pub seen : List TreeMap → ℕ → List (List ℕ) → Question → Option Transaction → Option Found
+seen now hive path question None = None
+seen now hive path question (Some one) = looked_up (view now one) hive path question
+
+-- a change of one more operation is too long
+abbrev pub too_long : Transaction → Op → Bool
+too_long one op = nat_lt MOST_ELEMENT_BYTES (element_text_len (record { moment = one.moment; ops = one.ops ++ op ∷ [] }))
+
+-- why an operation is not added to an active transaction: it is not legal in its view, makes its change too long, or
+-- another active transaction's claim conflicts
+abbrev pub added_refusal : List TreeMap → Places → ℕ → Op → Transaction → Option Refusal
+added_refusal now places place op one =
+    refusal_by (legal (view now one) op) (first_of (refused_if (too_long one op) TooLarge) (refused_if (is_claimed places place (claim_of op)) refusal.Conflict))
+
+abbrev pub added_refusal_if : List TreeMap → Places → ℕ → Op → Option Transaction → Option Refusal
+added_refusal_if now places place op None = Some NoSuchHandle
+added_refusal_if now places place op (Some one) = first_of (inactive_refusal (Some one)) (added_refusal now places place op one)
+
+-- why the operations of an active transaction are not accepted as one change, where there are any
+abbrev pub commit_refusal : Machine → ℕ → Transaction → Option Refusal
+commit_refusal machine moment one =
+    if length one.ops == 0 then None
+    else first_of (refused_if (any_outweighs (trees_now machine) one.ops moment) TooLarge) (room_refusal machine (record { moment = moment; ops = one.ops }))
+
+abbrev pub commit_refusal_if : Machine → ℕ → Option Transaction → Option Refusal
+commit_refusal_if machine moment None = Some NoSuchHandle
+commit_refusal_if machine moment (Some one) = first_of (inactive_refusal (Some one)) (commit_refusal machine moment one)

@@ -1,0 +1,216 @@
+-- The steps of the machine: what it may answer to each event, and what it is then.
+use Rattle.std.specs.Prelude.{◌≡◌, ℕ, ◌+◌, ◌<◌, ◌≤◌, not, nat_le, ◌==◌, Bool, true, false, if◌then◌else◌, List, [], ◌∷◌, ◌++◌, length, filter, slice_get, Option, Some, None, Ok, ◌⊎◌, is_some}
+use Rattle.reg_names.specs.declared.refusal.Refusal.{Refusal}
+use Rattle.reg_names.specs.declared.refusal.Refusal.TheVariants.{NoMemory, NotFound, DiskFault}
+use Rattle.reg_names.specs.declared.refusal.Refusal.TheVariants as refusal
+use Rattle.reg_tree.specs.Maps.{TreeMap}
+use Rattle.reg_tree.specs.Judgement.{legal}
+use Rattle.reg_tree.specs.declared.element.Element.{Element}
+use Rattle.reg_tree.specs.declared.op.Op.{Op}
+use Rattle.reg_tree.specs.declared.op.Legality.TheVariants.{Legal, Opened}
+use Rattle.conflicts.specs.Claims.{claim_of}
+use Rattle.machine.specs.Transactions.{Transaction, Puts, Becomes, at, own, view, fresh_transaction, ended, with_op, rolled_back_by, gone_with, missing_refusal, inactive_refusal}
+use Rattle.machine.specs.Machine.{Machine, trees_now, last_number, pending, room_with, room_of, is_open, found_in, change, first_of, fault, closed_refusal, start_refusal, looked_up, read_refusal, levels_made, write_refusal, begin_refusal, seen, added_refusal_if, commit_refusal_if}
+use Rattle.machine.specs.Shapes.{DoneOr, ReadOr, AcceptedOr, AddedOr, BegunOr, AwaitsOr, StandsOr, ReceiptOr, SteppedOr}
+use Rattle.machine.specs.declared.handle.Tx.{Tx}
+use Rattle.machine.specs.declared.handle.Outcome.{Outcome}
+use Rattle.machine.specs.declared.handle.Outcome.TheVariants.{Committed, RolledBack}
+use Rattle.machine.specs.declared.event.Found.{Found}
+use Rattle.machine.specs.declared.event.Event.{Event}
+use Rattle.machine.specs.declared.event.Event.TheVariants as event
+use Rattle.machine.specs.declared.event.Reply.{Reply}
+
+-- nothing changes; the answer is the first refusal that stands
+abbrev pub IsRefused : Machine → Option Refusal → Refusal → Machine → Type 0
+IsRefused old wanted refusal new = (wanted ≡ Some refusal) × (new ≡ old)
+
+-- the same of an event that takes memory: it may be refused for want of that in place of any other answer
+abbrev pub Refuses : Machine → Option Refusal → Refusal → Machine → Type 0
+Refuses old wanted refusal new = ((wanted ≡ Some refusal) ⊎ (refusal ≡ NoMemory)) × (new ≡ old)
+
+-- a session is open afterwards, and each that was
+abbrev pub with_session : Machine → ℕ → Machine
+with_session old session = if is_open old session then old else record old { sessions = old.sessions ++ session ∷ [] }
+
+-- a session is open no more, and its transactions are gone
+pub record Ends (old : Machine) (session : ℕ) (new : Machine) : Type 0 where
+  pub free : closed_refusal old session ≡ None
+  pub next : new ≡ record old { sessions = filter (λ s. not (s == session)) old.sessions; places = new.places }
+  pub gone : Becomes (gone_with session) old.places new.places
+
+-- what is there is told, and nothing changes
+pub record Tells (old : Machine) (refusal : Option Refusal) (there : Option Found) (found : Found) (new : Machine) : Type 0 where
+  pub free : refusal ≡ None
+  pub told : there ≡ Some found
+  pub next : new ≡ old
+
+-- an operation is the next change, and each active transaction that holds a claim which conflicts is rolled back
+pub record Accepts (old : Machine) (session moment : ℕ) (op : Op) (levels : Option ℕ) (number : ℕ) (new : Machine) : Type 0 where
+  pub free : write_refusal old session moment op ≡ None
+  pub is_legal : legal (trees_now old) op ≡ Ok Legal
+  pub made : levels ≡ levels_made (trees_now old) op
+  pub numbered : number ≡ last_number old + 1
+  pub next : new ≡ record old { accepted = old.accepted ++ change moment op ∷ []; room = old.room + room_of (change moment op); places = new.places }
+  pub rolled_back : Becomes (rolled_back_by (claim_of op)) old.places new.places
+
+-- a key that is there is opened, and nothing changes
+pub record Opens (old : Machine) (refusal : Option Refusal) (trees : List TreeMap) (op : Op) (new : Machine) : Type 0 where
+  pub free : refusal ≡ None
+  pub is_there : legal trees op ≡ Ok Opened
+  pub next : new ≡ old
+
+-- a transaction is begun at a place that is free; its number is one that none had before
+pub record Begins (old : Machine) (session : ℕ) (id : List ℕ) (tx : Tx) (new : Machine) : Type 0 where
+  pub free : begin_refusal old session ≡ None
+  pub vacant : at old.places tx.place ≡ None
+  pub numbered : tx.generation ≡ old.begun + 1
+  pub next : new ≡ record old { begun = old.begun + 1; places = new.places }
+  pub put : Puts old.places new.places tx.place (Some (fresh_transaction session id tx.generation))
+
+-- an operation is the last of a transaction's
+pub record Adds (old : Machine) (session : ℕ) (tx : Tx) (moment : ℕ) (op : Op) (levels : Option ℕ) (new : Machine) : Type 0 where
+  pub one : Transaction
+  pub found : found_in old session tx ≡ Some one
+  pub free : added_refusal_if (trees_now old) old.places tx.place op (Some one) ≡ None
+  pub is_legal : legal (view (trees_now old) one) op ≡ Ok Legal
+  pub made : levels ≡ levels_made (view (trees_now old) one) op
+  pub next : new ≡ record old { places = new.places }
+  pub put : Puts old.places new.places tx.place (Some (with_op one op moment))
+
+-- a key that is there in a transaction's view is opened, and nothing changes
+pub record OpensInside (old : Machine) (session : ℕ) (tx : Tx) (op : Op) (new : Machine) : Type 0 where
+  pub one : Transaction
+  pub found : found_in old session tx ≡ Some one
+  pub free : added_refusal_if (trees_now old) old.places tx.place op (Some one) ≡ None
+  pub is_there : legal (view (trees_now old) one) op ≡ Ok Opened
+  pub next : new ≡ old
+
+-- a transaction ends, and nothing else changes
+pub record Finishes (old : Machine) (session : ℕ) (tx : Tx) (outcome : Outcome) (new : Machine) : Type 0 where
+  pub one : Transaction
+  pub found : found_in old session tx ≡ Some one
+  pub active : inactive_refusal (Some one) ≡ None
+  pub next : new ≡ record old { places = new.places }
+  pub put : Puts old.places new.places tx.place (Some (ended outcome one))
+
+-- a transaction without operations commits as nothing, whose number is 0; any other is the next change, all its
+-- operations together
+abbrev pub after_commit : Machine → ℕ → Transaction → Machine
+after_commit old moment one =
+    if length one.ops == 0 then old
+    else record old { accepted = old.accepted ++ record { moment = moment; ops = one.ops } ∷ []; room = old.room + room_of (record { moment = moment; ops = one.ops }) }
+
+pub record Commits (old : Machine) (session : ℕ) (tx : Tx) (moment number : ℕ) (new : Machine) : Type 0 where
+  pub one : Transaction
+  pub found : found_in old session tx ≡ Some one
+  pub free : first_of (fault old) (commit_refusal_if old moment (Some one)) ≡ None
+  pub numbered : number ≡ (if length one.ops == 0 then 0 else last_number old + 1)
+  pub next : new ≡ record (after_commit old moment one) { places = new.places }
+  pub put : Puts old.places new.places tx.place (Some (ended Committed one))
+
+-- a transaction is let go
+pub record Closes (old : Machine) (session : ℕ) (tx : Tx) (new : Machine) : Type 0 where
+  pub one : Transaction
+  pub found : found_in old session tx ≡ Some one
+  pub next : new ≡ record old { places = new.places }
+  pub put : Puts old.places new.places tx.place None
+
+-- it is told where a transaction stands
+pub record Stands (old : Machine) (session : ℕ) (tx : Tx) (outcome : Outcome) (new : Machine) : Type 0 where
+  pub one : Transaction
+  pub found : found_in old session tx ≡ Some one
+  pub free : fault old ≡ None
+  pub told : outcome ≡ one.outcome
+  pub next : new ≡ old
+
+-- the journal's room stays, or a trim has ended and it is that of the changes which are not durable yet
+abbrev pub RoomStays : Machine → Machine → Type 0
+RoomStays old new = (new.room ≡ old.room) ⊎ (new.room ≡ room_with (pending new))
+
+-- a step of the journal may make changes durable, of those that were accepted; nothing is ever durable no more
+pub record Journals (old new : Machine) : Type 0 where
+  pub free : fault old ≡ None
+  pub next : new ≡ record old { durable = new.durable; room = new.room }
+  pub grows : old.durable ≤ new.durable
+  pub within : new.durable ≤ last_number old
+  pub room : RoomStays old new
+
+pub record Trims (old new : Machine) : Type 0 where
+  pub free : fault old ≡ None
+  pub next : new ≡ record old { room = new.room }
+  pub room : RoomStays old new
+
+pub record Flushes (old : Machine) (hive : ℕ) (new : Machine) : Type 0 where
+  pub free : fault old ≡ None
+  pub there : is_some (slice_get old.opened hive) ≡ true
+  pub next : new ≡ old
+
+-- a hive that isn't there is not flushed
+abbrev pub no_hive : Machine → ℕ → Option Refusal
+no_hive old hive = if is_some (slice_get old.opened hive) then None else Some NotFound
+
+-- a step is refused as it should be, or for want of memory, or since the device failed in it: then the store is faulted
+pub record Breaks (old : Machine) (refusal : Refusal) (new : Machine) : Type 0 where
+  pub free : fault old ≡ None
+  pub told : refusal ≡ DiskFault
+  pub failed : old.failures < new.failures
+  pub next : new ≡ record old { failures = new.failures; faulted = true }
+
+abbrev pub StepFails : Machine → Option Refusal → Refusal → Machine → Type 0
+StepFails old wanted refusal new = Refuses old wanted refusal new ⊎ ((wanted ≡ None) × Breaks old refusal new)
+
+-- From old, the machine may give this answer to the event and go on to new.
+abbrev pub Step : Machine → Event → Reply → Machine → Type 0
+-- sessions open and end
+Step old (event.StartSession session) reply new =
+    DoneOr ((start_refusal old session ≡ None) × (new ≡ with_session old session)) (λ r. Refuses old (start_refusal old session) r new) reply
+Step old (event.EndSession session) reply new =
+    DoneOr (Ends old session new) (λ r. IsRefused old (closed_refusal old session) r new) reply
+-- a read tells what is there now
+Step old (event.Read session hive path question) reply new =
+    ReadOr (λ found. Tells old (closed_refusal old session) (looked_up (trees_now old) hive path question) found new)
+    (λ r. Refuses old (first_of (closed_refusal old session) (read_refusal (looked_up (trees_now old) hive path question))) r new) reply
+-- a write by itself is accepted at once
+Step old (event.Write session moment op) reply new =
+    AcceptedOr (λ levels number. Accepts old session moment op levels number new)
+    (Opens old (write_refusal old session moment op) (trees_now old) op new)
+    (λ r. Refuses old (write_refusal old session moment op) r new) reply
+-- a transaction is begun; it is read and written as it sees the trees
+Step old (event.Begin session id) reply new =
+    BegunOr (λ tx. Begins old session id tx new) (λ r. Refuses old (begin_refusal old session) r new) reply
+Step old (event.TxRead session tx hive path question) reply new =
+    ReadOr (λ found. Tells old (inactive_refusal (found_in old session tx)) (seen (trees_now old) hive path question (found_in old session tx)) found new)
+    (λ r. Refuses old (first_of (inactive_refusal (found_in old session tx)) (read_refusal (seen (trees_now old) hive path question (found_in old session tx)))) r new) reply
+Step old (event.TxWrite session tx moment op) reply new =
+    AddedOr (λ levels. (fault old ≡ None) × Adds old session tx moment op levels new)
+    ((fault old ≡ None) × OpensInside old session tx op new)
+    (λ r. Refuses old (first_of (fault old) (added_refusal_if (trees_now old) old.places tx.place op (found_in old session tx))) r new) reply
+-- a transaction ends, and is let go
+Step old (event.CommitAccept session tx moment) reply new =
+    AwaitsOr (λ number. Commits old session tx moment number new)
+    (λ r. Refuses old (first_of (fault old) (commit_refusal_if old moment (found_in old session tx))) r new) reply
+Step old (event.Rollback session tx) reply new =
+    DoneOr (Finishes old session tx RolledBack new) (λ r. IsRefused old (inactive_refusal (found_in old session tx)) r new) reply
+Step old (event.Close session tx) reply new =
+    DoneOr (Closes old session tx new) (λ r. IsRefused old (missing_refusal (found_in old session tx)) r new) reply
+Step old (event.Outcome session tx) reply new =
+    StandsOr (λ outcome. Stands old session tx outcome new)
+    (λ r. IsRefused old (first_of (fault old) (missing_refusal (found_in old session tx))) r new) reply
+-- what is accepted becomes durable in time, and then there is a receipt of it
+Step old event.FlushAsk reply new =
+    AwaitsOr (λ number. (fault old ≡ None) × (number ≡ last_number old) × (new ≡ old)) (λ r. IsRefused old (fault old) r new) reply
+Step old (event.Acked number) reply new =
+    ReceiptOr (λ told. (told ≡ number) × (number ≤ old.durable) × (new ≡ old))
+    ((old.durable < number) × (fault old ≡ None) × (new ≡ old))
+    (λ r. (old.durable < number) × IsRefused old (fault old) r new) reply
+Step old event.JournalStep reply new = SteppedOr (Journals old new) (λ r. StepFails old (fault old) r new) reply
+Step old (event.FlusherStep hive) reply new =
+    SteppedOr (Flushes old hive new) (λ r. StepFails old (first_of (fault old) (no_hive old hive)) r new) reply
+Step old event.TrimStep reply new = SteppedOr (Trims old new) (λ r. StepFails old (fault old) r new) reply
+
+-- the machine may give these answers to these events, one after another
+abbrev pub Run : Machine → List Event → List Reply → Machine → Type 0
+Run old [] [] new = new ≡ old
+Run old (event ∷ events) (reply ∷ replies) new = (mid : Machine) × Step old event reply mid × Run mid events replies new
+Run old [] (reply ∷ replies) new = ⊥
+Run old (event ∷ events) [] new = ⊥

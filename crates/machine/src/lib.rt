@@ -1,0 +1,17 @@
+//! The machine by which every store of this project is measured: what a store is asked, what it may answer, and what
+//! it is then.
+//!
+//! An [`Event`] is asked, and a [`Reply`] is given. Which replies may be given, and what the store is afterwards, is
+//! said by cases in `specs/Steps`, on the state of `specs/Machine`: the trees as they were opened, the changes accepted
+//! since, sessions, transactions, and how far changes are durable. It knows no disk.
+#![tactic(auto)]
+
+mod event;
+mod handle;
+mod reading;
+mod sessions;
+
+pub use event::{Event, Found, Progress, Question, Reply};
+pub use handle::{NoSuchTransaction, NotEnded, Outcome, Tx};
+pub use reading::{levels_made, looked_up};
+pub use sessions::{NoSeat, Sessions};

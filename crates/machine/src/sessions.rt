@@ -1,0 +1,67 @@
+//! The sessions that are open.
+ghost use Rattle.std.specs.Prelude.{◌≡◌, ◌==◌, ◌++◌, ◌∷◌, ◌<◌, ◌≤◌, [], not, filter, length, IfOk, MatchResult};
+ghost use Rattle.std.specs.List.{list_any};
+
+use reg_names::limits::MOST_SESSIONS;
+use std::alloc::{AllocError, Global};
+use std::marker::Model;
+
+/// There is no place for one session more.
+#[derive(Clone, Copy, Debug, PartialEq, Eq)]
+pub struct NoSeat;
+
+/// The numbers of the sessions that are open, in the order in which they were opened: at most 32. Their places are made
+/// at once, so that opening and ending take no memory.
+#[derive(Drop)]
+pub struct Sessions {
+    open: Vec<u32>,
+}
+
+impl Model for Sessions {
+    ghost use Rattle.std.specs.Prelude.{List, ℕ};
+
+    ghost Value = { List ℕ };
+
+    ghost view = { λ inside. inside.open.items };
+
+    ghost use Rattle.std.specs.Prelude.{◌≤◌, vec_capacity};
+    ghost use Rattle.reg_names.specs.declared.limits.TheConstants.{MOST_SESSIONS};
+
+    ghost invariant = { λ inside. MOST_SESSIONS ≤ vec_capacity inside.open };
+}
+
+impl Sessions {
+    /// No session is open.
+    pub fn new(alloc: Global) -> Result<Sessions, AllocError>
+        ensures { IfOk result (λ made. made ≡ []) }
+    {
+        Ok(Sessions {
+            open: Vec::with_capacity(alloc, MOST_SESSIONS)?,
+        })
+    }
+
+    /// Whether the session is open.
+    pub fn is_open(&self, session: u32) -> bool
+        ensures { result ≡ list_any (λ s. s == session) self.now }
+    {
+        self.open.iter().any(|open| *open == session)
+    }
+
+    /// Opens a session that isn't open. Refused exactly where 32 are, and then nothing changes.
+    pub fn start(&mut self, session: u32) -> Result<(), NoSeat>
+        ensures { MatchResult result (λ _. (length self.old < MOST_SESSIONS) × (self.new ≡ self.old ++ session ∷ [])) (λ _. (MOST_SESSIONS ≤ length self.old) × (self.new ≡ self.old)) }
+    {
+        if self.open.len() >= MOST_SESSIONS {
+            return Err(NoSeat);
+        }
+        self.open.push_reserved(session);
+        Ok(())
+    }
+
+    /// Ends a session.
+    pub fn end(&mut self, session: u32)
+        ensures { self.new ≡ filter (λ s. not (s == session)) self.old }
+    {
+        self.open.retain(|open| *open != session);
+    }
+}
