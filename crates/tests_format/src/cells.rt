@@ -21,64 +21,78 @@ fn put(bytes: &mut Vec<u8>, at: usize, what: &[u8]) {
     }
 }
 
-// one bin: an allocated cell of 16 bytes at 32, a free one behind it
-fn one_bin(alloc: Global) -> Result<Vec<u8>, AllocError> {
-    let mut bytes = zeros(alloc, BIN)?;
-    put(&mut bytes, 0, b"hbin");
-    put(&mut bytes, 8, &[0x00, 0x10, 0, 0]);
-    put(&mut bytes, 32, &[0xf0, 0xff, 0xff, 0xff]);
-    put(&mut bytes, 36, b"hello");
-    put(&mut bytes, 48, &[0xd0, 0x0f, 0, 0]);
+// bytes and where they begin
+type Part = (usize, &'static [u8]);
+
+// so many bytes, which are 0 but for these parts
+fn with_parts(alloc: Global, len: usize, parts: &[Part]) -> Result<Vec<u8>, AllocError> {
+    let mut bytes = zeros(alloc, len)?;
+    for (at, what) in parts {
+        put(&mut bytes, *at, what);
+    }
     Ok(bytes)
 }
 
-// what opening one bin answers where four bytes of it are spoiled
-fn spoiled(alloc: Global, at: usize, what: &[u8]) -> Result<Option<Refusal>, AllocError> {
-    let mut bytes = one_bin(alloc)?;
-    put(&mut bytes, at, what);
-    Ok(Image::open(alloc, bytes).err())
+// an allocated cell of 16 bytes at 32, a free one behind it
+const ONE_BIN: [Part; 5] = [
+    (0, b"hbin"),
+    (8, &[0x00, 0x10, 0, 0]),
+    (32, &[0xf0, 0xff, 0xff, 0xff]),
+    (36, b"hello"),
+    (48, &[0xd0, 0x0f, 0, 0]),
+];
+
+fn one_bin(alloc: Global) -> Result<Vec<u8>, AllocError> {
+    with_parts(alloc, BIN, &ONE_BIN)
 }
 
-fn damaged(cause: Cause) -> Option<Refusal> {
-    Some(Refusal::HiveDamaged { hive: 0, cause })
+fn opened(alloc: Global) -> Result<Image, Refusal> {
+    Image::open(alloc, one_bin(alloc)?)
 }
+
+fn empty(alloc: Global) -> Result<Image, Refusal> {
+    Image::open(alloc, Vec::new(alloc))
+}
+
+const fn damaged(cause: Cause) -> Refusal {
+    Refusal::HiveDamaged { hive: 0, cause }
+}
+
+// what an offset is refused with at which no cell is allocated
+const BAD_OFFSET: Refusal = Refusal::HiveDamaged {
+    hive: 0,
+    cause: Cause::BadOffset,
+};
+
+// how many bytes a cell lends
+fn lent(image: &Image, at: u32, looks: &mut Looks) -> Result<usize, Refusal> {
+    Ok(image.cell(at, looks)?.len())
+}
+
+// the first byte of a cell
+fn first_byte(image: &Image, at: u32, looks: &mut Looks) -> Result<Option<u8>, Refusal> {
+    Ok(image.cell(at, looks)?.first().copied())
+}
+
+// offsets in the one bin, what a look at each lends, and what lies there
+const LOOKED_AT: [(u32, Result<usize, Refusal>, &str); 7] = [
+    (32, Ok(12), "a cell"),
+    (48, Err(BAD_OFFSET), "free"),
+    (36, Err(BAD_OFFSET), "inside"),
+    (40, Err(BAD_OFFSET), "inside"),
+    (0, Err(BAD_OFFSET), "a bin"),
+    (4096, Err(BAD_OFFSET), "past the end"),
+    (0xffff_ffff, Err(BAD_OFFSET), "none"),
+];
 
 #[test]
 fn a_cell_is_lent_and_each_look_counts(rt: HostRuntime) -> Result<(), Fail> {
-    let image = Image::open(rt.alloc(), one_bin(rt.alloc())?)?;
+    let image = opened(rt.alloc())?;
     let mut looks = Looks::new();
-    assert_eq!(rt; image.cell(32, &mut looks)?.len(), 12);
-    assert_eq!(rt; image.cell(32, &mut looks)?.first().copied(), Some(b'h'));
-    assert_eq!(rt;
-        image.cell(48, &mut looks).err(),
-        damaged(Cause::BadOffset),
-        "free"
-    );
-    assert_eq!(rt;
-        image.cell(36, &mut looks).err(),
-        damaged(Cause::BadOffset),
-        "inside"
-    );
-    assert_eq!(rt;
-        image.cell(40, &mut looks).err(),
-        damaged(Cause::BadOffset),
-        "inside"
-    );
-    assert_eq!(rt;
-        image.cell(0, &mut looks).err(),
-        damaged(Cause::BadOffset),
-        "a bin"
-    );
-    assert_eq!(rt;
-        image.cell(4096, &mut looks).err(),
-        damaged(Cause::BadOffset),
-        "past the end"
-    );
-    assert_eq!(rt;
-        image.cell(0xffff_ffff, &mut looks).err(),
-        damaged(Cause::BadOffset),
-        "none"
-    );
+    for (at, wanted, what) in LOOKED_AT {
+        assert_eq!(rt; lent(&image, at, &mut looks), wanted, "{what}");
+    }
+    assert_eq!(rt; first_byte(&image, 32, &mut looks), Ok(Some(b'h')));
     assert_eq!(rt; looks.count(), 8);
     Ok(())
 }
@@ -101,81 +115,52 @@ const SPOILED: [(usize, [u8; 4], Cause, &str); 9] = [
     (48, [0xd8, 0x0f, 0, 0], Cause::BadCell, "past its bin's end"),
 ];
 
+// what opening one bin answers where four bytes of it are spoiled
+fn spoiled(alloc: Global, at: usize, what: &[u8]) -> Result<Option<Refusal>, AllocError> {
+    let mut bytes = one_bin(alloc)?;
+    put(&mut bytes, at, what);
+    Ok(Image::open(alloc, bytes).err())
+}
+
+// what opening one bin answers that is cut by its last byte
+fn cut(alloc: Global) -> Result<Option<Refusal>, AllocError> {
+    let mut bytes = one_bin(alloc)?;
+    bytes.truncate(BIN - 1);
+    Ok(Image::open(alloc, bytes).err())
+}
+
 #[test]
-fn what_does_not_tile_is_refused(rt: HostRuntime) -> Result<(), Fail> {
+fn what_does_not_tile_is_refused(rt: HostRuntime) {
     let alloc = rt.alloc();
     for (at, what, cause, wrong) in SPOILED {
-        assert_eq!(rt; spoiled(alloc, at, &what)?, damaged(cause), "{wrong}");
+        assert_eq!(rt;
+            spoiled(alloc, at, &what),
+            Ok(Some(damaged(cause))),
+            "{wrong}"
+        );
     }
-    let mut short = one_bin(alloc)?;
-    short.truncate(BIN - 1);
-    assert_eq!(rt;
-        Image::open(alloc, short).err(),
-        damaged(Cause::Truncated),
-        "cut by its last byte"
-    );
-    Ok(())
+    assert_eq!(rt; cut(alloc), Ok(Some(damaged(Cause::Truncated))));
+}
+
+// a free bin of two pages, and one with an allocated cell
+const TWO_BINS: [Part; 7] = [
+    (0, b"hbin"),
+    (8, &[0x00, 0x20, 0, 0]),
+    (32, &[0xe0, 0x1f, 0, 0]),
+    (8192, b"hbin"),
+    (8196, &[0x00, 0x20, 0, 0]),
+    (8200, &[0x00, 0x10, 0, 0]),
+    (8224, &[0x20, 0xf0, 0xff, 0xff]),
+];
+
+fn two_bins(alloc: Global) -> Result<Image, Refusal> {
+    Image::open(alloc, with_parts(alloc, 3 * BIN, &TWO_BINS)?)
 }
 
 #[test]
 fn bins_of_several_pages_tile(rt: HostRuntime) -> Result<(), Fail> {
-    let mut bytes = zeros(rt.alloc(), 3 * BIN)?;
-    put(&mut bytes, 0, b"hbin");
-    put(&mut bytes, 8, &[0x00, 0x20, 0, 0]);
-    put(&mut bytes, 32, &[0xe0, 0x1f, 0, 0]);
-    put(&mut bytes, 8192, b"hbin");
-    put(&mut bytes, 8196, &[0x00, 0x20, 0, 0]);
-    put(&mut bytes, 8200, &[0x00, 0x10, 0, 0]);
-    put(&mut bytes, 8224, &[0x20, 0xf0, 0xff, 0xff]);
-    let image = Image::open(rt.alloc(), bytes)?;
-    assert_eq!(rt; image.cell(8224, &mut Looks::new())?.len(), 4060);
-    Ok(())
-}
-
-#[test]
-fn a_cell_for_five_bytes_has_sixteen(rt: HostRuntime) -> Result<(), Fail> {
-    let mut image = Image::open(rt.alloc(), Vec::new(rt.alloc()))?;
-    let first = image.alloc(5)?;
-    let second = image.alloc(5)?;
-    assert_eq!(rt; first, 32, "behind the header of a new bin");
-    assert_eq!(rt; second, 48, "where the first ends");
-    assert_eq!(rt; image.cell(first, &mut Looks::new())?.len(), 12);
-    let bytes = image.into_bytes();
-    assert_eq!(rt; bytes.len(), BIN);
-    assert_eq!(rt;
-        bytes.get(32..36),
-        Some([0xf0u8, 0xff, 0xff, 0xff].as_slice())
-    );
-    Ok(())
-}
-
-#[test]
-fn written_bytes_stay_over_other_changes(rt: HostRuntime) -> Result<(), Fail> {
-    let mut image = Image::open(rt.alloc(), Vec::new(rt.alloc()))?;
-    let first = image.alloc(20)?;
-    let second = image.alloc(20)?;
-    let third = image.alloc(20)?;
-    image.write(second, 2, b"registry")?;
-    image.free(first)?;
-    assert_eq!(rt;
-        image.write(first, 0, b"").err(),
-        damaged(Cause::BadOffset),
-        "freed"
-    );
-    image.free(third)?;
-    let _ = image.alloc(8)?;
-    let mut looks = Looks::new();
-    assert_eq!(rt;
-        image.cell(second, &mut looks)?.get(2..10),
-        Some(b"registry".as_slice())
-    );
-    let again = Image::open(rt.alloc(), image.into_bytes())?;
-    assert_eq!(rt;
-        again.cell(second, &mut looks)?.get(2..10),
-        Some(b"registry".as_slice()),
-        "opened again"
-    );
-    assert_eq!(rt; looks.count(), 2);
+    let image = two_bins(rt.alloc())?;
+    assert_eq!(rt; lent(&image, 8224, &mut Looks::new()), Ok(4060));
     Ok(())
 }
 
@@ -190,6 +175,27 @@ enum Step {
     Frees(u32, u32),
     // the data have so many pages
     Pages(usize),
+    // a cell for data of a length is allocated
+    TakesAny(usize),
+    // a cell of 20 bytes is allocated at an offset, and a word written behind its first two
+    Writes(u32),
+    // the cell at an offset is freed, and nothing is written into it then
+    FreesForGood(u32),
+}
+
+// the word that is written
+const WORD: [u8; 8] = *b"registry";
+
+fn take_and_write(image: &mut Image) -> Result<u32, Refusal> {
+    let at = image.alloc(20)?;
+    image.write(at, 2, &WORD)?;
+    Ok(at)
+}
+
+// why nothing is written into a cell that was freed
+fn refusal_of_freed(image: &mut Image, at: u32) -> Result<Option<Refusal>, Refusal> {
+    image.free(at)?;
+    Ok(image.write(at, 0, b"").err())
 }
 
 // whether a step goes as it is to go
@@ -199,6 +205,9 @@ fn goes(image: &mut Image, step: Step) -> bool {
         Step::TooLarge(len) => image.alloc(len).err() == Some(Refusal::TooLarge),
         Step::Frees(at, from) => image.free(at).ok() == Some(from),
         Step::Pages(count) => image.len() / BIN == count,
+        Step::TakesAny(len) => image.alloc(len).is_ok(),
+        Step::Writes(at) => take_and_write(image) == Ok(at),
+        Step::FreesForGood(at) => refusal_of_freed(image, at) == Ok(Some(BAD_OFFSET)),
     }
 }
 
@@ -222,8 +231,57 @@ const FOUND: [Step; 4] = [
 
 #[test]
 fn a_free_cell_in_read_bytes_is_found(rt: HostRuntime) -> Result<(), Fail> {
-    let mut image = Image::open(rt.alloc(), one_bin(rt.alloc())?)?;
+    let mut image = opened(rt.alloc())?;
     assert_eq!(rt; first_wrong(&mut image, &FOUND), None);
+    Ok(())
+}
+
+// behind the header of a new bin, and where the first ends
+const FIVES: [Step; 2] = [Step::Takes(5, 32), Step::Takes(5, 48)];
+
+#[test]
+fn a_cell_for_five_bytes_has_sixteen(rt: HostRuntime) -> Result<(), Fail> {
+    let mut image = empty(rt.alloc())?;
+    assert_eq!(rt; first_wrong(&mut image, &FIVES), None);
+    assert_eq!(rt; lent(&image, 32, &mut Looks::new()), Ok(12));
+    let bytes = image.into_bytes();
+    assert_eq!(rt; bytes.len(), BIN);
+    assert_eq!(rt;
+        bytes.get(32..36),
+        Some([0xf0u8, 0xff, 0xff, 0xff].as_slice())
+    );
+    Ok(())
+}
+
+// of three cells of 24 bytes the second is written and the others are freed, and one more is allocated
+const WRITTEN: [Step; 6] = [
+    Step::Takes(20, 32),
+    Step::Writes(56),
+    Step::Takes(20, 80),
+    Step::FreesForGood(32),
+    Step::Frees(80, 80),
+    Step::TakesAny(8),
+];
+
+// whether the second cell has what was written
+fn is_written(image: &Image, looks: &mut Looks) -> Result<bool, Refusal> {
+    let written = image.cell(56, looks)?.get(2..10);
+    Ok(written == Some(WORD.as_slice()))
+}
+
+fn opened_again(alloc: Global, image: Image) -> Result<Image, Refusal> {
+    Image::open(alloc, image.into_bytes())
+}
+
+#[test]
+fn written_bytes_stay_over_other_changes(rt: HostRuntime) -> Result<(), Fail> {
+    let mut looks = Looks::new();
+    let mut image = empty(rt.alloc())?;
+    assert_eq!(rt; first_wrong(&mut image, &WRITTEN), None);
+    assert_eq!(rt; is_written(&image, &mut looks), Ok(true));
+    let again = opened_again(rt.alloc(), image)?;
+    assert_eq!(rt; is_written(&again, &mut looks), Ok(true), "opened again");
+    assert_eq!(rt; looks.count(), 2);
     Ok(())
 }
 
@@ -237,14 +295,18 @@ fn with_short_free_cells(image: &mut Image) -> Result<(), Refusal> {
     Ok(())
 }
 
+// the first cell is allocated, and then freed and used again
+const BEFORE_SHORT: [Step; 1] = [Step::Takes(200, 32)];
+
+const AMONG_SHORT: [Step; 2] = [Step::Frees(32, 32), Step::Takes(200, 32)];
+
 #[test]
 fn a_free_cell_is_found_among_many_that_are_too_short(rt: HostRuntime) -> Result<(), Fail> {
-    let mut image = Image::open(rt.alloc(), Vec::new(rt.alloc()))?;
-    image.alloc(200)?;
+    let mut image = empty(rt.alloc())?;
+    assert_eq!(rt; first_wrong(&mut image, &BEFORE_SHORT), None);
     with_short_free_cells(&mut image)?;
     let len = image.len();
-    let steps = [Step::Frees(32, 32), Step::Takes(200, 32)];
-    assert_eq!(rt; first_wrong(&mut image, &steps), None);
+    assert_eq!(rt; first_wrong(&mut image, &AMONG_SHORT), None);
     assert_eq!(rt; image.len(), len, "no bin was added");
     Ok(())
 }
@@ -266,16 +328,16 @@ const USED_AGAIN: [Step; 11] = [
 
 #[test]
 fn freed_cells_merge_and_are_used_again(rt: HostRuntime) -> Result<(), Fail> {
-    let mut image = Image::open(rt.alloc(), Vec::new(rt.alloc()))?;
+    let mut image = empty(rt.alloc())?;
     assert_eq!(rt; first_wrong(&mut image, &USED_AGAIN), None);
     Ok(())
 }
 
 #[test]
 fn a_freed_cell_is_not_freed_again(rt: HostRuntime) -> Result<(), Fail> {
-    let mut image = Image::open(rt.alloc(), one_bin(rt.alloc())?)?;
+    let mut image = opened(rt.alloc())?;
     image.free(32)?;
-    assert_eq!(rt; image.free(32).err(), damaged(Cause::BadOffset));
+    assert_eq!(rt; image.free(32).err(), Some(BAD_OFFSET));
     Ok(())
 }
 
@@ -294,7 +356,7 @@ const MERGED: [Step; 9] = [
 
 #[test]
 fn free_cells_of_several_pages_merge(rt: HostRuntime) -> Result<(), Fail> {
-    let mut image = Image::open(rt.alloc(), Vec::new(rt.alloc()))?;
+    let mut image = empty(rt.alloc())?;
     assert_eq!(rt; first_wrong(&mut image, &MERGED), None);
     assert_eq!(rt; image.len(), 5 * BIN);
     Ok(())
@@ -313,7 +375,7 @@ const AT_THE_LIMIT: [Step; 7] = [
 
 #[test]
 fn an_image_grows_up_to_the_limit(rt: HostRuntime) -> Result<(), Fail> {
-    let mut image = Image::open(rt.alloc(), Vec::new(rt.alloc()))?;
+    let mut image = empty(rt.alloc())?;
     assert_eq!(rt; first_wrong(&mut image, &AT_THE_LIMIT), None);
     Ok(())
 }

@@ -9,4 +9,6 @@ mod cells;
 #[cfg(test)]
 mod dirty_pages;
 #[cfg(test)]
+mod fixtures;
+#[cfg(test)]
 mod logs;

@@ -1,140 +1,128 @@
-ghost use Rattle.std.specs.Prelude.{◌≡◌, length, IfOk};
-
+//! Logs: what one is made of, and what is read and repaired by it.
+use crate::fixtures::{
+    BAD_LOG, Span, block_of, fill_page, filled, joined, marked, numbered, one_piece, steps_of,
+};
 use base_block::{BaseBlock, SequenceNumber};
-use dirt_log::{LogSteps, PIECE_BYTES, clean_primary_stands, read, write_steps};
-use dirty_vector::DirtyVector;
-use reg_names::{Cause, Refusal};
+use dirt_log::{LogSteps, PIECE_BYTES, clean_primary_stands, read};
+use reg_names::Refusal;
 use std::alloc::{AllocError, Global};
 use std::test::Fail;
-use uuid::Uuid;
 
-// what a broken log is refused with
-const BAD_LOG: Refusal = Refusal::HiveDamaged {
-    hive: 0,
-    cause: Cause::BadLog,
-};
-
-// the block of a hive's primary file behind its first flush
-fn block_of(bins_size: u32) -> BaseBlock {
-    BaseBlock::of_primary(SequenceNumber(2), 32, bins_size, Uuid::from_bytes([3; 16]))
+// the log of an image of which ranges are dirty; refused where it isn't as long as it tells
+fn log_of(
+    alloc: Global,
+    image: &[u8],
+    spans: &[Span],
+    base: &BaseBlock,
+) -> Result<Vec<u8>, Refusal> {
+    let vector = marked(alloc, image.len(), spans)?;
+    let steps = steps_of(image, &vector, base)?;
+    let log = joined(alloc, &steps)?;
+    if log.len() == steps.byte_count() {
+        Ok(log)
+    } else {
+        Err(BAD_LOG)
+    }
 }
 
-// joins the pieces of a log
-fn joined(alloc: Global, steps: &LogSteps<'_>) -> Result<Vec<u8>, AllocError> {
-    let mut log = Vec::new(alloc);
-    for index in 0..2000 {
-        let piece = one_piece(alloc, steps, index)?;
-        if piece.is_empty() {
-            break;
+// the log of a numbered image of which ranges are dirty
+fn numbered_log(alloc: Global, bins_size: usize, spans: &[Span]) -> Result<Vec<u8>, Refusal> {
+    log_of(
+        alloc,
+        &numbered(alloc, bins_size)?,
+        spans,
+        &block_of(bins_size)?,
+    )
+}
+
+// whether there are bytes, and each is this one
+fn are_all(bytes: Option<&[u8]>, wanted: u8) -> bool {
+    match bytes {
+        Some(bytes) => is_each(bytes, wanted),
+        None => false,
+    }
+}
+
+fn is_each(bytes: &[u8], wanted: u8) -> bool {
+    for byte in bytes {
+        if *byte != wanted {
+            return false;
         }
-        log.extend_from_slice(&piece)?;
     }
-    Ok(log)
-}
-
-// one piece of a log
-fn one_piece(alloc: Global, steps: &LogSteps<'_>, index: u32) -> Result<Vec<u8>, AllocError> {
-    let mut buffer = vec![in alloc; 0xaa; PIECE_BYTES]?;
-    let count = steps.piece(index, &mut buffer);
-    buffer.truncate(count);
-    Ok(buffer)
-}
-
-// an image whose bytes tell their pages
-fn numbered(alloc: Global, bins_size: usize) -> Result<Vec<u8>, AllocError>
-    ensures { IfOk result (λ image. length image.items ≡ bins_size) }
-{
-    let mut image = vec![in alloc; 0; bins_size]?;
-    for (i, byte) in image.iter_mut().enumerate() {
-        *byte = (i / 512 % 251) as u8;
-    }
-    Ok(image)
+    true
 }
 
 #[test]
 fn a_small_log(rt: HostRuntime) -> Result<(), Fail> {
-    let mut vector = DirtyVector::new(rt.alloc(), 4096)?;
-    assert_eq!(rt; vector.bins_size(), 4096);
-    vector.mark(0..1);
-    vector.mark(3 * 512..3 * 512 + 1);
-    let image = numbered(rt.alloc(), 4096)?;
-    let steps = write_steps(&image, &vector, &block_of(4096));
-    assert_eq!(rt; steps.byte_count(), 2048);
-    let log = joined(rt.alloc(), &steps)?;
+    let log = numbered_log(rt.alloc(), 4096, &[(0, 1), (1536, 1537)])?;
     assert_eq!(rt; log.len(), 2048);
-    assert_eq!(rt; &log[512..518], b"DIRT\x09\x00".as_slice());
-    assert_eq!(rt; log[28], 1);
-    assert!(rt; log[518..1536].iter().all(|byte| *byte == 0));
-    assert!(rt; log[1536..].iter().all(|byte| *byte == 3));
+    assert_eq!(rt; log.get(512..518), Some(b"DIRT\x09\x00".as_slice()));
+    assert_eq!(rt; log.get(28).copied(), Some(1));
+    assert!(rt; are_all(log.get(518..1536), 0));
+    assert!(rt; are_all(log.get(1536..), 3));
     Ok(())
+}
+
+// the log of two bins, of which the second page and the second bin are dirty
+fn two_bins_log(alloc: Global) -> Result<Vec<u8>, Refusal> {
+    numbered_log(alloc, 8192, &[(512, 1024), (4096, 8192)])
+}
+
+// the sequence number of a log's base block, and how many pages are dirty
+fn told(alloc: Global, log: &[u8]) -> Result<(u32, usize), Refusal> {
+    let found = read(alloc, log)?;
+    Ok((found.base.primary.0, found.vector.count()))
+}
+
+// whether a log repairs bins data to the numbered image of a size
+fn repairs(alloc: Global, log: &[u8], bins: Vec<u8>, bins_size: usize) -> Result<bool, Refusal> {
+    let mut bins = bins;
+    read(alloc, log)?.apply_to(&mut bins)?;
+    Ok(bins.as_slice() == numbered(alloc, bins_size)?.as_slice())
+}
+
+// why a log doesn't repair bins data, and how long they are then
+fn refused_repair(
+    alloc: Global,
+    log: &[u8],
+    bins: Vec<u8>,
+) -> Result<(Option<Refusal>, usize), Refusal> {
+    let mut bins = bins;
+    let refusal = read(alloc, log)?.apply_to(&mut bins).err();
+    Ok((refusal, bins.len()))
+}
+
+// bins data that lack the second bin, and a page of the first
+fn lacking(alloc: Global) -> Result<Vec<u8>, AllocError> {
+    let mut bins = numbered(alloc, 4096)?;
+    fill_page(&mut bins, 1, 0xee);
+    Ok(bins)
+}
+
+// bins data that lack a byte of a page which isn't logged
+fn short(alloc: Global) -> Result<Vec<u8>, AllocError> {
+    let mut bins = numbered(alloc, 4096)?;
+    bins.truncate(4095);
+    Ok(bins)
+}
+
+// the law says nothing when it is run
+fn law() {
+    clean_primary_stands();
 }
 
 #[test]
 fn a_log_repairs(rt: HostRuntime) -> Result<(), Fail> {
-    clean_primary_stands();
-    let mut vector = DirtyVector::new(rt.alloc(), 8192)?;
-    assert_eq!(rt; vector.bins_size(), 8192);
-    vector.mark(512..1024);
-    vector.mark(4096..8192);
-    let image = numbered(rt.alloc(), 8192)?;
-    let log = joined(rt.alloc(), &write_steps(&image, &vector, &block_of(8192)))?;
-    let found = read(rt.alloc(), &log)?;
-    assert_eq!(rt; found.base.primary.0, 2);
-    assert_eq!(rt; found.vector.count(), 9);
-
-    // a primary file that lacks the second bin, and a page of the first
-    let mut old = numbered(rt.alloc(), 4096)?;
-    old.truncate(4096);
-    for byte in old.iter_mut().skip(512).take(512) {
-        *byte = 0xee;
-    }
-    found.apply_to(&mut old)?;
-    assert_eq!(rt; old.as_slice(), image.as_slice());
-
-    // a page that is neither logged nor there
-    let mut short = numbered(rt.alloc(), 4096)?;
-    short.truncate(4095);
-    assert_eq!(rt; found.apply_to(&mut short), Err(BAD_LOG));
-    assert_eq!(rt; short.len(), 4095);
+    law();
+    let alloc = rt.alloc();
+    let log = two_bins_log(alloc)?;
+    assert_eq!(rt; told(alloc, &log), Ok((2, 9)));
+    assert_eq!(rt; repairs(alloc, &log, lacking(alloc)?, 8192), Ok(true));
+    assert_eq!(rt;
+        refused_repair(alloc, &log, short(alloc)?),
+        Ok((Some(BAD_LOG), 4095))
+    );
     Ok(())
-}
-
-#[test]
-fn broken_logs(rt: HostRuntime) -> Result<(), Fail> {
-    let mut vector = DirtyVector::new(rt.alloc(), 4096)?;
-    assert_eq!(rt; vector.bins_size(), 4096);
-    vector.mark(512..1024);
-    let image = numbered(rt.alloc(), 4096)?;
-    let base = block_of(4096);
-    let log = joined(rt.alloc(), &write_steps(&image, &vector, &base))?;
-    assert_eq!(rt; log.len(), 1536);
-    assert!(rt; read(rt.alloc(), &log).is_ok());
-    for len in [1535, 1024, 517, 516, 512, 511, 0] {
-        assert_eq!(rt;
-            refusal_of_front(rt.alloc(), &log, len),
-            Some(BAD_LOG),
-            "at {len}"
-        );
-    }
-    for (at, byte) in [(508, 0), (512, 0), (41, 0)] {
-        let mut spoiled = log.clone()?;
-        if let Some(place) = spoiled.get_mut(at) {
-            *place = byte;
-        }
-        assert_eq!(rt; refusal_of(rt.alloc(), &spoiled), Some(BAD_LOG), "at {at}");
-    }
-    let raised = BaseBlock {
-        primary: SequenceNumber(3),
-        ..base
-    };
-    let unequal = joined(rt.alloc(), &write_steps(&image, &vector, &raised))?;
-    assert_eq!(rt; refusal_of(rt.alloc(), &unequal), Some(BAD_LOG));
-    Ok(())
-}
-
-// why the front of a log is refused
-fn refusal_of_front(alloc: Global, bytes: &[u8], len: usize) -> Option<Refusal> {
-    refusal_of(alloc, bytes.get(..len)?)
 }
 
 // why a log is refused
@@ -142,76 +130,178 @@ fn refusal_of(alloc: Global, bytes: &[u8]) -> Option<Refusal> {
     read(alloc, bytes).err()
 }
 
+// why the front of a log is refused
+fn refusal_of_front(alloc: Global, bytes: &[u8], len: usize) -> Option<Refusal> {
+    refusal_of(alloc, bytes.get(..len)?)
+}
+
+// why a log with another byte is refused
+fn refusal_of_spoiled(
+    alloc: Global,
+    log: &[u8],
+    at: usize,
+    byte: u8,
+) -> Result<Option<Refusal>, AllocError> {
+    let mut spoiled = log.to_vec(alloc)?;
+    if let Some(place) = spoiled.get_mut(at) {
+        *place = byte;
+    }
+    Ok(refusal_of(alloc, &spoiled))
+}
+
+// the log of a bin of which the second page is dirty
+fn one_page_log(alloc: Global) -> Result<Vec<u8>, Refusal> {
+    numbered_log(alloc, 4096, &[(512, 1024)])
+}
+
+// why a log is refused whose numbers aren't equal
+fn refusal_of_unequal(alloc: Global) -> Result<Option<Refusal>, Refusal> {
+    let raised = BaseBlock {
+        primary: SequenceNumber(3),
+        ..block_of(4096)?
+    };
+    let log = log_of(alloc, &numbered(alloc, 4096)?, &[(512, 1024)], &raised)?;
+    Ok(refusal_of(alloc, &log))
+}
+
 #[test]
-fn pages_begin_behind_the_bitmap(rt: HostRuntime) -> Result<(), Fail> {
-    // bitmaps of 1, 508, 509 and 1,024 bytes; the first page alone is dirty
-    for (bins_size, start) in [
-        (4096u32, 1024usize),
-        (2_080_768, 1024),
-        (2_084_864, 1536),
-        (4_194_304, 2048),
-    ] {
-        let size = bins_size as usize;
-        let mut vector = DirtyVector::new(rt.alloc(), size)?;
-        assert_eq!(rt; vector.bins_size(), size);
-        vector.mark(0..1);
-        let mut image = numbered(rt.alloc(), size)?;
-        for byte in image.iter_mut().take(512) {
-            *byte = 0x55;
-        }
-        assert_eq!(rt; image.len(), size);
-        let log = joined(
-            rt.alloc(),
-            &write_steps(&image, &vector, &block_of(bins_size)),
-        )?;
-        assert_eq!(rt; log.len(), start + 512);
-        assert_eq!(rt; log.iter().position(|byte| *byte == 0x55), Some(start));
-        assert_eq!(rt; read(rt.alloc(), &log)?.vector.count(), 1);
+fn logs_that_end_early_are_broken(rt: HostRuntime) -> Result<(), Fail> {
+    let alloc = rt.alloc();
+    let log = one_page_log(alloc)?;
+    assert_eq!(rt; log.len(), 1536);
+    assert_eq!(rt; refusal_of(alloc, &log), None);
+    for len in [1535, 1024, 517, 516, 512, 511, 0] {
+        assert_eq!(rt;
+            refusal_of_front(alloc, &log, len),
+            Some(BAD_LOG),
+            "at {len}"
+        );
     }
     Ok(())
+}
+
+#[test]
+fn spoiled_logs_are_broken(rt: HostRuntime) -> Result<(), Fail> {
+    let alloc = rt.alloc();
+    let log = one_page_log(alloc)?;
+    for (at, byte) in [(508, 0), (512, 0), (41, 0)] {
+        assert_eq!(rt;
+            refusal_of_spoiled(alloc, &log, at, byte),
+            Ok(Some(BAD_LOG)),
+            "at {at}"
+        );
+    }
+    assert_eq!(rt; refusal_of_unequal(alloc), Ok(Some(BAD_LOG)));
+    Ok(())
+}
+
+// sizes of bins data whose bitmaps have 1, 508, 509 and 1,024 bytes, and where the pages begin
+const BEGINNINGS: [(usize, usize); 4] = [
+    (4096, 1024),
+    (2_080_768, 1024),
+    (2_084_864, 1536),
+    (4_194_304, 2048),
+];
+
+// the log of an image of which the first page alone is dirty, and alone has the byte 0x55
+fn first_page_log(alloc: Global, bins_size: usize) -> Result<Vec<u8>, Refusal> {
+    let mut image = numbered(alloc, bins_size)?;
+    fill_page(&mut image, 0, 0x55);
+    log_of(alloc, &image, &[(0, 1)], &block_of(bins_size)?)
+}
+
+// how long such a log is, where its page begins, and how many pages are dirty in it
+fn first_page(alloc: Global, bins_size: usize) -> Result<(usize, Option<usize>, usize), Refusal> {
+    let log = first_page_log(alloc, bins_size)?;
+    let start = log.iter().position(|byte| *byte == 0x55);
+    Ok((log.len(), start, told(alloc, &log)?.1))
+}
+
+#[test]
+fn pages_begin_behind_the_bitmap(rt: HostRuntime) {
+    let alloc = rt.alloc();
+    for (bins_size, start) in BEGINNINGS {
+        assert_eq!(rt;
+            first_page(alloc, bins_size),
+            Ok((start + 512, Some(start), 1)),
+            "of {bins_size}"
+        );
+    }
+}
+
+// whether the pieces of a log have these lengths
+fn has_pieces(alloc: Global, steps: &LogSteps<'_>, lengths: &[usize]) -> Result<bool, AllocError> {
+    let mut index = 0u32;
+    for length in lengths {
+        if one_piece(alloc, steps, index)?.len() != *length {
+            return Ok(false);
+        }
+        index = index.wrapping_add(1);
+    }
+    Ok(true)
+}
+
+// whether the log of an image of which a range is dirty has pieces of these lengths
+fn is_cut_in(alloc: Global, image: &[u8], span: Span, lengths: &[usize]) -> Result<bool, Refusal> {
+    let vector = marked(alloc, image.len(), &[span])?;
+    let steps = steps_of(image, &vector, &block_of(image.len())?)?;
+    Ok(has_pieces(alloc, &steps, lengths)?)
+}
+
+const LARGEST: usize = 67_108_864;
+
+// the first dirty page of a log
+fn first_dirty(alloc: Global, log: &[u8]) -> Result<Option<usize>, Refusal> {
+    Ok(read(alloc, log)?.vector.next_dirty(0))
 }
 
 #[test]
 fn one_page_of_the_largest_hive(rt: HostRuntime) -> Result<(), Fail> {
-    let size = 67_108_864;
-    let mut vector = DirtyVector::new(rt.alloc(), size)?;
-    assert_eq!(rt; vector.bins_size(), size);
-    vector.mark(size - 1..size);
-    let image = vec![in rt.alloc(); 7; size]?;
-    let steps = write_steps(&image, &vector, &block_of(67_108_864));
-    assert_eq!(rt; steps.byte_count(), 17_920);
-    let log = one_piece(rt.alloc(), &steps, 0)?;
+    let alloc = rt.alloc();
+    let image = filled(alloc, LARGEST, 7)?;
+    let span = (LARGEST - 1, LARGEST);
+    assert_eq!(rt; is_cut_in(alloc, &image, span, &[17_920, 0]), Ok(true));
+    let log = log_of(alloc, &image, &[span], &block_of(LARGEST)?)?;
     assert_eq!(rt; log.len(), 17_920);
-    assert_eq!(rt; one_piece(rt.alloc(), &steps, 1)?.len(), 0);
     assert_eq!(rt; log.get(16_899).copied(), Some(0x80));
     assert_eq!(rt; log.get(17_408).copied(), Some(7));
-    assert_eq!(rt; read(rt.alloc(), &log)?.vector.next_dirty(0), Some(131_071));
+    assert_eq!(rt; first_dirty(alloc, &log), Ok(Some(131_071)));
     Ok(())
 }
 
+const MEBIBYTE: usize = 1_048_576;
+
+// the pieces of a log of all pages of a mebibyte
+const MEBIBYTE_PIECES: [usize; 18] = [
+    PIECE_BYTES,
+    PIECE_BYTES,
+    PIECE_BYTES,
+    PIECE_BYTES,
+    PIECE_BYTES,
+    PIECE_BYTES,
+    PIECE_BYTES,
+    PIECE_BYTES,
+    PIECE_BYTES,
+    PIECE_BYTES,
+    PIECE_BYTES,
+    PIECE_BYTES,
+    PIECE_BYTES,
+    PIECE_BYTES,
+    PIECE_BYTES,
+    PIECE_BYTES,
+    1024,
+    0,
+];
+
 #[test]
 fn all_pages_of_a_mebibyte(rt: HostRuntime) -> Result<(), Fail> {
-    let size = 1_048_576;
-    let mut vector = DirtyVector::new(rt.alloc(), size)?;
-    assert_eq!(rt; vector.bins_size(), size);
-    vector.mark(0..size);
-    let image = numbered(rt.alloc(), size)?;
-    let steps = write_steps(&image, &vector, &block_of(1_048_576));
-    assert_eq!(rt; steps.byte_count(), 1_049_600);
-    for index in 0..18 {
-        let count = one_piece(rt.alloc(), &steps, index)?.len();
-        let want = match index {
-            0..16 => PIECE_BYTES,
-            16 => 1024,
-            _ => 0,
-        };
-        assert_eq!(rt; count, want, "piece {index}");
-    }
-    let log = joined(rt.alloc(), &steps)?;
+    let alloc = rt.alloc();
+    let image = numbered(alloc, MEBIBYTE)?;
+    let span = (0, MEBIBYTE);
+    assert_eq!(rt; is_cut_in(alloc, &image, span, &MEBIBYTE_PIECES), Ok(true));
+    let log = log_of(alloc, &image, &[span], &block_of(MEBIBYTE)?)?;
     assert_eq!(rt; log.len(), 1_049_600);
-    assert_eq!(rt; &log[1024..], image.as_slice());
-    let mut empty = Vec::new(rt.alloc());
-    read(rt.alloc(), &log)?.apply_to(&mut empty)?;
-    assert_eq!(rt; empty.as_slice(), image.as_slice());
+    assert_eq!(rt; log.get(1024..), Some(image.as_slice()));
+    assert_eq!(rt; repairs(alloc, &log, Vec::new(alloc), MEBIBYTE), Ok(true));
     Ok(())
 }
