@@ -1,5 +1,5 @@
 -- How trees and transactions are told apart: by their parts.
-use Rattle.std.specs.Prelude.{ℕ, List, Option, refl}
+use Rattle.std.specs.Prelude.{ℕ, List, refl}
 use Rattle.std.specs.Coded.{Coded, code_by, coded×, coded_ℕ, coded_list, coded_option}
 use Rattle.std.specs.FinMap as finite
 use Rattle.reg_tree_parts.specs.Rows.{row_code}

@@ -1,5 +1,4 @@
 -- Why a transaction cannot be ended.
-use Rattle.std.specs.Prelude.{Option, Some, None}
 use Rattle.reg_names.specs.declared.refusal.Refusal.{Refusal}
 use Rattle.reg_names.specs.declared.refusal.Refusal.TheVariants as refusal
 use Rattle.machine.specs.declared.handle.NotEnded.{NotEnded}

@@ -1,5 +1,5 @@
 -- The machine: the state of a store, and why it refuses an event. It knows no disk.
-use Rattle.std.specs.Prelude.{◌≡◌, ℕ, ◌+◌, ◌-◌, ◌*◌, ◌^◌, ◌==◌, ◌||◌, ◌&&◌, not, nat_lt, nat_le, Bool, true, false, if◌then◌else◌, List, [], ◌∷◌, ◌++◌, length, filter, drop, sum_by, replicate, slice_get, is_some, Option, Some, None, Result, Ok, Err}
+use Rattle.std.specs.Prelude.{ℕ, ◌+◌, ◌-◌, ◌^◌, ◌==◌, ◌||◌, ◌&&◌, not, nat_lt, nat_le, Bool, true, false, if◌then◌else◌, List, [], ◌∷◌, ◌++◌, length, drop, sum_by, replicate, Option, Some, None, Result, Ok, Err}
 use Rattle.std.specs.List.{list_any}
 use Rattle.std.specs.Option.{option_map}
 use Rattle.reg_names.specs.Names.{folded_path}
@@ -20,7 +20,7 @@ use Rattle.reg_tree.specs.declared.op.Op.TheVariants.{CreateKey, DeleteKey, SetV
 use Rattle.reg_tree.specs.declared.op.Legality.{Legality}
 use Rattle.reg_tree.specs.declared.op.Legality.TheVariants.{Legal, Opened}
 use Rattle.conflicts.specs.Claims.{claim_of}
-use Rattle.machine.specs.Transactions.{Transaction, Places, is_claimed, view, own, count_held, missing_refusal, inactive_refusal}
+use Rattle.machine.specs.Transactions.{Transaction, Places, is_claimed, view, own, count_held, inactive_refusal}
 use Rattle.machine.specs.declared.handle.Tx.{Tx}
 use Rattle.machine.specs.declared.event.Question.{Question}
 use Rattle.machine.specs.declared.event.Question.TheVariants.{ValueOf, KeysOf, ValuesOf, InfoOf}

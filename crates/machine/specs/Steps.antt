@@ -1,15 +1,13 @@
 -- The steps of the machine: what it may answer to each event, and what it is then.
-use Rattle.std.specs.Prelude.{◌≡◌, ℕ, ◌+◌, ◌<◌, ◌≤◌, not, nat_le, ◌==◌, Bool, true, false, if◌then◌else◌, List, [], ◌∷◌, ◌++◌, length, filter, slice_get, Option, Some, None, Ok, ◌⊎◌, is_some}
+use Rattle.std.specs.Prelude.{◌≡◌, ℕ, ◌+◌, ◌<◌, ◌≤◌, not, ◌==◌, true, if◌then◌else◌, List, [], ◌∷◌, ◌++◌, length, filter, slice_get, Option, Some, None, Ok, ◌⊎◌, is_some}
 use Rattle.reg_names.specs.declared.refusal.Refusal.{Refusal}
 use Rattle.reg_names.specs.declared.refusal.Refusal.TheVariants.{NoMemory, NotFound, DiskFault}
-use Rattle.reg_names.specs.declared.refusal.Refusal.TheVariants as refusal
 use Rattle.reg_tree.specs.Maps.{TreeMap}
 use Rattle.reg_tree.specs.Judgement.{legal}
-use Rattle.reg_tree.specs.declared.element.Element.{Element}
 use Rattle.reg_tree.specs.declared.op.Op.{Op}
 use Rattle.reg_tree.specs.declared.op.Legality.TheVariants.{Legal, Opened}
 use Rattle.conflicts.specs.Claims.{claim_of}
-use Rattle.machine.specs.Transactions.{Transaction, Puts, Becomes, at, own, view, fresh_transaction, ended, with_op, rolled_back_by, gone_with, missing_refusal, inactive_refusal}
+use Rattle.machine.specs.Transactions.{Transaction, Puts, Becomes, at, view, fresh_transaction, ended, with_op, rolled_back_by, gone_with, missing_refusal, inactive_refusal}
 use Rattle.machine.specs.Machine.{Machine, trees_now, last_number, pending, room_with, room_of, is_open, found_in, change, first_of, fault, closed_refusal, start_refusal, looked_up, read_refusal, levels_made, write_refusal, begin_refusal, seen, added_refusal_if, commit_refusal_if}
 use Rattle.machine.specs.Shapes.{DoneOr, ReadOr, AcceptedOr, AddedOr, BegunOr, AwaitsOr, StandsOr, ReceiptOr, SteppedOr}
 use Rattle.machine.specs.declared.handle.Tx.{Tx}

@@ -1,4 +1,4 @@
-use Rattle.std.proofs.Common.{rules, ◌≡◌, ◌==◌, not, ◌∙◌, ap}
+use Rattle.std.proofs.Common.{rules, ◌==◌, not, ◌∙◌, ap}
 use Rattle.std.specs.List.{filter}
 use Rattle.std.proofs.lemmas.Fn.{filter_same}
 use Rattle.machine.proofs.sessions.Sessions.end.Goals as goal
