@@ -3,4 +3,5 @@ pub mod Transactions
 pub mod Machine
 pub mod Shapes
 pub mod Steps
+pub mod Kept
 pub mod Codes

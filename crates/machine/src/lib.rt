@@ -4,10 +4,13 @@
 //! An [`Event`] is asked, and a [`Reply`] is given. Which replies may be given, and what the store is afterwards, is
 //! said by cases in `specs/Steps`, on the state of `specs/Machine`: the trees as they were opened, the changes accepted
 //! since, sessions, transactions, and how far changes are durable. It knows no disk.
+//!
+//! [`laws`] says what follows from that for every store.
 #![tactic(auto)]
 
 mod event;
 mod handle;
+pub mod laws;
 mod reading;
 mod sessions;
 

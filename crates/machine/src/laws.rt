@@ -1,0 +1,41 @@
+//! Laws of the machine, which follow from its definitions alone.
+//!
+//! They have no code of their own: each is the contract of a function that does nothing, for whoever keeps a store by
+//! the machine.
+ghost use Rattle.std.specs.Prelude.{◌≡◌, ℕ, List, Some, None};
+ghost use Rattle.std.specs.List.Sorted.{IsStrictlySortedBy};
+ghost use Rattle.std.specs.Ordering.{nat_cmp};
+ghost use Rattle.machine.specs.Transactions.{Transaction, own};
+ghost use Rattle.machine.specs.Machine.{Machine, found_in};
+ghost use Rattle.machine.specs.Steps.{Step, Run};
+ghost use Rattle.machine.specs.Kept.{IsKept, IsCounted, IsGone, handle_in, numbers_given};
+ghost use Rattle.machine.specs.declared.handle.Tx.{Tx};
+ghost use Rattle.machine.specs.declared.event.Event.{Event};
+ghost use Rattle.machine.specs.declared.event.Event.TheVariants as event;
+ghost use Rattle.machine.specs.declared.event.Reply.{Reply};
+ghost use Rattle.machine.specs.declared.event.Reply.TheVariants as reply;
+
+/// No handle is given twice, and one that was closed answers nothing for good.
+///
+/// - `step`: a handle that is given has the next number, which is how many transactions were begun then; every
+///   other answer leaves that count.
+/// - `run`: the numbers of the handles that are given along a run rise, so no two are the same.
+/// - `closed`, `ended`: a handle is gone after its close, and after the end of its session.
+/// - `gone`, `for_good`: what is gone stays gone.
+/// - `answered`, `not_found`: no session has a transaction by a handle that is gone, so each event with it is
+///   refused as the order of refusals says.
+pub fn handles_are_given_once()
+    ensures step { (old new : Machine) (event : Event) (reply : Reply) → Step old event reply new → IsCounted old (handle_in reply) new }
+    ensures run { (old new : Machine) (events : List Event) (replies : List Reply) → Run old events replies new →
+        IsStrictlySortedBy nat_cmp (numbers_given replies) }
+    ensures closed { (old new : Machine) (session : ℕ) (tx : Tx) → IsKept old → Step old (event.Close session tx) reply.Done new →
+        IsGone new tx }
+    ensures ended { (old new : Machine) (session : ℕ) (tx : Tx) (one : Transaction) → IsKept old → own old.places session tx ≡ Some one →
+        Step old (event.EndSession session) reply.Done new → IsGone new tx }
+    ensures gone { (old new : Machine) (event : Event) (reply : Reply) (tx : Tx) → IsGone old tx → Step old event reply new →
+        IsGone new tx }
+    ensures for_good { (old new : Machine) (events : List Event) (replies : List Reply) (tx : Tx) → IsGone old tx →
+        Run old events replies new → IsGone new tx }
+    ensures answered { (machine : Machine) (session : ℕ) (tx : Tx) → IsGone machine tx → own machine.places session tx ≡ None }
+    ensures not_found { (machine : Machine) (session : ℕ) (tx : Tx) → IsGone machine tx → found_in machine session tx ≡ None }
+{}
