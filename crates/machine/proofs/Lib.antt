@@ -1,2 +1,3 @@
 pub mod Ways
 pub mod Handles
+pub mod Keeping

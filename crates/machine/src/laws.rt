@@ -5,8 +5,10 @@
 ghost use Rattle.std.specs.Prelude.{◌≡◌, ℕ, List, Some, None};
 ghost use Rattle.std.specs.List.Sorted.{IsStrictlySortedBy};
 ghost use Rattle.std.specs.Ordering.{nat_cmp};
+ghost use Rattle.reg_tree.specs.Maps.{TreeMap};
+ghost use Rattle.reg_tree.specs.Sequences.{AreTrees};
 ghost use Rattle.machine.specs.Transactions.{Transaction, own};
-ghost use Rattle.machine.specs.Machine.{Machine, found_in};
+ghost use Rattle.machine.specs.Machine.{Machine, opened_machine, found_in};
 ghost use Rattle.machine.specs.Steps.{Step, Run};
 ghost use Rattle.machine.specs.Kept.{IsKept, IsCounted, IsGone, handle_in, numbers_given};
 ghost use Rattle.machine.specs.declared.handle.Tx.{Tx};
@@ -14,6 +16,23 @@ ghost use Rattle.machine.specs.declared.event.Event.{Event};
 ghost use Rattle.machine.specs.declared.event.Event.TheVariants as event;
 ghost use Rattle.machine.specs.declared.event.Reply.{Reply};
 ghost use Rattle.machine.specs.declared.event.Reply.TheVariants as reply;
+
+/// What every state of a store keeps, from its opening on: the trees of now are trees, no transaction's number is above
+/// how many were begun, the operations of each active transaction may be carried out in turn on the trees of now, and
+/// no claims of two active transactions conflict.
+///
+/// - `begins`: it is so as a store is opened on trees.
+/// - `step`, `run`: each step keeps it, and so does every run.
+pub fn states_are_kept()
+    ensures begins { (trees : List TreeMap) (number room failures : ℕ) → AreTrees trees → IsKept (opened_machine trees number room failures) }
+    ensures step { (old new : Machine) (event : Event) (reply : Reply) → IsKept old → Step old event reply new → IsKept new }
+    ensures run { (old new : Machine) (events : List Event) (replies : List Reply) → IsKept old → Run old events replies new → IsKept new }
+{
+    reg_tree::laws::trees_stay();
+    conflicts::laws::stay_legal();
+    conflicts::laws::one_more();
+    conflicts::laws::holders_are_exact();
+}
 
 /// No handle is given twice, and one that was closed answers nothing for good.
 ///
