@@ -1,3 +1,4 @@
 pub mod Ways
 pub mod Handles
 pub mod Keeping
+pub mod AtCommit

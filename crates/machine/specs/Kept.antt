@@ -1,6 +1,11 @@
 -- What every state of the machine keeps: what is known of transactions that are held, and of handles.
-use Rattle.std.specs.Prelude.{◌≡◌, ◌≢◌, ℕ, ◌+◌, ◌≤◌, true, List, map, filter_map, Option, Some, None}
+use Rattle.std.specs.Prelude.{◌≡◌, ◌≢◌, ◌⊎◌, ℕ, ◌+◌, ◌≤◌, true, List, [], ◌∷◌, map, filter_map, Option, Some, None, Ok, Err, ⊤}
+use Rattle.reg_names.specs.declared.refusal.Refusal.TheVariants.{TooLarge}
+use Rattle.reg_tree.specs.Maps.{TreeMap}
+use Rattle.reg_tree.specs.Judgement.{legal, applied_one}
 use Rattle.reg_tree.specs.Sequences.{AreTrees}
+use Rattle.reg_tree.specs.declared.op.Op.{Op}
+use Rattle.reg_tree.specs.declared.op.Legality.TheVariants.{Legal}
 use Rattle.conflicts.specs.Skeletons.{AreCarriedOut, AreApart}
 use Rattle.machine.specs.Transactions.{Transaction, Places, at, is_active}
 use Rattle.machine.specs.Machine.{Machine, trees_now}
@@ -21,6 +26,17 @@ pub record IsKept (machine : Machine) : Type 0 where
   pub known : (place : ℕ) (one : Transaction) → at machine.places place ≡ Some one → one.generation ≤ machine.begun
   pub carried : (place : ℕ) (one : Transaction) → IsActiveAt machine.places place one → (moment : ℕ) → AreCarriedOut (trees_now machine) one.ops moment
   pub apart : (place other : ℕ) (one two : Transaction) → place ≢ other → IsActiveAt machine.places place one → IsActiveAt machine.places other two → AreApart one.ops two.ops
+
+-- each operation, on the trees after those before it, is legal, or refused for weight alone
+abbrev pub AreLegalButForWeight : List TreeMap → List Op → ℕ → Type 0
+AreLegalButForWeight trees [] moment = ⊤
+AreLegalButForWeight trees (op ∷ ops) moment =
+    ((legal trees op ≡ Ok Legal) ⊎ (legal trees op ≡ Err TooLarge)) × AreLegalButForWeight (applied_one trees op moment) ops moment
+
+-- each operation, on the trees after those before it, is legal and changes something
+abbrev pub AreLegalChanges : List TreeMap → List Op → ℕ → Type 0
+AreLegalChanges trees [] moment = ⊤
+AreLegalChanges trees (op ∷ ops) moment = (legal trees op ≡ Ok Legal) × AreLegalChanges (applied_one trees op moment) ops moment
 
 -- the handle that an answer gives
 abbrev pub handle_in : Reply → Option Tx

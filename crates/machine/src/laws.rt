@@ -2,15 +2,16 @@
 //!
 //! They have no code of their own: each is the contract of a function that does nothing, for whoever keeps a store by
 //! the machine.
-ghost use Rattle.std.specs.Prelude.{◌≡◌, ℕ, List, Some, None};
+ghost use Rattle.std.specs.Prelude.{◌≡◌, ℕ, false, List, Some, None};
 ghost use Rattle.std.specs.List.Sorted.{IsStrictlySortedBy};
 ghost use Rattle.std.specs.Ordering.{nat_cmp};
 ghost use Rattle.reg_tree.specs.Maps.{TreeMap};
-ghost use Rattle.reg_tree.specs.Sequences.{AreTrees};
+ghost use Rattle.reg_tree.specs.Judgement.{any_outweighs};
+ghost use Rattle.reg_tree.specs.Sequences.{AreTrees, AreLegal};
 ghost use Rattle.machine.specs.Transactions.{Transaction, own};
-ghost use Rattle.machine.specs.Machine.{Machine, opened_machine, found_in};
+ghost use Rattle.machine.specs.Machine.{Machine, opened_machine, trees_now, found_in};
 ghost use Rattle.machine.specs.Steps.{Step, Run};
-ghost use Rattle.machine.specs.Kept.{IsKept, IsCounted, IsGone, handle_in, numbers_given};
+ghost use Rattle.machine.specs.Kept.{IsKept, IsActiveAt, AreLegalButForWeight, AreLegalChanges, IsCounted, IsGone, handle_in, numbers_given};
 ghost use Rattle.machine.specs.declared.handle.Tx.{Tx};
 ghost use Rattle.machine.specs.declared.event.Event.{Event};
 ghost use Rattle.machine.specs.declared.event.Event.TheVariants as event;
@@ -32,6 +33,25 @@ pub fn states_are_kept()
     conflicts::laws::stay_legal();
     conflicts::laws::one_more();
     conflicts::laws::holders_are_exact();
+}
+
+/// At a commit no operation is illegal but for weight: others may have changed the trees since it was written, but
+/// nothing that its claim guards.
+///
+/// - `but_for_weight`: each operation of an active transaction, carried out in turn on the trees of now at whatever
+///   moment, is legal or refused for weight alone.
+/// - `within`, `in_order`: where none takes a tree over the limit of weight, each is legal, and so is the change that a
+///   commit makes of them.
+pub fn commits_stay_legal()
+    ensures but_for_weight { (machine : Machine) (place : ℕ) (one : Transaction) → IsKept machine → IsActiveAt machine.places place one →
+        (moment : ℕ) → AreLegalButForWeight (trees_now machine) one.ops moment }
+    ensures within { (machine : Machine) (place : ℕ) (one : Transaction) (moment : ℕ) → IsKept machine → IsActiveAt machine.places place one →
+        any_outweighs (trees_now machine) one.ops moment ≡ false → AreLegalChanges (trees_now machine) one.ops moment }
+    ensures in_order { (machine : Machine) (place : ℕ) (one : Transaction) (moment : ℕ) → IsKept machine → IsActiveAt machine.places place one →
+        any_outweighs (trees_now machine) one.ops moment ≡ false → AreLegal (trees_now machine) one.ops moment }
+{
+    conflicts::laws::but_for_weight();
+    reg_tree::laws::weight_alone_refuses();
 }
 
 /// No handle is given twice, and one that was closed answers nothing for good.
