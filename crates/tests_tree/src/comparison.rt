@@ -50,23 +50,40 @@ struct Plan {
     wanted: Vec<ValueName>,
 }
 
-fn new_plan(alloc: Global) -> Result<Plan, Fail> {
+fn element(alloc: Global, step: &Step) -> Result<Element, Refusal> {
+    let op = step.op(alloc)?;
+    Ok(fixtures::element(alloc, 0, op)?)
+}
+
+fn elements(alloc: Global, steps: &[Step]) -> Result<Vec<Element>, Refusal> {
     let mut elements = Vec::new(alloc);
-    for step in &ALPHABET {
-        elements.push(fixtures::element(alloc, 0, step.op(alloc)?)?)?;
+    for step in steps {
+        elements.push(element(alloc, step)?)?;
     }
+    Ok(elements)
+}
+
+fn places(alloc: Global) -> Result<Vec<Path>, Refusal> {
     let mut places = Vec::new(alloc);
     for text in READ_PATHS {
         places.push(fixtures::path(alloc, text)?)?;
     }
+    Ok(places)
+}
+
+fn wanted(alloc: Global) -> Result<Vec<ValueName>, Refusal> {
     let mut wanted = Vec::new(alloc);
     for text in READ_NAMES {
         wanted.push(fixtures::value_name(alloc, text)?)?;
     }
+    Ok(wanted)
+}
+
+fn new_plan(alloc: Global) -> Result<Plan, Refusal> {
     Ok(Plan {
-        elements,
-        places,
-        wanted,
+        elements: elements(alloc, &ALPHABET)?,
+        places: places(alloc)?,
+        wanted: wanted(alloc)?,
     })
 }
 
@@ -90,8 +107,10 @@ impl Pair {
     //
     // An operation that is refused is applied too: it changes nothing, unless it was refused for the weight
     // alone.
-    fn step(&mut self, alloc: Global, element: &Element) -> Result<bool, Fail> {
-        let op = element.ops.list().first().ok_or("no operation")?;
+    fn step(&mut self, alloc: Global, element: &Element) -> Result<bool, Refusal> {
+        let Some(op) = element.ops.list().first() else {
+            return Ok(false);
+        };
         let judged = self.trees.legal(alloc, op);
         self.trees = self.trees.apply(alloc, element)?;
         let Some(tree) = self.slow.get_mut(usize::from(op.hive())) else {
@@ -100,6 +119,51 @@ impl Pair {
         let wanted = tree.legal(alloc, op);
         tree.apply(alloc, op, element.moment)?;
         Ok(judged == wanted)
+    }
+
+    // takes the step of a number at a moment in both; whether both judge it alike
+    fn take(
+        &mut self,
+        alloc: Global,
+        plan: &mut Plan,
+        place: usize,
+        moment: u64,
+    ) -> Result<bool, Refusal> {
+        let Some(element) = plan.elements.get_mut(place) else {
+            return Ok(false);
+        };
+        element.moment = moment;
+        self.step(alloc, element)
+    }
+
+    // takes a step in the trees alone; whether it is legal
+    fn step_trees(&mut self, alloc: Global, element: &Element) -> Result<bool, Refusal> {
+        let Some(op) = element.ops.list().first() else {
+            return Ok(false);
+        };
+        let judged = self.trees.legal(alloc, op);
+        self.trees = self.trees.apply(alloc, element)?;
+        Ok(judged == Ok(Legality::Legal))
+    }
+
+    // takes the step of a number at a moment in the trees alone; whether it is legal
+    fn take_in_trees(
+        &mut self,
+        alloc: Global,
+        plan: &mut Plan,
+        place: usize,
+        moment: u64,
+    ) -> Result<bool, Refusal> {
+        let Some(element) = plan.elements.get_mut(place) else {
+            return Ok(false);
+        };
+        element.moment = moment;
+        self.step_trees(alloc, element)
+    }
+
+    // whether a tree has five keys
+    fn is_large(&self) -> bool {
+        self.slow.iter().any(|tree| tree.rows().len() > 4)
     }
 
     // whether both are alike in all that is read
@@ -129,12 +193,27 @@ impl Pair {
         place: &Path,
         wanted: &[ValueName],
     ) -> bool {
-        let Some(tree) = tree else {
-            return self.is_missing(hive, place, wanted);
-        };
-        let Some(key) = tree.key(place.names()) else {
-            return self.is_missing(hive, place, wanted);
-        };
+        match tree {
+            Some(tree) => self.reads_alike(hive, tree, place, wanted),
+            None => self.is_missing(hive, place, wanted),
+        }
+    }
+
+    fn reads_alike(&self, hive: u8, tree: &SlowTree, place: &Path, wanted: &[ValueName]) -> bool {
+        match tree.key(place.names()) {
+            Some(key) => self.reads_key_alike(hive, tree, key, place, wanted),
+            None => self.is_missing(hive, place, wanted),
+        }
+    }
+
+    fn reads_key_alike(
+        &self,
+        hive: u8,
+        tree: &SlowTree,
+        key: &SlowKey,
+        place: &Path,
+        wanted: &[ValueName],
+    ) -> bool {
         self.lists_subkeys(hive, tree, place)
             && self.lists_values(hive, key, place)
             && self.gets(hive, key, place, wanted)
@@ -200,17 +279,20 @@ impl Pair {
     // whether each value that is there is found by its name, and no other
     fn gets(&self, hive: u8, key: &SlowKey, place: &Path, wanted: &[ValueName]) -> bool {
         for each in wanted {
-            let answer = self.trees.get_value(hive, place, each.name());
-            let is_right = match (answer, key.value(each.name())) {
-                (Ok(found), Some(value)) => is_same(found, value),
-                (Err(Refusal::NotFound), None) => true,
-                _ => false,
-            };
-            if !is_right {
+            if !self.gets_one(hive, key, place, each) {
                 return false;
             }
         }
         true
+    }
+
+    fn gets_one(&self, hive: u8, key: &SlowKey, place: &Path, wanted: &ValueName) -> bool {
+        let answer = self.trees.get_value(hive, place, wanted.name());
+        match (answer, key.value(wanted.name())) {
+            (Ok(found), Some(value)) => is_same(found, value),
+            (Err(Refusal::NotFound), None) => true,
+            _ => false,
+        }
     }
 }
 
@@ -220,74 +302,100 @@ fn is_same(found: &Value, value: &Value) -> bool {
         && found.data.bytes() == value.data.bytes()
 }
 
+// takes the three steps of a run; whether a tree has five keys then, and nothing where both aren't alike
+fn run_of_three(alloc: Global, plan: &mut Plan, run: usize) -> Result<Option<bool>, Refusal> {
+    let mut pair = Pair::new(alloc)?;
+    let agrees = pair.take(alloc, plan, run / STEPS / STEPS, 0)?
+        && pair.take(alloc, plan, run / STEPS % STEPS, 1)?
+        && pair.take(alloc, plan, run % STEPS, 2)?
+        && pair.is_alike(plan);
+    if agrees {
+        Ok(Some(pair.is_large()))
+    } else {
+        Ok(None)
+    }
+}
+
+// takes all runs of three steps: how many make a tree of five keys, and the first after which both aren't alike
+fn large_runs(alloc: Global, plan: &mut Plan) -> Result<(u32, Option<usize>), Refusal> {
+    let mut large = 0u32;
+    for run in 0..STEPS * STEPS * STEPS {
+        match run_of_three(alloc, plan, run)? {
+            Some(true) => large = large.wrapping_add(1),
+            Some(false) => {}
+            None => return Ok((large, Some(run))),
+        }
+    }
+    Ok((large, None))
+}
+
 // The first step changes nothing, so runs of one and two steps are among these too.
 #[test]
 fn all_runs_of_three_steps_agree(rt: HostRuntime) -> Result<(), Fail> {
-    let alloc = rt.alloc();
-    let mut plan = new_plan(alloc)?;
-    let mut large = 0u32;
-    for run in 0..STEPS * STEPS * STEPS {
-        let mut pair = Pair::new(alloc)?;
-        for (moment, place) in [run / STEPS / STEPS, run / STEPS % STEPS, run % STEPS]
-            .iter()
-            .enumerate()
-        {
-            let element = plan.elements.get_mut(*place).ok_or("no step")?;
-            element.moment = moment as u64;
-            assert!(rt; pair.step(alloc, element)?, "run {run} at {moment}");
-        }
-        assert!(rt; pair.is_alike(&plan), "run {run}");
-        if pair.slow.iter().any(|tree| tree.rows().len() > 4) {
-            large = large.wrapping_add(1);
-        }
-    }
+    let mut plan = new_plan(rt.alloc())?;
+    let (large, apart) = large_runs(rt.alloc(), &mut plan)?;
+    assert_eq!(rt; apart, None);
     // some runs made a tree of five keys
     assert!(rt; large > 0);
     Ok(())
 }
 
+// a number by which the next step is chosen
+fn next_state(state: u64) -> u64 {
+    state
+        .wrapping_mul(6_364_136_223_846_793_005)
+        .wrapping_add(1_442_695_040_888_963_407)
+}
+
+// takes 199 steps, each chosen by the state; the state then, and nothing where both aren't alike after each
+fn long_run(alloc: Global, plan: &mut Plan, state: u64) -> Result<Option<u64>, Refusal> {
+    let mut pair = Pair::new(alloc)?;
+    let mut state = state;
+    for moment in 1..200u64 {
+        state = next_state(state);
+        let place = (state >> 33) as usize % STEPS;
+        if !(pair.take(alloc, plan, place, moment)? && pair.is_alike(plan)) {
+            return Ok(None);
+        }
+    }
+    Ok(Some(state))
+}
+
 #[test]
 fn long_runs_agree(rt: HostRuntime) -> Result<(), Fail> {
-    let alloc = rt.alloc();
-    let mut plan = new_plan(alloc)?;
+    let mut plan = new_plan(rt.alloc())?;
     let mut state = 1u64;
     for run in 0..40 {
-        let mut pair = Pair::new(alloc)?;
-        for moment in 1..200u64 {
-            state = state
-                .wrapping_mul(6_364_136_223_846_793_005)
-                .wrapping_add(1_442_695_040_888_963_407);
-            let place = (state >> 33) as usize % STEPS;
-            let element = plan.elements.get_mut(place).ok_or("no step")?;
-            element.moment = moment;
-            assert!(rt; pair.step(alloc, element)?, "run {run} at {moment}");
-            assert!(rt; pair.is_alike(&plan), "run {run} at {moment}");
-        }
+        let ended = long_run(rt.alloc(), &mut plan, state)?;
+        assert!(rt; ended.is_some(), "run {run}");
+        state = ended.unwrap_or(0);
     }
     Ok(())
 }
 
+// `A\B\c` is created and a value of `A` written in both, and then one step is taken in the trees alone: whether it
+// changes them, and nothing where the comparison doesn't tell so
+fn seen_after(alloc: Global, plan: &mut Plan, place: usize) -> Result<Option<bool>, Refusal> {
+    let mut pair = Pair::new(alloc)?;
+    if !(pair.take(alloc, plan, 3, 1)? && pair.take(alloc, plan, 15, 1)?) {
+        return Ok(None);
+    }
+    let is_changed = pair.take_in_trees(alloc, plan, place, 2)?;
+    if pair.is_alike(plan) != is_changed {
+        Ok(Some(is_changed))
+    } else {
+        Ok(None)
+    }
+}
+
 #[test]
 fn the_comparison_sees_each_change(rt: HostRuntime) -> Result<(), Fail> {
-    let alloc = rt.alloc();
-    let mut plan = new_plan(alloc)?;
+    let mut plan = new_plan(rt.alloc())?;
     let mut seen = 0u32;
     for place in 0..STEPS {
-        let mut pair = Pair::new(alloc)?;
-        // both create `A\B\c` and write a value of `A`
-        for before in [3, 15] {
-            let element = plan.elements.get_mut(before).ok_or("no step")?;
-            element.moment = 1;
-            assert!(rt; pair.step(alloc, element)?);
-        }
-        let element = plan.elements.get_mut(place).ok_or("no step")?;
-        element.moment = 2;
-        let op = element.ops.list().first().ok_or("no operation")?;
-        let judged = pair.trees.legal(alloc, op);
-        pair.trees = pair.trees.apply(alloc, element)?;
-        let is_changed = judged == Ok(Legality::Legal);
-        assert!(rt; pair.is_alike(&plan) != is_changed, "at {place}");
-        if is_changed {
+        let ended = seen_after(rt.alloc(), &mut plan, place);
+        assert!(rt; matches!(ended, Ok(Some(_))), "at {place}");
+        if ended == Ok(Some(true)) {
             seen = seen.wrapping_add(1);
         }
     }
@@ -307,16 +415,20 @@ const WEIGHTS: [(&str, usize, u64); 6] = [
     ("k", 0, 16_777_216),
 ];
 
-// registries with those 15 values in the first root
-fn heavy_pair(alloc: Global) -> Result<Pair, Fail> {
-    let mut pair = Pair::new(alloc)?;
-    let bytes = vec![in alloc; 0; 1_048_576]?;
-    let most = Data::from_vec(bytes)?;
-    for name in HEAVY {
-        let op = fixtures::set_data(alloc, 0, "", name, 3, most.clone()?)?;
-        let _ = pair.step(alloc, &fixtures::element(alloc, 1, op)?)?;
+// writes those 15 values into the first root of both; whether both judge each alike
+fn make_heavy(alloc: Global, pair: &mut Pair) -> Result<bool, Refusal> {
+    let most = fixtures::most_data(alloc)?;
+    for name in &HEAVY {
+        if !write_most(alloc, pair, name, &most)? {
+            return Ok(false);
+        }
     }
-    Ok(pair)
+    Ok(true)
+}
+
+fn write_most(alloc: Global, pair: &mut Pair, name: &str, most: &Data) -> Result<bool, Refusal> {
+    let op = fixtures::set_data(alloc, 0, "", name, 3, most.clone()?)?;
+    pair.step(alloc, &fixtures::element(alloc, 1, op)?)
 }
 
 // one of those that are written in turn
@@ -324,22 +436,47 @@ fn heavier(alloc: Global, name: &str, count: usize) -> Result<Element, Refusal> 
     let op = if count == 0 {
         fixtures::create(alloc, 0, name)?
     } else {
-        let bytes = vec![in alloc; 0; count]?;
+        let bytes = fixtures::zeros(alloc, count)?;
         fixtures::set(alloc, 0, "", name, 3, &bytes)?
     };
     Ok(fixtures::element(alloc, 2, op)?)
+}
+
+// writes one of them in both; whether both are alike, and have this weight
+fn goes(
+    alloc: Global,
+    plan: &Plan,
+    pair: &mut Pair,
+    written: (&str, usize, u64),
+) -> Result<bool, Refusal> {
+    let (name, count, weight) = written;
+    let element = heavier(alloc, name, count)?;
+    let agrees = pair.step(alloc, &element)? && pair.is_alike(plan);
+    Ok(agrees && pair.trees.weight(0) == Some(weight))
+}
+
+// writes each of them in turn; the name of the first after which both aren't alike
+fn first_apart(
+    alloc: Global,
+    plan: &Plan,
+    pair: &mut Pair,
+    written: &[(&'static str, usize, u64)],
+) -> Result<Option<&'static str>, Refusal> {
+    for each in written {
+        if !goes(alloc, plan, pair, *each)? {
+            return Ok(Some(each.0));
+        }
+    }
+    Ok(None)
 }
 
 #[test]
 fn trees_agree_at_their_limit_of_weight(rt: HostRuntime) -> Result<(), Fail> {
     let alloc = rt.alloc();
     let plan = new_plan(alloc)?;
-    let mut pair = heavy_pair(alloc)?;
-    for (name, count, weight) in WEIGHTS {
-        let element = heavier(alloc, name, count)?;
-        assert!(rt; pair.step(alloc, &element)?, "{name} of {count}");
-        assert!(rt; pair.is_alike(&plan), "{name} of {count}");
-        assert_eq!(rt; pair.trees.weight(0), Some(weight), "{name} of {count}");
-    }
+    let mut pair = Pair::new(alloc)?;
+    fixtures::says(&rt, make_heavy(alloc, &mut pair), true, "15 values");
+    let apart = first_apart(alloc, &plan, &mut pair, &WEIGHTS);
+    assert!(rt; apart == Ok(None));
     Ok(())
 }

@@ -3,10 +3,9 @@ use reg_names::{Name, Path, Refusal, ValueName};
 use reg_tree::{Data, Element, Legality, Op, Ops, Trees};
 use std::alloc::{AllocError, Global};
 use std::process::Abort;
-use std::test::Fail;
 
 /// An operation, said by texts: its hive and path, and of a value its name, type and data.
-#[derive(Drop)]
+#[derive(Clone, Copy)]
 pub enum Step {
     Create(u8, &'static str),
     Delete(u8, &'static str),
@@ -105,28 +104,79 @@ pub fn unset(alloc: Global, hive: u8, at: &str, name: &str) -> Result<Op, Refusa
     Ok(Op::DeleteValue { hive, path, name })
 }
 
+/// So many zeros.
+pub fn zeros(alloc: Global, count: usize) -> Result<Vec<u8>, AllocError> {
+    vec![in alloc; 0; count]
+}
+
+/// Data of the greatest length.
+pub fn most_data(alloc: Global) -> Result<Data, AllocError> {
+    Data::from_vec(zeros(alloc, 1_048_576)?)
+}
+
 pub fn element(alloc: Global, moment: u64, op: Op) -> Result<Element, AllocError> {
     let ops = Ops::one(alloc, op)?;
     Ok(Element { moment, ops })
 }
 
+fn judged(alloc: Global, trees: &Trees, op: &Op) -> Answer {
+    trees.legal(alloc, op)
+}
+
+fn apply(alloc: Global, trees: &mut Trees, element: &Element) -> Result<(), AllocError> {
+    *trees = trees.apply(alloc, element)?;
+    Ok(())
+}
+
 /// Judges the operation and, where it is legal, applies it at the moment.
 pub fn act(alloc: Global, trees: &mut Trees, moment: u64, op: Op) -> Answer {
-    let legality = trees.legal(alloc, &op)?;
+    let legality = judged(alloc, trees, &op)?;
     if legality == Legality::Legal {
-        *trees = trees.apply(alloc, &element(alloc, moment, op)?)?;
+        apply(alloc, trees, &element(alloc, moment, op)?)?;
     }
     Ok(legality)
 }
 
+fn take_one(alloc: Global, trees: &mut Trees, moment: u64, step: &Step) -> Answer {
+    let op = step.op(alloc)?;
+    act(alloc, trees, moment, op)
+}
+
+/// Compares what a question of yes or no is answered at a place.
+pub fn says(rt: &impl Abort, answer: Result<bool, Refusal>, wanted: bool, place: &str) {
+    assert_eq!(rt; answer, Ok(wanted), "at {place}");
+}
+
+/// Compares a number that is told at a place.
+pub fn counts(
+    rt: &impl Abort,
+    answer: Result<usize, Refusal>,
+    wanted: Result<usize, Refusal>,
+    place: &str,
+) {
+    assert_eq!(rt; answer, wanted, "at {place}");
+}
+
+/// Compares what an operation at a moment is answered.
+pub fn answers(rt: &impl Abort, answer: Answer, wanted: Answer, moment: u64) {
+    assert_eq!(rt; answer, wanted, "at {moment}");
+}
+
+/// Compares what is told of a key at a place.
+pub fn tells(
+    rt: &impl Abort,
+    answer: Result<Counts, Refusal>,
+    wanted: Result<Counts, Refusal>,
+    place: &str,
+) {
+    assert_eq!(rt; answer, wanted, "at {place}");
+}
+
 /// Takes the steps in turn, each at its moment, and compares what each is answered.
 pub fn take(rt: &impl Abort, alloc: Global, trees: &mut Trees, steps: &[(u64, Step, Answer)]) {
-    for (moment, step, wanted) in steps {
-        let answer = match step.op(alloc) {
-            Ok(op) => act(alloc, trees, *moment, op),
-            Err(refusal) => Err(refusal),
-        };
-        assert_eq!(rt; answer, *wanted, "at {moment}");
+    for (moment, each, wanted) in steps {
+        let answer = take_one(alloc, trees, *moment, each);
+        answers(rt, answer, *wanted, *moment);
     }
 }
 
@@ -138,55 +188,60 @@ pub fn infos_are(
     wanted: &[(u8, &str, Result<Counts, Refusal>)],
 ) {
     for (hive, at, told) in wanted {
-        assert_eq!(rt; info(alloc, trees, *hive, at), *told, "at {at}");
+        tells(rt, info(alloc, trees, *hive, at), *told, at);
     }
 }
 
 /// Compares the names of keys' subkeys in their order, each with a blank behind it.
-pub fn keys_are(
-    rt: &impl Abort,
+pub fn keys_are(rt: &impl Abort, alloc: Global, trees: &Trees, wanted: &[(u8, &str, &str)]) {
+    for (hive, at, names) in wanted {
+        says(rt, has_keys(alloc, trees, *hive, at, names), true, at);
+    }
+}
+
+fn has_keys(
     alloc: Global,
     trees: &Trees,
-    wanted: &[(u8, &str, &str)],
-) -> Result<(), Fail> {
-    for (hive, at, names) in wanted {
-        assert_eq!(rt; keys(alloc, trees, *hive, at)?.as_str(), *names, "at {at}");
-    }
-    Ok(())
+    hive: u8,
+    at: &str,
+    names: &str,
+) -> Result<bool, Refusal> {
+    Ok(keys(alloc, trees, hive, at)?.as_str() == names)
 }
 
 /// Compares the names of keys' values in their order, each with a blank behind it.
-pub fn values_are(
-    rt: &impl Abort,
-    alloc: Global,
-    trees: &Trees,
-    wanted: &[(u8, &str, &str)],
-) -> Result<(), Fail> {
+pub fn values_are(rt: &impl Abort, alloc: Global, trees: &Trees, wanted: &[(u8, &str, &str)]) {
     for (hive, at, names) in wanted {
-        assert_eq!(rt;
-            values(alloc, trees, *hive, at)?.as_str(),
-            *names,
-            "at {at}"
-        );
+        says(rt, has_values(alloc, trees, *hive, at, names), true, at);
     }
-    Ok(())
 }
 
-/// Compares the type and data of values, each by its key's path and its name.
-pub fn data_are(
-    rt: &impl Abort,
+fn has_values(
     alloc: Global,
     trees: &Trees,
-    wanted: &[(u8, &str, &str, u32, &[u8])],
-) -> Result<(), Fail> {
-    for (hive, at, name, kind, bytes) in wanted {
-        let path = path(alloc, at)?;
-        let name = value_name(alloc, name)?;
-        let value = trees.get_value(*hive, &path, name.name())?;
-        assert_eq!(rt; value.kind, *kind, "at {at}");
-        assert_eq!(rt; value.data.bytes(), *bytes, "at {at}");
+    hive: u8,
+    at: &str,
+    names: &str,
+) -> Result<bool, Refusal> {
+    Ok(values(alloc, trees, hive, at)?.as_str() == names)
+}
+
+/// A value: its hive, its key's path, its name, type and data.
+pub type Datum<'a> = (u8, &'a str, &'a str, u32, &'a [u8]);
+
+/// Compares the type and data of values.
+pub fn data_are(rt: &impl Abort, alloc: Global, trees: &Trees, wanted: &[Datum<'_>]) {
+    for datum in wanted {
+        says(rt, has_datum(alloc, trees, datum), true, datum.1);
     }
-    Ok(())
+}
+
+fn has_datum(alloc: Global, trees: &Trees, datum: &Datum<'_>) -> Result<bool, Refusal> {
+    let (hive, at, name, kind, bytes) = datum;
+    let path = path(alloc, at)?;
+    let name = value_name(alloc, name)?;
+    let value = trees.get_value(*hive, &path, name.name())?;
+    Ok(value.kind == *kind && value.data.bytes() == *bytes)
 }
 
 /// How many subkeys and values a key has, and when it was last written.
@@ -196,7 +251,7 @@ pub fn info(alloc: Global, trees: &Trees, hive: u8, at: &str) -> Result<Counts, 
     Ok((info.subkeys, info.values, info.time))
 }
 
-fn keys(alloc: Global, trees: &Trees, hive: u8, at: &str) -> Result<String, Fail> {
+fn keys(alloc: Global, trees: &Trees, hive: u8, at: &str) -> Result<String, Refusal> {
     let path = path(alloc, at)?;
     let mut text = String::new(alloc);
     for index in 0..1000 {
@@ -208,7 +263,7 @@ fn keys(alloc: Global, trees: &Trees, hive: u8, at: &str) -> Result<String, Fail
     Ok(text)
 }
 
-fn values(alloc: Global, trees: &Trees, hive: u8, at: &str) -> Result<String, Fail> {
+fn values(alloc: Global, trees: &Trees, hive: u8, at: &str) -> Result<String, Refusal> {
     let path = path(alloc, at)?;
     let mut text = String::new(alloc);
     for index in 0..1000 {
