@@ -1,0 +1,142 @@
+-- Which transactions hold a claim that conflicts with one more: the table of claims and the transactions say the same.
+use Rattle.std.proofs.Common.{◌≡◌, ◌⊎◌, inl, inr, ◌↔◌, ℕ, suc, arith, ◌+◌, ◌==◌, Bool, true, false, not, ◌||◌, ◌&&◌, List, [], ◌∷◌, length, Option, Some, None, refl, sym, ◌∙◌, ap, subst}
+use Rattle.std.specs.Prelude.{◌≢◌, Contains, map}
+use Rattle.std.specs.List.{list_any}
+use Rattle.std.proofs.lemmas.Option.{none-some}
+use Rattle.std.proofs.lemmas.Bool.{true≢false, eqb-true, eqb-false, eq-eqb, ne_eqb, false_from_ne_true}
+use Rattle.slab.specs.Slab.{Slab, entries}
+use Rattle.slab.proofs.SlabLemmas.{Contains-entries}
+use Rattle.reg_tree.specs.declared.op.Op.{Op}
+use Rattle.claims_law.specs.Skeleton.{Claim, Conflict}
+use Rattle.conflicts.specs.Claims.{claim_of, meets}
+use Rattle.conflicts.specs.Holders.{Held, IsHolder, holders_of}
+use Rattle.conflicts.specs.declared.table.Owner.{Owner}
+use Rattle.conflicts.proofs.Meets.{meets_conflict, conflict_meets}
+use Rattle.conflicts.proofs.Members.{here, later, first_or_later, none_empty, who}
+use Rattle.machine.specs.Transactions.{Transaction, Places, at, held, is_active, holds, is_claimed}
+use Rattle.transactions.specs.Entries.{Claims}
+use Rattle.transactions.specs.Tables.{holds_if, is_listed}
+use Rattle.transactions.proofs.Claimed.{AreClaimed, some_same}
+
+-- tests of lists
+
+pub alike : (b c : Bool) → (b ≡ true → c ≡ true) → (c ≡ true → b ≡ true) → b ≡ c
+alike true c to from = sym (to refl)
+alike false true to from = from refl
+alike false false to from = refl
+
+two : (b c : Bool) → (b && c) ≡ true → (b ≡ true) × (c ≡ true)
+two true c h = (refl, h)
+two false c h = absurd (true≢false (sym h))
+
+both : (b c : Bool) → b ≡ true → c ≡ true → (b && c) ≡ true
+both b c e f = ap (λ x. x && c) e ∙ f
+
+any_here : (b c : Bool) → b ≡ true → (b || c) ≡ true
+any_here b c e = ap (λ x. x || c) e
+
+any_later : (b c : Bool) → c ≡ true → (b || c) ≡ true
+any_later true c e = refl
+any_later false c e = e
+
+either : (b c : Bool) → (b || c) ≡ true → (b ≡ true) ⊎ (c ≡ true)
+either true c h = inl refl
+either false c h = inr h
+
+pub any_of : {X : Type 0} (p : X → Bool) (xs : List X) (x : X) → Contains xs x → p x ≡ true → list_any p xs ≡ true
+any_of p [] x c h = absurd (none_empty x c)
+any_of p (y ∷ xs) x c h = elim (first_or_later y xs x c) [
+  | inl e ↦ any_here (p y) (list_any p xs) (ap p e ∙ h)
+  | inr d ↦ any_later (p y) (list_any p xs) (any_of p xs x d h)
+]
+
+pub of_any : {X : Type 0} (p : X → Bool) (xs : List X) → list_any p xs ≡ true → (x : X) × Contains xs x × (p x ≡ true)
+of_any p [] h = absurd (true≢false (sym h))
+of_any p (y ∷ xs) h = elim (either (p y) (list_any p xs) h) [
+  | inl e ↦ (y, here y xs, e)
+  | inr d ↦ let t = of_any p xs d in (t.0, later y xs t.0 t.1, t.2)
+]
+
+mapped : {X Y : Type 0} (f : X → Y) (xs : List X) (x : X) → Contains xs x → Contains (map f xs) (f x)
+mapped f [] x c = absurd (none_empty x c)
+mapped f (z ∷ xs) x c = elim (first_or_later z xs x c) [
+  | inl e ↦ subst (λ w. Contains (f w ∷ map f xs) (f x)) (sym e) (here (f x) (map f xs))
+  | inr d ↦ later (f z) (map f xs) (f x) (mapped f xs x d)
+]
+
+of_mapped : {X Y : Type 0} (f : X → Y) (xs : List X) (y : Y) → Contains (map f xs) y → (x : X) × Contains xs x × (f x ≡ y)
+of_mapped f [] y c = absurd (none_empty y c)
+of_mapped f (z ∷ xs) y c = elim (first_or_later (f z) (map f xs) y c) [
+  | inl e ↦ (z, here z xs, e)
+  | inr d ↦ let t = of_mapped f xs y d in (t.0, later z xs t.0 t.1, t.2)
+]
+
+listed : (places : List ℕ) (place : ℕ) → Contains places place → is_listed places place ≡ true
+listed places place c = any_of (λ p. p == place) places place c (eq-eqb place place refl)
+
+of_listed : (places : List ℕ) (place : ℕ) → is_listed places place ≡ true → Contains places place
+of_listed places place h = let t = of_any (λ p. p == place) places h in subst (Contains places) (eqb-true t.0 place t.2) t.1
+
+-- a transaction holds a claim which conflicts, exactly where one of its claims does
+
+holding : (claim : Claim) (one : Transaction) (c : Claim) → is_active one ≡ true → Contains (map claim_of one.ops) c → Conflict claim c → holds claim one ≡ true
+holding claim one c active made conflict =
+    let t = of_mapped claim_of one.ops c made in
+    both (is_active one) (list_any (λ op. meets claim (claim_of op)) one.ops) active
+    (any_of (λ op. meets claim (claim_of op)) one.ops t.0 t.1 (ap (meets claim) t.2 ∙ conflict_meets claim c conflict))
+
+of_holding : (claim : Claim) (one : Transaction) → holds claim one ≡ true → (is_active one ≡ true) × ((c : Claim) × Contains (map claim_of one.ops) c × Conflict claim c)
+of_holding claim one h =
+    let p = two (is_active one) (list_any (λ op. meets claim (claim_of op)) one.ops) h in
+    let t = of_any (λ op. meets claim (claim_of op)) one.ops p.1 in
+    (p.0, (claim_of t.0, mapped claim_of one.ops t.0 t.1, meets_conflict claim (claim_of t.0) t.2))
+
+abbrev slab_of : Places → Slab Transaction
+slab_of places = record { slots = places; vacant_key = 0; capacity = 0 }
+
+suc_is_not : (n : ℕ) → (suc n == 0) ≡ false
+suc_is_not n = ne_eqb (suc n) 0 (λ e. omega (arith, e))
+
+module _ (places : Places) (claims : List Held) (all : AreClaimed places claims) (claim : Claim) where
+  -- who holds one is at its place
+  pub holder : (asker : Option ℕ) (owner : ℕ) → Contains (holders_of claims asker claim) owner → (one : Transaction) × (at places owner ≡ Some one) × (holds claim one ≡ true) × (asker ≢ Some owner)
+  holder asker owner c =
+      let i : IsHolder claims asker claim owner = (who claims asker claim owner).0 c in
+      let k : Claims places owner i.0 = (all owner i.0).0 i.1 in
+      (k.one, k.there, holding claim k.one i.0 k.active k.made i.2, i.3)
+
+  pub is_holder : (asker : Option ℕ) (owner : ℕ) (one : Transaction) → at places owner ≡ Some one → holds claim one ≡ true → asker ≢ Some owner → Contains (holders_of claims asker claim) owner
+  is_holder asker owner one there h ne =
+      let t = of_holding claim one h in
+      (who claims asker claim owner).1 (t.1.0, (all owner t.1.0).1 (record { one = one; there = there; active = t.0; made = t.1.1 }), t.1.2, ne)
+
+  -- without an asker they are all that hold one
+  pub all_holders : (list : List ℕ) → list ≡ holders_of claims None claim → (place : ℕ) → is_listed list place ≡ holds_if claim (at places place)
+  all_holders list e place = alike (is_listed list place) (holds_if claim (at places place)) to (from (at places place) refl)
+    where
+      to : is_listed list place ≡ true → holds_if claim (at places place) ≡ true
+      to h = let t = holder None place (subst (λ l. Contains l place) e (of_listed list place h)) in ap (holds_if claim) t.1 ∙ t.2
+
+      from : (there : Option Transaction) → at places place ≡ there → holds_if claim there ≡ true → is_listed list place ≡ true
+      from None there h = absurd (true≢false (sym h))
+      from (Some one) there h = listed list place (subst (λ l. Contains l place) (sym e) (is_holder None place one there h (λ n. none-some place n)))
+
+  -- some other place's transaction holds one, exactly where there is a holder
+  pub claimed_by : (place owner : ℕ) → Contains (holders_of claims (Some place) claim) owner → is_claimed places place claim ≡ true
+  claimed_by place owner c =
+      let t = holder (Some place) owner c in
+      any_of (λ (e : ℕ × Transaction). not (e.0 == place) && holds claim e.1) (held places) (owner, t.0) ((Contains-entries (slab_of places) owner t.0).1 t.1)
+      (both (not (owner == place)) (holds claim t.0) (ap not (ne_eqb owner place (λ same. t.3 (ap Some (sym same))))) t.2)
+
+  pub claimed_by_none : (place : ℕ) → holders_of claims (Some place) claim ≡ [] → is_claimed places place claim ≡ false
+  claimed_by_none place none = false_from_ne_true (is_claimed places place claim) (λ h.
+      let t : (x : ℕ × Transaction) × Contains (held places) x × ((not (x.0 == place) && holds claim x.1) ≡ true) = of_any (λ (e : ℕ × Transaction). not (e.0 == place) && holds claim e.1) (held places) h in
+      let p = two (not (t.0.0 == place)) (holds claim t.0.1) t.2 in
+      none_empty t.0.0 (subst (λ l. Contains l t.0.0) none (is_holder (Some place) t.0.0 t.0.1 ((Contains-entries (slab_of places) t.0.0 t.0.1).0 t.1) p.1
+      (λ same. true≢false (sym p.0 ∙ ap not (eq-eqb t.0.0 place (sym (some_same place t.0.0 same))))))))
+
+  -- as the list of holders says that is empty, or isn't
+  pub claimed_is : (place : ℕ) (owners : List Owner) (empty : Bool) → map (λ (o : Owner). o.0) owners ≡ holders_of claims (Some place) claim → empty ≡ (length owners == 0) → not empty ≡ is_claimed places place claim
+  claimed_is place [] empty e is = ap not is ∙ sym (claimed_by_none place (sym e))
+  claimed_is place (o ∷ owners) empty e is =
+      ap not (is ∙ suc_is_not (length owners)) ∙ sym (claimed_by place o.0 (subst (λ l. Contains l o.0) e (here o.0 (map (λ (o : Owner). o.0) owners))))

@@ -1,0 +1,6 @@
+mod Slots
+mod Claimed
+mod Kept
+mod Ways
+mod Holding
+mod Loops

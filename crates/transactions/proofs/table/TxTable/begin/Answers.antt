@@ -1,0 +1,58 @@
+use Rattle.std.proofs.Common.{rules, ◌≡◌, ◌⊎◌, ◌+◌, ◌<◌, ◌≤◌, ◌^◌, ◌-◌, ◌||◌, ◌==◌, [], ℕ, nat_le, IfOk, IfErr, OnErr, MatchResult, Some, None, true, false, ◌*◌, length, ◌/◌, ◌%◌, Bool, nat_eq, nat_lt, List, ◌∷◌, ◌++◌, slice_index_or, slice_set, bit_and, bit_or, Fits, w8, w32, w64, Bor, MutBor}
+use Rattle.std.specs.Option.{option_map, option_copied}
+use Rattle.reg_names.specs.declared.limits.TheConstants.{MOST_TRANSACTIONS}
+use Rattle.reg_names.specs.declared.refusal.Refusal.TheVariants.{NoMemory, NoSeat}
+use Rattle.reg_tree.specs.Texts.{element_text_len}
+use Rattle.conflicts.specs.Claims.{claim_of}
+use Rattle.machine.specs.Ends.{refusal_of}
+use Rattle.transactions.specs.Entries.{transaction_of}
+use Rattle.machine.specs.Machine.{refused_if, first_of, read_refusal, seen, added_refusal_if}
+use Rattle.transactions.specs.Tables.{Denies, Starts, Writes, Finishes, EndsWith, IsNotEnded, Closes, IsPending, seat_refusal, is_of, holds_if, is_listed, rolled_back_if}
+use Rattle.machine.specs.Transactions.{fresh_transaction, at, own, is_active_outcome, Becomes, Puts, gone_with, count_held, missing_refusal, inactive_refusal}
+use Rattle.std.proofs.Common.{inl, refl, sym, ◌∙◌, ap, subst, arith}
+use Rattle.slab.specs.Slab.{Slab, Updates}
+use Rattle.machine.specs.Transactions.{Transaction}
+use Rattle.transactions.specs.Entries.{AreKept}
+use Rattle.transactions.specs.Tables.{Table}
+use Rattle.transactions.specs.declared.entry.Entry.{Entry}
+use Rattle.transactions.proofs.Kept.{kept_begun}
+use Rattle.transactions.proofs.Slots.{slot}
+use Rattle.transactions.proofs.Ways.{starts, begun_entry, shown, no_seat, some_seat, updates_of, slot_of}
+use Rattle.transactions.proofs.table.TxTable.begin.Goals as goal
+
+next : (c : goal.After-insert_reserved-place) → c.in-Some.generation ≡ c.self.inside.begun + 1
+next c = c.in-Some.ensures.1
+
+below : (c : goal.After-insert_reserved-place) → c.self.inside.begun + 1 < 2 ^ 64
+below c = c.in-Some.ensures.0
+
+changed : (c : goal.After-insert_reserved-place) → Updates c.self.inside.places c.insert_reserved-place.new.self c.insert_reserved-place.result (Some c.begun-entry.result)
+changed c = updates_of c.self.inside.places c.reserve.new.self c.insert_reserved-place.new.self c.insert_reserved-place.result (Some c.begun-entry.result) c.reserve.ensures.rest_kept c.insert_reserved-place.ensures.updates
+
+vacant : (c : goal.After-insert_reserved-place) → slot c.self.inside.places.slots c.insert_reserved-place.result ≡ None
+vacant c = slot_of c.self.inside.places c.reserve.new.self c.insert_reserved-place.result None c.reserve.ensures.rest_kept c.insert_reserved-place.ensures.was_vacant
+
+kept : (c : goal.After-insert_reserved-place) → transaction_of c.begun-entry.result ≡ fresh_transaction c.args.session c.args.id (c.self.inside.begun + 1)
+kept c = c.begun-entry.ensures.kept ∙ ap (fresh_transaction c.args.session c.args.id) (next c)
+
+-- src/table.rt:124:13
+pub returns-then-len-ge-MOST_TRANSACTIONS : goal.returns-then-len-ge-MOST_TRANSACTIONS
+returns-then-len-ge-MOST_TRANSACTIONS c =
+    (inl (subst (λ (t : Table). seat_refusal t ≡ Some NoSeat) c.self.view_is (no_seat c.self.inside.trees c.self.inside.number c.self.inside.begun c.self.inside.places.slots c.len.result c.len.ensures c.if-len-ge-MOST_TRANSACTIONS.true)), refl)
+
+-- src/table.rt:120:5
+pub invariant_of-self-2 : goal.invariant_of-self-2
+invariant_of-self-2 c =
+    subst (λ generation. AreKept c.self.inside.trees c.self.inside.number generation c.insert_reserved-place.new.self.slots c.self.inside.claims) (sym (next c))
+    (kept_begun c.self.inside.trees c.self.inside.number c.self.inside.begun c.self.inside.claims c.self.inside.places c.insert_reserved-place.new.self c.insert_reserved-place.result c.begun-entry.result c.self.invariant
+    (changed c) (vacant c) (begun_entry c.self.inside.trees c.self.inside.number (c.self.inside.begun + 1) c.args.session c.args.id c.begun-entry.result (kept c) c.begun-entry.ensures.counted c.begun-entry.ensures.unseen)
+    (ap (λ (t : Transaction). t.ops) c.begun-entry.ensures.kept))
+
+-- src/table.rt:120:5
+pub returns : goal.returns
+returns c =
+    subst (λ (t : Table). Starts t c.args.session c.args.id (record { place = c.insert_reserved-place.result; generation = c.in-Some.generation }) (shown c.self.inside.trees c.self.inside.number c.in-Some.generation c.insert_reserved-place.new.self.slots)) c.self.view_is
+    (subst (λ generation. Starts (shown c.self.inside.trees c.self.inside.number c.self.inside.begun c.self.inside.places.slots) c.args.session c.args.id (record { place = c.insert_reserved-place.result; generation = generation })
+    (shown c.self.inside.trees c.self.inside.number generation c.insert_reserved-place.new.self.slots)) (sym (next c))
+    (starts c.self.inside.trees c.self.inside.number c.self.inside.begun c.self.inside.places c.insert_reserved-place.new.self c.args.session c.args.id c.insert_reserved-place.result c.begun-entry.result
+    (some_seat c.self.inside.trees c.self.inside.number c.self.inside.begun c.self.inside.places.slots c.len.result c.len.ensures c.if-len-ge-MOST_TRANSACTIONS.false (below c)) (vacant c) (changed c) (kept c)))

@@ -1,0 +1,27 @@
+use Rattle.machine.specs.Transactions.{at}
+use Rattle.std.proofs.Common.{◌≡◌, Some, refl, sym, ◌∙◌, ap, subst}
+use Rattle.std.specs.Prelude.{IsSome, is_some, slice_set}
+use Rattle.slab.specs.Slab.{Slab, Updates, with_value}
+use Rattle.slab.proofs.SlabLemmas.{Updates-with_value}
+use Rattle.transactions.specs.Entries.{transaction_of, places_of, IsEntry}
+use Rattle.transactions.specs.Tables.{Table}
+use Rattle.transactions.proofs.Kept.{kept_seen, seen_entry, same_places}
+use Rattle.transactions.proofs.Slots.{slot}
+use Rattle.transactions.proofs.Ways.{shown}
+use Rattle.transactions.proofs.table.TxTable.view_read.Goals as goal
+
+there : (c : goal.After-self-2-1) → slot c.self.inside.places.slots c.args.tx.place ≡ Some c.in-Some.entry.now
+there c = sym c.in-Some.ensures.value
+
+same : (c : goal.After-self-2-1) → places_of (with_value c.self.inside.places c.args.tx.place c.look_up.new.self).slots ≡ places_of c.self.inside.places.slots
+same c = same_places c.self.inside.places.slots c.args.tx.place c.in-Some.entry.now c.look_up.new.self (there c) (ap transaction_of c.look_up.ensures.rest)
+
+pub invariant_of-self-2 : goal.invariant_of-self-2
+invariant_of-self-2 c =
+    kept_seen c.self.inside.trees c.self.inside.number c.self.inside.begun c.self.inside.claims c.self.inside.places (with_value c.self.inside.places c.args.tx.place c.look_up.new.self) c.args.tx.place c.in-Some.entry.now c.look_up.new.self c.self.invariant
+    (Updates-with_value c.self.inside.places c.args.tx.place c.look_up.new.self (subst IsSome (sym (there c)) refl)) (there c)
+    (seen_entry c.self.inside.trees c.self.inside.number c.self.inside.begun c.in-Some.entry.now c.look_up.new.self (c.self.invariant.entries c.args.tx.place c.in-Some.entry.now (there c)) c.look_up.ensures.rest c.look_up.ensures.kept)
+    (ap transaction_of c.look_up.ensures.rest) (λ place. ap (λ places. at places place) (same c))
+
+pub returns-clause-same : goal.returns-clause-same
+returns-clause-same c = ap (λ places. record { trees = c.self.inside.trees; number = c.self.inside.number; places = places; begun = c.self.inside.begun }) (same c) ∙ c.self.view_is

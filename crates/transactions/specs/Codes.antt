@@ -1,0 +1,12 @@
+-- How tables of transactions are told apart: by their parts.
+use Rattle.std.specs.Prelude.{ℕ, List, refl}
+use Rattle.std.specs.Coded.{Coded, code_by, coded×, coded_ℕ}
+use Rattle.reg_tree.specs.Maps.{TreeMap}
+use Rattle.machine.specs.Codes.{trees_code, places_code}
+use Rattle.machine.specs.Transactions.{Places}
+use Rattle.transactions.specs.Tables.{Table}
+
+abbrev pub table_code : Coded Table
+table_code =
+    code_by (List TreeMap × (ℕ × (Places × ℕ))) (coded× trees_code (coded× coded_ℕ (coded× places_code coded_ℕ)))
+    (λ t. (t.trees, (t.number, (t.places, t.begun)))) (λ p. record { trees = p.0; number = p.1.0; places = p.1.1.0; begun = p.1.1.1 }) (λ _. refl)

@@ -1,0 +1,397 @@
+//! The transactions of a store.
+ghost use Rattle.std.specs.Prelude.{◌≡◌, ◌⊎◌, ◌+◌, ◌<◌, ◌≤◌, ◌^◌, ◌-◌, ◌||◌, ◌==◌, [], ℕ, nat_le, IfOk, IfSome, OnOk, OnErr, MatchResult, Some, None, true, false};
+ghost use Rattle.std.specs.Option.{option_map, option_copied};
+ghost use Rattle.reg_names.specs.declared.limits.TheConstants.{MOST_TRANSACTIONS};
+ghost use Rattle.reg_names.specs.declared.refusal.Refusal.TheVariants.{NoMemory, NoSeat};
+ghost use Rattle.reg_tree.specs.Texts.{ops_text_len};
+ghost use Rattle.conflicts.specs.Claims.{claim_of};
+ghost use Rattle.machine.specs.Ends.{refusal_of};
+ghost use Rattle.transactions.specs.Entries.{transaction_of, MayAdd, IsAdded, IsJudgedOf, judge_refusal};
+ghost use Rattle.machine.specs.Machine.{refused_if, first_of, read_refusal, seen, added_refusal_if, too_long};
+ghost use Rattle.transactions.specs.Tables.{Denies, Starts, Writes, Finishes, EndsWith, IsNotEnded, Closes, IsPending, seat_refusal, is_of, holds_if, is_listed, rolled_back_if};
+ghost use Rattle.machine.specs.Transactions.{Transaction, at, own, is_claimed, is_active_outcome, Becomes, Puts, gone_with, count_held, missing_refusal, inactive_refusal};
+
+use crate::entry::{Entry, Judged, View};
+use conflicts::{ClaimTable, Owner, claims};
+use machine::{Found, NoSuchTransaction, NotEnded, Outcome, Question, Tx};
+use reg_names::limits::MOST_TRANSACTIONS;
+use reg_names::{Path, Refusal};
+use reg_tree::{Op, Trees};
+use slab::Slab;
+use std::alloc::{AllocError, Global};
+use std::marker::Model;
+use uuid::Uuid;
+
+/// The transactions of a store, and the trees of now, which they see their own operations on.
+///
+/// Contracts see the trees of now and the number of the last accepted change, the transaction at each place, and how
+/// many were begun.
+#[derive(Drop)]
+pub struct TxTable {
+    alloc: Global,
+    trees: Trees,
+    number: u64,
+    begun: u64,
+    places: Slab<Entry>,
+    claims: ClaimTable,
+}
+
+impl Model for TxTable {
+    ghost use Rattle.transactions.specs.Tables.{Table};
+    ghost use Rattle.transactions.specs.Entries.{places_of, AreKept};
+
+    ghost Value = { Table };
+
+    ghost use Rattle.transactions.specs.Codes.{table_code};
+
+    ghost coded = { table_code };
+
+    ghost view = { λ inside. record { trees = inside.trees; number = inside.number; places = places_of inside.places.slots; begun = inside.begun } };
+
+    ghost invariant = { λ inside. AreKept inside.trees inside.number inside.begun inside.places.slots inside.claims };
+}
+
+/// What became of a write in a transaction that was not refused.
+#[derive(Clone, Copy, Debug, PartialEq, Eq)]
+pub enum Written {
+    /// The operation was added.
+    Added {
+        /// How many keys it makes, where it creates one.
+        levels: Option<usize>,
+    },
+    /// The key that was to be created is there; nothing changed.
+    Opened,
+}
+
+/// The operations of an active transaction, and how long they are as one change.
+#[derive(Drop)]
+pub struct Pending<'a> {
+    /// The operations in order.
+    pub ops: &'a [Op],
+    /// The bytes of the change that they make, as journal text.
+    pub text_len: u64,
+}
+
+/// The transactions that hold a claim which conflicts with that of an operation, by their places.
+#[derive(Drop)]
+pub struct Holders {
+    owners: Vec<Owner>,
+}
+
+impl Model for Holders {
+    ghost use Rattle.std.specs.Prelude.{List, ℕ, map};
+
+    ghost Value = { List ℕ };
+
+    ghost view = { λ inside. map (λ o. o.0) inside.owners.items };
+}
+
+impl TxTable {
+    /// A table without transactions, for trees after the change of this number.
+    pub fn new(alloc: Global, trees: Trees, number: u64) -> TxTable
+        ensures { result ≡ record { trees = trees; number = number; places = []; begun = 0 } }
+    {
+        TxTable {
+            alloc,
+            trees,
+            number,
+            begun: 0,
+            places: Slab::new(alloc),
+            claims: ClaimTable::new(alloc),
+        }
+    }
+
+    /// The trees of now.
+    pub fn trees(&self) -> &Trees
+        ensures { result.now ≡ self.now.trees }
+    {
+        &self.trees
+    }
+
+    /// The number of the last accepted change.
+    pub fn number(&self) -> u64
+        ensures { result ≡ self.now.number }
+    {
+        self.number
+    }
+
+    /// Begins a transaction for a unit of work, which may be any. Refused with `NoSeat` exactly where 1,024
+    /// transactions are held or 18,446,744,073,709,551,615 were begun, and with `NoMemory`.
+    pub fn begin(&mut self, session: u32, id: Uuid) -> Result<Tx, Refusal>
+        ensures { MatchResult result (λ tx. Starts self.old session id tx self.new) (λ refusal. Denies self.old (seat_refusal self.old) refusal self.new) }
+    {
+        if self.places.len() >= MOST_TRANSACTIONS {
+            return Err(Refusal::NoSeat);
+        }
+        let Some(generation) = self.begun.checked_add(1) else {
+            return Err(Refusal::NoSeat);
+        };
+        self.places.reserve(1)?;
+        let entry = Entry::begun(self.alloc, session, id, generation);
+        self.begun = generation;
+        let place = self.places.insert_reserved(entry);
+        Ok(Tx { place, generation })
+    }
+
+    /// Adds an operation to a transaction, at a moment. It is judged by what the transaction sees. Refused in this
+    /// order: with `NoSuchHandle`, with `NotActive`, where the operation is not legal, with `TooLarge` where the change
+    /// would be longer than 4,194,304 bytes, with `Conflict` where another active transaction's claim conflicts; and
+    /// with `NoMemory`. The transaction then stays as it is.
+    pub fn write(&mut self, session: u32, tx: Tx, moment: u64, op: Op) -> Result<Written, Refusal>
+        ensures { MatchResult result (λ written. Writes self.old session tx moment op written self.new) (λ refusal. Denies self.old (added_refusal_if self.old.trees self.old.places tx.place op (own self.old.places session tx)) refusal self.new) }
+    {
+        let judged = match self.judge(session, tx, &op) {
+            Ok(Some(judged)) => judged,
+            Ok(None) => return Ok(Written::Opened),
+            Err(refusal) => return Err(refusal),
+        };
+        if self.is_too_long(tx.place, &op) {
+            return Err(Refusal::TooLarge);
+        }
+        match self.is_claimed(tx.place, &op) {
+            Ok(false) => {}
+            Ok(true) => return Err(Refusal::Conflict),
+            Err(AllocError) => return Err(Refusal::NoMemory),
+        }
+        match self.add(tx.place, moment, op, judged.made) {
+            Ok(()) => Ok(Written::Added {
+                levels: judged.levels,
+            }),
+            Err(AllocError) => Err(Refusal::NoMemory),
+        }
+    }
+
+    // judges an operation by what the transaction sees; nothing where it opens a key
+    fn judge(&mut self, session: u32, tx: Tx, op: &Op) -> Result<Option<Judged>, Refusal>
+        ensures same { self.new ≡ self.old }
+        ensures told { MatchResult result (IsJudgedOf self.old session tx op.now) (λ refusal. (judge_refusal self.old.trees op.now (own self.old.places session tx) ≡ Some refusal) ⊎ (refusal ≡ NoMemory)) }
+    {
+        let alloc = self.alloc;
+        let Some(entry) = self.places.get_mut(tx.place) else {
+            return Err(Refusal::NoSuchHandle);
+        };
+        if !entry.is_own(session, tx.generation) {
+            return Err(Refusal::NoSuchHandle);
+        }
+        if !entry.is_active() {
+            return Err(Refusal::NotActive);
+        }
+        entry.judge(alloc, &self.trees, self.number, op)
+    }
+
+    // whether the change of the transaction at a place would be too long with an operation
+    fn is_too_long(&self, place: usize, op: &Op) -> bool
+        ensures { (one : Transaction) → at self.now.places place ≡ Some one → result ≡ too_long one op.now }
+    {
+        match self.places.get(place) {
+            Some(entry) => entry.is_too_long(op),
+            None => false,
+        }
+    }
+
+    // whether another active transaction holds a claim which conflicts with that of an operation
+    fn is_claimed(&self, place: usize, op: &Op) -> Result<bool, AllocError>
+        ensures { IfOk result (λ claimed. claimed ≡ is_claimed self.now.places place (claim_of op.now)) }
+    {
+        let owner = Owner(place as u64);
+        let holders = self.claims.holders(Some(owner), &claims(op))?;
+        Ok(!holders.as_slice().is_empty())
+    }
+
+    // adds an operation to the transaction at a place, with the view after it
+    fn add(&mut self, place: usize, moment: u64, op: Op, made: View) -> Result<(), AllocError>
+        requires { MayAdd self.old place op made }
+        ensures rest { self.new ≡ record self.old { places = self.new.places } }
+        ensures ok { OnOk result (IsAdded self.old.places place op moment self.new.places) }
+        ensures err { OnErr result (self.new ≡ self.old) }
+    {
+        let Some(entry) = self.places.get_mut(place) else {
+            unreachable!();
+        };
+        entry.reserve()?;
+        self.claims.add(Owner(place as u64), &claims(&op))?;
+        entry.add(op, moment, made);
+        Ok(())
+    }
+
+    /// What the question asks of a key, as the transaction sees it. Refused with `NoSuchHandle`, then `NotActive`, then
+    /// `NotFound`; and with `NoMemory`.
+    pub fn view_read(
+        &mut self,
+        session: u32,
+        tx: Tx,
+        hive: u8,
+        path: &Path,
+        question: Question,
+    ) -> Result<Found, Refusal>
+        ensures same { self.new ≡ self.old }
+        ensures told { MatchResult result (λ found. (inactive_refusal (own self.old.places session tx) ≡ None) × (seen self.old.trees hive path.now question (own self.old.places session tx) ≡ Some found)) (λ refusal. (first_of (inactive_refusal (own self.old.places session tx)) (read_refusal (seen self.old.trees hive path.now question (own self.old.places session tx))) ≡ Some refusal) ⊎ (refusal ≡ NoMemory)) }
+    {
+        let alloc = self.alloc;
+        let Some(entry) = self.places.get_mut(tx.place) else {
+            return Err(Refusal::NoSuchHandle);
+        };
+        if !entry.is_own(session, tx.generation) {
+            return Err(Refusal::NoSuchHandle);
+        }
+        if !entry.is_active() {
+            return Err(Refusal::NotActive);
+        }
+        entry.look_up(alloc, &self.trees, self.number, hive, path, question)
+    }
+
+    // the transaction of a handle, where it is the session's
+    fn own(&self, session: u32, tx: Tx) -> Option<&Entry>
+        ensures found { option_map transaction_of (option_copied result) ≡ own self.now.places session tx }
+        ensures counted { IfSome result (λ entry. entry.now.length ≡ 16 + ops_text_len entry.now.ops.items) }
+    {
+        match self.places.get(tx.place) {
+            Some(entry) if entry.is_own(session, tx.generation) => Some(entry),
+            _ => None,
+        }
+    }
+
+    /// Where a transaction stands. Takes no memory.
+    pub fn outcome(&self, session: u32, tx: Tx) -> Result<Outcome, NoSuchTransaction>
+        ensures { MatchResult result (λ outcome. option_map (λ one. one.outcome) (own self.now.places session tx) ≡ Some outcome) (λ _. own self.now.places session tx ≡ None) }
+    {
+        match self.own(session, tx) {
+            Some(entry) => Ok(entry.outcome),
+            None => Err(NoSuchTransaction),
+        }
+    }
+
+    /// The operations of an active transaction, for whoever accepts them as one change. Takes no memory.
+    pub fn commit_ops(&self, session: u32, tx: Tx) -> Result<Pending<'_>, NotEnded>
+        ensures { MatchResult result (λ pending. IsPending (own self.now.places session tx) pending.ops.now pending.text_len) (λ why. inactive_refusal (own self.now.places session tx) ≡ Some (refusal_of why)) }
+    {
+        match self.own(session, tx) {
+            Some(entry) if entry.is_active() => Ok(Pending {
+                ops: &entry.ops,
+                text_len: entry.length,
+            }),
+            Some(_) => Err(NotEnded::NotActive),
+            None => Err(NotEnded::NoSuchTransaction),
+        }
+    }
+
+    /// Ends an active transaction as committed, and hands out its operations. Takes no memory.
+    pub fn commit(&mut self, session: u32, tx: Tx) -> Result<Vec<Op>, NotEnded>
+        ensures { MatchResult result (λ ops. EndsWith self.old session tx Outcome.Committed ops.items self.new) (λ why. IsNotEnded self.old session tx why self.new) }
+    {
+        self.end(session, tx, Outcome::Committed)
+    }
+
+    /// Rolls an active transaction back. Takes no memory.
+    pub fn rollback(&mut self, session: u32, tx: Tx) -> Result<(), NotEnded>
+        ensures { MatchResult result (λ _. Finishes self.old session tx Outcome.RolledBack self.new) (λ why. IsNotEnded self.old session tx why self.new) }
+    {
+        self.end(session, tx, Outcome::RolledBack)?;
+        Ok(())
+    }
+
+    // ends an active transaction: its claims and operations are dropped
+    fn end(&mut self, session: u32, tx: Tx, outcome: Outcome) -> Result<Vec<Op>, NotEnded>
+        requires { is_active_outcome outcome ≡ false }
+        ensures { MatchResult result (λ ops. EndsWith self.old session tx outcome ops.items self.new) (λ why. IsNotEnded self.old session tx why self.new) }
+    {
+        let alloc = self.alloc;
+        let Some(entry) = self.places.get_mut(tx.place) else {
+            return Err(NotEnded::NoSuchTransaction);
+        };
+        if !entry.is_own(session, tx.generation) {
+            return Err(NotEnded::NoSuchTransaction);
+        }
+        if !entry.is_active() {
+            return Err(NotEnded::NotActive);
+        }
+        self.claims.drop_of(Owner(tx.place as u64));
+        Ok(entry.end(alloc, outcome))
+    }
+
+    /// Lets a transaction go; one that is active is rolled back. Takes no memory.
+    pub fn close(&mut self, session: u32, tx: Tx) -> Result<(), NoSuchTransaction>
+        ensures { MatchResult result (λ _. Closes self.old session tx self.new) (λ _. (own self.old.places session tx ≡ None) × (self.new ≡ self.old)) }
+    {
+        if self.own(session, tx).is_none() {
+            return Err(NoSuchTransaction);
+        }
+        self.vacate(tx.place);
+        Ok(())
+    }
+
+    // lets go what is at a place
+    fn vacate(&mut self, place: usize)
+        ensures rest { self.new ≡ record self.old { places = self.new.places } }
+        ensures put { Puts self.old.places self.new.places place None }
+    {
+        self.claims.drop_of(Owner(place as u64));
+        self.places.try_remove(place);
+    }
+
+    /// Lets all transactions of a session go. Takes no memory.
+    pub fn end_session(&mut self, session: u32)
+        ensures rest { self.new ≡ record self.old { places = self.new.places } }
+        ensures gone { Becomes (gone_with session) self.old.places self.new.places }
+    {
+        for place in 0..self.places.capacity() {
+            if self.is_of(session, place) {
+                self.vacate(place);
+            }
+        }
+    }
+
+    // whether the transaction at a place is of the session
+    fn is_of(&self, session: u32, place: usize) -> bool
+        ensures { result ≡ is_of session (at self.now.places place) }
+    {
+        match self.places.get(place) {
+            Some(entry) => entry.session == session,
+            None => false,
+        }
+    }
+
+    /// The active transactions that hold a claim which conflicts with that of the operation.
+    pub fn holders(&self, op: &Op) -> Result<Holders, AllocError>
+        ensures { IfOk result (λ holders. (place : ℕ) → is_listed holders place ≡ holds_if (claim_of op.now) (at self.now.places place)) }
+    {
+        Ok(Holders {
+            owners: self.claims.holders(None, &claims(op))?,
+        })
+    }
+
+    /// Rolls back those of these transactions that are active. Takes no memory.
+    pub fn roll_back_all(&mut self, holders: &Holders)
+        ensures rest { self.new ≡ record self.old { places = self.new.places } }
+        ensures rolled_back { (place : ℕ) → at self.new.places place ≡ rolled_back_if (is_listed holders.now place) (at self.old.places place) }
+    {
+        for owner in &holders.owners {
+            self.roll_back_at(owner.0);
+        }
+    }
+
+    // rolls back the transaction at a place, where it is active
+    fn roll_back_at(&mut self, owner: u64)
+        ensures rest { self.new ≡ record self.old { places = self.new.places } }
+        ensures put { Puts self.old.places self.new.places owner (rolled_back_if true (at self.old.places owner)) }
+    {
+        let alloc = self.alloc;
+        let place = owner as usize;
+        match self.places.get_mut(place) {
+            Some(entry) if entry.is_active() => {
+                self.claims.drop_of(Owner(owner));
+                entry.end(alloc, Outcome::RolledBack);
+            }
+            _ => {}
+        }
+    }
+
+    /// The next change was accepted, and left these trees.
+    pub fn moved(&mut self, trees: Trees)
+        requires { self.old.number < 2 ^ 64 - 1 }
+        ensures { self.new ≡ record self.old { trees = trees; number = self.old.number + 1 } }
+    {
+        self.trees = trees;
+        self.number += 1;
+    }
+}
