@@ -57,6 +57,11 @@ pub enum Reply {
         /// The change's number.
         number: u64,
     },
+    /// `created LEVELS`: so many keys were made in a transaction.
+    CreatedInside {
+        /// How many keys were made.
+        levels: usize,
+    },
     /// `opened`: the key was there.
     Opened,
     /// `accepted N`: the change of this number was accepted.
@@ -90,6 +95,22 @@ pub enum Reply {
         /// The moment of its last write.
         time: u64,
     },
+    /// `committed N`: the transaction's change has this number, and lasts; 0 where there was none.
+    Committed {
+        /// The change's number.
+        number: u64,
+    },
+    /// `flushed N`: the hives' files hold all changes up to this number.
+    Flushed {
+        /// The number of the last change.
+        number: u64,
+    },
+    /// `active`: the transaction has not ended.
+    StillActive,
+    /// `committed`: the transaction ended with a commit.
+    HasCommitted,
+    /// `rolledback`: the transaction ended, and nothing of it stands.
+    RolledBack,
     /// `E` with its number, a blank and its name: a refusal.
     Refused {
         /// Why the line was refused.
@@ -107,6 +128,7 @@ impl Reply {
             Reply::Created { levels, number } => {
                 writeln!(writer, "created {levels} accepted {number}")
             }
+            Reply::CreatedInside { levels } => writeln!(writer, "created {levels}"),
             Reply::Opened => writeln!(writer, "opened"),
             Reply::Accepted { number } => writeln!(writer, "accepted {number}"),
             Reply::Value { kind, data } => write_value(writer, *kind, data),
@@ -117,6 +139,11 @@ impl Reply {
                 values,
                 time,
             } => writeln!(writer, "info {subkeys} {values} {time}"),
+            Reply::Committed { number } => writeln!(writer, "committed {number}"),
+            Reply::Flushed { number } => writeln!(writer, "flushed {number}"),
+            Reply::StillActive => writeln!(writer, "active"),
+            Reply::HasCommitted => writeln!(writer, "committed"),
+            Reply::RolledBack => writeln!(writer, "rolledback"),
             Reply::Refused { refusal } => writeln!(writer, "{refusal}"),
         }
     }
