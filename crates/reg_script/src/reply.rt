@@ -7,43 +7,12 @@ ghost use Rattle.hex.specs.Hex.{encode_lower};
 ghost use Rattle.reg_script.specs.Replies.{reply_text, reply_line, unit_text, name_text, names_text, data_text};
 
 use reg_names::{Name, Refusal};
-use reg_tree::Data;
+use reg_tree::{Data, Names};
 use std::io;
 use std::io::Write;
-use std::marker::Model;
 
 /// Bytes that are written as hex digits at once.
 const PIECE: usize = 512;
-
-/// Names in their order.
-#[derive(Drop)]
-pub struct Names {
-    names: Vec<Name>,
-}
-
-impl Model for Names {
-    ghost use Rattle.std.specs.Prelude.{List, ℕ};
-
-    ghost Value = { List (List ℕ) };
-
-    ghost view = { λ inside. inside.names.items };
-}
-
-impl Names {
-    /// These names.
-    pub fn new(names: Vec<Name>) -> Names
-        ensures { result ≡ names.items }
-    {
-        Names { names }
-    }
-
-    /// The names in their order.
-    pub fn list(&self) -> &[Name]
-        ensures { result.now ≡ self.now }
-    {
-        &self.names
-    }
-}
 
 /// What a line of a script is answered.
 #[derive(Drop)]
