@@ -5,6 +5,7 @@ use Rattle.std.specs.Io.KnownBytes.{Appends, Keeps}
 use Rattle.std.proofs.lemmas.List.{append-nil}
 use Rattle.std.proofs.lemmas.Option.{none-some}
 use Rattle.reg_script.specs.Replies.{reply_line}
+use Rattle.reg_script.proofs.Written.{appends_more}
 use Rattle.reg_script.specs.declared.line.Line.{Line}
 use Rattle.reg_script.specs.declared.reply.Reply.{Reply}
 use Rattle.reg_script.specs.declared.reply.Reply.TheVariants as reply
@@ -18,13 +19,6 @@ use Rattle.regtx_parts.specs.declared.ending.Status.{Status}
 use Rattle.regtx_parts.specs.declared.ending.Status.TheVariants.{Clean, Refused, Wrong}
 use Rattle.regtx_parts.specs.declared.runner.Turn.{Turn}
 use Rattle.regtx_parts.specs.declared.runner.Turn.TheVariants.{Replied, Over}
-
--- one write and another
-pub appends_more : (old mid new : Option (List ℕ)) (front back : List ℕ) → Appends old mid front → Appends mid new back → Appends old new (front ++ back)
-appends_more None mid new front back a b = tt
-appends_more (Some xs) None new front back a b = absurd a
-appends_more (Some xs) (Some ys) None front back a b = absurd b
-appends_more (Some xs) (Some ys) (Some zs) front back a b = b ∙ ap (λ bytes. bytes ++ back) a ∙ append_assoc xs front back
 
 -- a write, and nothing more
 pub appends_kept : (old mid new : Option (List ℕ)) (text : List ℕ) → Appends old mid text → Keeps mid new → Appends old new text
