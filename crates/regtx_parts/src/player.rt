@@ -194,10 +194,13 @@ impl Player {
     fn commit(&mut self, alloc: Global, label: Label) -> Result<Reply, Refusal>
         ensures { MatchResult result (λ told. Answers (script_of self.old) (Line.Commit label) told (script_of self.new)) (λ refusal. Answers (script_of self.old) (Line.Commit label) (Reply.Refused refusal) (script_of self.new)) }
     {
+        let session = self.session;
+        let moment = self.moment;
+        let tx = self.tx(label)?;
         let event = Event::CommitAccept {
-            session: self.session,
-            tx: self.tx(label)?,
-            moment: self.moment,
+            session,
+            tx,
+            moment,
         };
         match self.ask_and_wait(alloc, event) {
             Ok(number) => Ok(Reply::Committed { number }),

@@ -3,7 +3,8 @@ ghost use Rattle.std.specs.Prelude.{◌≡◌, IfOk, false};
 ghost use Rattle.machine.specs.Machine.{fresh_machine, last_number};
 ghost use Rattle.machine.specs.Steps.{Step};
 
-use machine::{Event, Reply};
+use machine::{Event, Progress, Reply};
+use reg_names::Refusal;
 use std::alloc::{AllocError, Global};
 use std::marker::Model;
 
@@ -39,6 +40,28 @@ impl PlainStore {
         ensures durable { event ≡ Event.JournalStep → self.new.durable ≡ last_number self.new }
         ensures sound { self.new.faulted ≡ false }
     {
-        Reply::Done
+        refused(&event, self.hives)
+    }
+}
+
+fn refused(event: &Event, hives: usize) -> Reply
+    ensures { Step (fresh_machine hives) event.now result (fresh_machine hives) }
+{
+    match event {
+        Event::EndSession { .. }
+        | Event::Rollback { .. }
+        | Event::Close { .. }
+        | Event::Outcome { .. } => Reply::Refused {
+            refusal: Refusal::NoSuchHandle,
+        },
+        Event::FlushAsk => Reply::Awaits { number: 0 },
+        Event::Acked { number: 0 } => Reply::Receipt { number: 0 },
+        Event::Acked { .. } => Reply::NotYet,
+        Event::JournalStep | Event::TrimStep => Reply::Stepped {
+            progress: Progress::Idle,
+        },
+        _ => Reply::Refused {
+            refusal: Refusal::NoMemory,
+        },
     }
 }
