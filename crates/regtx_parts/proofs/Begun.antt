@@ -9,7 +9,7 @@ use Rattle.machine.specs.Machine.{Machine, fresh_machine}
 use Rattle.machine.specs.Steps.{with_session}
 use Rattle.regtx_parts.specs.Labels.{NamesNothing, named_by}
 use Rattle.regtx_parts.specs.Players.{script_of}
-use Rattle.regtx_parts.specs.Scripts.{Script, fresh_script}
+use Rattle.regtx_parts.specs.Scripts.{fresh_script}
 use Rattle.regtx_parts.specs.declared.labels.Labels.{Labels}
 
 -- session 0 of a fresh store is opened, and no label names anything

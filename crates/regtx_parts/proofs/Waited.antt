@@ -1,14 +1,13 @@
 -- A wait, step by step.
-use Rattle.std.proofs.Common.{◌≡◌, ℕ, ◌≤◌, ◌<◌, Bool, true, false, List, [], ◌∷◌, ◌++◌, length, Option, Some, None, refl, sym, ◌∙◌, ap, subst, arith, ◌⊎◌, inl, inr}
+use Rattle.std.proofs.Common.{◌≡◌, ℕ, ◌≤◌, false, [], ◌∷◌, Option, Some, refl, sym, ◌∙◌, ap, subst, inl}
 use Rattle.std.specs.Prelude.{MatchResult, Result, Ok, Err}
 use Rattle.std.specs.Result.{IsErrAnd}
 use Rattle.reg_names.specs.declared.refusal.Refusal.{Refusal}
 use Rattle.machine.specs.Machine.{Machine, last_number}
-use Rattle.machine.specs.Steps.{Step, Run}
-use Rattle.machine.specs.declared.event.Progress.{Progress}
-use Rattle.machine.specs.declared.event.Event.TheVariants.{Acked, JournalStep}
-use Rattle.machine.specs.declared.event.Reply.TheVariants.{Receipt, NotYet, Stepped, Refused}
-use Rattle.regtx_parts.specs.Waits.{Waits, IsWaited, IsAsked, IsStepped}
+use Rattle.machine.specs.Steps.{Step}
+use Rattle.machine.specs.declared.event.Event.TheVariants.{Acked}
+use Rattle.machine.specs.declared.event.Reply.TheVariants.{Refused}
+use Rattle.regtx_parts.specs.Waits.{IsWaited, IsAsked, IsStepped}
 
 -- the question is refused
 pub question_refused : (old new : Machine) (number : ℕ) (refusal : Refusal) → Step old (Acked number) (Refused refusal) new → IsWaited old number (Some refusal) new

@@ -1,4 +1,4 @@
-use Rattle.std.proofs.Common.{◌≡◌, ◌≤◌, ℕ, Some, None, Bool, true, false, subst}
+use Rattle.std.proofs.Common.{Some, None, false, subst}
 use Rattle.regtx_parts.specs.Waits.{IsWaited, IsAsked}
 use Rattle.regtx_parts.proofs.Waited.{question_refused, one_step_more, still_accepted, handed_on}
 use Rattle.regtx_parts.proofs.waiting.wait.Goals as goal

@@ -1,4 +1,4 @@
-use Rattle.std.proofs.Common.{◌≤◌, ◌-◌, ℕ, Option}
+use Rattle.std.proofs.Common.{◌≤◌, ◌-◌, Option}
 use Rattle.reg_names.specs.declared.refusal.Refusal.{Refusal}
 use Rattle.machine.specs.Machine.{Machine, last_number}
 use Rattle.regtx_parts.specs.Waits.{IsWaited}

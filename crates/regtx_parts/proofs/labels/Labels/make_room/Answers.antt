@@ -1,4 +1,3 @@
-use Rattle.std.proofs.Common.{◌≡◌}
 use Rattle.regtx_parts.proofs.Naming.{same_names, none_there}
 use Rattle.regtx_parts.specs.Labels.{place_in}
 use Rattle.regtx_parts.proofs.labels.Labels.make_room.Goals as goal

@@ -1,4 +1,3 @@
-use Rattle.std.proofs.Common.{◌≡◌}
 use Rattle.regtx_parts.proofs.Naming.{names}
 use Rattle.regtx_parts.proofs.labels.Labels.name.Goals as goal
 

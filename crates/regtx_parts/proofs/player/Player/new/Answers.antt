@@ -1,4 +1,4 @@
-use Rattle.std.proofs.Common.{◌≡◌, ◌∙◌, ap}
+use Rattle.std.proofs.Common.{◌∙◌, ap}
 use Rattle.machine.specs.Machine.{fresh_machine}
 use Rattle.regtx_parts.proofs.Begun.{begun}
 use Rattle.regtx_parts.proofs.player.Player.new.Goals as goal
