@@ -1,5 +1,5 @@
 -- The units of a word, part by part.
-use Rattle.std.proofs.Common.{◌≡◌, ℕ, ◌+◌, ◌<◌, List, [], ◌∷◌, ◌++◌, ◌==◌, ◌∙◌, length, Option, Some, None, refl, sym, ap, arith, append_assoc, Bor}
+use Rattle.std.proofs.Common.{◌≡◌, ℕ, ◌+◌, ◌<◌, List, ◌∷◌, ◌++◌, ◌==◌, ◌∙◌, length, Option, Some, None, refl, sym, ap, arith, append_assoc, Bor}
 use Rattle.std.specs.Prelude.{IfSome}
 use Rattle.std.specs.Option.{option_map, option_copied}
 use Rattle.std.specs.List.{slice_split}

@@ -1,9 +1,12 @@
 mod Digits
 mod Escapes
+mod Labels
 mod Refusing
+mod Uuids
 mod WordLists
-mod Written
+pub mod Written
 mod Cuts
 mod SpelledUnits
 mod SpelledWords
+mod SpelledRequests
 mod SpelledLines

@@ -1,5 +1,5 @@
 -- What a reader refuses for another that it called.
-use Rattle.std.proofs.Common.{◌≡◌, Option, None, Result, Ok, Err, refl, sym, subst}
+use Rattle.std.proofs.Common.{◌≡◌, Option, None, Result, Ok, Err, sym, subst}
 use Rattle.std.specs.Prelude.{IsErrAnd}
 use Rattle.reg_script.specs.Reads.{Reads, RefusedAs}
 use Rattle.reg_script.specs.declared.unread.Unread.{Unread}

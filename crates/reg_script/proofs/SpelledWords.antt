@@ -1,9 +1,9 @@
 -- What is read of one word is what it spells: numbers, places, names and bytes.
-use Rattle.std.proofs.Common.{◌≡◌, ◌≢◌, ℕ, suc, ◌+◌, ◌<◌, ◌≤◌, ◌==◌, ◌&&◌, Bool, true, false, cond, List, [], ◌∷◌, ◌++◌, length, Option, Some, None, Result, Ok, Err, refl, sym, ◌∙◌, ap, subst, arith, inl, inr}
-use Rattle.std.specs.Prelude.{nat_le, nat_lt, ◌⊎◌, codes}
+use Rattle.std.proofs.Common.{◌≡◌, ◌≢◌, ℕ, ◌-◌, ◌≤◌, ◌==◌, ◌&&◌, Bool, true, false, cond, List, [], ◌∷◌, ◌++◌, length, Option, Some, None, refl, sym, ◌∙◌, ap, subst, arith, inl, inr}
+use Rattle.std.specs.Prelude.{nat_le, nat_lt, codes, replicate}
 use Rattle.std.specs.Option.{option_map, option_and_then}
 use Rattle.std.specs.List.{AllByRecursion, list_all}
-use Rattle.std.specs.Char.{is_ascii_digit}
+use Rattle.std.specs.Char.{is_ascii_digit, is_ascii_alphanumeric}
 use Rattle.std.specs.Str.{bytes_eq}
 use Rattle.std.specs.Str.Parse.{digits_value}
 use Rattle.std.proofs.lemmas.Option.{none-some, cond_some}
@@ -12,11 +12,12 @@ use Rattle.std.proofs.lemmas.Slice.Eq.{bytes_eq-Decides}
 use Rattle.std.proofs.lemmas.Bool.{and_parts, and_from}
 use Rattle.std.proofs.lemmas.Bool.Decides.{nat_tests, Decides-eqb}
 use Rattle.hex.specs.Hex.{decode_of}
-use Rattle.reg_script.specs.Words.{before, behind, decoded, number_of, data_of, units_of, name_of, placed, place_of}
-use Rattle.reg_script.specs.Grammar.{IsDecimal, AreUnits, IsPlace, IsName, IsData}
+use Rattle.reg_script.specs.Words.{before, behind, decoded, number_of, data_of, units_of, name_of, placed, place_of, label_of}
+use Rattle.reg_script.specs.declared.label.TheConstants.{LONGEST_LABEL}
+use Rattle.reg_script.specs.Grammar.{IsDecimal, IsPlace, IsName, IsData, IsLabel}
 use Rattle.reg_script.specs.declared.line.Place.{Place}
 use Rattle.reg_script.proofs.Cuts.{is_or_not, before_here, before_front, behind_here, behind_front, cut_back}
-use Rattle.reg_script.proofs.SpelledUnits.{map_some, then_some, test_some, decoded_ok, read_units, spelled_units}
+use Rattle.reg_script.proofs.SpelledUnits.{map_some, then_some, decoded_ok, read_units, spelled_units}
 
 -- a number that is spelled is read
 pub read_number : (most : ℕ) (word : List ℕ) (number : ℕ) → IsDecimal word number → number ≤ most → number_of most word ≡ Some number
@@ -145,3 +146,20 @@ spelled_data word bytes e = elim (is_or_not (bytes_eq word (codes "-"))) [
         | inr some ↦ inr (differs_by word (codes "-") other, not_empty word some, decoded_ok (decode_of word) bytes (sym (ap (λ test. data_by false test word) some) ∙ rest))
       ]
 ]
+
+-- a label that is spelled is read
+pub read_label : (word label : List ℕ) → IsLabel word label → label_of word ≡ Some label
+read_label word label l =
+    let some : nat_lt 0 (length word) ≡ true = grind (arith, nat_tests, l.some) in
+    let short : nat_le (length word) LONGEST_LABEL ≡ true = grind (arith, nat_tests, l.short) in
+    let front = and_from (nat_lt 0 (length word)) (nat_le (length word) LONGEST_LABEL) some short in
+    let all = and_from (nat_lt 0 (length word) && nat_le (length word) LONGEST_LABEL) (list_all is_ascii_alphanumeric word) front l.letters in
+    ap (λ test. cond test (Some (word ++ replicate (LONGEST_LABEL - length word) 0)) None) all ∙ ap Some (sym l.filled)
+
+-- and one that is read is spelled
+pub spelled_label : (word label : List ℕ) → label_of word ≡ Some label → IsLabel word label
+spelled_label word label e =
+    let found = cond_some (nat_lt 0 (length word) && nat_le (length word) LONGEST_LABEL && list_all is_ascii_alphanumeric word) (word ++ replicate (LONGEST_LABEL - length word) 0) label e in
+    let parts = and_parts (nat_lt 0 (length word) && nat_le (length word) LONGEST_LABEL) (list_all is_ascii_alphanumeric word) found.0 in
+    let front = and_parts (nat_lt 0 (length word)) (nat_le (length word) LONGEST_LABEL) parts.0 in
+    record { some = grind (arith, nat_tests, front.0); short = grind (arith, nat_tests, front.1); letters = parts.1; filled = sym found.1 }

@@ -1,15 +1,18 @@
 -- Which bytes spell which line, said as relations: a word and what it spells, piece by piece.
-use Rattle.std.specs.Prelude.{◌≡◌, ◌≢◌, ℕ, ◌-◌, ◌^◌, ◌<◌, ◌≤◌, ◌⊎◌, true, List, [], ◌∷◌, ◌++◌, length, Ok, codes}
+use Rattle.std.specs.Prelude.{◌≡◌, ◌≢◌, ℕ, ◌-◌, ◌^◌, ◌<◌, ◌≤◌, ◌⊎◌, true, List, [], ◌∷◌, ◌++◌, length, replicate, Some, Ok, codes}
 use Rattle.std.specs.List.{list_all}
-use Rattle.std.specs.Char.{is_ascii_digit}
+use Rattle.std.specs.Char.{is_ascii_digit, is_ascii_alphanumeric}
 use Rattle.std.specs.Str.Parse.{digits_value}
 use Rattle.std.specs.Int.{from_be_bytes, w16}
 use Rattle.hex.specs.Hex.{decode_of, decode_sized}
 use Rattle.reg_names.specs.declared.limits.TheConstants.{MOST_HIVES}
-use Rattle.reg_script.specs.Words.{words}
+use Rattle.reg_script.specs.Words.{words, uuid_of}
+use Rattle.reg_script.specs.declared.label.TheConstants.{LONGEST_LABEL}
 use Rattle.reg_script.specs.declared.line.Place.{Place}
+use Rattle.reg_script.specs.declared.line.Request.{Request}
+use Rattle.reg_script.specs.declared.line.Request.TheVariants.{Create, Delete, Set, Unset, Get, Keys, Values, Info}
 use Rattle.reg_script.specs.declared.line.Line.{Line}
-use Rattle.reg_script.specs.declared.line.Line.TheVariants.{Hives, At, Create, Delete, Set, Unset, Get, Keys, Values, Info}
+use Rattle.reg_script.specs.declared.line.Line.TheVariants.{Hives, At, Session, End, Plain, Begin, Inside, Commit, Rollback, Close, Outcome, Flush}
 
 -- one decimal digit or more, and the number that they write
 pub record IsDecimal (word : List ℕ) (number : ℕ) : Type 0 where
@@ -51,21 +54,59 @@ IsName word units = ((word ≡ codes "@") × (units ≡ [])) ⊎ ((word ≢ code
 abbrev pub IsData : List ℕ → List ℕ → Type 0
 IsData word bytes = ((word ≡ codes "-") × (bytes ≡ [])) ⊎ ((word ≢ codes "-") × (word ≢ []) × (decode_of word ≡ Ok bytes))
 
--- the words of a line: the first says which line it is, and the others what it asks for
-abbrev pub SpelledBy : Line → List (List ℕ) → Type 0
-SpelledBy (Hives count) said = (number : List ℕ) × (said ≡ codes "hives" ∷ number ∷ []) × IsDecimal number count × (1 ≤ count) × (count ≤ MOST_HIVES)
-SpelledBy (At moment) said = (number : List ℕ) × (said ≡ codes "at" ∷ number ∷ []) × IsDecimal number moment × (moment < 2 ^ 64)
-SpelledBy (Create at) said = (place : List ℕ) × (said ≡ codes "create" ∷ place ∷ []) × IsPlace place at
-SpelledBy (Delete at) said = (place : List ℕ) × (said ≡ codes "delete" ∷ place ∷ []) × IsPlace place at
-SpelledBy (Set at name kind bytes) said =
+-- a label: ASCII letters or digits, at least one and at most 16, filled up with zeros
+pub record IsLabel (word label : List ℕ) : Type 0 where
+  pub some : 0 < length word
+  pub short : length word ≤ LONGEST_LABEL
+  pub letters : list_all is_ascii_alphanumeric word ≡ true
+  pub filled : label ≡ word ++ replicate (LONGEST_LABEL - length word) 0
+
+-- a text form of a UUID, as its reader reads it
+abbrev pub IsUuid : List ℕ → List ℕ → Type 0
+IsUuid word id = uuid_of word ≡ Some id
+
+-- a word with a place behind it; with a place and a name; with a number; with a label
+abbrev pub OfPlace : List ℕ → Place → List (List ℕ) → Type 0
+OfPlace verb at said = (place : List ℕ) × (said ≡ verb ∷ place ∷ []) × IsPlace place at
+
+abbrev pub OfName : List ℕ → Place → List ℕ → List (List ℕ) → Type 0
+OfName verb at name said = (place : List ℕ) × (named : List ℕ) × (said ≡ verb ∷ place ∷ named ∷ []) × IsPlace place at × IsName named name
+
+abbrev pub OfNumber : List ℕ → ℕ → List (List ℕ) → Type 0
+OfNumber verb number said = (digits : List ℕ) × (said ≡ verb ∷ digits ∷ []) × IsDecimal digits number
+
+abbrev pub OfLabel : List ℕ → List ℕ → List (List ℕ) → Type 0
+OfLabel verb label said = (word : List ℕ) × (said ≡ verb ∷ word ∷ []) × IsLabel word label
+
+-- the words of a request: the first says which it is, and the others what it asks for
+abbrev pub RequestedBy : Request → List (List ℕ) → Type 0
+RequestedBy (Create at) said = OfPlace (codes "create") at said
+RequestedBy (Delete at) said = OfPlace (codes "delete") at said
+RequestedBy (Set at name kind bytes) said =
     (place : List ℕ) × (named : List ℕ) × (number : List ℕ) × (digits : List ℕ) × (said ≡ codes "set" ∷ place ∷ named ∷ number ∷ digits ∷ [])
     × IsPlace place at × IsName named name × IsDecimal number kind × (kind < 2 ^ 32) × IsData digits bytes
-SpelledBy (Unset at name) said =
-    (place : List ℕ) × (named : List ℕ) × (said ≡ codes "unset" ∷ place ∷ named ∷ []) × IsPlace place at × IsName named name
-SpelledBy (Get at name) said = (place : List ℕ) × (named : List ℕ) × (said ≡ codes "get" ∷ place ∷ named ∷ []) × IsPlace place at × IsName named name
-SpelledBy (Keys at) said = (place : List ℕ) × (said ≡ codes "keys" ∷ place ∷ []) × IsPlace place at
-SpelledBy (Values at) said = (place : List ℕ) × (said ≡ codes "values" ∷ place ∷ []) × IsPlace place at
-SpelledBy (Info at) said = (place : List ℕ) × (said ≡ codes "info" ∷ place ∷ []) × IsPlace place at
+RequestedBy (Unset at name) said = OfName (codes "unset") at name said
+RequestedBy (Get at name) said = OfName (codes "get") at name said
+RequestedBy (Keys at) said = OfPlace (codes "keys") at said
+RequestedBy (Values at) said = OfPlace (codes "values") at said
+RequestedBy (Info at) said = OfPlace (codes "info") at said
+
+-- the words of a line, likewise; a request stands alone, or behind `tx` and a label
+abbrev pub SpelledBy : Line → List (List ℕ) → Type 0
+SpelledBy (Hives count) said = OfNumber (codes "hives") count said × (1 ≤ count) × (count ≤ MOST_HIVES)
+SpelledBy (At moment) said = OfNumber (codes "at") moment said × (moment < 2 ^ 64)
+SpelledBy (Session number) said = OfNumber (codes "session") number said × (number < 2 ^ 32)
+SpelledBy (End number) said = OfNumber (codes "end") number said × (number < 2 ^ 32)
+SpelledBy (Plain request) said = RequestedBy request said
+SpelledBy (Begin label id) said =
+    (word : List ℕ) × (text : List ℕ) × (said ≡ codes "begin" ∷ word ∷ text ∷ []) × IsLabel word label × IsUuid text id
+SpelledBy (Inside label request) said =
+    (word : List ℕ) × (asked : List (List ℕ)) × (said ≡ codes "tx" ∷ word ∷ asked) × IsLabel word label × RequestedBy request asked
+SpelledBy (Commit label) said = OfLabel (codes "commit") label said
+SpelledBy (Rollback label) said = OfLabel (codes "rollback") label said
+SpelledBy (Close label) said = OfLabel (codes "close") label said
+SpelledBy (Outcome label) said = OfLabel (codes "outcome") label said
+SpelledBy Flush said = said ≡ codes "flush" ∷ []
 
 -- bytes spell a line where their parts between blanks do
 abbrev pub Spells : List ℕ → Line → Type 0

@@ -2,9 +2,12 @@
 use Rattle.std.specs.Prelude.{ℕ, ◌^◌, ◌-◌, nat_le, if◌then◌else◌, List, [], ◌∷◌, Option, Some, None, codes}
 use Rattle.std.specs.Option.{option_map, option_and_then}
 use Rattle.std.specs.Str.{bytes_eq}
-use Rattle.reg_script.specs.Words.{words, number_of, data_of, name_of, place_of}
+use Rattle.reg_script.specs.Words.{words, number_of, data_of, name_of, place_of, label_of, uuid_of}
+use Rattle.reg_script.specs.declared.line.Place.{Place}
+use Rattle.reg_script.specs.declared.line.Request.{Request}
+use Rattle.reg_script.specs.declared.line.Request.TheVariants.{Create, Delete, Set, Unset, Get, Keys, Values, Info}
 use Rattle.reg_script.specs.declared.line.Line.{Line}
-use Rattle.reg_script.specs.declared.line.Line.TheVariants.{Hives, At, Create, Delete, Set, Unset, Get, Keys, Values, Info}
+use Rattle.reg_script.specs.declared.line.Line.TheVariants.{Hives, At, Session, End, Plain, Begin, Inside, Commit, Rollback, Close, Outcome, Flush}
 use Rattle.reg_names.specs.declared.limits.TheConstants.{MOST_HIVES}
 
 -- the words behind the first, where they are one, two or four
@@ -20,6 +23,37 @@ abbrev pub four_of : List (List ℕ) → Option (List ℕ × List ℕ × List �
 four_of (a ∷ b ∷ c ∷ d ∷ []) = Some (a, b, c, d)
 four_of _ = None
 
+-- a place alone, and a place with the name of a value
+abbrev pub place_in : List (List ℕ) → Option Place
+place_in args = option_and_then place_of (one_of args)
+
+abbrev pub named_place : List ℕ × List ℕ → Option (Place × List ℕ)
+named_place args = option_and_then (λ at. option_map (λ units. (at, units)) (name_of args.1)) (place_of args.0)
+
+abbrev pub named_in : List (List ℕ) → Option (Place × List ℕ)
+named_in args = option_and_then named_place (two_of args)
+
+abbrev pub set_request : List ℕ × List ℕ × List ℕ × List ℕ → Option Request
+set_request args =
+    option_and_then (λ at. option_and_then (λ units. option_and_then (λ number. option_map (λ contents. Set at units number contents) (data_of args.3)) (number_of (2 ^ 32 - 1) args.2)) (name_of args.1)) (place_of args.0)
+
+-- what is asked of a key: the first word says what
+abbrev pub request_with : List ℕ → List (List ℕ) → Option Request
+request_with verb args =
+    if bytes_eq verb (codes "create") then option_map (λ at. Create at) (place_in args)
+    else if bytes_eq verb (codes "delete") then option_map (λ at. Delete at) (place_in args)
+    else if bytes_eq verb (codes "set") then option_and_then set_request (four_of args)
+    else if bytes_eq verb (codes "unset") then option_map (λ found. Unset found.0 found.1) (named_in args)
+    else if bytes_eq verb (codes "get") then option_map (λ found. Get found.0 found.1) (named_in args)
+    else if bytes_eq verb (codes "keys") then option_map (λ at. Keys at) (place_in args)
+    else if bytes_eq verb (codes "values") then option_map (λ at. Values at) (place_in args)
+    else if bytes_eq verb (codes "info") then option_map (λ at. Info at) (place_in args)
+    else None
+
+abbrev pub request_of_words : List (List ℕ) → Option Request
+request_of_words [] = None
+request_of_words (verb ∷ args) = request_with verb args
+
 -- a store has at least one hive
 abbrev pub hives_of : ℕ → Option Line
 hives_of count = if nat_le 1 count then Some (Hives count) else None
@@ -30,45 +64,49 @@ hives_line count = option_and_then hives_of (number_of MOST_HIVES count)
 abbrev pub at_line : List ℕ → Option Line
 at_line moment = option_map (λ number. At number) (number_of (2 ^ 64 - 1) moment)
 
-abbrev pub create_line : List ℕ → Option Line
-create_line place = option_map (λ at. Create at) (place_of place)
+abbrev pub session_line : List ℕ → Option Line
+session_line word = option_map (λ number. Session number) (number_of (2 ^ 32 - 1) word)
 
-abbrev pub delete_line : List ℕ → Option Line
-delete_line place = option_map (λ at. Delete at) (place_of place)
+abbrev pub end_line : List ℕ → Option Line
+end_line word = option_map (λ number. End number) (number_of (2 ^ 32 - 1) word)
 
-abbrev pub set_line : List ℕ × List ℕ × List ℕ × List ℕ → Option Line
-set_line args =
-    option_and_then (λ at. option_and_then (λ units. option_and_then (λ number. option_map (λ contents. Set at units number contents) (data_of args.3)) (number_of (2 ^ 32 - 1) args.2)) (name_of args.1)) (place_of args.0)
+-- nothing stands behind the word
+abbrev pub flush_line : List (List ℕ) → Option Line
+flush_line [] = Some Flush
+flush_line (word ∷ args) = None
 
-abbrev pub unset_line : List ℕ × List ℕ → Option Line
-unset_line args = option_and_then (λ at. option_map (λ units. Unset at units) (name_of args.1)) (place_of args.0)
+abbrev pub begin_line : List ℕ × List ℕ → Option Line
+begin_line args = option_and_then (λ label. option_map (λ id. Begin label id) (uuid_of args.1)) (label_of args.0)
 
-abbrev pub get_line : List ℕ × List ℕ → Option Line
-get_line args = option_and_then (λ at. option_map (λ units. Get at units) (name_of args.1)) (place_of args.0)
+-- a label and a request
+abbrev pub inside_line : List (List ℕ) → Option Line
+inside_line [] = None
+inside_line (word ∷ asked) = option_and_then (λ label. option_map (λ request. Inside label request) (request_of_words asked)) (label_of word)
 
-abbrev pub keys_line : List ℕ → Option Line
-keys_line place = option_map (λ at. Keys at) (place_of place)
+-- a label alone
+abbrev pub label_in : List (List ℕ) → Option (List ℕ)
+label_in args = option_and_then label_of (one_of args)
 
-abbrev pub values_line : List ℕ → Option Line
-values_line place = option_map (λ at. Values at) (place_of place)
-
-abbrev pub info_line : List ℕ → Option Line
-info_line place = option_map (λ at. Info at) (place_of place)
+-- a line that begins, uses or ends a transaction, or a request alone
+abbrev pub transaction_line : List ℕ → List (List ℕ) → Option Line
+transaction_line verb args =
+    if bytes_eq verb (codes "tx") then inside_line args
+    else if bytes_eq verb (codes "begin") then option_and_then begin_line (two_of args)
+    else if bytes_eq verb (codes "commit") then option_map (λ label. Commit label) (label_in args)
+    else if bytes_eq verb (codes "rollback") then option_map (λ label. Rollback label) (label_in args)
+    else if bytes_eq verb (codes "close") then option_map (λ label. Close label) (label_in args)
+    else if bytes_eq verb (codes "outcome") then option_map (λ label. Outcome label) (label_in args)
+    else option_map (λ request. Plain request) (request_with verb args)
 
 -- the first word says which line it is
 abbrev pub line_with : List ℕ → List (List ℕ) → Option Line
 line_with verb args =
     if bytes_eq verb (codes "hives") then option_and_then hives_line (one_of args)
     else if bytes_eq verb (codes "at") then option_and_then at_line (one_of args)
-    else if bytes_eq verb (codes "create") then option_and_then create_line (one_of args)
-    else if bytes_eq verb (codes "delete") then option_and_then delete_line (one_of args)
-    else if bytes_eq verb (codes "set") then option_and_then set_line (four_of args)
-    else if bytes_eq verb (codes "unset") then option_and_then unset_line (two_of args)
-    else if bytes_eq verb (codes "get") then option_and_then get_line (two_of args)
-    else if bytes_eq verb (codes "keys") then option_and_then keys_line (one_of args)
-    else if bytes_eq verb (codes "values") then option_and_then values_line (one_of args)
-    else if bytes_eq verb (codes "info") then option_and_then info_line (one_of args)
-    else None
+    else if bytes_eq verb (codes "session") then option_and_then session_line (one_of args)
+    else if bytes_eq verb (codes "end") then option_and_then end_line (one_of args)
+    else if bytes_eq verb (codes "flush") then flush_line args
+    else transaction_line verb args
 
 abbrev pub line_of_words : List (List ℕ) → Option Line
 line_of_words [] = None

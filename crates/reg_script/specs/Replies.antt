@@ -7,7 +7,7 @@ use Rattle.std.specs.Str.{bytes_eq}
 use Rattle.hex.specs.Hex.{encode_lower}
 use Rattle.reg_names.specs.Refusals.{refusal_text}
 use Rattle.reg_script.specs.declared.reply.Reply.{Reply}
-use Rattle.reg_script.specs.declared.reply.Reply.TheVariants.{Done, Created, Opened, Accepted, Value, Keys, Values, Info, Refused}
+use Rattle.reg_script.specs.declared.reply.Reply.TheVariants.{Done, Created, CreatedInside, Opened, Accepted, Value, Keys, Values, Info, Committed, Flushed, StillActive, HasCommitted, RolledBack, Refused}
 
 -- a unit stands for itself from 0x21 to 0x7e, but for `%`; any other is `%` and four hex digits
 abbrev pub unit_text : ℕ → List ℕ
@@ -28,12 +28,18 @@ data_text bytes = if length bytes == 0 then codes "-" else encode_lower bytes
 abbrev pub reply_text : Reply → List ℕ
 reply_text Done = codes "ok"
 reply_text (Created levels number) = codes "created " ++ decimal levels ++ codes " accepted " ++ decimal number
+reply_text (CreatedInside levels) = codes "created " ++ decimal levels
 reply_text Opened = codes "opened"
 reply_text (Accepted number) = codes "accepted " ++ decimal number
 reply_text (Value kind bytes) = codes "value " ++ decimal kind ++ codes " " ++ data_text bytes
 reply_text (Keys names) = codes "keys " ++ decimal (length names) ++ names_text names
 reply_text (Values names) = codes "values " ++ decimal (length names) ++ names_text names
 reply_text (Info subkeys values time) = codes "info " ++ decimal subkeys ++ codes " " ++ decimal values ++ codes " " ++ decimal time
+reply_text (Committed number) = codes "committed " ++ decimal number
+reply_text (Flushed number) = codes "flushed " ++ decimal number
+reply_text StillActive = codes "active"
+reply_text HasCommitted = codes "committed"
+reply_text RolledBack = codes "rolledback"
 reply_text (Refused refusal) = refusal_text refusal
 
 -- a reply's line: its text and the byte that ends it

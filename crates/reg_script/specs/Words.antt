@@ -1,14 +1,16 @@
 -- The parts of a line, and what one word of it spells, where it spells something.
-use Rattle.std.specs.Prelude.{◌≡◌, ℕ, ◌+◌, ◌*◌, ◌==◌, nat_lt, nat_le, Bool, not, ◌&&◌, if◌then◌else◌, List, [], ◌∷◌, ◌++◌, length, take, drop, Option, Some, None, Result, Ok, Err, codes}
+use Rattle.std.specs.Prelude.{◌≡◌, ℕ, ◌+◌, ◌-◌, ◌==◌, nat_lt, nat_le, ◌&&◌, if◌then◌else◌, List, [], ◌∷◌, ◌++◌, length, take, drop, replicate, Option, Some, None, Result, Ok, Err, codes}
 use Rattle.std.specs.Option.{option_map, option_and_then}
 use Rattle.std.specs.List.{list_all, slice_split, position, before_first}
-use Rattle.std.specs.Char.{is_ascii_digit}
+use Rattle.std.specs.Char.{is_ascii_digit, is_ascii_alphanumeric}
 use Rattle.std.specs.Str.{bytes_eq}
 use Rattle.std.specs.Str.Parse.{digits_value}
 use Rattle.std.specs.Int.{from_be_bytes}
 use Rattle.std.specs.Int.{w16}
 use Rattle.hex.specs.Hex.{decode_of, decode_sized}
 use Rattle.hex.specs.declared.error.FromHexError.{FromHexError}
+use Rattle.uuid.specs.Text.{parsed}
+use Rattle.reg_script.specs.declared.label.TheConstants.{LONGEST_LABEL}
 use Rattle.reg_script.specs.declared.line.Place.{Place}
 
 -- what stands behind the first separator, where there is one
@@ -68,6 +70,16 @@ placed hive path = option_and_then (λ number. option_map (λ units. record { hi
 
 abbrev pub place_of : List ℕ → Option Place
 place_of word = placed (number_of 255 (before 58 word)) (option_and_then units_of (behind 58 word))
+
+-- a label: ASCII letters or digits, at least one and at most 16, filled up with zeros
+abbrev pub label_of : List ℕ → Option (List ℕ)
+label_of word =
+    if nat_lt 0 (length word) && nat_le (length word) LONGEST_LABEL && list_all is_ascii_alphanumeric word
+    then Some (word ++ replicate (LONGEST_LABEL - length word) 0) else None
+
+-- the bytes of a UUID, in any of its text forms
+unfoldable pub uuid_of : List ℕ → Option (List ℕ)
+uuid_of word = parsed word
 
 -- what a part behind a `%` spells has come behind the units before it
 abbrev pub AddsEscaped : List ℕ → List ℕ → List ℕ → Type 0

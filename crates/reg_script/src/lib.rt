@@ -2,15 +2,18 @@
 #![tactic(auto)]
 
 pub mod grammar;
+mod label;
 mod line;
 mod numbers;
 mod reading;
 mod reply;
+mod requests;
 mod texts;
 mod unread;
 mod words;
 
-pub use line::{Line, Place, Text};
+pub use label::{LONGEST_LABEL, Label};
+pub use line::{Line, Place, Request, Text};
 pub use reading::read_line;
-pub use reply::{Names, Reply};
+pub use reply::Reply;
 pub use unread::Unread;

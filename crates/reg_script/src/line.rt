@@ -1,8 +1,10 @@
 //! The lines of a script.
 ghost use Rattle.std.specs.Prelude.{◌≡◌};
 
+use crate::label::Label;
 use reg_tree::Data;
 use std::marker::Model;
+use uuid::Uuid;
 
 /// UTF-16 units as a word of a script spells them: the text of a path, or the name of a value. They may be no name
 /// that a call takes; the call judges that.
@@ -43,19 +45,9 @@ pub struct Place {
     pub path: Text,
 }
 
-/// A line of a script.
+/// What is asked of the tree of a key's hive: a write or a read.
 #[derive(Drop)]
-pub enum Line {
-    /// `hives N`: the script's store has this many hives, 1 to 16.
-    Hives {
-        /// How many hives there are.
-        count: u8,
-    },
-    /// `at M`: the moment of what follows.
-    At {
-        /// The moment.
-        moment: u64,
-    },
+pub enum Request {
     /// `create P`: creates a key.
     Create {
         /// Where the key stands.
@@ -106,4 +98,70 @@ pub enum Line {
         /// Where the key stands.
         place: Place,
     },
+}
+
+/// A line of a script.
+#[derive(Drop)]
+pub enum Line {
+    /// `hives N`: the script's store has this many hives, 1 to 16.
+    Hives {
+        /// How many hives there are.
+        count: u8,
+    },
+    /// `at M`: the moment of what follows.
+    At {
+        /// The moment.
+        moment: u64,
+    },
+    /// `session N`: opens the session where it isn't open, and makes it the current one.
+    Session {
+        /// The session's number.
+        number: u32,
+    },
+    /// `end N`: ends the session.
+    End {
+        /// The session's number.
+        number: u32,
+    },
+    /// A request alone: it is asked of the store itself.
+    Plain {
+        /// What is asked.
+        request: Request,
+    },
+    /// `begin T UUID`: begins a transaction, and gives it the label.
+    Begin {
+        /// The label, which may have been another transaction's.
+        label: Label,
+        /// The UUID of the transaction.
+        id: Uuid,
+    },
+    /// `tx T` and a request: it is asked in the transaction of the label.
+    Inside {
+        /// The transaction's label.
+        label: Label,
+        /// What is asked.
+        request: Request,
+    },
+    /// `commit T`: commits the transaction.
+    Commit {
+        /// The transaction's label.
+        label: Label,
+    },
+    /// `rollback T`: rolls the transaction back.
+    Rollback {
+        /// The transaction's label.
+        label: Label,
+    },
+    /// `close T`: closes the transaction.
+    Close {
+        /// The transaction's label.
+        label: Label,
+    },
+    /// `outcome T`: asks how the transaction ended, or whether it did.
+    Outcome {
+        /// The transaction's label.
+        label: Label,
+    },
+    /// `flush`: writes what was accepted to the hives.
+    Flush,
 }

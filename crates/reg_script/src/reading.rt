@@ -1,14 +1,17 @@
 //! Reads the lines of a script.
 ghost use Rattle.std.specs.Prelude.{◌≡◌};
-ghost use Rattle.reg_script.specs.Words.{number_of};
-ghost use Rattle.reg_script.specs.Lines.{line_of, hives_line, at_line, create_line, delete_line, set_line, unset_line, get_line, keys_line, values_line, info_line};
+ghost use Rattle.std.specs.Option.{option_copied};
+ghost use Rattle.reg_script.specs.Words.{parts_of};
+ghost use Rattle.reg_script.specs.Lines.{line_of, hives_line, at_line, session_line, end_line, flush_line, begin_line, inside_line, label_in, transaction_line};
 ghost use Rattle.reg_script.specs.Reads.{Reads};
 
+use crate::label::Label;
 use crate::line::Line;
 use crate::numbers::number;
-use crate::texts::{data, name, place, small_number};
+use crate::requests::{request, request_with};
+use crate::texts::{label, small_number, uuid, whole_number};
 use crate::unread::Unread;
-use crate::words::{first_word, four_words, one_word, two_words};
+use crate::words::{first_word, next_word, one_word, two_words};
 use reg_names::limits::MOST_HIVES;
 use std::alloc::Global;
 
@@ -24,24 +27,40 @@ pub fn read_line(alloc: Global, bytes: &[u8]) -> Result<Line, Unread>
         hives(one_word(rest)?)
     } else if verb == b"at".as_slice() {
         at(one_word(rest)?)
-    } else if verb == b"create".as_slice() {
-        create(alloc, one_word(rest)?)
-    } else if verb == b"delete".as_slice() {
-        delete(alloc, one_word(rest)?)
-    } else if verb == b"set".as_slice() {
-        set(alloc, four_words(rest)?)
-    } else if verb == b"unset".as_slice() {
-        unset(alloc, two_words(rest)?)
-    } else if verb == b"get".as_slice() {
-        get(alloc, two_words(rest)?)
-    } else if verb == b"keys".as_slice() {
-        keys(alloc, one_word(rest)?)
-    } else if verb == b"values".as_slice() {
-        values(alloc, one_word(rest)?)
-    } else if verb == b"info".as_slice() {
-        info(alloc, one_word(rest)?)
+    } else if verb == b"session".as_slice() {
+        session(one_word(rest)?)
+    } else if verb == b"end".as_slice() {
+        end(one_word(rest)?)
+    } else if verb == b"flush".as_slice() {
+        flush(rest)
     } else {
-        Err(Unread::NotUnderstood)
+        transaction_line(alloc, verb, rest)
+    }
+}
+
+// a line that begins, uses or ends a transaction, or a request alone
+fn transaction_line(alloc: Global, verb: &[u8], rest: Option<&[u8]>) -> Result<Line, Unread>
+    ensures { Reads result (transaction_line verb.now (parts_of 32 (option_copied rest.entry))) }
+{
+    if verb == b"tx".as_slice() {
+        inside(alloc, rest)
+    } else if verb == b"begin".as_slice() {
+        begin(two_words(rest)?)
+    } else if verb == b"commit".as_slice() {
+        let label = label_alone(rest)?;
+        Ok(Line::Commit { label })
+    } else if verb == b"rollback".as_slice() {
+        let label = label_alone(rest)?;
+        Ok(Line::Rollback { label })
+    } else if verb == b"close".as_slice() {
+        let label = label_alone(rest)?;
+        Ok(Line::Close { label })
+    } else if verb == b"outcome".as_slice() {
+        let label = label_alone(rest)?;
+        Ok(Line::Outcome { label })
+    } else {
+        let request = request_with(alloc, verb, rest)?;
+        Ok(Line::Plain { request })
     }
 }
 
@@ -63,78 +82,49 @@ fn at(moment: &[u8]) -> Result<Line, Unread>
     }
 }
 
-fn create(alloc: Global, at: &[u8]) -> Result<Line, Unread>
-    ensures { Reads result (create_line at.now) }
+fn session(word: &[u8]) -> Result<Line, Unread>
+    ensures { Reads result (session_line word.now) }
 {
-    let place = place(alloc, at)?;
-    Ok(Line::Create { place })
+    let number = whole_number(word)?;
+    Ok(Line::Session { number })
 }
 
-fn delete(alloc: Global, at: &[u8]) -> Result<Line, Unread>
-    ensures { Reads result (delete_line at.now) }
+fn end(word: &[u8]) -> Result<Line, Unread>
+    ensures { Reads result (end_line word.now) }
 {
-    let place = place(alloc, at)?;
-    Ok(Line::Delete { place })
+    let number = whole_number(word)?;
+    Ok(Line::End { number })
 }
 
-fn set(alloc: Global, words: (&[u8], &[u8], &[u8], &[u8])) -> Result<Line, Unread>
-    ensures { Reads result (set_line (words.entry.0.now, words.entry.1.now, words.entry.2.now, words.entry.3.now)) }
+// nothing stands behind the word
+fn flush(rest: Option<&[u8]>) -> Result<Line, Unread>
+    ensures { Reads result (flush_line (parts_of 32 (option_copied rest.entry))) }
 {
-    let place = place(alloc, words.0)?;
-    let name = name(alloc, words.1)?;
-    let kind = type_number(words.2)?;
-    let data = data(alloc, words.3)?;
-    Ok(Line::Set {
-        place,
-        name,
-        kind,
-        data,
-    })
-}
-
-// a number of 32 bits
-fn type_number(word: &[u8]) -> Result<u32, Unread>
-    ensures { Reads result (number_of u32.MAX word.now) }
-{
-    match number(word, u64::from(u32::MAX)) {
-        Some(number) => Ok(number as u32),
-        None => Err(Unread::NotUnderstood),
+    match rest {
+        None => Ok(Line::Flush),
+        Some(_) => Err(Unread::NotUnderstood),
     }
 }
 
-fn unset(alloc: Global, words: (&[u8], &[u8])) -> Result<Line, Unread>
-    ensures { Reads result (unset_line (words.entry.0.now, words.entry.1.now)) }
+fn begin(words: (&[u8], &[u8])) -> Result<Line, Unread>
+    ensures { Reads result (begin_line (words.entry.0.now, words.entry.1.now)) }
 {
-    let place = place(alloc, words.0)?;
-    let name = name(alloc, words.1)?;
-    Ok(Line::Unset { place, name })
+    let label = label(words.0)?;
+    let id = uuid(words.1)?;
+    Ok(Line::Begin { label, id })
 }
 
-fn get(alloc: Global, words: (&[u8], &[u8])) -> Result<Line, Unread>
-    ensures { Reads result (get_line (words.entry.0.now, words.entry.1.now)) }
+fn inside(alloc: Global, rest: Option<&[u8]>) -> Result<Line, Unread>
+    ensures { Reads result (inside_line (parts_of 32 (option_copied rest.entry))) }
 {
-    let place = place(alloc, words.0)?;
-    let name = name(alloc, words.1)?;
-    Ok(Line::Get { place, name })
+    let (word, asked) = next_word(rest)?;
+    let label = label(word)?;
+    let request = request(alloc, asked)?;
+    Ok(Line::Inside { label, request })
 }
 
-fn keys(alloc: Global, at: &[u8]) -> Result<Line, Unread>
-    ensures { Reads result (keys_line at.now) }
+fn label_alone(rest: Option<&[u8]>) -> Result<Label, Unread>
+    ensures { Reads result (label_in (parts_of 32 (option_copied rest.entry))) }
 {
-    let place = place(alloc, at)?;
-    Ok(Line::Keys { place })
-}
-
-fn values(alloc: Global, at: &[u8]) -> Result<Line, Unread>
-    ensures { Reads result (values_line at.now) }
-{
-    let place = place(alloc, at)?;
-    Ok(Line::Values { place })
-}
-
-fn info(alloc: Global, at: &[u8]) -> Result<Line, Unread>
-    ensures { Reads result (info_line at.now) }
-{
-    let place = place(alloc, at)?;
-    Ok(Line::Info { place })
+    label(one_word(rest)?)
 }

@@ -7,43 +7,12 @@ ghost use Rattle.hex.specs.Hex.{encode_lower};
 ghost use Rattle.reg_script.specs.Replies.{reply_text, reply_line, unit_text, name_text, names_text, data_text};
 
 use reg_names::{Name, Refusal};
-use reg_tree::Data;
+use reg_tree::{Data, Names};
 use std::io;
 use std::io::Write;
-use std::marker::Model;
 
 /// Bytes that are written as hex digits at once.
 const PIECE: usize = 512;
-
-/// Names in their order.
-#[derive(Drop)]
-pub struct Names {
-    names: Vec<Name>,
-}
-
-impl Model for Names {
-    ghost use Rattle.std.specs.Prelude.{List, ℕ};
-
-    ghost Value = { List (List ℕ) };
-
-    ghost view = { λ inside. inside.names.items };
-}
-
-impl Names {
-    /// These names.
-    pub fn new(names: Vec<Name>) -> Names
-        ensures { result ≡ names.items }
-    {
-        Names { names }
-    }
-
-    /// The names in their order.
-    pub fn list(&self) -> &[Name]
-        ensures { result.now ≡ self.now }
-    {
-        &self.names
-    }
-}
 
 /// What a line of a script is answered.
 #[derive(Drop)]
@@ -56,6 +25,11 @@ pub enum Reply {
         levels: usize,
         /// The change's number.
         number: u64,
+    },
+    /// `created LEVELS`: so many keys were made in a transaction.
+    CreatedInside {
+        /// How many keys were made.
+        levels: usize,
     },
     /// `opened`: the key was there.
     Opened,
@@ -90,6 +64,22 @@ pub enum Reply {
         /// The moment of its last write.
         time: u64,
     },
+    /// `committed N`: the transaction's change has this number, and lasts; 0 where there was none.
+    Committed {
+        /// The change's number.
+        number: u64,
+    },
+    /// `flushed N`: the hives' files hold all changes up to this number.
+    Flushed {
+        /// The number of the last change.
+        number: u64,
+    },
+    /// `active`: the transaction has not ended.
+    StillActive,
+    /// `committed`: the transaction ended with a commit.
+    HasCommitted,
+    /// `rolledback`: the transaction ended, and nothing of it stands.
+    RolledBack,
     /// `E` with its number, a blank and its name: a refusal.
     Refused {
         /// Why the line was refused.
@@ -107,6 +97,7 @@ impl Reply {
             Reply::Created { levels, number } => {
                 writeln!(writer, "created {levels} accepted {number}")
             }
+            Reply::CreatedInside { levels } => writeln!(writer, "created {levels}"),
             Reply::Opened => writeln!(writer, "opened"),
             Reply::Accepted { number } => writeln!(writer, "accepted {number}"),
             Reply::Value { kind, data } => write_value(writer, *kind, data),
@@ -117,6 +108,11 @@ impl Reply {
                 values,
                 time,
             } => writeln!(writer, "info {subkeys} {values} {time}"),
+            Reply::Committed { number } => writeln!(writer, "committed {number}"),
+            Reply::Flushed { number } => writeln!(writer, "flushed {number}"),
+            Reply::StillActive => writeln!(writer, "active"),
+            Reply::HasCommitted => writeln!(writer, "committed"),
+            Reply::RolledBack => writeln!(writer, "rolledback"),
             Reply::Refused { refusal } => writeln!(writer, "{refusal}"),
         }
     }

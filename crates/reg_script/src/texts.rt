@@ -1,8 +1,9 @@
-//! What one word spells: units, names, places and bytes.
+//! What one word spells: units, names, places, numbers, labels and bytes.
 ghost use Rattle.std.specs.Prelude.{◌≡◌, ◌++◌, ◌∷◌, Some, None, IfOk, MatchResult, map};
-ghost use Rattle.reg_script.specs.Words.{units_of, escaped, AddsEscaped, name_of, place_of, data_of, number_of};
+ghost use Rattle.reg_script.specs.Words.{units_of, escaped, AddsEscaped, name_of, place_of, data_of, number_of, label_of, uuid_of};
 ghost use Rattle.reg_script.specs.Reads.{Reads, RefusedAs};
 
+use crate::label::Label;
 use crate::line::{Place, Text};
 use crate::numbers::number;
 use crate::unread::Unread;
@@ -10,6 +11,7 @@ use crate::words::first_part;
 use hex::FromHexError;
 use reg_tree::Data;
 use std::alloc::{AllocError, Global};
+use uuid::Uuid;
 
 /// The byte that four hex digits of one unit follow.
 const ESCAPE: u8 = b'%';
@@ -36,6 +38,36 @@ pub(crate) fn small_number(word: &[u8], most: u8) -> Result<u8, Unread>
     match number(word, u64::from(most)) {
         Some(number) => Ok(number as u8),
         None => Err(Unread::NotUnderstood),
+    }
+}
+
+/// A number of 32 bits.
+pub(crate) fn whole_number(word: &[u8]) -> Result<u32, Unread>
+    ensures { Reads result (number_of u32.MAX word.now) }
+{
+    match number(word, u64::from(u32::MAX)) {
+        Some(number) => Ok(number as u32),
+        None => Err(Unread::NotUnderstood),
+    }
+}
+
+/// The label of a transaction.
+pub(crate) fn label(word: &[u8]) -> Result<Label, Unread>
+    ensures { Reads result (label_of word.now) }
+{
+    match Label::read(word) {
+        Some(label) => Ok(label),
+        None => Err(Unread::NotUnderstood),
+    }
+}
+
+/// A UUID in any of its text forms.
+pub(crate) fn uuid(word: &[u8]) -> Result<Uuid, Unread>
+    ensures { Reads result (uuid_of word.now) }
+{
+    match Uuid::try_parse_ascii(word) {
+        Ok(id) => Ok(id),
+        Err(_) => Err(Unread::NotUnderstood),
     }
 }
 

@@ -60,8 +60,8 @@ pub(crate) fn four_words(rest: Option<&[u8]>) -> Result<(&[u8], &[u8], &[u8], &[
     Ok((first, second, third, fourth))
 }
 
-// the first word behind a blank, and what stands behind its blank where there is one
-fn next_word(rest: Option<&[u8]>) -> Result<(&[u8], Option<&[u8]>), Unread>
+/// The first word behind a blank, and what stands behind its blank where there is one.
+pub(crate) fn next_word(rest: Option<&[u8]>) -> Result<(&[u8], Option<&[u8]>), Unread>
     ensures { MatchResult result (λ found. parts_of 32 (option_copied rest.entry) ≡ found.0.now ∷ parts_of 32 (option_copied found.1)) (λ unread. (unread ≡ Unread.NotUnderstood) × (parts_of 32 (option_copied rest.entry) ≡ [])) }
 {
     match rest {

@@ -1,4 +1,5 @@
-mod Listed
-mod Grown
+mod Begun
+mod Naming
 mod LineEnds
 mod Runs
+mod Waited

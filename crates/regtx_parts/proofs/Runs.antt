@@ -1,30 +1,19 @@
 -- The run of a script, turn by turn.
-use Rattle.std.proofs.Common.{◌≡◌, ℕ, ◌+◌, ◌⊎◌, Bool, true, false, ◌||◌, List, [], ◌∷◌, ◌++◌, Option, Some, None, Result, Ok, Err, refl, sym, ◌∙◌, ap, inl, inr, subst, append_assoc}
-use Rattle.std.specs.Prelude.{IfSome, IfOk}
+use Rattle.std.proofs.Common.{◌≡◌, ℕ, ◌+◌, Bool, true, false, ◌||◌, List, [], ◌∷◌, ◌++◌, Option, Some, None, Result, Ok, Err, refl, sym, ◌∙◌, ap, inl, inr, subst}
+use Rattle.std.specs.Prelude.{IfOk}
 use Rattle.std.specs.Io.KnownBytes.{Appends, Keeps}
-use Rattle.std.proofs.lemmas.List.{append-nil}
-use Rattle.std.proofs.lemmas.Option.{none-some}
 use Rattle.reg_script.specs.Replies.{reply_line}
-use Rattle.reg_script.specs.declared.line.Line.{Line}
-use Rattle.reg_script.specs.declared.reply.Reply.{Reply}
+use Rattle.reg_script.proofs.Written.{appends_more}
 use Rattle.reg_script.specs.declared.reply.Reply.TheVariants as reply
 use Rattle.regtx_parts.specs.Endings.{with_refusal}
-use Rattle.regtx_parts.specs.Scripts.{Script, Answers, fresh_script, hives_asked, line_asked}
-use Rattle.regtx_parts.specs.Plays.{lines_of, AreFirst, AreReadOf, WereRead, wrong_text, is_refusal, IsWrong, Ends, PlaysOn, Plays, IsPlayed, IsPlayedOn}
+use Rattle.regtx_parts.specs.Scripts.{Script, fresh_script, hives_asked, line_asked}
+use Rattle.regtx_parts.specs.Plays.{lines_of, AreFirst, AreReadOf, WereRead, wrong_text, Ends, PlaysOn, IsPlayed, IsPlayedOn}
 use Rattle.regtx_parts.specs.Turns.{TakesLine, Turns}
 use Rattle.regtx_parts.specs.declared.ending.Ending.{Ending}
 use Rattle.regtx_parts.specs.declared.ending.Ending.TheVariants.{Ended, Broken, OutOfMemory}
 use Rattle.regtx_parts.specs.declared.ending.Status.{Status}
 use Rattle.regtx_parts.specs.declared.ending.Status.TheVariants.{Clean, Refused, Wrong}
-use Rattle.regtx_parts.specs.declared.runner.Turn.{Turn}
-use Rattle.regtx_parts.specs.declared.runner.Turn.TheVariants.{Replied, Over}
-
--- one write and another
-pub appends_more : (old mid new : Option (List ℕ)) (front back : List ℕ) → Appends old mid front → Appends mid new back → Appends old new (front ++ back)
-appends_more None mid new front back a b = tt
-appends_more (Some xs) None new front back a b = absurd a
-appends_more (Some xs) (Some ys) None front back a b = absurd b
-appends_more (Some xs) (Some ys) (Some zs) front back a b = b ∙ ap (λ bytes. bytes ++ back) a ∙ append_assoc xs front back
+use Rattle.regtx_parts.specs.declared.runner.Turn.TheVariants.{Replied}
 
 -- a write, and nothing more
 pub appends_kept : (old mid new : Option (List ℕ)) (text : List ℕ) → Appends old mid text → Keeps mid new → Appends old new text

@@ -1,7 +1,9 @@
-pub mod Machine
 pub mod Recorded
 pub mod Endings
+pub mod Requests
+pub mod Waits
 pub mod Scripts
+pub mod Labels
 pub mod Players
 pub mod Plays
 pub mod Turns

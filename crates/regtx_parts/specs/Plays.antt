@@ -1,5 +1,5 @@
 -- What a script prints, and how its run ends.
-use Rattle.std.specs.Prelude.{◌≡◌, ℕ, ◌+◌, ◌==◌, ◌⊎◌, Bool, true, false, if◌then◌else◌, List, [], ◌∷◌, ◌++◌, Option, Some, None, IfSome, codes, ⊤}
+use Rattle.std.specs.Prelude.{◌≡◌, ℕ, ◌+◌, ◌==◌, ◌⊎◌, Bool, true, false, if◌then◌else◌, List, [], ◌∷◌, ◌++◌, Option, Some, None, IfSome, codes}
 use Rattle.std.specs.Fmt.{decimal}
 use Rattle.std.specs.Io.KnownBytes.{Appends}
 use Rattle.reg_names.specs.Refusals.{refusal_text}
@@ -47,12 +47,18 @@ wrong_text number = codes "line " ++ decimal number ++ codes ": not understood\n
 abbrev pub is_refusal : Reply → Bool
 is_refusal reply.Done = false
 is_refusal (reply.Created levels number) = false
+is_refusal (reply.CreatedInside levels) = false
 is_refusal reply.Opened = false
 is_refusal (reply.Accepted number) = false
 is_refusal (reply.Value kind bytes) = false
 is_refusal (reply.Keys names) = false
 is_refusal (reply.Values names) = false
 is_refusal (reply.Info subkeys values time) = false
+is_refusal (reply.Committed number) = false
+is_refusal (reply.Flushed number) = false
+is_refusal reply.StillActive = false
+is_refusal reply.HasCommitted = false
+is_refusal reply.RolledBack = false
 is_refusal (reply.Refused refusal) = true
 
 -- a line is not understood, and nothing more is read

@@ -1,20 +1,16 @@
--- What a plain store keeps a record of.
-use Rattle.std.specs.Prelude.{ℕ, List, map, refl}
-use Rattle.std.specs.Coded.{Coded, code_by, coded×, coded_ℕ, coded_list}
-use Rattle.std.specs.FinMap as finite
-use Rattle.reg_tree_parts.specs.Rows.{row_code}
+-- How states of the machine are told apart: by their parts.
+use Rattle.std.specs.Prelude.{ℕ, Bool, List, refl}
+use Rattle.std.specs.Coded.{Coded, code_by, coded×, coded_ℕ, coded_bool, coded_list}
 use Rattle.reg_tree.specs.contracts.element.Element as element
-use Rattle.std.specs.declared.snapshot.Snapshot.{Snapshot}
 use Rattle.reg_tree.specs.Maps.{TreeMap}
 use Rattle.reg_tree.specs.declared.element.Element.{Element}
-use Rattle.regtx_parts.specs.Machine.{Machine}
+use Rattle.machine.specs.Transactions.{Places}
+use Rattle.machine.specs.Codes.{trees_code, places_code}
+use Rattle.machine.specs.Machine.{Machine}
 
--- the state of the machine: the trees as opened, and the changes accepted since
-abbrev pub machine_of : List TreeMap → List (Snapshot Element) → Machine
-machine_of opened accepted = record { opened = opened; before = 0; accepted = map (λ change. change.value) accepted }
-
--- a state is told apart by its parts
 abbrev pub machine_code : Coded Machine
 machine_code =
-    code_by (List TreeMap × (ℕ × List Element)) (coded× (coded_list (finite.code (coded_list (coded_list coded_ℕ)) row_code)) (coded× coded_ℕ (coded_list element.the_row.coded)))
-    (λ m. (m.opened, (m.before, m.accepted))) (λ p. record { opened = p.0; before = p.1.0; accepted = p.1.1 }) (λ _. refl)
+    code_by (List TreeMap × (ℕ × (List Element × (List ℕ × (Places × (ℕ × (ℕ × (ℕ × (ℕ × Bool)))))))))
+    (coded× trees_code (coded× coded_ℕ (coded× (coded_list element.the_row.coded) (coded× (coded_list coded_ℕ) (coded× places_code (coded× coded_ℕ (coded× coded_ℕ (coded× coded_ℕ (coded× coded_ℕ coded_bool)))))))))
+    (λ m. (m.opened, (m.before, (m.accepted, (m.sessions, (m.places, (m.begun, (m.durable, (m.room, (m.failures, m.faulted))))))))))
+    (λ p. record { opened = p.0; before = p.1.0; accepted = p.1.1.0; sessions = p.1.1.1.0; places = p.1.1.1.1.0; begun = p.1.1.1.1.1.0; durable = p.1.1.1.1.1.1.0; room = p.1.1.1.1.1.1.1.0; failures = p.1.1.1.1.1.1.1.1.0; faulted = p.1.1.1.1.1.1.1.1.1 }) (λ _. refl)

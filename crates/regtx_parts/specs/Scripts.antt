@@ -1,109 +1,204 @@
 -- What the lines of a script ask of a store, and what they are answered.
-use Rattle.std.specs.Prelude.{◌≡◌, ℕ, ◌⊎◌, Bool, true, false, List, Option, Some, None, Result, Ok, Err}
-use Rattle.reg_names.specs.Names.{path_of, name_if, is_value_name}
+use Rattle.std.specs.Prelude.{◌≡◌, ◌≢◌, ℕ, ◌⊎◌, List, Option, Some, None, Result, Ok, Err}
 use Rattle.reg_names.specs.declared.refusal.Refusal.{Refusal}
-use Rattle.reg_names.specs.declared.refusal.Refusal.TheVariants.{NoMemory}
-use Rattle.reg_tree.specs.declared.op.Op.TheVariants.{CreateKey, DeleteKey, SetValue, DeleteValue}
+use Rattle.reg_names.specs.declared.refusal.Refusal.TheVariants.{NoMemory, NoSuchHandle}
 use Rattle.reg_script.specs.Lines.{line_of}
-use Rattle.reg_script.specs.declared.line.Place.{Place}
 use Rattle.reg_script.specs.declared.line.Line.{Line}
-use Rattle.reg_script.specs.declared.line.Line.TheVariants.{Hives, At, Create, Delete, Set, Unset, Get, Keys, Values, Info}
+use Rattle.reg_script.specs.declared.line.Line.TheVariants.{Hives, At, Session, End, Plain, Begin, Inside, Commit, Rollback, Close, Outcome, Flush}
 use Rattle.reg_script.specs.declared.reply.Reply.{Reply}
 use Rattle.reg_script.specs.declared.reply.Reply.TheVariants as reply
-use Rattle.regtx_parts.specs.Machine.{Machine, Step, fresh_machine}
-use Rattle.regtx_parts.specs.declared.event.Event.{Event}
-use Rattle.regtx_parts.specs.declared.event.Event.TheVariants.{Write, Read}
-use Rattle.regtx_parts.specs.declared.event.Question.{Question}
-use Rattle.regtx_parts.specs.declared.event.Question.TheVariants.{ValueOf, KeysOf, ValuesOf, InfoOf}
-use Rattle.regtx_parts.specs.declared.event.Answer.{Answer}
-use Rattle.regtx_parts.specs.declared.event.Answer.TheVariants as answer
+use Rattle.machine.specs.Machine.{Machine, fresh_machine}
+use Rattle.machine.specs.Steps.{Step, with_session}
+use Rattle.machine.specs.declared.handle.Tx.{Tx}
+use Rattle.machine.specs.declared.handle.Outcome.{Outcome as Standing}
+use Rattle.machine.specs.declared.handle.Outcome.TheVariants as standing
+use Rattle.machine.specs.declared.event.Event.{Event}
+use Rattle.machine.specs.declared.event.Event.TheVariants as event
+use Rattle.machine.specs.declared.event.Found.{Found}
+use Rattle.machine.specs.declared.event.Found.TheVariants as found
+use Rattle.machine.specs.declared.event.Reply.{Reply as Answer}
+use Rattle.machine.specs.declared.event.Reply.TheVariants as answer
+use Rattle.regtx_parts.specs.Requests.{requested}
+use Rattle.regtx_parts.specs.Waits.{IsWaited}
+use Rattle.regtx_parts.specs.declared.asked.Asked.{Asked}
+use Rattle.regtx_parts.specs.declared.asked.Asked.TheVariants.{Write, Read}
 
--- a script between two lines: the machine, and the moment of what follows
+-- a script between two lines: the machine, the moment and the session of what follows, and the transaction that each
+-- label names
 pub record Script : Type 0 where
   pub machine : Machine
   pub moment : ℕ
+  pub session : ℕ
+  pub labels : List ℕ → Option Tx
 
--- a script after its first line
+-- a script after its first line: session 0 is open and the current one, and no label names anything
 abbrev pub fresh_script : ℕ → Script
-fresh_script hives = record { machine = fresh_machine hives; moment = 0 }
+fresh_script hives = record { machine = with_session (fresh_machine hives) 0; moment = 0; session = 0; labels = λ label. None }
 
--- an answer of the machine as a reply
+-- what was read as a reply
+abbrev pub found_reply : Found → Reply
+found_reply (found.Value value) = reply.Value value.kind value.«data»
+found_reply (found.Keys names) = reply.Keys names
+found_reply (found.ValueNames names) = reply.Values names
+found_reply (found.Counts info) = reply.Info info.subkeys info.values info.time
+
+-- a write alone, and one in a transaction, with the keys that it made, where it is a creation
+abbrev pub accepted_reply : Option ℕ → ℕ → Reply
+accepted_reply None number = reply.Accepted number
+accepted_reply (Some levels) number = reply.Created levels number
+
+abbrev pub added_reply : Option ℕ → Reply
+added_reply None = reply.Done
+added_reply (Some levels) = reply.CreatedInside levels
+
+-- where a transaction stands
+abbrev pub standing_reply : Standing → Reply
+standing_reply standing.Active = reply.StillActive
+standing_reply standing.Committed = reply.HasCommitted
+standing_reply standing.RolledBack = reply.RolledBack
+
+-- An answer of the machine as a reply. No line is replied to by what is to be waited for, a receipt or a step: the
+-- lines that wait have replies of their own.
 abbrev pub reply_of : Answer → Reply
-reply_of (answer.Created levels number) = reply.Created levels number
-reply_of (answer.Accepted number) = reply.Accepted number
+reply_of answer.Done = reply.Done
+reply_of (answer.Accepted levels number) = accepted_reply levels number
+reply_of (answer.Added levels) = added_reply levels
 reply_of answer.Opened = reply.Opened
-reply_of (answer.Found value) = reply.Value value.kind value.«data»
-reply_of (answer.Listed names) = reply.Keys names
-reply_of (answer.ValuesListed names) = reply.Values names
-reply_of (answer.Counted subkeys values time) = reply.Info subkeys values time
+reply_of (answer.Read found) = found_reply found
+reply_of (answer.Begun tx) = reply.Done
+reply_of (answer.Stands outcome) = standing_reply outcome
 reply_of (answer.Refused refusal) = reply.Refused refusal
+reply_of (answer.Awaits number) = reply.Done
+reply_of (answer.Receipt number) = reply.Done
+reply_of answer.NotYet = reply.Done
+reply_of (answer.Stepped progress) = reply.Done
 
--- the machine is asked one event, and its answer is the reply
+-- the machine is asked one event, and its answer is the reply; nothing else of the script changes
 abbrev pub Asks : Script → Event → Reply → Script → Type 0
-Asks old event told new = (answer : Answer) × Step old.machine event answer new.machine × (told ≡ reply_of answer) × (new.moment ≡ old.moment)
+Asks old event told new = (answer : Answer) × Step old.machine event answer new.machine × (told ≡ reply_of answer) × (new ≡ record old { machine = new.machine })
+
+-- the same of an event that is refused
+abbrev pub IsRefusedBy : Script → Event → Reply → Script → Type 0
+IsRefusedBy old event told new =
+    (refusal : Refusal) × Step old.machine event (answer.Refused refusal) new.machine × (told ≡ reply.Refused refusal) × (new ≡ record old { machine = new.machine })
+
+-- the reply of a line that has waited: its own, with the change's number, or the refusal that ended the wait
+abbrev pub waited_reply : Option Refusal → Reply → Reply
+waited_reply None told = told
+waited_reply (Some refusal) told = reply.Refused refusal
+
+-- What follows an answer: the change whose number it tells is waited for, up to its receipt; any other is the reply.
+abbrev pub Follows : Answer → (ℕ → Reply) → Machine → Reply → Machine → Type 0
+Follows (answer.Awaits number) tell old told new = (ended : Option Refusal) × IsWaited old number ended new × (told ≡ waited_reply ended (tell number))
+Follows answer tell old told new = (told ≡ reply_of answer) × (new ≡ old)
+
+-- the machine is asked an event, and what it says is to be waited for is waited for
+abbrev pub AsksAndWaits : Script → Event → (ℕ → Reply) → Reply → Script → Type 0
+AsksAndWaits old event tell told new =
+    (answer : Answer) × (mid : Machine) × Step old.machine event answer mid × Follows answer tell mid told new.machine × (new ≡ record old { machine = new.machine })
 
 -- a refusal that changes nothing
 abbrev pub IsRefused : Script → Refusal → Reply → Script → Type 0
 IsRefused old refusal told new = (told ≡ reply.Refused refusal) × (new ≡ old)
 
--- a name that may not stand is refused, and else it is asked about
-abbrev pub IsNamed : {A : Type 0} → Result A Refusal → (A → Type 0) → Script → Reply → Script → Type 0
-IsNamed (Ok name) asks old told new = asks name
+-- a name that may not stand is refused, and else what the request asks for is asked
+abbrev pub IsNamed : Result Asked Refusal → (Asked → Type 0) → Script → Reply → Script → Type 0
+IsNamed (Ok asked) asks old told new = asks asked
 IsNamed (Err refusal) asks old told new = IsRefused old refusal told new
 
--- memory for a name may be refused
+-- a label that names nothing is refused, and else its transaction is asked about
+abbrev pub IsLabelled : Option Tx → (Tx → Type 0) → Script → Reply → Script → Type 0
+IsLabelled (Some tx) asks old told new = asks tx
+IsLabelled None asks old told new = IsRefused old NoSuchHandle told new
+
+-- memory for a name or a label may be refused
 abbrev pub IsHeard : Script → Reply → Script → Type 0 → Type 0
 IsHeard old told new heard = heard ⊎ IsRefused old NoMemory told new
 
--- something is read of a key, whose path is tested first
-abbrev pub Reads : Script → Place → Question → Reply → Script → Type 0
-Reads old place question told new =
-    IsHeard old told new (IsNamed (path_of place.path) (λ path. Asks old (Read place.hive path question) told new) old told new)
+-- the event of a request alone, in the current session, and of one in a transaction
+abbrev pub event_alone : Script → Asked → Event
+event_alone script (Write op) = event.Write script.session script.moment op
+event_alone script (Read hive path question) = event.Read script.session hive path question
 
--- From old, the line may be answered this reply, and leave new. Names are tested first: the path, then a value's name.
+abbrev pub event_inside : Script → Tx → Asked → Event
+event_inside script tx (Write op) = event.TxWrite script.session tx script.moment op
+event_inside script tx (Read hive path question) = event.TxRead script.session tx hive path question
+
+-- the session is open, and the current one from now on
+abbrev pub Enters : Script → ℕ → Reply → Script → Type 0
+Enters old number told new =
+    Step old.machine (event.StartSession number) answer.Done new.machine × (told ≡ reply.Done) × (new ≡ record old { machine = new.machine; session = number })
+
+-- a label names a transaction, and every other label names what it named
+pub record Names (old new : List ℕ → Option Tx) (label : List ℕ) (tx : Tx) : Type 0 where
+  pub named : new label ≡ Some tx
+  pub others : (other : List ℕ) → other ≢ label → new other ≡ old other
+
+-- each label names what it named
+abbrev pub SameNames : (List ℕ → Option Tx) → (List ℕ → Option Tx) → Type 0
+SameNames old new = (label : List ℕ) → new label ≡ old label
+
+-- a transaction is begun, and the label names it from now on
+abbrev pub Begins : Script → List ℕ → List ℕ → Reply → Script → Type 0
+Begins old label id told new =
+    (tx : Tx) × Step old.machine (event.Begin old.session id) (answer.Begun tx) new.machine × (told ≡ reply.Done)
+    × (new ≡ record old { machine = new.machine; labels = new.labels }) × Names old.labels new.labels label tx
+
+-- no transaction is begun, and each label names what it named
+abbrev pub BeginsNothing : Script → List ℕ → Reply → Script → Type 0
+BeginsNothing old id told new =
+    (refusal : Refusal) × Step old.machine (event.Begin old.session id) (answer.Refused refusal) new.machine × (told ≡ reply.Refused refusal)
+    × (new ≡ record old { machine = new.machine; labels = new.labels }) × SameNames old.labels new.labels
+
+-- From old, the line may be answered this reply, and leave new. Its names are tested first: the path, then a value's
+-- name; then its label.
 abbrev pub Answers : Script → Line → Reply → Script → Type 0
 Answers old (Hives count) told new = ⊥
 Answers old (At moment) told new = (told ≡ reply.Done) × (new ≡ record old { moment = moment })
-Answers old (Create place) told new =
-    IsHeard old told new (IsNamed (path_of place.path) (λ path. Asks old (Write old.moment (CreateKey place.hive path)) told new) old told new)
-Answers old (Delete place) told new =
-    IsHeard old told new (IsNamed (path_of place.path) (λ path. Asks old (Write old.moment (DeleteKey place.hive path)) told new) old told new)
-Answers old (Set place name kind bytes) told new =
-    IsHeard old told new (IsNamed (path_of place.path) (λ path. IsNamed (name_if (is_value_name name) name) (λ named. Asks old (Write old.moment (SetValue place.hive path named kind bytes)) told new) old told new) old told new)
-Answers old (Unset place name) told new =
-    IsHeard old told new (IsNamed (path_of place.path) (λ path. IsNamed (name_if (is_value_name name) name) (λ named. Asks old (Write old.moment (DeleteValue place.hive path named)) told new) old told new) old told new)
-Answers old (Get place name) told new =
-    IsHeard old told new (IsNamed (path_of place.path) (λ path. IsNamed (name_if (is_value_name name) name) (λ named. Asks old (Read place.hive path (ValueOf named)) told new) old told new) old told new)
-Answers old (Keys place) told new = Reads old place KeysOf told new
-Answers old (Values place) told new = Reads old place ValuesOf told new
-Answers old (Info place) told new = Reads old place InfoOf told new
+Answers old (Session number) told new = Enters old number told new ⊎ IsRefusedBy old (event.StartSession number) told new
+Answers old (End number) told new = Asks old (event.EndSession number) told new
+Answers old (Plain request) told new =
+    IsHeard old told new (IsNamed (requested request) (λ asked. Asks old (event_alone old asked) told new) old told new)
+Answers old (Inside label request) told new =
+    IsHeard old told new (IsNamed (requested request) (λ asked. IsLabelled (old.labels label) (λ tx. Asks old (event_inside old tx asked) told new) old told new) old told new)
+Answers old (Begin label id) told new = IsHeard old told new (Begins old label id told new ⊎ BeginsNothing old id told new)
+Answers old (Commit label) told new =
+    IsLabelled (old.labels label) (λ tx. AsksAndWaits old (event.CommitAccept old.session tx old.moment) reply.Committed told new) old told new
+Answers old (Rollback label) told new = IsLabelled (old.labels label) (λ tx. Asks old (event.Rollback old.session tx) told new) old told new
+Answers old (Close label) told new = IsLabelled (old.labels label) (λ tx. Asks old (event.Close old.session tx) told new) old told new
+Answers old (Outcome label) told new = IsLabelled (old.labels label) (λ tx. Asks old (event.Outcome old.session tx) told new) old told new
+Answers old Flush told new = AsksAndWaits old event.FlushAsk reply.Flushed told new
 
 -- `hives` is the first line and stands nowhere else
 abbrev pub first_line : Option Line → Option ℕ
 first_line None = None
 first_line (Some (Hives count)) = Some count
 first_line (Some (At moment)) = None
-first_line (Some (Create place)) = None
-first_line (Some (Set place name kind bytes)) = None
-first_line (Some (Get place name)) = None
-first_line (Some (Keys place)) = None
-first_line (Some (Delete place)) = None
-first_line (Some (Unset place name)) = None
-first_line (Some (Values place)) = None
-first_line (Some (Info place)) = None
+first_line (Some (Session number)) = None
+first_line (Some (End number)) = None
+first_line (Some (Plain request)) = None
+first_line (Some (Inside label request)) = None
+first_line (Some (Begin label id)) = None
+first_line (Some (Commit label)) = None
+first_line (Some (Rollback label)) = None
+first_line (Some (Close label)) = None
+first_line (Some (Outcome label)) = None
+first_line (Some Flush) = None
 
 abbrev pub later_line : Option Line → Option Line
 later_line None = None
 later_line (Some (Hives count)) = None
 later_line (Some (At moment)) = Some (At moment)
-later_line (Some (Create place)) = Some (Create place)
-later_line (Some (Set place name kind bytes)) = Some (Set place name kind bytes)
-later_line (Some (Get place name)) = Some (Get place name)
-later_line (Some (Keys place)) = Some (Keys place)
-later_line (Some (Delete place)) = Some (Delete place)
-later_line (Some (Unset place name)) = Some (Unset place name)
-later_line (Some (Values place)) = Some (Values place)
-later_line (Some (Info place)) = Some (Info place)
+later_line (Some (Session number)) = Some (Session number)
+later_line (Some (End number)) = Some (End number)
+later_line (Some (Plain request)) = Some (Plain request)
+later_line (Some (Inside label request)) = Some (Inside label request)
+later_line (Some (Begin label id)) = Some (Begin label id)
+later_line (Some (Commit label)) = Some (Commit label)
+later_line (Some (Rollback label)) = Some (Rollback label)
+later_line (Some (Close label)) = Some (Close label)
+later_line (Some (Outcome label)) = Some (Outcome label)
+later_line (Some Flush) = Some Flush
 
 -- how many hives the bytes of a script's first line ask for
 abbrev pub hives_asked : List ℕ → Option ℕ

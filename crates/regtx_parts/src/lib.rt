@@ -1,15 +1,18 @@
 //! The parts of the program: a plain store, and the run of a script over it.
 //!
 //! [`play`] reads a script line by line, and writes the reply to each line. What it writes is stated apart from it: the
-//! lines by the grammar of `reg_script`, the answers by the machine (`specs/Machine`), which knows no bytes, and the
-//! text by `specs/Plays`.
+//! lines by the grammar of `reg_script`, the answers by the machine of `machine`, which knows no bytes, what a line asks
+//! of it by `specs/Scripts`, and the text by `specs/Plays`.
 #![tactic(auto)]
 
+mod asked;
 mod ending;
-pub mod event;
+mod labels;
 mod player;
 mod runner;
 mod store;
+mod told;
+mod waiting;
 
 pub use ending::Status;
 pub use runner::{play, refuse_script};

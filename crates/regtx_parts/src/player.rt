@@ -1,65 +1,57 @@
 //! A script's store, asked line by line.
 ghost use Rattle.std.specs.Prelude.{◌≡◌, ℕ, Some, None, MatchResult, MatchOption, IfOk, IfSome, IfNone};
 ghost use Rattle.reg_script.specs.declared.line.Line.{Line as AnyLine};
-ghost use Rattle.regtx_parts.specs.Scripts.{Asks, Answers, Reads, reply_of, later_line, line_asked, hives_asked, fresh_script};
-ghost use Rattle.regtx_parts.specs.Players.{script_of};
+ghost use Rattle.reg_script.specs.declared.reply.Reply.{Reply as AnyReply};
+ghost use Rattle.regtx_parts.specs.Scripts.{Asks, Answers, AsksAndWaits, event_alone, event_inside, later_line, line_asked, hives_asked, fresh_script};
+ghost use Rattle.regtx_parts.specs.Players.{script_of, reply_by};
 
-use crate::event::{Answer, Event, Question};
+use crate::asked::{Asked, requested};
+use crate::labels::Labels;
 use crate::store::PlainStore;
-use reg_names::{Name, Path, Refusal};
-use reg_script::{Line, Place, Reply, Text, Unread, read_line};
-use reg_tree::{Data, Op, Value};
+use crate::told::reply_of;
+use crate::waiting::wait;
+use machine::{Event, Reply as Answer, Tx};
+use reg_names::Refusal;
+use reg_script::{Label, Line, Reply, Request, Unread, read_line};
 use std::alloc::{AllocError, Global};
+use uuid::Uuid;
 
-/// The store of a script, and the moment of what follows.
+/// The store of a script, the moment and the session of what follows, and the transaction that each label names.
 #[derive(Drop)]
 pub(crate) struct Player {
     store: PlainStore,
     moment: u64,
-}
-
-impl From<Answer> for Reply {
-    ghost from_gives = { λ answer told. told ≡ reply_of answer };
-
-    fn from(answer: Answer) -> Reply {
-        match answer {
-            Answer::Created { levels, number } => Reply::Created { levels, number },
-            Answer::Accepted { number } => Reply::Accepted { number },
-            Answer::Opened => Reply::Opened,
-            Answer::Found { value } => {
-                let Value { kind, data, .. } = value;
-                Reply::Value { kind, data }
-            }
-            Answer::Listed { names } => Reply::Keys { names },
-            Answer::ValuesListed { names } => Reply::Values { names },
-            Answer::Counted {
-                subkeys,
-                values,
-                time,
-            } => Reply::Info {
-                subkeys,
-                values,
-                time,
-            },
-            Answer::Refused { refusal } => Reply::Refused { refusal },
-        }
-    }
+    session: u32,
+    labels: Labels,
 }
 
 impl Player {
-    /// The store that a script's first line asks for, or nothing where the bytes are no such line.
+    /// The store that a script's first line asks for, with session 0 open, or nothing where the bytes are no such line.
     pub(crate) fn begin(alloc: Global, bytes: &[u8]) -> Result<Option<Player>, AllocError>
         ensures none { IfOk result (λ made. IfNone made (hives_asked bytes.now ≡ None)) }
         ensures some { IfOk result (λ made. IfSome made (λ player. (hives : ℕ) × (hives_asked bytes.now ≡ Some hives) × (script_of player ≡ fresh_script hives))) }
     {
         match read_line(alloc, bytes) {
-            Ok(Line::Hives { count }) => {
-                let store = PlainStore::new(alloc, usize::from(count))?;
-                Ok(Some(Player { store, moment: 0 }))
-            }
+            Ok(Line::Hives { count }) => Ok(Some(Player::new(alloc, count)?)),
             Ok(_) | Err(Unread::NotUnderstood) => Ok(None),
             Err(Unread::NoMemory) => Err(AllocError),
         }
+    }
+
+    // a store of this many new hives, in which session 0 is open; it is refused for want of memory alone
+    fn new(alloc: Global, hives: u8) -> Result<Player, AllocError>
+        ensures { IfOk result (λ player. script_of player ≡ fresh_script hives) }
+    {
+        let mut store = PlainStore::new(alloc, usize::from(hives))?;
+        let Answer::Done = store.event(alloc, Event::StartSession { session: 0 }) else {
+            return Err(AllocError);
+        };
+        Ok(Player {
+            store,
+            moment: 0,
+            session: 0,
+            labels: Labels::new(alloc),
+        })
     }
 
     /// Answers a further line of the script, or nothing where the bytes are no such line. Memory is refused only for
@@ -85,19 +77,16 @@ impl Player {
                 self.moment = moment;
                 Ok(Reply::Done)
             }
-            Line::Create { place } => self.create(alloc, &place),
-            Line::Delete { place } => self.delete(alloc, &place),
-            Line::Set {
-                place,
-                name,
-                kind,
-                data,
-            } => self.set(alloc, &place, &name, kind, data),
-            Line::Unset { place, name } => self.unset(alloc, &place, &name),
-            Line::Get { place, name } => self.get(alloc, &place, &name),
-            Line::Keys { place } => self.ask(alloc, &place, Question::KeysOf),
-            Line::Values { place } => self.ask(alloc, &place, Question::ValuesOf),
-            Line::Info { place } => self.ask(alloc, &place, Question::InfoOf),
+            Line::Session { number } => Ok(self.enter(alloc, number)),
+            Line::End { number } => Ok(self.ask(alloc, Event::EndSession { session: number })),
+            Line::Plain { request } => self.alone(alloc, request),
+            Line::Inside { label, request } => self.inside(alloc, label, request),
+            Line::Begin { label, id } => self.begin_as(alloc, label, id),
+            Line::Commit { label } => self.commit(alloc, label),
+            Line::Rollback { label } => self.rollback(alloc, label),
+            Line::Close { label } => self.close(alloc, label),
+            Line::Outcome { label } => self.outcome(alloc, label),
+            Line::Flush => Ok(self.flush(alloc)),
         };
         match told {
             Ok(told) => Some(told),
@@ -105,94 +94,181 @@ impl Player {
         }
     }
 
-    fn create(&mut self, alloc: Global, place: &Place) -> Result<Reply, Refusal>
-        ensures { MatchResult result (λ told. Answers (script_of self.old) (Line.Create place.now) told (script_of self.new)) (λ refusal. Answers (script_of self.old) (Line.Create place.now) (Reply.Refused refusal) (script_of self.new)) }
+    // opens the session, and makes it the current one
+    fn enter(&mut self, alloc: Global, number: u32) -> Reply
+        ensures { Answers (script_of self.old) (Line.Session number) result (script_of self.new) }
     {
-        let path = Path::parse(alloc, place.path.units())?;
-        let op = Op::CreateKey {
-            hive: place.hive,
-            path,
-        };
-        Ok(self.write(alloc, op))
+        match self
+            .store
+            .event(alloc, Event::StartSession { session: number })
+        {
+            Answer::Done => {
+                self.session = number;
+                Reply::Done
+            }
+            answer => reply_of(answer),
+        }
     }
 
-    fn delete(&mut self, alloc: Global, place: &Place) -> Result<Reply, Refusal>
-        ensures { MatchResult result (λ told. Answers (script_of self.old) (Line.Delete place.now) told (script_of self.new)) (λ refusal. Answers (script_of self.old) (Line.Delete place.now) (Reply.Refused refusal) (script_of self.new)) }
+    fn alone(&mut self, alloc: Global, request: Request) -> Result<Reply, Refusal>
+        ensures { MatchResult result (λ told. Answers (script_of self.old) (Line.Plain request) told (script_of self.new)) (λ refusal. Answers (script_of self.old) (Line.Plain request) (Reply.Refused refusal) (script_of self.new)) }
     {
-        let path = Path::parse(alloc, place.path.units())?;
-        let op = Op::DeleteKey {
-            hive: place.hive,
-            path,
-        };
-        Ok(self.write(alloc, op))
+        let event = self.event_alone(requested(alloc, request)?);
+        Ok(self.ask(alloc, event))
     }
 
-    fn set(
-        &mut self,
-        alloc: Global,
-        place: &Place,
-        name: &Text,
-        kind: u32,
-        data: Data,
-    ) -> Result<Reply, Refusal>
-        ensures { MatchResult result (λ told. Answers (script_of self.old) (Line.Set place.now name.now kind «data») told (script_of self.new)) (λ refusal. Answers (script_of self.old) (Line.Set place.now name.now kind «data») (Reply.Refused refusal) (script_of self.new)) }
+    fn inside(&mut self, alloc: Global, label: Label, request: Request) -> Result<Reply, Refusal>
+        ensures { MatchResult result (λ told. Answers (script_of self.old) (Line.Inside label request) told (script_of self.new)) (λ refusal. Answers (script_of self.old) (Line.Inside label request) (Reply.Refused refusal) (script_of self.new)) }
     {
-        let path = Path::parse(alloc, place.path.units())?;
-        let name = Name::value(alloc, name.units())?;
-        let op = Op::SetValue {
-            hive: place.hive,
-            path,
-            name,
-            kind,
-            data,
-        };
-        Ok(self.write(alloc, op))
+        let asked = requested(alloc, request)?;
+        let event = self.event_inside(self.tx(label)?, asked);
+        Ok(self.ask(alloc, event))
     }
 
-    fn unset(&mut self, alloc: Global, place: &Place, name: &Text) -> Result<Reply, Refusal>
-        ensures { MatchResult result (λ told. Answers (script_of self.old) (Line.Unset place.now name.now) told (script_of self.new)) (λ refusal. Answers (script_of self.old) (Line.Unset place.now name.now) (Reply.Refused refusal) (script_of self.new)) }
+    // the request in the current session, at the moment of now
+    fn event_alone(&self, asked: Asked) -> Event
+        ensures { result ≡ event_alone (script_of self.now) asked }
     {
-        let path = Path::parse(alloc, place.path.units())?;
-        let name = Name::value(alloc, name.units())?;
-        let op = Op::DeleteValue {
-            hive: place.hive,
-            path,
-            name,
-        };
-        Ok(self.write(alloc, op))
+        let session = self.session;
+        match asked {
+            Asked::Write { op } => Event::Write {
+                session,
+                moment: self.moment,
+                op,
+            },
+            Asked::Read {
+                hive,
+                path,
+                question,
+            } => Event::Read {
+                session,
+                hive,
+                path,
+                question,
+            },
+        }
     }
 
-    fn get(&mut self, alloc: Global, place: &Place, name: &Text) -> Result<Reply, Refusal>
-        ensures { MatchResult result (λ told. Answers (script_of self.old) (Line.Get place.now name.now) told (script_of self.new)) (λ refusal. Answers (script_of self.old) (Line.Get place.now name.now) (Reply.Refused refusal) (script_of self.new)) }
+    // the same in a transaction
+    fn event_inside(&self, tx: Tx, asked: Asked) -> Event
+        ensures { result ≡ event_inside (script_of self.now) tx asked }
     {
-        let path = Path::parse(alloc, place.path.units())?;
-        let name = Name::value(alloc, name.units())?;
-        Ok(self.read(alloc, place.hive, path, Question::ValueOf { name }))
+        let session = self.session;
+        match asked {
+            Asked::Write { op } => Event::TxWrite {
+                session,
+                tx,
+                moment: self.moment,
+                op,
+            },
+            Asked::Read {
+                hive,
+                path,
+                question,
+            } => Event::TxRead {
+                session,
+                tx,
+                hive,
+                path,
+                question,
+            },
+        }
     }
 
-    // reads what a line without a value's name asks of a key
-    fn ask(&mut self, alloc: Global, place: &Place, question: Question) -> Result<Reply, Refusal>
-        ensures { MatchResult result (λ told. Reads (script_of self.old) place.now question told (script_of self.new)) (λ refusal. Reads (script_of self.old) place.now question (Reply.Refused refusal) (script_of self.new)) }
+    // begins a transaction that the label names; room for the label is made first, so that no transaction is begun which
+    // nothing names
+    fn begin_as(&mut self, alloc: Global, label: Label, id: Uuid) -> Result<Reply, Refusal>
+        ensures { MatchResult result (λ told. Answers (script_of self.old) (Line.Begin label id) told (script_of self.new)) (λ refusal. Answers (script_of self.old) (Line.Begin label id) (Reply.Refused refusal) (script_of self.new)) }
     {
-        let path = Path::parse(alloc, place.path.units())?;
-        Ok(self.read(alloc, place.hive, path, question))
+        self.labels.make_room(label)?;
+        let session = self.session;
+        match self.store.event(alloc, Event::Begin { session, id }) {
+            Answer::Begun { tx } => {
+                self.labels.name(label, tx);
+                Ok(Reply::Done)
+            }
+            answer => Ok(reply_of(answer)),
+        }
     }
 
-    fn write(&mut self, alloc: Global, op: Op) -> Reply
-        ensures { Asks (script_of self.old) (Event.Write self.old.moment op) result (script_of self.new) }
+    fn commit(&mut self, alloc: Global, label: Label) -> Result<Reply, Refusal>
+        ensures { MatchResult result (λ told. Answers (script_of self.old) (Line.Commit label) told (script_of self.new)) (λ refusal. Answers (script_of self.old) (Line.Commit label) (Reply.Refused refusal) (script_of self.new)) }
     {
+        let session = self.session;
         let moment = self.moment;
-        Reply::from(self.store.event(alloc, Event::Write { moment, op }))
+        let tx = self.tx(label)?;
+        let event = Event::CommitAccept {
+            session,
+            tx,
+            moment,
+        };
+        match self.ask_and_wait(alloc, event) {
+            Ok(number) => Ok(Reply::Committed { number }),
+            Err(told) => Ok(told),
+        }
     }
 
-    fn read(&mut self, alloc: Global, hive: u8, path: Path, question: Question) -> Reply
-        ensures { Asks (script_of self.old) (Event.Read hive path question) result (script_of self.new) }
+    fn rollback(&mut self, alloc: Global, label: Label) -> Result<Reply, Refusal>
+        ensures { MatchResult result (λ told. Answers (script_of self.old) (Line.Rollback label) told (script_of self.new)) (λ refusal. Answers (script_of self.old) (Line.Rollback label) (Reply.Refused refusal) (script_of self.new)) }
     {
-        let event = Event::Read {
-            hive,
-            path,
-            question,
-        };
-        Reply::from(self.store.event(alloc, event))
+        let session = self.session;
+        let tx = self.tx(label)?;
+        Ok(self.ask(alloc, Event::Rollback { session, tx }))
+    }
+
+    fn close(&mut self, alloc: Global, label: Label) -> Result<Reply, Refusal>
+        ensures { MatchResult result (λ told. Answers (script_of self.old) (Line.Close label) told (script_of self.new)) (λ refusal. Answers (script_of self.old) (Line.Close label) (Reply.Refused refusal) (script_of self.new)) }
+    {
+        let session = self.session;
+        let tx = self.tx(label)?;
+        Ok(self.ask(alloc, Event::Close { session, tx }))
+    }
+
+    fn outcome(&mut self, alloc: Global, label: Label) -> Result<Reply, Refusal>
+        ensures { MatchResult result (λ told. Answers (script_of self.old) (Line.Outcome label) told (script_of self.new)) (λ refusal. Answers (script_of self.old) (Line.Outcome label) (Reply.Refused refusal) (script_of self.new)) }
+    {
+        let session = self.session;
+        let tx = self.tx(label)?;
+        Ok(self.ask(alloc, Event::Outcome { session, tx }))
+    }
+
+    fn flush(&mut self, alloc: Global) -> Reply
+        ensures { Answers (script_of self.old) Line.Flush result (script_of self.new) }
+    {
+        match self.ask_and_wait(alloc, Event::FlushAsk) {
+            Ok(number) => Reply::Flushed { number },
+            Err(told) => told,
+        }
+    }
+
+    // the transaction that the label names
+    fn tx(&self, label: Label) -> Result<Tx, Refusal>
+        ensures { MatchResult result (λ tx. (script_of self.now).labels label ≡ Some tx) (λ refusal. ((script_of self.now).labels label ≡ None) × (refusal ≡ Refusal.NoSuchHandle)) }
+    {
+        match self.labels.tx(label) {
+            Some(tx) => Ok(tx),
+            None => Err(Refusal::NoSuchHandle),
+        }
+    }
+
+    // asks one event, whose answer is the reply
+    fn ask(&mut self, alloc: Global, event: Event) -> Reply
+        ensures { Asks (script_of self.old) event result (script_of self.new) }
+    {
+        reply_of(self.store.event(alloc, event))
+    }
+
+    // asks an event, and waits for the change whose number it answers; `Err` is the reply where it answers no number, or
+    // the wait is refused
+    fn ask_and_wait(&mut self, alloc: Global, event: Event) -> Result<u64, Reply>
+        ensures { (tell : ℕ → AnyReply) → AsksAndWaits (script_of self.old) event tell (reply_by tell result) (script_of self.new) }
+    {
+        match self.store.event(alloc, event) {
+            Answer::Awaits { number } => match wait(&mut self.store, alloc, number) {
+                Ok(()) => Ok(number),
+                Err(refusal) => Err(Reply::Refused { refusal }),
+            },
+            answer => Err(reply_of(answer)),
+        }
     }
 }

@@ -12,4 +12,8 @@ mod lines;
 #[cfg(test)]
 mod runs;
 #[cfg(test)]
+mod sessions;
+#[cfg(test)]
 mod streams;
+#[cfg(test)]
+mod transactions;

@@ -1,15 +1,22 @@
-//! The limits of data and of journal room.
+//! The limits of data, of a transaction's change, of a tree's weight at a commit, and of journal room.
 use crate::fixtures::played;
+use machine::{Event, Outcome, Reply, Tx};
 use reg_names::{Name, Path, Refusal};
 use reg_tree::{Data, Op};
-use regtx_parts::event::{Answer, Event};
 use regtx_parts::{PlainStore, Status};
 use std::alloc::Global;
 use std::test::Fail;
+use uuid::Uuid;
 
-const KEY: [u16; 1] = [0x4b];
+const MEBIBYTE: usize = 1_048_576;
 
-const VALUE: [u16; 1] = [0x76];
+// keys
+const K: u16 = 0x4b;
+
+const L: u16 = 0x4c;
+
+// the name of the first value; others follow it
+const V: u16 = 0x61;
 
 // a line that sets the value `v` of the root to so many bytes
 fn set_line(alloc: Global, bytes: usize) -> Result<Vec<u8>, Fail> {
@@ -23,26 +30,90 @@ fn set_line(alloc: Global, bytes: usize) -> Result<Vec<u8>, Fail> {
 #[test]
 fn data_go_to_their_limit(rt: HostRuntime) -> Result<(), Fail> {
     let alloc = rt.alloc();
-    let (printed, status) = played(alloc, &set_line(alloc, 1_048_576)?)?;
+    let (printed, status) = played(alloc, &set_line(alloc, MEBIBYTE)?)?;
     assert!(&rt; printed.as_slice() == b"ok\naccepted 1\n".as_slice());
     assert!(&rt; status == Status::Clean);
-    let (printed, status) = played(alloc, &set_line(alloc, 1_048_577)?)?;
+    let (printed, status) = played(alloc, &set_line(alloc, MEBIBYTE + 1)?)?;
     assert!(&rt; printed.as_slice() == b"ok\nE6 TooLarge\n".as_slice());
     assert!(&rt; status == Status::Refused);
     Ok(())
 }
 
-fn write(alloc: Global, store: &mut PlainStore, op: Op) -> Answer {
-    store.event(alloc, Event::Write { moment: 1, op })
+// a store of one hive with the keys K and L, in which session 0 is open
+fn store_of_two_keys(alloc: Global) -> Result<PlainStore, Refusal> {
+    let mut store = PlainStore::new(alloc, 1)?;
+    store.event(alloc, Event::StartSession { session: 0 });
+    for key in [K, L] {
+        let path = Path::parse(alloc, &[key])?;
+        write(alloc, &mut store, Op::CreateKey { hive: 0, path });
+    }
+    Ok(store)
 }
 
-fn set(alloc: Global, data: &Data) -> Result<Op, Refusal> {
+fn write(alloc: Global, store: &mut PlainStore, op: Op) -> Reply {
+    store.event(
+        alloc,
+        Event::Write {
+            session: 0,
+            moment: 1,
+            op,
+        },
+    )
+}
+
+fn write_in(alloc: Global, store: &mut PlainStore, tx: Tx, op: Op) -> Reply {
+    store.event(
+        alloc,
+        Event::TxWrite {
+            session: 0,
+            tx,
+            moment: 1,
+            op,
+        },
+    )
+}
+
+fn commit(alloc: Global, store: &mut PlainStore, tx: Tx) -> Reply {
+    store.event(
+        alloc,
+        Event::CommitAccept {
+            session: 0,
+            tx,
+            moment: 2,
+        },
+    )
+}
+
+fn begun(alloc: Global, store: &mut PlainStore) -> Option<Tx> {
+    let id = Uuid::nil();
+    match store.event(alloc, Event::Begin { session: 0, id }) {
+        Reply::Begun { tx } => Some(tx),
+        _ => None,
+    }
+}
+
+fn is_active(alloc: Global, store: &mut PlainStore, tx: Tx) -> bool {
+    match store.event(alloc, Event::Outcome { session: 0, tx }) {
+        Reply::Stands { outcome } => outcome == Outcome::Active,
+        _ => false,
+    }
+}
+
+fn set(alloc: Global, key: u16, name: u16, data: &Data) -> Result<Op, Refusal> {
     Ok(Op::SetValue {
         hive: 0,
-        path: Path::parse(alloc, &KEY)?,
-        name: Name::value(alloc, &VALUE)?,
+        path: Path::parse(alloc, &[key])?,
+        name: Name::value(alloc, &[name])?,
         kind: 3,
         data: data.clone()?,
+    })
+}
+
+fn unset(alloc: Global, key: u16, name: u16) -> Result<Op, Refusal> {
+    Ok(Op::DeleteValue {
+        hive: 0,
+        path: Path::parse(alloc, &[key])?,
+        name: Name::value(alloc, &[name])?,
     })
 }
 
@@ -52,18 +123,80 @@ fn bytes(alloc: Global, count: usize) -> Result<Data, Refusal> {
 }
 
 // the number of an accepted write
-fn number(answer: &Answer) -> Option<u64> {
-    match answer {
-        Answer::Created { number, .. } | Answer::Accepted { number } => Some(*number),
+fn number(reply: &Reply) -> Option<u64> {
+    match reply {
+        Reply::Accepted { number, .. } => Some(*number),
         _ => None,
     }
 }
 
-fn is_journal_full(answer: &Answer) -> bool {
-    match answer {
-        Answer::Refused { refusal } => *refusal == Refusal::JournalFull,
+fn is_added(reply: &Reply) -> bool {
+    match reply {
+        Reply::Added { .. } => true,
         _ => false,
     }
+}
+
+fn is_awaited(reply: &Reply, wanted: u64) -> bool {
+    match reply {
+        Reply::Awaits { number } => *number == wanted,
+        _ => false,
+    }
+}
+
+fn is_refused(reply: &Reply, why: Refusal) -> bool {
+    match reply {
+        Reply::Refused { refusal } => *refusal == why,
+        _ => false,
+    }
+}
+
+// a transaction's writes take at most 4,194,304 bytes as one change, which is told before a conflict
+#[test]
+fn a_transaction_takes_no_more_than_a_change_may(rt: HostRuntime) -> Result<(), Fail> {
+    let alloc = rt.alloc();
+    let mut store = store_of_two_keys(alloc)?;
+    let largest = bytes(alloc, MEBIBYTE)?;
+    let nothing = bytes(alloc, 0)?;
+    let (Some(tx), Some(other)) = (begun(alloc, &mut store), begun(alloc, &mut store)) else {
+        return Err(Fail::from(Refusal::NoSeat));
+    };
+    assert!(&rt; is_added(&write_in(alloc, &mut store, other, set(alloc, L, V, &nothing)?)));
+    for name in V..V + 3 {
+        assert!(&rt; is_added(&write_in(alloc, &mut store, tx, set(alloc, K, name, &largest)?)));
+    }
+    let over = write_in(alloc, &mut store, tx, set(alloc, L, V, &largest)?);
+    assert!(&rt; is_refused(&over, Refusal::TooLarge));
+    let claimed = write_in(alloc, &mut store, tx, set(alloc, L, V, &nothing)?);
+    assert!(&rt; is_refused(&claimed, Refusal::Conflict));
+    assert!(&rt; is_awaited(&commit(alloc, &mut store, tx), 3));
+    Ok(())
+}
+
+// a tree weighs at most 16,777,216, at a commit after each of its writes, also where the last tree fits again
+#[test]
+fn a_commit_is_weighed_after_each_write(rt: HostRuntime) -> Result<(), Fail> {
+    let alloc = rt.alloc();
+    let mut store = store_of_two_keys(alloc)?;
+    let largest = bytes(alloc, MEBIBYTE)?;
+    let Some(tx) = begun(alloc, &mut store) else {
+        return Err(Fail::from(Refusal::NoSeat));
+    };
+    for name in V..V + 3 {
+        assert!(&rt; is_added(&write_in(alloc, &mut store, tx, set(alloc, K, name, &largest)?)));
+    }
+    assert!(&rt; is_added(&write_in(alloc, &mut store, tx, unset(alloc, K, V)?)));
+    for name in V..V + 13 {
+        let accepted = write(alloc, &mut store, set(alloc, L, name, &largest)?);
+        assert!(&rt; number(&accepted) == Some(u64::from(name - V) + 3));
+    }
+    let over = commit(alloc, &mut store, tx);
+    assert!(&rt; is_refused(&over, Refusal::TooLarge));
+    assert!(&rt; is_active(alloc, &mut store, tx));
+    let lighter = write(alloc, &mut store, unset(alloc, L, V)?);
+    assert!(&rt; number(&lighter) == Some(16));
+    assert!(&rt; is_awaited(&commit(alloc, &mut store, tx), 17));
+    Ok(())
 }
 
 // the journal's room is 67,108,864 bytes: 65 at first, 17 more than its text for each change
@@ -71,23 +204,34 @@ fn is_journal_full(answer: &Answer) -> bool {
 fn a_change_that_the_journal_has_no_room_for_is_refused(rt: HostRuntime) -> Result<(), Fail> {
     let alloc = rt.alloc();
     let mut store = PlainStore::new(alloc, 1)?;
-    let path = Path::parse(alloc, &KEY)?;
+    store.event(alloc, Event::StartSession { session: 0 });
+    let path = Path::parse(alloc, &[K])?;
     let created = write(alloc, &mut store, Op::CreateKey { hive: 0, path });
     assert!(&rt; number(&created) == Some(1));
-    let largest = bytes(alloc, 1_048_576)?;
+    let largest = bytes(alloc, MEBIBYTE)?;
     for turn in 0..63u64 {
-        let answer = write(alloc, &mut store, set(alloc, &largest)?);
-        assert!(&rt; number(&answer) == Some(turn + 2));
+        let reply = write(alloc, &mut store, set(alloc, K, V, &largest)?);
+        assert!(&rt; number(&reply) == Some(turn + 2));
     }
     // one byte more than fits, and then what fits
     let over = bytes(alloc, 1_045_273)?;
-    let answer = write(alloc, &mut store, set(alloc, &over)?);
-    assert!(&rt; is_journal_full(&answer));
+    let reply = write(alloc, &mut store, set(alloc, K, V, &over)?);
+    assert!(&rt; is_refused(&reply, Refusal::JournalFull));
     let last = bytes(alloc, 1_045_272)?;
-    let answer = write(alloc, &mut store, set(alloc, &last)?);
-    assert!(&rt; number(&answer) == Some(65));
+    let reply = write(alloc, &mut store, set(alloc, K, V, &last)?);
+    assert!(&rt; number(&reply) == Some(65));
+    // a refused write rolls nothing back, a refused commit leaves its transaction active, and an empty one needs no room
     let nothing = bytes(alloc, 0)?;
-    let answer = write(alloc, &mut store, set(alloc, &nothing)?);
-    assert!(&rt; is_journal_full(&answer));
+    let (Some(tx), Some(empty)) = (begun(alloc, &mut store), begun(alloc, &mut store)) else {
+        return Err(Fail::from(Refusal::NoSeat));
+    };
+    assert!(&rt; is_added(&write_in(alloc, &mut store, tx, set(alloc, K, V, &nothing)?)));
+    let reply = write(alloc, &mut store, set(alloc, K, V, &nothing)?);
+    assert!(&rt; is_refused(&reply, Refusal::JournalFull));
+    assert!(&rt; is_active(alloc, &mut store, tx));
+    let reply = commit(alloc, &mut store, tx);
+    assert!(&rt; is_refused(&reply, Refusal::JournalFull));
+    assert!(&rt; is_active(alloc, &mut store, tx));
+    assert!(&rt; is_awaited(&commit(alloc, &mut store, empty), 0));
     Ok(())
 }

@@ -1,4 +1,4 @@
-use Rattle.std.proofs.Common.{[], ◌++◌, ◌≡◌, ◌∙◌, ap, refl, sym, append_assoc, rules}
+use Rattle.std.proofs.Common.{[], ◌++◌, ◌≡◌, ◌∙◌, ap, refl, append_assoc, rules}
 use Rattle.std.proofs.lemmas.List.{take-append-drop}
 use Rattle.hex.specs.Hex.{encode_lower}
 use Rattle.reg_script.proofs.Written.{appends_no_digits, appends_both, encoded_in_parts}

@@ -1,4 +1,4 @@
-use Rattle.std.proofs.Common.{rules, ◌≡◌, ◌<◌, length, ap, sym, subst, Some, None}
+use Rattle.std.proofs.Common.{rules, ◌≡◌, ◌<◌, length, ap, sym, subst, Some}
 use Rattle.std.specs.Option.{option_copied}
 use Rattle.reg_script.proofs.Escapes.{left, left_smaller, begins, goes_on, stops, ends}
 use Rattle.reg_script.proofs.Refusing.{carried, handed_on}

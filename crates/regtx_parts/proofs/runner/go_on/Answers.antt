@@ -1,4 +1,4 @@
-use Rattle.std.proofs.Common.{◌+◌, ◌||◌, ◌≡◌, sym, subst}
+use Rattle.std.proofs.Common.{sym, subst}
 use Rattle.regtx_parts.specs.Endings.{with_refusal}
 use Rattle.regtx_parts.specs.Players.{script_of}
 use Rattle.regtx_parts.specs.Plays.{IsPlayedOn}

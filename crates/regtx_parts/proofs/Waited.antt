@@ -1,0 +1,30 @@
+-- A wait, step by step.
+use Rattle.std.proofs.Common.{◌≡◌, ℕ, ◌≤◌, false, [], ◌∷◌, Option, Some, refl, sym, ◌∙◌, ap, subst, inl}
+use Rattle.std.specs.Prelude.{MatchResult, Result, Ok, Err}
+use Rattle.std.specs.Result.{IsErrAnd}
+use Rattle.reg_names.specs.declared.refusal.Refusal.{Refusal}
+use Rattle.machine.specs.Machine.{Machine, last_number}
+use Rattle.machine.specs.Steps.{Step}
+use Rattle.machine.specs.declared.event.Event.TheVariants.{Acked}
+use Rattle.machine.specs.declared.event.Reply.TheVariants.{Refused}
+use Rattle.regtx_parts.specs.Waits.{IsWaited, IsAsked, IsStepped}
+
+-- the question is refused
+pub question_refused : (old new : Machine) (number : ℕ) (refusal : Refusal) → Step old (Acked number) (Refused refusal) new → IsWaited old number (Some refusal) new
+question_refused old new number refusal asked = ([], inl (new, asked, refl))
+
+-- one step more
+pub one_step_more : (old mid next : Machine) (number : ℕ) (ended : Option Refusal) (new : Machine) → IsAsked old number false mid → IsStepped mid next → IsWaited next number ended new → IsWaited old number ended new
+one_step_more old mid next number ended new asked stepped waited = (stepped.0 ∷ waited.0, (next, (mid, asked, (next, stepped.1, refl)), waited.1))
+
+-- a step keeps the number of the last change
+pub number_stays : (old new : Machine) → IsStepped old new → last_number new ≡ last_number old
+number_stays old new stepped = ap last_number stepped.1.next
+
+pub still_accepted : (old mid new : Machine) (number : ℕ) → IsAsked old number false mid → IsStepped mid new → number ≤ last_number old → number ≤ last_number new
+still_accepted old mid new number asked stepped h = subst (λ last. number ≤ last) (sym (number_stays mid new stepped ∙ ap last_number asked.2)) h
+
+-- a refusal that was handed on
+pub handed_on : {A : Type 0} (P : A → Type 0) (Q : Refusal → Type 0) (result : Result A Refusal) (refusal : Refusal) → IsErrAnd result (λ x. x ≡ refusal) → Q refusal → MatchResult result P Q
+handed_on P Q (Ok a) refusal same q = absurd same
+handed_on P Q (Err x) refusal same q = subst Q (sym same) q

@@ -1,0 +1,112 @@
+//! What a request of a script asks for, once its names are found right.
+ghost use Rattle.std.specs.Prelude.{◌≡◌, ◌⊎◌, Ok, Err, MatchResult};
+ghost use Rattle.reg_names.specs.declared.refusal.Refusal.TheVariants.{NoMemory};
+ghost use Rattle.regtx_parts.specs.Requests.{place_of, requested, requested_at};
+
+use machine::Question;
+use reg_names::{Name, Path, Refusal};
+use reg_script::{Place, Request};
+use reg_tree::Op;
+use std::alloc::Global;
+
+/// What a request asks for.
+#[derive(Drop)]
+pub(crate) enum Asked {
+    /// An operation is to be carried out.
+    Write {
+        /// The operation.
+        op: Op,
+    },
+    /// A key is to be read.
+    Read {
+        /// The hive's number.
+        hive: u8,
+        /// The key's path.
+        path: Path,
+        /// What is read of it.
+        question: Question,
+    },
+}
+
+/// What the request asks for. Its path is tested first, then a value's name: refused as they are, and with `NoMemory`.
+pub(crate) fn requested(alloc: Global, request: Request) -> Result<Asked, Refusal>
+    ensures { MatchResult result (λ asked. requested request ≡ Ok asked) (λ refusal. (requested request ≡ Err refusal) ⊎ (refusal ≡ NoMemory)) }
+{
+    let place = place_of(&request);
+    let hive = place.hive;
+    let path = Path::parse(alloc, place.path.units())?;
+    requested_at(alloc, request, hive, path)
+}
+
+fn place_of(request: &Request) -> &Place
+    ensures { result.now ≡ place_of request.now }
+{
+    match request {
+        Request::Create { place }
+        | Request::Delete { place }
+        | Request::Set { place, .. }
+        | Request::Unset { place, .. }
+        | Request::Get { place, .. }
+        | Request::Keys { place }
+        | Request::Values { place }
+        | Request::Info { place } => place,
+    }
+}
+
+// what the request asks of the key at this path
+fn requested_at(alloc: Global, request: Request, hive: u8, path: Path) -> Result<Asked, Refusal>
+    ensures { MatchResult result (λ asked. requested_at request hive path ≡ Ok asked) (λ refusal. (requested_at request hive path ≡ Err refusal) ⊎ (refusal ≡ NoMemory)) }
+{
+    Ok(match request {
+        Request::Create { place: _place } => written(Op::CreateKey { hive, path }),
+        Request::Delete { place: _place } => written(Op::DeleteKey { hive, path }),
+        Request::Set {
+            place: _place,
+            name,
+            kind,
+            data,
+        } => {
+            let name = Name::value(alloc, name.units())?;
+            written(Op::SetValue {
+                hive,
+                path,
+                name,
+                kind,
+                data,
+            })
+        }
+        Request::Unset {
+            place: _place,
+            name,
+        } => {
+            let name = Name::value(alloc, name.units())?;
+            written(Op::DeleteValue { hive, path, name })
+        }
+        Request::Get {
+            place: _place,
+            name,
+        } => {
+            let name = Name::value(alloc, name.units())?;
+            read(hive, path, Question::ValueOf { name })
+        }
+        Request::Keys { place: _place } => read(hive, path, Question::KeysOf),
+        Request::Values { place: _place } => read(hive, path, Question::ValuesOf),
+        Request::Info { place: _place } => read(hive, path, Question::InfoOf),
+    })
+}
+
+fn written(op: Op) -> Asked
+    ensures { result ≡ Asked.Write op }
+{
+    Asked::Write { op }
+}
+
+fn read(hive: u8, path: Path, question: Question) -> Asked
+    ensures { result ≡ Asked.Read hive path question }
+{
+    Asked::Read {
+        hive,
+        path,
+        question,
+    }
+}
