@@ -1,4 +1,4 @@
-//! The parts of the program: a plain store, and the run of a script over it.
+//! The parts of the program: the run of a script over a store.
 //!
 //! [`play`] reads a script line by line, and writes the reply to each line. What it writes is stated apart from it: the
 //! lines by the grammar of `reg_script`, the answers by the machine of `machine`, which knows no bytes, what a line asks
@@ -10,10 +10,8 @@ mod ending;
 mod labels;
 mod player;
 mod runner;
-mod store;
 mod told;
 mod waiting;
 
 pub use ending::Status;
 pub use runner::{play, refuse_script};
-pub use store::PlainStore;

@@ -7,13 +7,13 @@ ghost use Rattle.regtx_parts.specs.Players.{script_of, reply_by};
 
 use crate::asked::{Asked, requested};
 use crate::labels::Labels;
-use crate::store::PlainStore;
 use crate::told::reply_of;
 use crate::waiting::wait;
 use machine::{Event, Reply as Answer, Tx};
 use reg_names::Refusal;
 use reg_script::{Label, Line, Reply, Request, Unread, read_line};
 use std::alloc::{AllocError, Global};
+use transactions::PlainStore;
 use uuid::Uuid;
 
 /// The store of a script, the moment and the session of what follows, and the transaction that each label names.
@@ -43,7 +43,7 @@ impl Player {
         ensures { IfOk result (λ player. script_of player ≡ fresh_script hives) }
     {
         let mut store = PlainStore::new(alloc, usize::from(hives))?;
-        let Answer::Done = store.event(alloc, Event::StartSession { session: 0 }) else {
+        let Answer::Done = store.event(Event::StartSession { session: 0 }) else {
             return Err(AllocError);
         };
         Ok(Player {
@@ -77,16 +77,16 @@ impl Player {
                 self.moment = moment;
                 Ok(Reply::Done)
             }
-            Line::Session { number } => Ok(self.enter(alloc, number)),
-            Line::End { number } => Ok(self.ask(alloc, Event::EndSession { session: number })),
+            Line::Session { number } => Ok(self.enter(number)),
+            Line::End { number } => Ok(self.ask(Event::EndSession { session: number })),
             Line::Plain { request } => self.alone(alloc, request),
             Line::Inside { label, request } => self.inside(alloc, label, request),
             Line::Begin { label, id } => self.begin_as(alloc, label, id),
-            Line::Commit { label } => self.commit(alloc, label),
-            Line::Rollback { label } => self.rollback(alloc, label),
-            Line::Close { label } => self.close(alloc, label),
-            Line::Outcome { label } => self.outcome(alloc, label),
-            Line::Flush => Ok(self.flush(alloc)),
+            Line::Commit { label } => self.commit(label),
+            Line::Rollback { label } => self.rollback(label),
+            Line::Close { label } => self.close(label),
+            Line::Outcome { label } => self.outcome(label),
+            Line::Flush => Ok(self.flush()),
         };
         match told {
             Ok(told) => Some(told),
@@ -95,13 +95,10 @@ impl Player {
     }
 
     // opens the session, and makes it the current one
-    fn enter(&mut self, alloc: Global, number: u32) -> Reply
+    fn enter(&mut self, number: u32) -> Reply
         ensures { Answers (script_of self.old) (Line.Session number) result (script_of self.new) }
     {
-        match self
-            .store
-            .event(alloc, Event::StartSession { session: number })
-        {
+        match self.store.event(Event::StartSession { session: number }) {
             Answer::Done => {
                 self.session = number;
                 Reply::Done
@@ -114,7 +111,7 @@ impl Player {
         ensures { MatchResult result (λ told. Answers (script_of self.old) (Line.Plain request) told (script_of self.new)) (λ refusal. Answers (script_of self.old) (Line.Plain request) (Reply.Refused refusal) (script_of self.new)) }
     {
         let event = self.event_alone(requested(alloc, request)?);
-        Ok(self.ask(alloc, event))
+        Ok(self.ask(event))
     }
 
     fn inside(&mut self, alloc: Global, label: Label, request: Request) -> Result<Reply, Refusal>
@@ -122,7 +119,7 @@ impl Player {
     {
         let asked = requested(alloc, request)?;
         let event = self.event_inside(self.tx(label)?, asked);
-        Ok(self.ask(alloc, event))
+        Ok(self.ask(event))
     }
 
     // the request in the current session, at the moment of now
@@ -182,7 +179,7 @@ impl Player {
     {
         self.labels.make_room(label)?;
         let session = self.session;
-        match self.store.event(alloc, Event::Begin { session, id }) {
+        match self.store.event(Event::Begin { session, id }) {
             Answer::Begun { tx } => {
                 self.labels.name(label, tx);
                 Ok(Reply::Done)
@@ -191,7 +188,7 @@ impl Player {
         }
     }
 
-    fn commit(&mut self, alloc: Global, label: Label) -> Result<Reply, Refusal>
+    fn commit(&mut self, label: Label) -> Result<Reply, Refusal>
         ensures { MatchResult result (λ told. Answers (script_of self.old) (Line.Commit label) told (script_of self.new)) (λ refusal. Answers (script_of self.old) (Line.Commit label) (Reply.Refused refusal) (script_of self.new)) }
     {
         let session = self.session;
@@ -202,40 +199,40 @@ impl Player {
             tx,
             moment,
         };
-        match self.ask_and_wait(alloc, event) {
+        match self.ask_and_wait(event) {
             Ok(number) => Ok(Reply::Committed { number }),
             Err(told) => Ok(told),
         }
     }
 
-    fn rollback(&mut self, alloc: Global, label: Label) -> Result<Reply, Refusal>
+    fn rollback(&mut self, label: Label) -> Result<Reply, Refusal>
         ensures { MatchResult result (λ told. Answers (script_of self.old) (Line.Rollback label) told (script_of self.new)) (λ refusal. Answers (script_of self.old) (Line.Rollback label) (Reply.Refused refusal) (script_of self.new)) }
     {
         let session = self.session;
         let tx = self.tx(label)?;
-        Ok(self.ask(alloc, Event::Rollback { session, tx }))
+        Ok(self.ask(Event::Rollback { session, tx }))
     }
 
-    fn close(&mut self, alloc: Global, label: Label) -> Result<Reply, Refusal>
+    fn close(&mut self, label: Label) -> Result<Reply, Refusal>
         ensures { MatchResult result (λ told. Answers (script_of self.old) (Line.Close label) told (script_of self.new)) (λ refusal. Answers (script_of self.old) (Line.Close label) (Reply.Refused refusal) (script_of self.new)) }
     {
         let session = self.session;
         let tx = self.tx(label)?;
-        Ok(self.ask(alloc, Event::Close { session, tx }))
+        Ok(self.ask(Event::Close { session, tx }))
     }
 
-    fn outcome(&mut self, alloc: Global, label: Label) -> Result<Reply, Refusal>
+    fn outcome(&mut self, label: Label) -> Result<Reply, Refusal>
         ensures { MatchResult result (λ told. Answers (script_of self.old) (Line.Outcome label) told (script_of self.new)) (λ refusal. Answers (script_of self.old) (Line.Outcome label) (Reply.Refused refusal) (script_of self.new)) }
     {
         let session = self.session;
         let tx = self.tx(label)?;
-        Ok(self.ask(alloc, Event::Outcome { session, tx }))
+        Ok(self.ask(Event::Outcome { session, tx }))
     }
 
-    fn flush(&mut self, alloc: Global) -> Reply
+    fn flush(&mut self) -> Reply
         ensures { Answers (script_of self.old) Line.Flush result (script_of self.new) }
     {
-        match self.ask_and_wait(alloc, Event::FlushAsk) {
+        match self.ask_and_wait(Event::FlushAsk) {
             Ok(number) => Reply::Flushed { number },
             Err(told) => told,
         }
@@ -252,19 +249,19 @@ impl Player {
     }
 
     // asks one event, whose answer is the reply
-    fn ask(&mut self, alloc: Global, event: Event) -> Reply
+    fn ask(&mut self, event: Event) -> Reply
         ensures { Asks (script_of self.old) event result (script_of self.new) }
     {
-        reply_of(self.store.event(alloc, event))
+        reply_of(self.store.event(event))
     }
 
     // asks an event, and waits for the change whose number it answers; `Err` is the reply where it answers no number, or
     // the wait is refused
-    fn ask_and_wait(&mut self, alloc: Global, event: Event) -> Result<u64, Reply>
+    fn ask_and_wait(&mut self, event: Event) -> Result<u64, Reply>
         ensures { (tell : ℕ → AnyReply) → AsksAndWaits (script_of self.old) event tell (reply_by tell result) (script_of self.new) }
     {
-        match self.store.event(alloc, event) {
-            Answer::Awaits { number } => match wait(&mut self.store, alloc, number) {
+        match self.store.event(event) {
+            Answer::Awaits { number } => match wait(&mut self.store, number) {
                 Ok(()) => Ok(number),
                 Err(refusal) => Err(Reply::Refused { refusal }),
             },

@@ -4,28 +4,27 @@ ghost use Rattle.machine.specs.Machine.{last_number};
 ghost use Rattle.machine.specs.Steps.{Step};
 ghost use Rattle.regtx_parts.specs.Waits.{IsWaited, IsAsked, IsStepped};
 
-use crate::store::PlainStore;
 use machine::{Event, Reply as Answer};
 use reg_names::Refusal;
-use std::alloc::Global;
+use transactions::PlainStore;
 
 /// Makes steps of the journal until there is a receipt of the change of this number, which was accepted. Refused as
 /// the first question or step that is refused.
-pub(crate) fn wait(store: &mut PlainStore, alloc: Global, number: u64) -> Result<(), Refusal>
+pub(crate) fn wait(store: &mut PlainStore, number: u64) -> Result<(), Refusal>
     requires { number ≤ last_number store.old }
     ensures { MatchResult result (λ _. IsWaited store.old number None store.new) (λ refusal. IsWaited store.old number (Some refusal) store.new) }
 {
-    while !has_receipt(store, alloc, number)? {
-        step(store, alloc)?;
+    while !has_receipt(store, number)? {
+        step(store)?;
     }
     Ok(())
 }
 
 // whether there is a receipt of the change
-fn has_receipt(store: &mut PlainStore, alloc: Global, number: u64) -> Result<bool, Refusal>
+fn has_receipt(store: &mut PlainStore, number: u64) -> Result<bool, Refusal>
     ensures { MatchResult result (λ has. IsAsked store.old number has store.new) (λ refusal. Step store.old (Event.Acked number) (Answer.Refused refusal) store.new) }
 {
-    match store.event(alloc, Event::Acked { number }) {
+    match store.event(Event::Acked { number }) {
         Answer::Receipt { .. } => Ok(true),
         Answer::Refused { refusal } => Err(refusal),
         _ => Ok(false),
@@ -33,11 +32,11 @@ fn has_receipt(store: &mut PlainStore, alloc: Global, number: u64) -> Result<boo
 }
 
 // one step of the journal
-fn step(store: &mut PlainStore, alloc: Global) -> Result<(), Refusal>
+fn step(store: &mut PlainStore) -> Result<(), Refusal>
     ensures made { MatchResult result (λ _. IsStepped store.old store.new) (λ refusal. Step store.old Event.JournalStep (Answer.Refused refusal) store.new) }
     ensures durable { store.new.durable ≡ last_number store.new }
 {
-    match store.event(alloc, Event::JournalStep) {
+    match store.event(Event::JournalStep) {
         Answer::Refused { refusal } => Err(refusal),
         _ => Ok(()),
     }

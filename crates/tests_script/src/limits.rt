@@ -3,9 +3,10 @@ use crate::fixtures::played;
 use machine::{Event, Outcome, Reply, Tx};
 use reg_names::{Name, Path, Refusal};
 use reg_tree::{Data, Op};
-use regtx_parts::{PlainStore, Status};
+use regtx_parts::Status;
 use std::alloc::Global;
 use std::test::Fail;
+use transactions::PlainStore;
 use uuid::Uuid;
 
 const MEBIBYTE: usize = 1_048_576;
@@ -42,58 +43,49 @@ fn data_go_to_their_limit(rt: HostRuntime) -> Result<(), Fail> {
 // a store of one hive with the keys K and L, in which session 0 is open
 fn store_of_two_keys(alloc: Global) -> Result<PlainStore, Refusal> {
     let mut store = PlainStore::new(alloc, 1)?;
-    store.event(alloc, Event::StartSession { session: 0 });
+    store.event(Event::StartSession { session: 0 });
     for key in [K, L] {
         let path = Path::parse(alloc, &[key])?;
-        write(alloc, &mut store, Op::CreateKey { hive: 0, path });
+        write(&mut store, Op::CreateKey { hive: 0, path });
     }
     Ok(store)
 }
 
-fn write(alloc: Global, store: &mut PlainStore, op: Op) -> Reply {
-    store.event(
-        alloc,
-        Event::Write {
-            session: 0,
-            moment: 1,
-            op,
-        },
-    )
+fn write(store: &mut PlainStore, op: Op) -> Reply {
+    store.event(Event::Write {
+        session: 0,
+        moment: 1,
+        op,
+    })
 }
 
-fn write_in(alloc: Global, store: &mut PlainStore, tx: Tx, op: Op) -> Reply {
-    store.event(
-        alloc,
-        Event::TxWrite {
-            session: 0,
-            tx,
-            moment: 1,
-            op,
-        },
-    )
+fn write_in(store: &mut PlainStore, tx: Tx, op: Op) -> Reply {
+    store.event(Event::TxWrite {
+        session: 0,
+        tx,
+        moment: 1,
+        op,
+    })
 }
 
-fn commit(alloc: Global, store: &mut PlainStore, tx: Tx) -> Reply {
-    store.event(
-        alloc,
-        Event::CommitAccept {
-            session: 0,
-            tx,
-            moment: 2,
-        },
-    )
+fn commit(store: &mut PlainStore, tx: Tx) -> Reply {
+    store.event(Event::CommitAccept {
+        session: 0,
+        tx,
+        moment: 2,
+    })
 }
 
-fn begun(alloc: Global, store: &mut PlainStore) -> Option<Tx> {
+fn begun(store: &mut PlainStore) -> Option<Tx> {
     let id = Uuid::nil();
-    match store.event(alloc, Event::Begin { session: 0, id }) {
+    match store.event(Event::Begin { session: 0, id }) {
         Reply::Begun { tx } => Some(tx),
         _ => None,
     }
 }
 
-fn is_active(alloc: Global, store: &mut PlainStore, tx: Tx) -> bool {
-    match store.event(alloc, Event::Outcome { session: 0, tx }) {
+fn is_active(store: &mut PlainStore, tx: Tx) -> bool {
+    match store.event(Event::Outcome { session: 0, tx }) {
         Reply::Stands { outcome } => outcome == Outcome::Active,
         _ => false,
     }
@@ -158,18 +150,18 @@ fn a_transaction_takes_no_more_than_a_change_may(rt: HostRuntime) -> Result<(), 
     let mut store = store_of_two_keys(alloc)?;
     let largest = bytes(alloc, MEBIBYTE)?;
     let nothing = bytes(alloc, 0)?;
-    let (Some(tx), Some(other)) = (begun(alloc, &mut store), begun(alloc, &mut store)) else {
+    let (Some(tx), Some(other)) = (begun(&mut store), begun(&mut store)) else {
         return Err(Fail::from(Refusal::NoSeat));
     };
-    assert!(&rt; is_added(&write_in(alloc, &mut store, other, set(alloc, L, V, &nothing)?)));
+    assert!(&rt; is_added(&write_in(&mut store, other, set(alloc, L, V, &nothing)?)));
     for name in V..V + 3 {
-        assert!(&rt; is_added(&write_in(alloc, &mut store, tx, set(alloc, K, name, &largest)?)));
+        assert!(&rt; is_added(&write_in(&mut store, tx, set(alloc, K, name, &largest)?)));
     }
-    let over = write_in(alloc, &mut store, tx, set(alloc, L, V, &largest)?);
+    let over = write_in(&mut store, tx, set(alloc, L, V, &largest)?);
     assert!(&rt; is_refused(&over, Refusal::TooLarge));
-    let claimed = write_in(alloc, &mut store, tx, set(alloc, L, V, &nothing)?);
+    let claimed = write_in(&mut store, tx, set(alloc, L, V, &nothing)?);
     assert!(&rt; is_refused(&claimed, Refusal::Conflict));
-    assert!(&rt; is_awaited(&commit(alloc, &mut store, tx), 3));
+    assert!(&rt; is_awaited(&commit(&mut store, tx), 3));
     Ok(())
 }
 
@@ -179,23 +171,23 @@ fn a_commit_is_weighed_after_each_write(rt: HostRuntime) -> Result<(), Fail> {
     let alloc = rt.alloc();
     let mut store = store_of_two_keys(alloc)?;
     let largest = bytes(alloc, MEBIBYTE)?;
-    let Some(tx) = begun(alloc, &mut store) else {
+    let Some(tx) = begun(&mut store) else {
         return Err(Fail::from(Refusal::NoSeat));
     };
     for name in V..V + 3 {
-        assert!(&rt; is_added(&write_in(alloc, &mut store, tx, set(alloc, K, name, &largest)?)));
+        assert!(&rt; is_added(&write_in(&mut store, tx, set(alloc, K, name, &largest)?)));
     }
-    assert!(&rt; is_added(&write_in(alloc, &mut store, tx, unset(alloc, K, V)?)));
+    assert!(&rt; is_added(&write_in(&mut store, tx, unset(alloc, K, V)?)));
     for name in V..V + 13 {
-        let accepted = write(alloc, &mut store, set(alloc, L, name, &largest)?);
+        let accepted = write(&mut store, set(alloc, L, name, &largest)?);
         assert!(&rt; number(&accepted) == Some(u64::from(name - V) + 3));
     }
-    let over = commit(alloc, &mut store, tx);
+    let over = commit(&mut store, tx);
     assert!(&rt; is_refused(&over, Refusal::TooLarge));
-    assert!(&rt; is_active(alloc, &mut store, tx));
-    let lighter = write(alloc, &mut store, unset(alloc, L, V)?);
+    assert!(&rt; is_active(&mut store, tx));
+    let lighter = write(&mut store, unset(alloc, L, V)?);
     assert!(&rt; number(&lighter) == Some(16));
-    assert!(&rt; is_awaited(&commit(alloc, &mut store, tx), 17));
+    assert!(&rt; is_awaited(&commit(&mut store, tx), 17));
     Ok(())
 }
 
@@ -204,34 +196,34 @@ fn a_commit_is_weighed_after_each_write(rt: HostRuntime) -> Result<(), Fail> {
 fn a_change_that_the_journal_has_no_room_for_is_refused(rt: HostRuntime) -> Result<(), Fail> {
     let alloc = rt.alloc();
     let mut store = PlainStore::new(alloc, 1)?;
-    store.event(alloc, Event::StartSession { session: 0 });
+    store.event(Event::StartSession { session: 0 });
     let path = Path::parse(alloc, &[K])?;
-    let created = write(alloc, &mut store, Op::CreateKey { hive: 0, path });
+    let created = write(&mut store, Op::CreateKey { hive: 0, path });
     assert!(&rt; number(&created) == Some(1));
     let largest = bytes(alloc, MEBIBYTE)?;
     for turn in 0..63u64 {
-        let reply = write(alloc, &mut store, set(alloc, K, V, &largest)?);
+        let reply = write(&mut store, set(alloc, K, V, &largest)?);
         assert!(&rt; number(&reply) == Some(turn + 2));
     }
     // one byte more than fits, and then what fits
     let over = bytes(alloc, 1_045_273)?;
-    let reply = write(alloc, &mut store, set(alloc, K, V, &over)?);
+    let reply = write(&mut store, set(alloc, K, V, &over)?);
     assert!(&rt; is_refused(&reply, Refusal::JournalFull));
     let last = bytes(alloc, 1_045_272)?;
-    let reply = write(alloc, &mut store, set(alloc, K, V, &last)?);
+    let reply = write(&mut store, set(alloc, K, V, &last)?);
     assert!(&rt; number(&reply) == Some(65));
     // a refused write rolls nothing back, a refused commit leaves its transaction active, and an empty one needs no room
     let nothing = bytes(alloc, 0)?;
-    let (Some(tx), Some(empty)) = (begun(alloc, &mut store), begun(alloc, &mut store)) else {
+    let (Some(tx), Some(empty)) = (begun(&mut store), begun(&mut store)) else {
         return Err(Fail::from(Refusal::NoSeat));
     };
-    assert!(&rt; is_added(&write_in(alloc, &mut store, tx, set(alloc, K, V, &nothing)?)));
-    let reply = write(alloc, &mut store, set(alloc, K, V, &nothing)?);
+    assert!(&rt; is_added(&write_in(&mut store, tx, set(alloc, K, V, &nothing)?)));
+    let reply = write(&mut store, set(alloc, K, V, &nothing)?);
     assert!(&rt; is_refused(&reply, Refusal::JournalFull));
-    assert!(&rt; is_active(alloc, &mut store, tx));
-    let reply = commit(alloc, &mut store, tx);
+    assert!(&rt; is_active(&mut store, tx));
+    let reply = commit(&mut store, tx);
     assert!(&rt; is_refused(&reply, Refusal::JournalFull));
-    assert!(&rt; is_active(alloc, &mut store, tx));
-    assert!(&rt; is_awaited(&commit(alloc, &mut store, empty), 0));
+    assert!(&rt; is_active(&mut store, tx));
+    assert!(&rt; is_awaited(&commit(&mut store, empty), 0));
     Ok(())
 }

@@ -4,3 +4,4 @@ mod Kept
 mod Ways
 mod Holding
 mod Loops
+mod Stored

@@ -5,6 +5,8 @@
 #![tactic(auto)]
 
 mod entry;
+mod plain;
 mod table;
 
+pub use plain::PlainStore;
 pub use table::{Holders, Pending, TxTable, Written};

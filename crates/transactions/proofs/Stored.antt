@@ -1,0 +1,309 @@
+-- What a plain store answers, and what it shows after each change.
+use Rattle.std.proofs.Common.{◌≡◌, ◌⊎◌, inl, inr, ℕ, ◌+◌, ◌<◌, ◌≤◌, ◌==◌, ◌&&◌, min, Bool, true, false, not, cond, List, [], ◌∷◌, ◌++◌, length, map, Option, Some, None, Result, Ok, Err, refl, sym, ◌∙◌, ap, subst, arith}
+use Rattle.std.specs.Prelude.{IsErrAnd, ◌||◌, nat_le, nat_lt, is_some, slice_get}
+use Rattle.std.specs.Option.{option_and_then}
+use Rattle.std.specs.List.{list_any}
+use Rattle.std.specs.declared.snapshot.Snapshot.{Snapshot}
+use Rattle.std.proofs.lemmas.Bool.Decides.{nat_tests}
+use Rattle.std.proofs.lemmas.Option.{none-some, slice_get_past, slice_get-get_or}
+use Rattle.std.proofs.lemmas.List.{map-append, length-append, length-set}
+use Rattle.reg_names.specs.declared.refusal.Refusal.{Refusal}
+use Rattle.reg_names.specs.declared.refusal.Refusal.TheVariants.{NoMemory, NotFound, TooLarge, NoSuchHandle, HistoryFull, JournalFull}
+use Rattle.reg_names.specs.declared.limits.TheConstants.{MOST_HISTORY, GREATEST_NUMBER, MOST_JOURNAL_BYTES}
+use Rattle.reg_tree.specs.Maps.{TreeMap}
+use Rattle.reg_tree.specs.Fresh.{fresh_tree}
+use Rattle.reg_tree.specs.Operations.{hive_of}
+use Rattle.reg_tree.specs.Texts.{op_text_len, element_text_len}
+use Rattle.reg_tree.specs.Judgement.{legal, applied, applied_one, applied_if, changed, any_outweighs}
+use Rattle.reg_tree.specs.Sequences.{after_elements}
+use Rattle.reg_tree.specs.declared.element.Element.{Element}
+use Rattle.reg_tree.specs.declared.op.Op.{Op}
+use Rattle.reg_tree.specs.declared.op.Legality.TheVariants.{Legal}
+use Rattle.claims_law.specs.Skeleton.{Claim}
+use Rattle.conflicts.specs.Claims.{claim_of, meets}
+use Rattle.machine.specs.Machine.{Machine, trees_now, last_number, is_open, found_in, change, first_of, refused_if, fault, closed_refusal, looked_up, read_refusal, levels_made, refusal_by, room_of, room_refusal, write_refusal, added_refusal_if, commit_refusal_if}
+use Rattle.machine.specs.Steps.{Step, Accepts, Commits, Flushes, StepFails, no_hive}
+use Rattle.machine.specs.Transactions.{Transaction, Puts, at, own, is_active, ended, rolled_back_by, missing_refusal, inactive_refusal}
+use Rattle.machine.specs.declared.handle.Tx.{Tx}
+use Rattle.machine.specs.declared.handle.Outcome.TheVariants.{Committed, RolledBack}
+use Rattle.machine.specs.declared.event.Event.{Event}
+use Rattle.machine.specs.declared.event.Event.TheVariants as event
+use Rattle.machine.specs.declared.event.Question.{Question}
+use Rattle.machine.specs.declared.event.Reply.{Reply}
+use Rattle.machine.specs.declared.event.Reply.TheVariants as reply
+use Rattle.transactions.specs.Tables.{Table, EndsWith, IsPending, IsPendingOf, holds_if, is_listed, rolled_back_if}
+use Rattle.transactions.specs.Stores.{Answers, IsTied, store_of, room_refusal_for}
+
+-- an error that is handed on is the answer
+on_refusal : (m : Machine) (event : Event) (res : Result Reply Refusal) (why : Refusal) → IsErrAnd res (λ e. e ≡ why) → Step m event (reply.Refused why) m → Answers m event res m
+on_refusal m event (Ok x) why h s = absurd h
+on_refusal m event (Err e) why h s = subst (λ r. Step m event (reply.Refused r) m) (sym h) s
+
+-- the session isn't open, and that is why
+pub record IsClosed (m : Machine) (session : ℕ) (why : Refusal) : Type 0 where
+  pub free : fault m ≡ None
+  pub shut : is_open m session ≡ false
+  pub named : why ≡ NoSuchHandle
+
+no_session : (m : Machine) (session : ℕ) (why : Refusal) → IsClosed m session why → closed_refusal m session ≡ Some why
+no_session m session why i = ap (λ b. refused_if (not b) NoSuchHandle) i.shut ∙ ap Some (sym i.named)
+
+none_found : (m : Machine) (session : ℕ) (tx : Tx) (why : Refusal) → IsClosed m session why → found_in m session tx ≡ None
+none_found m session tx why i = ap (λ b. cond b (own m.places session tx) None) i.shut
+
+first : (one other : Option Refusal) (why : Refusal) → one ≡ Some why → first_of one other ≡ Some why
+first one other why e = ap (λ x. first_of x other) e
+
+second : (one other wanted : Option Refusal) → one ≡ None → other ≡ wanted → first_of one other ≡ wanted
+second one other wanted e f = ap (λ x. first_of x other) e ∙ f
+
+module _ (m : Machine) (session : ℕ) (why : Refusal) (res : Result Reply Refusal) (i : IsClosed m session why) (h : IsErrAnd res (λ e. e ≡ why)) where
+  pub closed_end : Answers m (event.EndSession session) res m
+  closed_end = on_refusal m (event.EndSession session) res why h (no_session m session why i, refl)
+
+  pub closed_read : (hive : ℕ) (path : List (List ℕ)) (question : Question) → Answers m (event.Read session hive path question) res m
+  closed_read hive path question = on_refusal m (event.Read session hive path question) res why h (inl (first _ _ why (no_session m session why i)), refl)
+
+  pub closed_write : (moment : ℕ) (op : Op) → Answers m (event.Write session moment op) res m
+  closed_write moment op = on_refusal m (event.Write session moment op) res why h (inl (second _ _ (Some why) i.free (first _ _ why (no_session m session why i))), refl)
+
+  pub closed_begin : (id : List ℕ) → Answers m (event.Begin session id) res m
+  closed_begin id = on_refusal m (event.Begin session id) res why h (inl (second _ _ (Some why) i.free (first _ _ why (no_session m session why i))), refl)
+
+  pub closed_tx_read : (tx : Tx) (hive : ℕ) (path : List (List ℕ)) (question : Question) → Answers m (event.TxRead session tx hive path question) res m
+  closed_tx_read tx hive path question =
+      on_refusal m (event.TxRead session tx hive path question) res why h (inl (first _ _ why (ap inactive_refusal (none_found m session tx why i) ∙ ap Some (sym i.named))), refl)
+
+  pub closed_tx_write : (tx : Tx) (moment : ℕ) (op : Op) → Answers m (event.TxWrite session tx moment op) res m
+  closed_tx_write tx moment op =
+      on_refusal m (event.TxWrite session tx moment op) res why h (inl (second _ _ (Some why) i.free (ap (added_refusal_if (trees_now m) m.places tx.place op) (none_found m session tx why i) ∙ ap Some (sym i.named))), refl)
+
+  pub closed_commit : (tx : Tx) (moment : ℕ) → Answers m (event.CommitAccept session tx moment) res m
+  closed_commit tx moment = on_refusal m (event.CommitAccept session tx moment) res why h (inl (second _ _ (Some why) i.free (ap (commit_refusal_if m moment) (none_found m session tx why i) ∙ ap Some (sym i.named))), refl)
+
+  pub closed_roll_back : (tx : Tx) → Answers m (event.Rollback session tx) res m
+  closed_roll_back tx = on_refusal m (event.Rollback session tx) res why h (ap inactive_refusal (none_found m session tx why i) ∙ ap Some (sym i.named), refl)
+
+  pub closed_close : (tx : Tx) → Answers m (event.Close session tx) res m
+  closed_close tx = on_refusal m (event.Close session tx) res why h (ap missing_refusal (none_found m session tx why i) ∙ ap Some (sym i.named), refl)
+
+  pub closed_outcome : (tx : Tx) → Answers m (event.Outcome session tx) res m
+  closed_outcome tx = on_refusal m (event.Outcome session tx) res why h (second _ _ (Some why) i.free (ap missing_refusal (none_found m session tx why i) ∙ ap Some (sym i.named)), refl)
+
+either : {A B C : Type 0} → A ⊎ C → (A → B) → B ⊎ C
+either (inl a) f = inl (f a)
+either (inr c) f = inr c
+
+-- an open session is refused nothing
+opened_none : (m : Machine) (session : ℕ) → is_open m session ≡ true → closed_refusal m session ≡ None
+opened_none m session e = ap (λ b. refused_if (not b) NoSuchHandle) e
+
+-- what is read isn't there
+pub missed : (m : Machine) (session hive : ℕ) (path : List (List ℕ)) (question : Question) (trees : List TreeMap) (res : Result Reply Refusal) (why : Refusal) → is_open m session ≡ true → trees ≡ trees_now m →
+    (read_refusal (looked_up trees hive path question) ≡ Some why) ⊎ (why ≡ NoMemory) → IsErrAnd res (λ e. e ≡ why) → Answers m (event.Read session hive path question) res m
+missed m session hive path question trees res why o e w h =
+    on_refusal m (event.Read session hive path question) res why h
+    (either w (λ r. second (closed_refusal m session) (read_refusal (looked_up (trees_now m) hive path question)) (Some why) (opened_none m session o) (ap (λ t. read_refusal (looked_up t hive path question)) (sym e) ∙ r)), refl)
+
+-- what a write is refused after its session
+may_write : (m : Machine) (session moment : ℕ) (op : Op) (wanted : Option Refusal) → fault m ≡ None → is_open m session ≡ true → refusal_by (legal (trees_now m) op) (room_refusal m (change moment op)) ≡ wanted → write_refusal m session moment op ≡ wanted
+may_write m session moment op wanted f o e = second _ _ wanted f (second _ _ wanted (opened_none m session o) e)
+
+-- a write that is not legal
+pub illegal_write : (m : Machine) (session moment : ℕ) (op : Op) (trees : List TreeMap) (res : Result Reply Refusal) (why : Refusal) → fault m ≡ None → is_open m session ≡ true → trees ≡ trees_now m → (legal trees op ≡ Err why) ⊎ (why ≡ NoMemory) →
+    IsErrAnd res (λ e. e ≡ why) → Answers m (event.Write session moment op) res m
+illegal_write m session moment op trees res why f o e w h =
+    on_refusal m (event.Write session moment op) res why h
+    (either w (λ r. may_write m session moment op (Some why) f o (ap (λ l. refusal_by l (room_refusal m (change moment op))) (ap (λ t. legal t op) (sym e) ∙ r))), refl)
+
+-- a length that is cut off at the greatest number of 64 bits has no room either
+tests : (room long cut : ℕ) → cut ≡ min long 18446744073709551615 → nat_lt MOST_JOURNAL_BYTES (room + (17 + cut)) ≡ nat_lt MOST_JOURNAL_BYTES (room + (17 + long))
+tests room long cut e = grind (arith, nat_tests)
+
+pub capped : (m : Machine) (long cut : ℕ) → cut ≡ min long 18446744073709551615 → room_refusal_for m cut ≡ room_refusal_for m long
+capped m long cut e = ap (λ b. first_of (refused_if (nat_le MOST_HISTORY (length m.accepted) || nat_le GREATEST_NUMBER (last_number m)) HistoryFull) (refused_if b JournalFull)) (tests m.room long cut e)
+
+pub crowded_write : (m : Machine) (session moment : ℕ) (op : Op) (trees : List TreeMap) (res : Result Reply Refusal) (why : Refusal) (long : ℕ) → fault m ≡ None → is_open m session ≡ true → trees ≡ trees_now m → legal trees op ≡ Ok Legal →
+    long ≡ min (element_text_len (change moment op)) 18446744073709551615 → room_refusal_for m long ≡ Some why → IsErrAnd res (λ e. e ≡ why) → Answers m (event.Write session moment op) res m
+crowded_write m session moment op trees res why long f o e l c r h =
+    on_refusal m (event.Write session moment op) res why h
+    (inl (may_write m session moment op (Some why) f o (ap (λ x. refusal_by x (room_refusal m (change moment op))) (ap (λ t. legal t op) (sym e) ∙ l) ∙ sym (capped m (element_text_len (change moment op)) long c) ∙ r)), refl)
+
+-- as many hives are there as were
+one_as_long : (trees : List TreeMap) (slot : Option TreeMap) (op : Op) (moment : ℕ) → length (applied_if trees slot op moment) ≡ length trees
+one_as_long trees None op moment = refl
+one_as_long trees (Some tree) op moment = length-set trees (hive_of op) (changed tree op moment)
+
+all_as_long : (trees : List TreeMap) (ops : List Op) (moment : ℕ) → length (applied trees ops moment) ≡ length trees
+all_as_long trees [] moment = refl
+all_as_long trees (op ∷ ops) moment = all_as_long (applied_one trees op moment) ops moment ∙ one_as_long trees (slice_get trees (hive_of op)) op moment
+
+as_many : (trees : List TreeMap) (elements : List Element) → length (after_elements trees elements) ≡ length trees
+as_many trees [] = refl
+as_many trees (element ∷ elements) = as_many (applied trees element.ops element.moment) elements ∙ all_as_long trees element.ops element.moment
+
+pub flushes : (m : Machine) (hive : ℕ) → fault m ≡ None → hive < length (trees_now m) → Flushes m hive m
+flushes m hive f below = record {
+  free = f;
+  there = ap is_some (slice_get-get_or m.opened hive fresh_tree (let e = as_many m.opened m.accepted in omega (arith, below, e)));
+  next = refl;
+}
+
+pub flushes_none : (m : Machine) (hive : ℕ) → fault m ≡ None → length (trees_now m) ≤ hive → StepFails m (first_of (fault m) (no_hive m hive)) NotFound m
+flushes_none m hive f past =
+    let e = as_many m.opened m.accepted in
+    let gone : slice_get m.opened hive ≡ None = slice_get_past m.opened hive (omega (arith, past, e)) in
+    inl (inl (second (fault m) (no_hive m hive) (Some NotFound) f (ap (λ x. cond (is_some x) None (Some NotFound)) gone)), refl)
+
+-- the accepted changes with one more, and the trees after them
+recorded : (old new : List (Snapshot Element)) (last : Snapshot Element) (element : Element) → new ≡ old ++ last ∷ [] → last.value ≡ element → map (λ x. x.value) new ≡ map (λ x. x.value) old ++ element ∷ []
+recorded old new last element e f = ap (map (λ x. x.value)) e ∙ map-append (λ x. x.value) old (last ∷ []) ∙ ap (λ x. map (λ y. y.value) old ++ x ∷ []) f
+
+after_one_more : (trees : List TreeMap) (elements : List Element) (element : Element) → after_elements trees (elements ++ element ∷ []) ≡ applied (after_elements trees elements) element.ops element.moment
+after_one_more trees [] element = refl
+after_one_more trees (before ∷ elements) element = after_one_more (applied trees before.ops before.moment) elements element
+
+not_full : (full last : Bool) (room : Option Refusal) → first_of (refused_if (full || last) HistoryFull) room ≡ None → full ≡ false
+not_full true last room e = absurd (none-some HistoryFull (sym e))
+not_full false last room e = refl
+
+-- where there is room, the history is not full
+pub below_most : (m : Machine) (long : ℕ) → room_refusal_for m long ≡ None → length m.accepted < MOST_HISTORY
+below_most m long e =
+    let open_history = not_full (nat_le MOST_HISTORY (length m.accepted)) (nat_le GREATEST_NUMBER (last_number m)) _ e in
+    grind (arith, nat_tests, open_history)
+
+-- a table that has moved on is tied to the store with one change more
+pub tied_more : (o : List TreeMap) (a b : List (Snapshot Element)) (s : List ℕ) (t u : Table) (d r q : ℕ) (last : Snapshot Element) (element : Element) → IsTied t (store_of o a s t d r) → length (store_of o a s t d r).accepted < MOST_HISTORY →
+    b ≡ a ++ last ∷ [] → last.value ≡ element → u.trees ≡ applied t.trees element.ops element.moment → u.number ≡ t.number + 1 → IsTied u (store_of o b s u d q)
+tied_more o a b s t u d r q last element i below e f trees number =
+    let grown : map (λ x. x.value) b ≡ map (λ x. x.value) a ++ element ∷ [] = recorded a b last element e f in
+    let long : length (map (λ (x : Snapshot Element). x.value) b) ≡ length (map (λ (x : Snapshot Element). x.value) a) + 1 = ap length grown ∙ length-append (map (λ x. x.value) a) (element ∷ []) in
+    let old_number = i.number in
+    let old_durable = i.durable in
+    record {
+      trees = trees ∙ ap (λ x. applied x element.ops element.moment) i.trees ∙ sym (ap (after_elements o) grown ∙ after_one_more o (map (λ x. x.value) a) element);
+      number = omega (arith, number, old_number, long);
+      durable = omega (arith, old_durable, long);
+      few = omega (arith, below, long);
+    }
+
+-- what is listed as holding a claim is what is rolled back by it
+roll_by : (active met : Bool) (over one : Transaction) → cond (active && met) (Some (cond active over one)) (Some one) ≡ cond (active && met) (Some over) (Some one)
+roll_by true met over one = refl
+roll_by false met over one = refl
+
+roll : (claim : Claim) (slot : Option Transaction) → rolled_back_if (holds_if claim slot) slot ≡ option_and_then (rolled_back_by claim) slot
+roll claim None = refl
+roll claim (Some one) = roll_by (is_active one) (list_any (λ op. meets claim (claim_of op)) one.ops) (ended RolledBack one) one
+
+module _ (o : List TreeMap) (a b : List (Snapshot Element)) (s : List ℕ) (t u v : Table) (d r q : ℕ) (last : Snapshot Element) where
+  pub accepts : (session moment number : ℕ) (op : Op) (levels : Option ℕ) (trees : List TreeMap) (listed : List ℕ) → IsTied t (store_of o a s t d r) → is_open (store_of o a s t d r) session ≡ true →
+      legal t.trees op ≡ Ok Legal → room_refusal (store_of o a s t d r) (change moment op) ≡ None → levels ≡ levels_made t.trees op → number ≡ v.number →
+      b ≡ a ++ last ∷ [] → last.value ≡ change moment op → q ≡ r + room_of (change moment op) → u ≡ record t { trees = trees; number = t.number + 1 } → v ≡ record u { places = v.places } →
+      ((place : ℕ) → at v.places place ≡ rolled_back_if (is_listed listed place) (at u.places place)) → ((place : ℕ) → is_listed listed place ≡ holds_if (claim_of op) (at t.places place)) →
+      Accepts (store_of o a s t d r) session moment op levels number (store_of o b s v d q)
+  accepts session moment number op levels trees listed i there l room made n e f g moved rest rolled lists =
+      let old = store_of o a s t d r in
+      let grown : map (λ x. x.value) b ≡ map (λ x. x.value) a ++ change moment op ∷ [] = recorded a b last (change moment op) e f in
+      let begun : v.begun ≡ t.begun = ap (λ (x : Table). x.begun) rest ∙ ap (λ (x : Table). x.begun) moved in
+      let count : v.number ≡ t.number + 1 = ap (λ (x : Table). x.number) rest ∙ ap (λ (x : Table). x.number) moved in
+      let legal_now : legal (trees_now old) op ≡ Ok Legal = ap (λ x. legal x op) (sym i.trees) ∙ l in
+      record {
+        free = may_write old session moment op None refl there (ap (λ x. refusal_by x (room_refusal old (change moment op))) legal_now ∙ room);
+        is_legal = legal_now;
+        made = made ∙ ap (λ x. levels_made x op) i.trees;
+        numbered = n ∙ count ∙ ap (λ x. x + 1) i.number;
+        next = ap (λ x. record old { accepted = x; places = v.places; begun = v.begun; room = q }) grown
+            ∙ ap (λ x. record old { accepted = map (λ y. y.value) a ++ change moment op ∷ []; places = v.places; begun = x; room = q }) begun
+            ∙ ap (λ x. record old { accepted = map (λ y. y.value) a ++ change moment op ∷ []; places = v.places; room = x }) g;
+        rolled_back = λ place. rolled place ∙ ap (λ (x : Table). rolled_back_if (is_listed listed place) (at x.places place)) moved ∙ ap (λ x. rolled_back_if x (at t.places place)) (lists place) ∙ roll (claim_of op) (at t.places place);
+      }
+
+-- a length with which there is room is not cut off
+not_crowded : (full crowded : Bool) → first_of (refused_if full HistoryFull) (refused_if crowded JournalFull) ≡ None → crowded ≡ false
+not_crowded true crowded e = absurd (none-some HistoryFull (sym e))
+not_crowded false true e = absurd (none-some JournalFull (sym e))
+not_crowded false false e = refl
+
+pub uncut : (m : Machine) (long cut : ℕ) → room_refusal_for m cut ≡ None → cut ≡ min long 18446744073709551615 → cut ≡ long
+uncut m long cut e f =
+    let within = not_crowded (nat_le MOST_HISTORY (length m.accepted) || nat_le GREATEST_NUMBER (last_number m)) (nat_lt MOST_JOURNAL_BYTES (m.room + (17 + cut))) e in
+    grind (arith, nat_tests, within, f)
+
+-- the length of a change of one operation
+pub cut_change : (moment : ℕ) (op : Op) (one cut : ℕ) → one ≡ min (op_text_len op) 18446744073709551615 → cut ≡ min (16 + one) 18446744073709551615 → cut ≡ min (element_text_len (change moment op)) 18446744073709551615
+cut_change moment op one cut e f = omega (arith, e, f)
+
+-- what the change of some transaction's operations is refused
+pub pending_refusal : (m : Machine) (moment : ℕ) (slot : Option Transaction) (ops : List Op) (long : ℕ) (wanted : Option Refusal) → IsPending slot ops long → (length ops == 0) ≡ false →
+    first_of (refused_if (any_outweighs (trees_now m) ops moment) TooLarge) (room_refusal_for m long) ≡ wanted → commit_refusal_if m moment slot ≡ wanted
+pending_refusal m moment None ops long wanted p some e = absurd p
+pending_refusal m moment (Some one) ops long wanted p some e =
+    let full : Option Refusal = first_of (refused_if (any_outweighs (trees_now m) one.ops moment) TooLarge) (room_refusal m (record { moment = moment; ops = one.ops })) in
+    second (inactive_refusal (Some one)) (cond (length one.ops == 0) None full) wanted p.active
+    (ap (λ x. cond x None full) (ap (λ (x : List Op). length x == 0) (sym p.given) ∙ some)
+    ∙ ap (λ x. first_of (refused_if (any_outweighs (trees_now m) x moment) TooLarge) (room_refusal m (record { moment = moment; ops = one.ops }))) (sym p.given)
+    ∙ ap (λ x. first_of (refused_if (any_outweighs (trees_now m) ops moment) TooLarge) (room_refusal_for m x)) (sym (p.long moment)) ∙ e)
+
+-- the transaction of a handle in an open session
+found : (m : Machine) (session : ℕ) (tx : Tx) → is_open m session ≡ true → found_in m session tx ≡ own m.places session tx
+found m session tx there = ap (λ b. cond b (own m.places session tx) None) there
+
+not_ended_if : (m : Machine) (moment : ℕ) (slot : Option Transaction) (why : Refusal) → inactive_refusal slot ≡ Some why → commit_refusal_if m moment slot ≡ Some why
+not_ended_if m moment None why e = e
+not_ended_if m moment (Some one) why e = first (inactive_refusal (Some one)) _ why e
+
+module _ (m : Machine) (session moment : ℕ) (tx : Tx) (why : Refusal) (res : Result Reply Refusal) (free : fault m ≡ None) (there : is_open m session ≡ true) (h : IsErrAnd res (λ e. e ≡ why)) where
+  uncommitted : (commit_refusal_if m moment (own m.places session tx) ≡ Some why) ⊎ (why ≡ NoMemory) → Answers m (event.CommitAccept session tx moment) res m
+  uncommitted w =
+      on_refusal m (event.CommitAccept session tx moment) res why h
+      (either w (λ r. second (fault m) (commit_refusal_if m moment (found_in m session tx)) (Some why) free (ap (commit_refusal_if m moment) (found m session tx there) ∙ r)), refl)
+
+  pub not_ended : inactive_refusal (own m.places session tx) ≡ Some why → Answers m (event.CommitAccept session tx moment) res m
+  not_ended e = uncommitted (inl (not_ended_if m moment (own m.places session tx) why e))
+
+  pub heavy_commit : (trees : List TreeMap) (ops : List Op) (long : ℕ) → trees ≡ trees_now m → IsPending (own m.places session tx) ops long → (length ops == 0) ≡ false →
+      ((any_outweighs trees ops moment ≡ true) × (why ≡ TooLarge)) ⊎ (why ≡ NoMemory) → Answers m (event.CommitAccept session tx moment) res m
+  heavy_commit trees ops long e p some w =
+      uncommitted (either w (λ both. pending_refusal m moment (own m.places session tx) ops long (Some why) p some
+      (first _ (room_refusal_for m long) why (ap (λ x. refused_if x TooLarge) (ap (λ x. any_outweighs x ops moment) (sym e) ∙ both.0) ∙ ap Some (sym both.1)))))
+
+  pub crowded_commit : (trees : List TreeMap) (ops : List Op) (long : ℕ) → trees ≡ trees_now m → IsPending (own m.places session tx) ops long → (length ops == 0) ≡ false → any_outweighs trees ops moment ≡ false →
+      room_refusal_for m long ≡ Some why → Answers m (event.CommitAccept session tx moment) res m
+  crowded_commit trees ops long e p some light r =
+      uncommitted (inl (pending_refusal m moment (own m.places session tx) ops long (Some why) p some
+      (second _ (room_refusal_for m long) (Some why) (ap (λ x. refused_if x TooLarge) (ap (λ x. any_outweighs x ops moment) (sym e) ∙ light)) r)))
+
+-- the operations that are handed out are those that were pending
+pub same_ops : (t u : Table) (session : ℕ) (tx : Tx) (ops given : List Op) (long : ℕ) → IsPending (own t.places session tx) ops long → EndsWith t session tx Committed given u → ops ≡ given
+same_ops t u session tx ops given long p e =
+    let q : IsPendingOf e.one ops long = subst (λ x. IsPending x ops long) e.found p in
+    q.given ∙ sym e.given
+
+module _ (o : List TreeMap) (a b : List (Snapshot Element)) (s : List ℕ) (t u v : Table) (d r q : ℕ) (last : Snapshot Element) where
+  pub commits : (session moment number : ℕ) (tx : Tx) (trees : List TreeMap) (ops given : List Op) (long : ℕ) → IsTied t (store_of o a s t d r) → is_open (store_of o a s t d r) session ≡ true →
+      IsPending (own t.places session tx) ops long → EndsWith t session tx Committed given u → (length ops == 0) ≡ false → any_outweighs t.trees ops moment ≡ false → room_refusal_for (store_of o a s t d r) long ≡ None →
+      number ≡ v.number → b ≡ a ++ last ∷ [] → last.value ≡ record { moment = moment; ops = given } → q ≡ r + (17 + long) → v ≡ record u { trees = trees; number = u.number + 1 } →
+      Commits (store_of o a s t d r) session tx moment number (store_of o b s v d q)
+  commits session moment number tx trees ops given long i there p ends some light room n e f g moved =
+      let old = store_of o a s t d r in
+      let element : Element = record { moment = moment; ops = ends.one.ops } in
+      let before : List Element = map (λ x. x.value) a in
+      let mine : IsPendingOf ends.one ops long = subst (λ x. IsPending x ops long) ends.found p in
+      let kept : (length ends.one.ops == 0) ≡ false = ap (λ (x : List Op). length x == 0) (sym mine.given) ∙ some in
+      let grown : map (λ x. x.value) b ≡ before ++ element ∷ [] = recorded a b last element e (f ∙ ap (λ (x : List Op). let y : Element = record { moment = moment; ops = x } in y) ends.given) in
+      let begun : v.begun ≡ t.begun = ap (λ (x : Table). x.begun) moved ∙ ap (λ (x : Table). x.begun) ends.next in
+      let count : v.number ≡ t.number + 1 = ap (λ (x : Table). x.number) moved ∙ ap (λ (x : Table). x.number + 1) ends.next in
+      let full : q ≡ r + room_of element = g ∙ ap (λ x. r + (17 + x)) (mine.long moment) in
+      record {
+        one = ends.one;
+        found = found old session tx there ∙ ends.found;
+        free = pending_refusal old moment (Some ends.one) ops long None mine some (second _ (room_refusal_for old long) None (ap (λ x. refused_if x TooLarge) (ap (λ x. any_outweighs x ops moment) (sym i.trees) ∙ light)) room);
+        numbered = n ∙ count ∙ ap (λ x. x + 1) i.number ∙ ap (λ x. cond x 0 (last_number old + 1)) (sym kept);
+        next = ap (λ x. record old { accepted = x; places = v.places; begun = v.begun; room = q }) grown
+            ∙ ap (λ x. record old { accepted = before ++ element ∷ []; places = v.places; begun = x; room = q }) begun
+            ∙ ap (λ x. record old { accepted = before ++ element ∷ []; places = v.places; room = x }) full
+            ∙ ap (λ x. record (cond x old (record old { accepted = before ++ element ∷ []; room = r + room_of element })) { places = v.places }) (sym kept);
+        put = subst (λ x. Puts t.places x tx.place (Some (ended Committed ends.one))) (sym (ap (λ (x : Table). x.places) moved)) ends.put;
+      }
