@@ -1,5 +1,5 @@
 -- What a table keeps, after each way in which it changes.
-use Rattle.std.proofs.Common.{◌≡◌, ℕ, ◌+◌, ◌≤◌, Bool, true, false, arith, List, [], ◌∷◌, ◌++◌, Option, Some, None, Result, Ok, Err, refl, sym, ◌∙◌, ap, subst}
+use Rattle.std.proofs.Common.{◌≡◌, ℕ, ◌+◌, true, false, arith, List, [], ◌∷◌, ◌++◌, Option, Some, None, Result, Ok, Err, sym, ◌∙◌, ap, subst}
 use Rattle.std.specs.Prelude.{Contains, map, slice_set, OnErr}
 use Rattle.std.proofs.lemmas.Bool.{ltb-false}
 use Rattle.std.proofs.lemmas.List.Sums.{sum_by-append}
@@ -13,16 +13,15 @@ use Rattle.std.proofs.lemmas.Option.{none-some}
 use Rattle.slab.specs.Slab.{Slab, Updates}
 use Rattle.reg_tree.specs.Maps.{TreeMap}
 use Rattle.reg_tree.specs.declared.op.Op.{Op}
-use Rattle.claims_law.specs.Skeleton.{Claim}
 use Rattle.conflicts.specs.Claims.{claim_of}
 use Rattle.conflicts.specs.Holders.{Held, with_claim, without_owner}
 use Rattle.conflicts.proofs.Members.{none_empty}
-use Rattle.machine.specs.Transactions.{Transaction, Places, Puts, at, is_active, with_op}
-use Rattle.transactions.specs.Entries.{transaction_of, places_of, IsEntry, IsSameEntry, IsViewed, AreKept, Claims}
+use Rattle.machine.specs.Transactions.{Transaction, Puts, at, is_active, with_op}
+use Rattle.transactions.specs.Entries.{transaction_of, places_of, IsEntry, IsSameEntry, IsViewed, AreKept}
 use Rattle.transactions.specs.declared.entry.Entry.{Entry}
 use Rattle.transactions.specs.declared.entry.View.{View}
 use Rattle.transactions.proofs.Slots.{slot, at_of, puts, entries_put, entries_moved, entries_begun}
-use Rattle.transactions.proofs.Claimed.{AreClaimed, some_same, claimed_same, claimed_put, claimed_dropped, claimed_added, none_inactive, none_there}
+use Rattle.transactions.proofs.Claimed.{some_same, claimed_same, claimed_put, claimed_dropped, claimed_added, none_inactive, none_there}
 
 -- a slot that has an entry
 pub at_slot : (slots : List (Option Entry)) (place : ℕ) (e : Entry) → slot slots place ≡ Some e → at (places_of slots) place ≡ Some (transaction_of e)

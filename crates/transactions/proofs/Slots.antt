@@ -1,12 +1,12 @@
 -- The places of a table, as its slab has them.
-use Rattle.std.proofs.Common.{◌≡◌, ◌⊎◌, inl, inr, ℕ, zero, suc, ◌+◌, ◌<◌, ◌≤◌, ◌==◌, Bool, true, false, List, [], ◌∷◌, Option, Some, None, refl, sym, ◌∙◌, ap, subst, arith}
-use Rattle.std.specs.Prelude.{◌≢◌, slice_index_or, map}
+use Rattle.std.proofs.Common.{◌≡◌, ◌⊎◌, inl, inr, ℕ, zero, suc, ◌+◌, ◌==◌, Bool, true, false, List, [], ◌∷◌, Option, Some, None, refl, sym, ◌∙◌, ap, arith}
+use Rattle.std.specs.Prelude.{◌≢◌, slice_index_or}
 use Rattle.std.specs.Option.{option_map}
 use Rattle.std.proofs.lemmas.Bool.{eqb-true, eqb-false}
 use Rattle.slab.specs.Slab.{Slab, Updates}
 use Rattle.reg_tree.specs.Maps.{TreeMap}
-use Rattle.machine.specs.Transactions.{Transaction, Places, Puts, at}
-use Rattle.transactions.specs.Entries.{transaction_of, places_of, IsViewOf, IsViewed, IsEntry}
+use Rattle.machine.specs.Transactions.{Puts, at}
+use Rattle.transactions.specs.Entries.{transaction_of, places_of, IsViewed, IsEntry}
 use Rattle.transactions.specs.declared.entry.Entry.{Entry}
 use Rattle.transactions.specs.declared.entry.View.{View}
 

@@ -16,7 +16,7 @@ use Rattle.reg_tree.specs.declared.op.Legality.{Legality}
 use Rattle.reg_tree.specs.declared.op.Legality.TheVariants.{Legal, Opened}
 use Rattle.conflicts.specs.Claims.{claim_of}
 use Rattle.reg_tree.specs.declared.op.Op.{Op}
-use Rattle.machine.specs.Transactions.{Transaction, Places, Puts, view, is_claimed, at, own, own_if, ended, is_active, is_active_outcome, inactive_refusal, fresh_transaction, count_held}
+use Rattle.machine.specs.Transactions.{Transaction, Places, Puts, view, is_claimed, at, own, own_if, ended, is_active, inactive_refusal, fresh_transaction, count_held}
 use Rattle.machine.specs.Machine.{refused_if, first_of, refusal_by, too_long, added_refusal_if}
 use Rattle.machine.specs.declared.handle.Tx.{Tx}
 use Rattle.machine.specs.declared.handle.Outcome.{Outcome}

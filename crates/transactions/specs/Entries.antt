@@ -1,5 +1,5 @@
 -- How a table keeps a transaction.
-use Rattle.std.specs.Prelude.{◌≡◌, ℕ, ◌+◌, ◌<◌, ◌≤◌, ◌++◌, ◌∷◌, [], List, map, length, vec_capacity, Contains, Option, IfSome, IsSome, is_some, false, Ok, Some, None, ⊤, true, ◌↔◌, slice_index_or}
+use Rattle.std.specs.Prelude.{◌≡◌, ℕ, ◌+◌, ◌<◌, ◌≤◌, ◌++◌, ◌∷◌, [], List, map, length, vec_capacity, Contains, Option, IfSome, IsSome, false, Ok, Some, None, ⊤, true, ◌↔◌, slice_index_or}
 use Rattle.std.specs.Option.{option_map}
 use Rattle.reg_names.specs.declared.limits.TheConstants.{MOST_ELEMENT_BYTES}
 use Rattle.reg_names.specs.declared.refusal.Refusal.{Refusal}

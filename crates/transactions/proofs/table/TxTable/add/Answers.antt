@@ -1,10 +1,10 @@
 use Rattle.std.proofs.Common.{◌≡◌, ◌+◌, ◌++◌, ◌∷◌, [], true, false, Some, refl, sym, ◌∙◌, ap, subst}
 use Rattle.reg_tree.specs.Texts.{op_text_len}
 use Rattle.reg_tree.specs.Judgement.{applied}
-use Rattle.std.specs.Prelude.{IsSome, is_some, slice_set}
-use Rattle.slab.specs.Slab.{Slab, Updates, with_value}
+use Rattle.std.specs.Prelude.{IsSome}
+use Rattle.slab.specs.Slab.{with_value}
 use Rattle.slab.proofs.SlabLemmas.{Updates-with_value}
-use Rattle.conflicts.specs.Holders.{Held, with_claim}
+use Rattle.conflicts.specs.Holders.{with_claim}
 use Rattle.machine.specs.Transactions.{Transaction, Puts, at, is_active, with_op}
 use Rattle.machine.specs.Machine.{too_long}
 use Rattle.transactions.specs.Entries.{transaction_of, places_of, IsEntry, AreKept, with_op_if}

@@ -1,20 +1,13 @@
-use Rattle.std.proofs.Common.{rules, ◌≡◌, ◌⊎◌, ◌+◌, ◌<◌, ◌≤◌, ◌^◌, ◌-◌, ◌||◌, ◌==◌, [], ℕ, nat_le, IfOk, IfErr, OnErr, MatchResult, Some, None, true, false, ◌*◌, length, ◌/◌, ◌%◌, Bool, nat_eq, nat_lt, List, ◌∷◌, ◌++◌, slice_index_or, slice_set, bit_and, bit_or, Fits, w8, w32, w64, Bor, MutBor}
-use Rattle.std.specs.Option.{option_map, option_copied}
-use Rattle.reg_names.specs.declared.limits.TheConstants.{MOST_TRANSACTIONS}
-use Rattle.reg_names.specs.declared.refusal.Refusal.TheVariants.{NoMemory, NoSeat}
-use Rattle.reg_tree.specs.Texts.{element_text_len}
-use Rattle.conflicts.specs.Claims.{claim_of}
-use Rattle.machine.specs.Ends.{refusal_of}
+use Rattle.std.proofs.Common.{◌≡◌, ◌+◌, ◌<◌, ◌^◌, Some, None}
+use Rattle.reg_names.specs.declared.refusal.Refusal.TheVariants.{NoSeat}
 use Rattle.transactions.specs.Entries.{transaction_of}
-use Rattle.machine.specs.Machine.{refused_if, first_of, read_refusal, seen, added_refusal_if}
-use Rattle.transactions.specs.Tables.{Denies, Starts, Writes, Finishes, EndsWith, IsNotEnded, Closes, IsPending, seat_refusal, is_of, holds_if, is_listed, rolled_back_if}
-use Rattle.machine.specs.Transactions.{fresh_transaction, at, own, is_active_outcome, Becomes, Puts, gone_with, count_held, missing_refusal, inactive_refusal}
-use Rattle.std.proofs.Common.{inl, refl, sym, ◌∙◌, ap, subst, arith}
-use Rattle.slab.specs.Slab.{Slab, Updates}
+use Rattle.transactions.specs.Tables.{Starts, seat_refusal}
+use Rattle.machine.specs.Transactions.{fresh_transaction}
+use Rattle.std.proofs.Common.{inl, refl, sym, ◌∙◌, ap, subst}
+use Rattle.slab.specs.Slab.{Updates}
 use Rattle.machine.specs.Transactions.{Transaction}
 use Rattle.transactions.specs.Entries.{AreKept}
 use Rattle.transactions.specs.Tables.{Table}
-use Rattle.transactions.specs.declared.entry.Entry.{Entry}
 use Rattle.transactions.proofs.Kept.{kept_begun}
 use Rattle.transactions.proofs.Slots.{slot}
 use Rattle.transactions.proofs.Ways.{starts, begun_entry, shown, no_seat, some_seat, updates_of, slot_of}

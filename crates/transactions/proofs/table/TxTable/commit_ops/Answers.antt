@@ -1,5 +1,4 @@
 use Rattle.std.proofs.Common.{sym, subst}
-use Rattle.machine.specs.Transactions.{own}
 use Rattle.transactions.specs.Entries.{transaction_of}
 use Rattle.transactions.specs.Tables.{IsPending}
 use Rattle.transactions.proofs.Ways.{may_end}

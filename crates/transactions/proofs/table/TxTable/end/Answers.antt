@@ -1,22 +1,11 @@
-use Rattle.std.proofs.Common.{rules, ◌≡◌, ◌⊎◌, ◌+◌, ◌<◌, ◌≤◌, ◌^◌, ◌-◌, ◌||◌, ◌==◌, [], ℕ, nat_le, IfOk, IfErr, OnErr, MatchResult, Some, None, true, ◌*◌, length, ◌/◌, ◌%◌, Bool, false, nat_eq, nat_lt, List, ◌∷◌, ◌++◌, slice_index_or, slice_set, bit_and, bit_or, Fits, w8, w32, w64, Bor, MutBor}
-use Rattle.std.specs.Option.{option_map, option_copied}
-use Rattle.reg_names.specs.declared.limits.TheConstants.{MOST_TRANSACTIONS}
-use Rattle.reg_names.specs.declared.refusal.Refusal.TheVariants.{NoMemory, NoSeat}
-use Rattle.reg_tree.specs.Texts.{element_text_len}
-use Rattle.conflicts.specs.Claims.{claim_of}
-use Rattle.machine.specs.Ends.{refusal_of}
-use Rattle.transactions.specs.Entries.{transaction_of}
-use Rattle.machine.specs.Machine.{refused_if, first_of, read_refusal, seen, added_refusal_if}
-use Rattle.transactions.specs.Tables.{Denies, Starts, Writes, Finishes, EndsWith, IsNotEnded, Closes, IsPending, seat_refusal, is_of, holds_if, is_listed, rolled_back_if}
-use Rattle.machine.specs.Transactions.{at, own, Becomes, Puts, gone_with, count_held, missing_refusal, inactive_refusal}
+use Rattle.std.proofs.Common.{◌≡◌, Some}
+use Rattle.transactions.specs.Tables.{EndsWith}
 use Rattle.std.proofs.Common.{refl, sym, ◌∙◌, ap, subst}
-use Rattle.std.specs.Prelude.{IsSome, is_some}
+use Rattle.std.specs.Prelude.{IsSome}
 use Rattle.machine.specs.Transactions.{is_active}
-use Rattle.slab.specs.Slab.{Slab, Updates, with_value}
+use Rattle.slab.specs.Slab.{Updates, with_value}
 use Rattle.slab.proofs.SlabLemmas.{Updates-with_value}
-use Rattle.machine.specs.declared.handle.Outcome.{Outcome as AnyOutcome}
 use Rattle.transactions.specs.Tables.{Table, EndsWith}
-use Rattle.transactions.specs.declared.entry.Entry.{Entry}
 use Rattle.transactions.proofs.Kept.{kept_ended}
 use Rattle.transactions.proofs.Slots.{slot}
 use Rattle.transactions.proofs.Ways.{ends, ended_entry, shown}

@@ -1,4 +1,4 @@
-use Rattle.std.proofs.Common.{◌≡◌, ℕ, None, ◌∙◌, subst, ap, map}
+use Rattle.std.proofs.Common.{◌≡◌, None, ◌∙◌, subst, ap, map}
 use Rattle.conflicts.specs.Claims.{claim_of}
 use Rattle.conflicts.specs.Holders.{holders_of}
 use Rattle.machine.specs.Transactions.{at}

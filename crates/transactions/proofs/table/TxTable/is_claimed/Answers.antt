@@ -1,7 +1,6 @@
-use Rattle.std.proofs.Common.{◌≡◌, not, Some, length, ◌==◌, sym, ◌∙◌, ap, subst}
+use Rattle.std.proofs.Common.{◌≡◌, not, Some, length, ◌==◌, ◌∙◌, ap, subst}
 use Rattle.conflicts.specs.Claims.{claim_of}
 use Rattle.conflicts.specs.Holders.{holders_of}
-use Rattle.conflicts.specs.declared.table.Owner.{Owner}
 use Rattle.machine.specs.Transactions.{is_claimed}
 use Rattle.transactions.specs.Entries.{places_of}
 use Rattle.transactions.specs.Tables.{Table}

@@ -1,4 +1,4 @@
-use Rattle.std.proofs.Common.{◌≡◌, Some, sym}
+use Rattle.std.proofs.Common.{sym}
 use Rattle.transactions.specs.Entries.{IsEntry}
 use Rattle.transactions.proofs.table.TxTable.is_too_long.Goals as goal
 

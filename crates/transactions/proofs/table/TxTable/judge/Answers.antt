@@ -1,11 +1,11 @@
 use Rattle.std.proofs.Common.{◌≡◌, ◌⊎◌, Some, Err, refl, sym, ◌∙◌, ap, subst}
-use Rattle.std.specs.Prelude.{IsSome, is_some, slice_set, MatchResult}
+use Rattle.std.specs.Prelude.{IsSome, MatchResult}
 use Rattle.reg_names.specs.declared.refusal.Refusal.TheVariants.{NoMemory}
-use Rattle.slab.specs.Slab.{Slab, Updates, with_value}
+use Rattle.slab.specs.Slab.{with_value}
 use Rattle.slab.proofs.SlabLemmas.{Updates-with_value}
 use Rattle.reg_tree.specs.Judgement.{legal}
 use Rattle.machine.specs.Transactions.{Transaction, at, own, view}
-use Rattle.transactions.specs.Entries.{transaction_of, places_of, IsEntry, IsJudged, IsJudgedOf, judge_refusal}
+use Rattle.transactions.specs.Entries.{transaction_of, places_of, IsJudged, IsJudgedOf, judge_refusal}
 use Rattle.transactions.specs.Tables.{Table}
 use Rattle.transactions.proofs.Kept.{kept_seen, seen_entry, same_places}
 use Rattle.transactions.proofs.Slots.{slot}

@@ -1,16 +1,8 @@
-use Rattle.std.proofs.Common.{rules, ◌≡◌, ◌⊎◌, ◌+◌, ◌<◌, ◌≤◌, ◌^◌, ◌-◌, ◌||◌, ◌==◌, [], ℕ, nat_le, IfOk, IfErr, OnErr, MatchResult, Some, None, true, ◌*◌, length, ◌/◌, ◌%◌, Bool, false, nat_eq, nat_lt, List, ◌∷◌, ◌++◌, slice_index_or, slice_set, bit_and, bit_or, Fits, w8, w32, w64, Bor, MutBor}
-use Rattle.std.specs.Option.{option_map, option_copied}
-use Rattle.reg_names.specs.declared.limits.TheConstants.{MOST_TRANSACTIONS}
-use Rattle.reg_names.specs.declared.refusal.Refusal.TheVariants.{NoMemory, NoSeat}
-use Rattle.reg_tree.specs.Texts.{element_text_len}
-use Rattle.conflicts.specs.Claims.{claim_of}
-use Rattle.machine.specs.Ends.{refusal_of}
-use Rattle.transactions.specs.Entries.{transaction_of}
-use Rattle.machine.specs.Machine.{refused_if, first_of, read_refusal, seen, added_refusal_if}
-use Rattle.transactions.specs.Entries.{AreKept, places_of}
-use Rattle.transactions.specs.Tables.{Table, Denies, Starts, Writes, Finishes, EndsWith, IsNotEnded, Closes, IsPending, seat_refusal, is_of, holds_if, is_listed, rolled_back_if}
-use Rattle.machine.specs.Transactions.{at, own, Becomes, Puts, gone_with, count_held, missing_refusal, inactive_refusal}
-use Rattle.std.proofs.Common.{refl, sym, ◌∙◌, ap, subst}
+use Rattle.std.proofs.Common.{None}
+use Rattle.transactions.specs.Entries.{places_of}
+use Rattle.transactions.specs.Tables.{Table}
+use Rattle.machine.specs.Transactions.{Puts}
+use Rattle.std.proofs.Common.{subst}
 use Rattle.transactions.proofs.Kept.{kept_vacated}
 use Rattle.transactions.proofs.Slots.{puts}
 use Rattle.transactions.proofs.table.TxTable.vacate.Goals as goal

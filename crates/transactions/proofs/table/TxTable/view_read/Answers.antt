@@ -1,13 +1,11 @@
 use Rattle.machine.specs.Transactions.{at}
 use Rattle.std.proofs.Common.{◌≡◌, Some, refl, sym, ◌∙◌, ap, subst}
-use Rattle.std.specs.Prelude.{IsSome, is_some, slice_set}
-use Rattle.slab.specs.Slab.{Slab, Updates, with_value}
+use Rattle.std.specs.Prelude.{IsSome}
+use Rattle.slab.specs.Slab.{with_value}
 use Rattle.slab.proofs.SlabLemmas.{Updates-with_value}
-use Rattle.transactions.specs.Entries.{transaction_of, places_of, IsEntry}
-use Rattle.transactions.specs.Tables.{Table}
+use Rattle.transactions.specs.Entries.{transaction_of, places_of}
 use Rattle.transactions.proofs.Kept.{kept_seen, seen_entry, same_places}
 use Rattle.transactions.proofs.Slots.{slot}
-use Rattle.transactions.proofs.Ways.{shown}
 use Rattle.transactions.proofs.table.TxTable.view_read.Goals as goal
 
 there : (c : goal.After-self-2-1) → slot c.self.inside.places.slots c.args.tx.place ≡ Some c.in-Some.entry.now
