@@ -16,4 +16,4 @@ mod sessions;
 #[cfg(test)]
 mod streams;
 #[cfg(test)]
-mod transactions;
+mod units_of_work;
