@@ -191,35 +191,52 @@ fn a_commit_is_weighed_after_each_write(rt: HostRuntime) -> Result<(), Fail> {
     Ok(())
 }
 
+// a write of so many bytes
+fn written(alloc: Global, store: &mut PlainStore, count: usize) -> Result<Reply, Refusal> {
+    let data = bytes(alloc, count)?;
+    Ok(write(store, set(alloc, K, V, &data)?))
+}
+
+// a store whose journal has room for 1,045,272 bytes more, and the number of its last change
+fn nearly_full(alloc: Global) -> Result<(PlainStore, Option<u64>), Refusal> {
+    let mut store = PlainStore::new(alloc, 1)?;
+    store.event(Event::StartSession { session: 0 });
+    let path = Path::parse(alloc, &[K])?;
+    write(&mut store, Op::CreateKey { hive: 0, path });
+    let mut last = None;
+    for _turn in 0..63 {
+        last = number(&written(alloc, &mut store, MEBIBYTE)?);
+    }
+    Ok((store, last))
+}
+
 // the journal's room is 67,108,864 bytes: 65 at first, 17 more than its text for each change
 #[test]
 fn a_change_that_the_journal_has_no_room_for_is_refused(rt: HostRuntime) -> Result<(), Fail> {
     let alloc = rt.alloc();
-    let mut store = PlainStore::new(alloc, 1)?;
-    store.event(Event::StartSession { session: 0 });
-    let path = Path::parse(alloc, &[K])?;
-    let created = write(&mut store, Op::CreateKey { hive: 0, path });
-    assert!(&rt; number(&created) == Some(1));
-    let largest = bytes(alloc, MEBIBYTE)?;
-    for turn in 0..63u64 {
-        let reply = write(&mut store, set(alloc, K, V, &largest)?);
-        assert!(&rt; number(&reply) == Some(turn + 2));
-    }
+    let (mut store, last) = nearly_full(alloc)?;
+    assert!(&rt; last == Some(64));
     // one byte more than fits, and then what fits
-    let over = bytes(alloc, 1_045_273)?;
-    let reply = write(&mut store, set(alloc, K, V, &over)?);
-    assert!(&rt; is_refused(&reply, Refusal::JournalFull));
-    let last = bytes(alloc, 1_045_272)?;
-    let reply = write(&mut store, set(alloc, K, V, &last)?);
-    assert!(&rt; number(&reply) == Some(65));
-    // a refused write rolls nothing back, a refused commit leaves its transaction active, and an empty one needs no room
-    let nothing = bytes(alloc, 0)?;
+    let over = written(alloc, &mut store, 1_045_273)?;
+    assert!(&rt; is_refused(&over, Refusal::JournalFull));
+    let fits = written(alloc, &mut store, 1_045_272)?;
+    assert!(&rt; number(&fits) == Some(65));
+    Ok(())
+}
+
+// a refused write rolls nothing back, a refused commit leaves its transaction active, and an empty one needs no room
+#[test]
+fn a_full_journal_leaves_transactions_as_they_are(rt: HostRuntime) -> Result<(), Fail> {
+    let alloc = rt.alloc();
+    let (mut store, _) = nearly_full(alloc)?;
     let (Some(tx), Some(empty)) = (begun(&mut store), begun(&mut store)) else {
         return Err(Fail::from(Refusal::NoSeat));
     };
+    written(alloc, &mut store, 1_045_272)?;
+    let nothing = bytes(alloc, 0)?;
     assert!(&rt; is_added(&write_in(&mut store, tx, set(alloc, K, V, &nothing)?)));
-    let reply = write(&mut store, set(alloc, K, V, &nothing)?);
-    assert!(&rt; is_refused(&reply, Refusal::JournalFull));
+    let alone = written(alloc, &mut store, 0)?;
+    assert!(&rt; is_refused(&alone, Refusal::JournalFull));
     assert!(&rt; is_active(&mut store, tx));
     let reply = commit(&mut store, tx);
     assert!(&rt; is_refused(&reply, Refusal::JournalFull));
