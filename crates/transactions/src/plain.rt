@@ -335,6 +335,7 @@ impl PlainStore {
     fn trim_step(&self) -> Reply
         ensures { Step self.now Event.TrimStep result self.now }
     {
+        // looks at the store, so that the checker knows what it shows
         let _ = &self.alloc;
         Reply::Stepped {
             progress: Progress::Idle,

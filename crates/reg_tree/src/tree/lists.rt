@@ -77,6 +77,7 @@ impl Tree {
         let Some(node) = self.node(path.names()) else {
             return Err(Refusal::NotFound);
         };
+        // the row of the key, whose clause says that the key is there
         let _ = node.key();
         Ok(listed(alloc, node)?)
     }
