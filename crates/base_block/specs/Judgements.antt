@@ -1,9 +1,9 @@
 -- Which base blocks are used (regf format, base block, in this project's profile).
 use Rattle.std.specs.Prelude.{◌≡◌, ◌≢◌, ◌≤◌, ◌<◌, ◌%◌, ℕ, zero, IsTrue, ◌⊎◌}
-use Rattle.reg_names.specs.declared.refusal.Refusal.{Refusal}
-use Rattle.reg_names.specs.declared.refusal.Refusal.TheVariants as refusal
-use Rattle.reg_names.specs.declared.refusal.Cause.TheVariants as cause
-use Rattle.reg_names.specs.declared.limits.TheConstants.{MOST_BINS_BYTES}
+use Rattle.refusals.specs.declared.refusal.Refusal.{Refusal}
+use Rattle.refusals.specs.declared.refusal.Refusal.TheVariants as refusal
+use Rattle.refusals.specs.declared.refusal.Cause.TheVariants as cause
+use Rattle.refusals.specs.declared.limits.TheConstants.{MOST_BINS_BYTES}
 use Rattle.base_block.specs.declared.block.BaseBlock.{BaseBlock}
 use Rattle.base_block.specs.Layout.{is_clean_block}
 

@@ -6,8 +6,8 @@ ghost use Rattle.base_block.specs.Judgements.{IsPrimary, IsLog, IsUsable, IsBins
 
 use crate::block::{BaseBlock, FILE_FORMAT, MAJOR_VERSION, MINOR_VERSION};
 use crate::fields::{FileType, Signature};
-use reg_names::limits::MOST_BINS_BYTES;
-use reg_names::{Cause, Refusal};
+use refusals::limits::MOST_BINS_BYTES;
+use refusals::{Cause, Refusal};
 
 // bins data come in bins of this many bytes, or of multiples of it
 const BIN_BYTES: u32 = 4096;

@@ -8,9 +8,9 @@ use Rattle.std.specs.FinMap.Entries.{find}
 use Rattle.std.proofs.lemmas.Bool.Decides.{nat_tests}
 use Rattle.std.proofs.lemmas.List.{take-append-drop}
 use Rattle.reg_names.specs.Names.{folded, folded_path}
-use Rattle.reg_names.specs.declared.refusal.Refusal.{Refusal}
-use Rattle.reg_names.specs.declared.refusal.Refusal.TheVariants.{NotFound, HasSubkeys, TooDeep, TooLarge, Fixed}
-use Rattle.reg_names.specs.declared.limits.TheConstants.{MOST_NEW_LEVELS, MOST_VALUE_BYTES}
+use Rattle.refusals.specs.declared.refusal.Refusal.{Refusal}
+use Rattle.refusals.specs.declared.refusal.Refusal.TheVariants.{NotFound, HasSubkeys, TooDeep, TooLarge, Fixed}
+use Rattle.refusals.specs.declared.limits.TheConstants.{MOST_NEW_LEVELS, MOST_VALUE_BYTES}
 use Rattle.reg_tree_parts.specs.declared.value.Value.{Value}
 use Rattle.reg_tree_parts.specs.Orders.{path_order}
 use Rattle.reg_tree_parts.specs.Rows.{Row}

@@ -5,7 +5,7 @@
 //! transactions.
 ghost use Rattle.std.specs.Prelude.{◌≡◌, ◌⊎◌, ◌↔◌, ◌++◌, ◌∷◌, [], ℕ, List, Option, Contains, ◌≢◌, nat_eq};
 ghost use Rattle.std.specs.List.{IsDistinct};
-ghost use Rattle.reg_names.specs.declared.refusal.Refusal.TheVariants.{TooLarge};
+ghost use Rattle.refusals.specs.declared.refusal.Refusal.TheVariants.{TooLarge};
 ghost use Rattle.reg_tree.specs.Maps.{TreeMap};
 ghost use Rattle.reg_tree.specs.Judgement.{legal, applied, applied_one};
 ghost use Rattle.reg_tree.specs.Sequences.{AreTrees};

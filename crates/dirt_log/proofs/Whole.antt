@@ -1,9 +1,9 @@
 -- A log that is read is whole, and one that isn't whole is refused.
 use Rattle.std.proofs.Common.{◌≡◌, ◌≤◌, ℕ, ◌*◌, ◌/◌, ◌%◌, Bool, true, cond, List, take, drop, sym, ap, subst, ◌∙◌, inl, inr, arith, Result, Ok, Err}
 use Rattle.std.proofs.lemmas.Bool.{le-leb, eq-eqb, and_from}
-use Rattle.reg_names.specs.declared.refusal.Refusal.{Refusal}
-use Rattle.reg_names.specs.declared.refusal.Refusal.TheVariants.{NoMemory, TooLarge}
-use Rattle.reg_names.specs.Names.{IsOrNoMemory}
+use Rattle.refusals.specs.declared.refusal.Refusal.{Refusal}
+use Rattle.refusals.specs.declared.refusal.Refusal.TheVariants.{NoMemory, TooLarge}
+use Rattle.refusals.specs.Answers.{IsOrNoMemory}
 use Rattle.base_block.specs.declared.block.BaseBlock.{BaseBlock}
 use Rattle.base_block.specs.Judgements.{IsUsable, IsLog}
 use Rattle.dirty_vector.specs.Marks.{is_marked_in_bitmap, marked_below}

@@ -1,9 +1,9 @@
 -- Logs that are whole, and what they repair (regf format, old transaction log).
 use Rattle.std.specs.Prelude.{true, ◌≡◌, ◌≢◌, ◌≤◌, ◌<◌, ℕ, ◌+◌, ◌*◌, ◌/◌, ◌%◌, false, if◌then◌else◌, List, take, drop, length, map, slice_index, codes}
 use Rattle.std.specs.List.{range_with_len}
-use Rattle.reg_names.specs.declared.refusal.Refusal.{Refusal}
-use Rattle.reg_names.specs.declared.refusal.Refusal.TheVariants.{HiveDamaged}
-use Rattle.reg_names.specs.declared.refusal.Cause.TheVariants.{BadLog}
+use Rattle.refusals.specs.declared.refusal.Refusal.{Refusal}
+use Rattle.refusals.specs.declared.refusal.Refusal.TheVariants.{HiveDamaged}
+use Rattle.refusals.specs.declared.refusal.Cause.TheVariants.{BadLog}
 use Rattle.base_block.specs.declared.block.BaseBlock.{BaseBlock}
 use Rattle.base_block.specs.Layout.{block_at}
 use Rattle.base_block.specs.Judgements.{IsUsable, IsLog}

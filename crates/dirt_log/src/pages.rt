@@ -1,6 +1,6 @@
 //! Where the parts of a log lie.
 
-ghost use Rattle.reg_names.specs.declared.limits.TheConstants.{MOST_BINS_BYTES};
+ghost use Rattle.refusals.specs.declared.limits.TheConstants.{MOST_BINS_BYTES};
 ghost use Rattle.std.specs.Prelude.{◌≡◌, ◌≤◌, ◌+◌, ◌*◌, length};
 ghost use Rattle.dirt_log.specs.LogText.{page_of, pages_at};
 

@@ -1,8 +1,8 @@
 //! Reading a log.
 
-ghost use Rattle.reg_names.specs.declared.limits.TheConstants.{MOST_BINS_BYTES};
+ghost use Rattle.refusals.specs.declared.limits.TheConstants.{MOST_BINS_BYTES};
 ghost use Rattle.std.specs.Prelude.{◌≡◌, ◌≤◌, ◌+◌, ◌*◌, ◌/◌, ◌↔◌, IsTrue, IfOk, IfErr, take, drop, length, codes};
-ghost use Rattle.reg_names.specs.Names.{RefusedFor};
+ghost use Rattle.refusals.specs.Answers.{RefusedFor};
 ghost use Rattle.base_block.specs.Judgements.{IsLog};
 ghost use Rattle.dirty_vector.specs.Pages.{dirty_count};
 ghost use Rattle.dirt_log.specs.LogText.{bitmap_end};
@@ -11,7 +11,7 @@ ghost use Rattle.dirt_log.specs.WholeLog.{not_whole, IsWhole, HasBitmap, HasPage
 use crate::pages::{BITMAP_AT, BYTES_PER_BITMAP_BYTE, LETTERS, LETTERS_AT, pages_start};
 use base_block::BaseBlock;
 use dirty_vector::{DirtyVector, PAGE_BYTES};
-use reg_names::{Cause, Refusal};
+use refusals::{Cause, Refusal};
 use std::alloc::Global;
 
 /// A log that is whole: its base block, the pages that it marks, and their bytes in rising order.

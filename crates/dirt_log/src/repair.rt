@@ -1,14 +1,14 @@
 //! Repairing the bins data of a primary file from a log.
 
 ghost use Rattle.std.specs.Prelude.{◌≡◌, ◌≤◌, ◌+◌, ◌*◌, ◌/◌, ◌%◌, ◌==◌, ◌↔◌, ℕ, if◌then◌else◌, IsTrue, IfErr, OnOk, OnErr, take, drop, length, slice_index, vec_len};
-ghost use Rattle.reg_names.specs.Names.{RefusedFor};
+ghost use Rattle.refusals.specs.Answers.{RefusedFor};
 ghost use Rattle.dirty_vector.specs.Pages.{dirty_count};
 ghost use Rattle.dirt_log.specs.WholeLog.{not_whole, IsCovered, repaired};
 
 use crate::pages::page_bytes;
 use crate::reading::{DirtLog, bad_log};
 use dirty_vector::{DirtyVector, PAGE_BYTES};
-use reg_names::Refusal;
+use refusals::Refusal;
 
 impl DirtLog<'_> {
     /// Repairs the bins data of the primary file that the log belongs to: cuts or lengthens it to the

@@ -15,8 +15,8 @@ use Rattle.dirty_vector.specs.Kept.{pages_of, IsKept, IsBlank}
 use Rattle.std.specs.Prelude.{Option, Some, None, MatchOption}
 use Rattle.dirty_vector.proofs.Bytes.{none_marked}
 use Rattle.dirty_vector.proofs.Words.{same_count}
-use Rattle.reg_names.specs.declared.refusal.Refusal.{Refusal}
-use Rattle.reg_names.specs.declared.refusal.Refusal.TheVariants.{TooLarge}
+use Rattle.refusals.specs.declared.refusal.Refusal.{Refusal}
+use Rattle.refusals.specs.declared.refusal.Refusal.TheVariants.{TooLarge}
 
 abbrev pages : ℕ → set.FinSet nat_cmp → Pages
 pages size dirty = record { bins_size = size; dirty = dirty }

@@ -6,9 +6,9 @@ use Rattle.std.specs.FinSet as set
 use Rattle.std.specs.Coded.{Coded, code_by, coded×, coded_ℕ}
 use Rattle.std.proofs.Common.{refl}
 use Rattle.dirty_vector.specs.Marks.{is_marked_in_bitmap, marked_count, marked_below}
-use Rattle.reg_names.specs.declared.refusal.Refusal.{Refusal}
-use Rattle.reg_names.specs.declared.refusal.Refusal.TheVariants.{TooLarge}
-use Rattle.reg_names.specs.declared.limits.TheConstants.{MOST_BINS_BYTES}
+use Rattle.refusals.specs.declared.refusal.Refusal.{Refusal}
+use Rattle.refusals.specs.declared.refusal.Refusal.TheVariants.{TooLarge}
+use Rattle.refusals.specs.declared.limits.TheConstants.{MOST_BINS_BYTES}
 
 -- the dirty pages of bins data of a size
 pub record Pages : Type 0 where

@@ -2,7 +2,7 @@
 
 ghost use Rattle.std.specs.Prelude.{◌≡◌, ℕ, ◌/◌, ◌%◌, ◌≤◌, ◌↔◌, ◌⊎◌, Bool, true, false, IsTrue, IfOk, IfErr, MatchOption, length, Ok};
 ghost use Rattle.std.specs.FinSet as set;
-ghost use Rattle.reg_names.specs.Names.{IsOrNoMemory, RefusedFor};
+ghost use Rattle.refusals.specs.Answers.{IsOrNoMemory, RefusedFor};
 ghost use Rattle.dirty_vector.specs.Kept.{IsBlank};
 ghost use Rattle.dirty_vector.specs.Marks.{is_marked_in_bitmap, marked_below};
 ghost use Rattle.dirty_vector.specs.Pages.{is_dirty, dirty_count, is_bins_size, Touches, NoneFrom, IsNextDirty, IsNthDirty, IsFirstRun, fresh_pages, read_pages, bitmap_of};
@@ -10,8 +10,8 @@ ghost use Rattle.dirty_vector.specs.Pages.{is_dirty, dirty_count, is_bins_size, 
 use crate::bitmap::{read_bitmap, write_bitmap};
 use crate::marks::{WORD_BITS, count_marks, first_page, is_page_marked, mark_pages, nth_mark};
 use crate::runs::Runs;
-use reg_names::Refusal;
-use reg_names::limits::MOST_BINS_BYTES;
+use refusals::Refusal;
+use refusals::limits::MOST_BINS_BYTES;
 use std::alloc::Global;
 use std::marker::Model;
 use std::ops::Range;

@@ -1,7 +1,7 @@
 -- What changes one after another leave.
 use Rattle.std.proofs.Common.{◌≡◌, ℕ, ◌+◌, ◌<◌, ◌≤◌, true, false, List, length, ◌∙◌, subst, inl, inr, arith}
 use Rattle.std.proofs.lemmas.Bool.{cases_lt}
-use Rattle.reg_names.specs.declared.limits.TheConstants.{MOST_BINS_BYTES}
+use Rattle.refusals.specs.declared.limits.TheConstants.{MOST_BINS_BYTES}
 use Rattle.hive_cells.specs.Tiles.{is_allocated, cell_size, BeginsCell, IsAllocatedCell, IsFreeCell}
 use Rattle.hive_cells.specs.Marks.{IsWholeCell}
 use Rattle.hive_cells.specs.Starts.{IsKept, SameCell, OtherCells}

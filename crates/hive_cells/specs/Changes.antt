@@ -1,9 +1,9 @@
 -- What a change of the cells leaves: which are allocated, with which data, and which bytes were written.
 use Rattle.std.specs.Prelude.{◌≡◌, ◌≢◌, ℕ, zero, ◌+◌, ◌*◌, ◌/◌, ◌<◌, ◌≤◌, Bool, false, List, length, slice_index, ◌↔◌, ◌⊎◌}
-use Rattle.reg_names.specs.declared.refusal.Refusal.{Refusal}
-use Rattle.reg_names.specs.declared.refusal.Refusal.TheVariants as refusal
-use Rattle.reg_names.specs.declared.refusal.Cause.TheVariants as cause
-use Rattle.reg_names.specs.declared.limits.TheConstants.{MOST_BINS_BYTES}
+use Rattle.refusals.specs.declared.refusal.Refusal.{Refusal}
+use Rattle.refusals.specs.declared.refusal.Refusal.TheVariants as refusal
+use Rattle.refusals.specs.declared.refusal.Cause.TheVariants as cause
+use Rattle.refusals.specs.declared.limits.TheConstants.{MOST_BINS_BYTES}
 use Rattle.hive_cells.specs.Tiles.{word_at, bin_size, is_allocated, cell_size, IsAllocatedCell, IsFreeCell, HasFree, cell_data}
 
 -- at an offset an allocated cell begins after the change exactly where one did before, and its size and its data

@@ -1,10 +1,10 @@
 -- How bins and cells tile hive bins data (regf format: hive bins; cells). Offsets and sizes are in bytes, and
 -- offsets are counted from the start of the data.
 use Rattle.std.specs.Prelude.{◌≡◌, ◌≢◌, ℕ, zero, ◌+◌, ◌-◌, ◌*◌, ◌%◌, ◌^◌, ◌<◌, ◌≤◌, nat_le, Bool, false, IsTrue, if◌then◌else◌, List, length, slice_index, slice_range}
-use Rattle.reg_names.specs.declared.refusal.Refusal.{Refusal}
-use Rattle.reg_names.specs.declared.refusal.Refusal.TheVariants as refusal
-use Rattle.reg_names.specs.declared.refusal.Cause.{Cause}
-use Rattle.reg_names.specs.declared.refusal.Cause.TheVariants as cause
+use Rattle.refusals.specs.declared.refusal.Refusal.{Refusal}
+use Rattle.refusals.specs.declared.refusal.Refusal.TheVariants as refusal
+use Rattle.refusals.specs.declared.refusal.Cause.{Cause}
+use Rattle.refusals.specs.declared.refusal.Cause.TheVariants as cause
 
 -- the number of the four bytes that begin at an offset, the lowest byte first
 unfoldable pub word_at : List ℕ → ℕ → ℕ

@@ -9,8 +9,8 @@ use crate::free_bounds::FreeBounds;
 use crate::starts::put_start;
 use crate::tiling::{BIN_HEADER_BYTES, BIN_SIGNATURE, MARKED_BYTES, PAGE_BYTES, WORD_BYTES};
 use crate::words::put_word;
-use reg_names::Refusal;
-use reg_names::limits::MOST_BINS_BYTES;
+use refusals::Refusal;
+use refusals::limits::MOST_BINS_BYTES;
 
 // makes the data longer by zeros, and their bits by no starts; both or none
 fn grow(bytes: &mut Vec<u8>, starts: &mut Vec<u64>, more: usize) -> Result<(), Refusal>

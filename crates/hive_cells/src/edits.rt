@@ -9,7 +9,7 @@ use crate::lookup::{free_before, is_free_cell, size_at};
 use crate::starts::put_start;
 use crate::tiling::MARKED_BYTES;
 use crate::words::put_word;
-use reg_names::limits::MOST_BINS_BYTES;
+use refusals::limits::MOST_BINS_BYTES;
 
 /// Writes the size of the cell at an offset, stored below 0 where the cell is allocated.
 #[tactic(auto, unfolding(crate::specs::Tiles::cell_size, crate::specs::Tiles::is_allocated))]

@@ -11,8 +11,8 @@ use crate::free_bounds::FreeBounds;
 use crate::looks::Looks;
 use crate::lookup::{find_free, is_cell_allocated};
 use crate::tiling::{MARKED_BYTES, cell_size, damaged, index_of};
-use reg_names::limits::MOST_BINS_BYTES;
-use reg_names::{Cause, Refusal};
+use refusals::limits::MOST_BINS_BYTES;
+use refusals::{Cause, Refusal};
 use std::alloc::Global;
 use std::marker::Model;
 

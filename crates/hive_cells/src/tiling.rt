@@ -6,7 +6,7 @@ ghost use Rattle.hive_cells.specs.Starts.{IsIndexed, StandsBetween, StandsIn};
 use crate::free_bounds::FreeBounds;
 use crate::starts::put_start;
 use crate::words::word_at;
-use reg_names::{Cause, Refusal};
+use refusals::{Cause, Refusal};
 use std::alloc::Global;
 
 /// The bytes of a page: bins are whole pages.

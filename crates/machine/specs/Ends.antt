@@ -1,6 +1,6 @@
 -- Why a transaction cannot be ended.
-use Rattle.reg_names.specs.declared.refusal.Refusal.{Refusal}
-use Rattle.reg_names.specs.declared.refusal.Refusal.TheVariants as refusal
+use Rattle.refusals.specs.declared.refusal.Refusal.{Refusal}
+use Rattle.refusals.specs.declared.refusal.Refusal.TheVariants as refusal
 use Rattle.machine.specs.declared.handle.NotEnded.{NotEnded}
 use Rattle.machine.specs.declared.handle.NotEnded.TheVariants.{NoSuchTransaction, NotActive}
 

@@ -1,6 +1,6 @@
 -- What every state of the machine keeps: what is known of transactions that are held, and of handles.
 use Rattle.std.specs.Prelude.{◌≡◌, ◌≢◌, ◌⊎◌, ℕ, ◌+◌, ◌≤◌, true, List, [], ◌∷◌, map, filter_map, Option, Some, None, Ok, Err, ⊤}
-use Rattle.reg_names.specs.declared.refusal.Refusal.TheVariants.{TooLarge}
+use Rattle.refusals.specs.declared.refusal.Refusal.TheVariants.{TooLarge}
 use Rattle.reg_tree.specs.Maps.{TreeMap}
 use Rattle.reg_tree.specs.Judgement.{legal, applied_one}
 use Rattle.reg_tree.specs.Sequences.{AreTrees}

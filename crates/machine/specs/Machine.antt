@@ -3,10 +3,10 @@ use Rattle.std.specs.Prelude.{ℕ, ◌+◌, ◌-◌, ◌^◌, ◌==◌, ◌||◌
 use Rattle.std.specs.List.{list_any}
 use Rattle.std.specs.Option.{option_map}
 use Rattle.reg_names.specs.Names.{folded_path}
-use Rattle.reg_names.specs.declared.refusal.Refusal.{Refusal}
-use Rattle.reg_names.specs.declared.refusal.Refusal.TheVariants.{NotFound, TooLarge, NoSuchHandle, NoSeat, JournalFull, HistoryFull, Faulted}
-use Rattle.reg_names.specs.declared.refusal.Refusal.TheVariants as refusal
-use Rattle.reg_names.specs.declared.limits.TheConstants.{MOST_JOURNAL_BYTES, MOST_HISTORY, GREATEST_NUMBER, MOST_ELEMENT_BYTES, MOST_SESSIONS, MOST_TRANSACTIONS}
+use Rattle.refusals.specs.declared.refusal.Refusal.{Refusal}
+use Rattle.refusals.specs.declared.refusal.Refusal.TheVariants.{NotFound, TooLarge, NoSuchHandle, NoSeat, JournalFull, HistoryFull, Faulted}
+use Rattle.refusals.specs.declared.refusal.Refusal.TheVariants as refusal
+use Rattle.refusals.specs.declared.limits.TheConstants.{MOST_JOURNAL_BYTES, MOST_HISTORY, GREATEST_NUMBER, MOST_ELEMENT_BYTES, MOST_SESSIONS, MOST_TRANSACTIONS}
 use Rattle.reg_tree.specs.Maps.{TreeMap}
 use Rattle.reg_tree.specs.Fresh.{fresh_tree}
 use Rattle.reg_tree.specs.Texts.{element_text_len}

@@ -1,6 +1,6 @@
 -- The shapes of answers: an event has a few answers of its own, and no other is ever given to it.
 use Rattle.std.specs.Prelude.{ℕ, Option}
-use Rattle.reg_names.specs.declared.refusal.Refusal.{Refusal}
+use Rattle.refusals.specs.declared.refusal.Refusal.{Refusal}
 use Rattle.machine.specs.declared.handle.Tx.{Tx}
 use Rattle.machine.specs.declared.handle.Outcome.{Outcome}
 use Rattle.machine.specs.declared.event.Found.{Found}

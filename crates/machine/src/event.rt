@@ -1,6 +1,7 @@
 //! What a store is asked, one event after another, and what it answers.
 use crate::handle::{Outcome, Tx};
-use reg_names::{Path, Refusal, ValueName};
+use refusals::Refusal;
+use reg_names::{Path, ValueName};
 use reg_tree::{Info, Names, Op, Value};
 use uuid::Uuid;
 

@@ -1,9 +1,9 @@
 //! Handles of transactions, and what became of a transaction.
 ghost use Rattle.std.specs.Prelude.{◌≡◌};
-ghost use Rattle.reg_names.specs.declared.refusal.Refusal.TheVariants.{NoSuchHandle};
+ghost use Rattle.refusals.specs.declared.refusal.Refusal.TheVariants.{NoSuchHandle};
 ghost use Rattle.machine.specs.Ends.{refusal_of};
 
-use reg_names::Refusal;
+use refusals::Refusal;
 
 /// The handle of a transaction: the place that it has, and how many transactions were begun in this opening of the
 /// store, itself included. No two transactions of an opening have the same handle.

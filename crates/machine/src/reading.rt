@@ -1,10 +1,11 @@
 //! What is read of trees, and how many keys an operation makes in them.
 ghost use Rattle.std.specs.Prelude.{◌≡◌, ◌⊎◌, Some, None, MatchResult};
-ghost use Rattle.reg_names.specs.declared.refusal.Refusal.TheVariants.{NoMemory};
+ghost use Rattle.refusals.specs.declared.refusal.Refusal.TheVariants.{NoMemory};
 ghost use Rattle.machine.specs.Machine.{looked_up, levels_made, read_refusal};
 
 use crate::event::{Found, Question};
-use reg_names::{Path, Refusal};
+use refusals::Refusal;
+use reg_names::Path;
 use reg_tree::{Op, Trees};
 use std::alloc::Global;
 

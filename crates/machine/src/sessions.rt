@@ -2,7 +2,7 @@
 ghost use Rattle.std.specs.Prelude.{◌≡◌, ◌==◌, ◌++◌, ◌∷◌, ◌<◌, ◌≤◌, [], not, filter, length, IfOk, MatchResult};
 ghost use Rattle.std.specs.List.{list_any};
 
-use reg_names::limits::MOST_SESSIONS;
+use refusals::limits::MOST_SESSIONS;
 use std::alloc::{AllocError, Global};
 use std::marker::Model;
 
@@ -25,7 +25,7 @@ impl Model for Sessions {
     ghost view = { λ inside. inside.open.items };
 
     ghost use Rattle.std.specs.Prelude.{◌≤◌, vec_capacity};
-    ghost use Rattle.reg_names.specs.declared.limits.TheConstants.{MOST_SESSIONS};
+    ghost use Rattle.refusals.specs.declared.limits.TheConstants.{MOST_SESSIONS};
 
     ghost invariant = { λ inside. MOST_SESSIONS ≤ vec_capacity inside.open };
 }

@@ -1,8 +1,9 @@
 -- What an answer says, that is the one wanted unless memory was refused.
 use Rattle.std.proofs.Common.{◌≡◌, Bool, true, false, inl, inr, Ok, Err, List, ℕ, refl}
-use Rattle.reg_names.specs.declared.refusal.Refusal.{Refusal}
-use Rattle.reg_names.specs.declared.refusal.Refusal.TheVariants.{BadName}
-use Rattle.reg_names.specs.Names.{IsOrNoMemory, RefusedFor, name_if}
+use Rattle.refusals.specs.declared.refusal.Refusal.{Refusal}
+use Rattle.refusals.specs.declared.refusal.Refusal.TheVariants.{BadName}
+use Rattle.reg_names.specs.Names.{name_if}
+use Rattle.refusals.specs.Answers.{IsOrNoMemory, RefusedFor}
 
 -- a name that was made is the units, and they may be such a name
 pub made : (b : Bool) (units name : List ℕ) → IsOrNoMemory (Ok name) (name_if b units) → (name ≡ units) × (b ≡ true)

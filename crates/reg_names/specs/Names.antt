@@ -1,12 +1,12 @@
 -- Names and paths of keys and values. A name is a list of UTF-16 units, a path a list of key names.
-use Rattle.std.specs.Prelude.{◌≡◌, ℕ, ◌-◌, ◌==◌, nat_le, Bool, not, ◌&&◌, if◌then◌else◌, List, [], ◌∷◌, ◌++◌, length, map, Result, Ok, Err, ◌⊎◌}
+use Rattle.std.specs.Prelude.{◌≡◌, ℕ, ◌-◌, ◌==◌, nat_le, Bool, not, ◌&&◌, if◌then◌else◌, List, [], ◌∷◌, ◌++◌, length, map, Result, Ok, Err}
 use Rattle.std.specs.List.{list_all, slice_split}
 use Rattle.std.specs.declared.cmp.Ordering.{Ordering}
 use Rattle.std.specs.Ordering.{nat_cmp, on}
 use Rattle.std.specs.Cmp.Lexicographic.{slice_cmp}
-use Rattle.reg_names.specs.declared.refusal.Refusal.{Refusal}
-use Rattle.reg_names.specs.declared.refusal.Refusal.TheVariants.{NoMemory, BadName, TooDeep}
-use Rattle.reg_names.specs.declared.limits.TheConstants.{MOST_PATH_NAMES, MOST_KEY_NAME_UNITS, MOST_VALUE_NAME_UNITS}
+use Rattle.refusals.specs.declared.refusal.Refusal.{Refusal}
+use Rattle.refusals.specs.declared.refusal.Refusal.TheVariants.{BadName, TooDeep}
+use Rattle.refusals.specs.declared.limits.TheConstants.{MOST_PATH_NAMES, MOST_KEY_NAME_UNITS, MOST_VALUE_NAME_UNITS}
 
 -- a unit folded: a to z become A to Z, every other unit stays
 abbrev pub fold_unit : ℕ → ℕ
@@ -57,14 +57,6 @@ Begins p q = (rest : List (List ℕ)) × (q ≡ p ++ rest)
 unfoldable pub path_names : List ℕ → List (List ℕ)
 path_names [] = []
 path_names (u ∷ us) = slice_split (λ v. v == 92) (u ∷ us)
-
--- the answer is the one wanted, or memory was refused
-abbrev pub IsOrNoMemory : {T : Type 0} → Result T Refusal → Result T Refusal → Type 0
-IsOrNoMemory answer wanted = (answer ≡ wanted) ⊎ (answer ≡ Err NoMemory)
-
--- the refusal comes for this reason, or for want of memory
-abbrev pub RefusedFor : Refusal → Type 0 → Refusal → Type 0
-RefusedFor wanted reason refusal = ((refusal ≡ wanted) × reason) ⊎ (refusal ≡ NoMemory)
 
 -- what making a name answers, by whether the units may be such a name
 abbrev pub name_if : Bool → List ℕ → Result (List ℕ) Refusal

@@ -4,11 +4,12 @@ ghost use Rattle.std.specs.Arc.{arc_slice_items};
 ghost use Rattle.std.specs.Ordering.{eq_by_cmp, as_partial_cmp};
 ghost use Rattle.std.specs.Cmp.{eq_by_cmp_equiv, partial_equiv_from_equiv, partial_order_from_agreeing_total};
 ghost use Rattle.std.specs.Cmp.Lexicographic.{on_texts};
-ghost use Rattle.reg_names.specs.Names.{fold_unit, folded, name_cmp, is_name_unit, is_key_unit, is_key_name, is_value_name, name_if, IsOrNoMemory};
+ghost use Rattle.reg_names.specs.Names.{fold_unit, folded, name_cmp, is_name_unit, is_key_unit, is_key_name, is_value_name, name_if};
+ghost use Rattle.refusals.specs.Answers.{IsOrNoMemory};
 
-use crate::limits::{MOST_KEY_NAME_UNITS, MOST_VALUE_NAME_UNITS};
 use crate::path::SEPARATOR;
-use crate::refusal::Refusal;
+use refusals::Refusal;
+use refusals::limits::{MOST_KEY_NAME_UNITS, MOST_VALUE_NAME_UNITS};
 use std::alloc::{AllocError, Global};
 use std::cmp::Ordering;
 use std::marker::Model;

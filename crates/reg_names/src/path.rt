@@ -5,11 +5,12 @@ ghost use Rattle.std.specs.Arc.{arc_slice_items};
 ghost use Rattle.std.specs.Ordering.{eq_by_cmp, as_partial_cmp};
 ghost use Rattle.std.specs.Cmp.{eq_by_cmp_equiv, partial_equiv_from_equiv, partial_order_from_agreeing_total};
 ghost use Rattle.std.specs.Cmp.Lexicographic.{on_texts, lists_total};
-ghost use Rattle.reg_names.specs.Names.{folded, folded_path, path_cmp, path_names, path_if, path_of, is_path, is_key_name, Begins, IsOrNoMemory, RefusedFor};
+ghost use Rattle.reg_names.specs.Names.{folded, folded_path, path_cmp, path_names, path_if, path_of, is_path, is_key_name, Begins};
+ghost use Rattle.refusals.specs.Answers.{IsOrNoMemory, RefusedFor};
 
-use crate::limits::MOST_PATH_NAMES;
 use crate::name::Name;
-use crate::refusal::Refusal;
+use refusals::Refusal;
+use refusals::limits::MOST_PATH_NAMES;
 use std::alloc::{AllocError, Global};
 use std::cmp::Ordering;
 use std::marker::Model;

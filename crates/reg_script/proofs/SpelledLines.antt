@@ -4,7 +4,7 @@ use Rattle.std.specs.Prelude.{nat_le, codes}
 use Rattle.std.specs.Option.{option_map, option_and_then}
 use Rattle.std.proofs.lemmas.Option.{none-some, cond_some}
 use Rattle.std.proofs.lemmas.Bool.Decides.{nat_tests}
-use Rattle.reg_names.specs.declared.limits.TheConstants.{MOST_HIVES}
+use Rattle.refusals.specs.declared.limits.TheConstants.{MOST_HIVES}
 use Rattle.reg_script.specs.Words.{words, number_of, label_of, uuid_of}
 use Rattle.reg_script.specs.Lines.{one_of, two_of, request_with, request_of_words, hives_of, hives_line, at_line, flush_line, begin_line, inside_line, label_in, transaction_line, line_with, line_of_words, line_of}
 use Rattle.reg_script.specs.Grammar.{OfNumber, OfLabel, RequestedBy, SpelledBy, Spells}

@@ -5,7 +5,7 @@ use Rattle.std.specs.Char.{is_ascii_digit, is_ascii_alphanumeric}
 use Rattle.std.specs.Str.Parse.{digits_value}
 use Rattle.std.specs.Int.{from_be_bytes, w16}
 use Rattle.hex.specs.Hex.{decode_of, decode_sized}
-use Rattle.reg_names.specs.declared.limits.TheConstants.{MOST_HIVES}
+use Rattle.refusals.specs.declared.limits.TheConstants.{MOST_HIVES}
 use Rattle.reg_script.specs.Words.{words, uuid_of}
 use Rattle.reg_script.specs.declared.label.TheConstants.{LONGEST_LABEL}
 use Rattle.reg_script.specs.declared.line.Place.{Place}

@@ -8,7 +8,7 @@ use Rattle.reg_script.specs.declared.line.Request.{Request}
 use Rattle.reg_script.specs.declared.line.Request.TheVariants.{Create, Delete, Set, Unset, Get, Keys, Values, Info}
 use Rattle.reg_script.specs.declared.line.Line.{Line}
 use Rattle.reg_script.specs.declared.line.Line.TheVariants.{Hives, At, Session, End, Plain, Begin, Inside, Commit, Rollback, Close, Outcome, Flush}
-use Rattle.reg_names.specs.declared.limits.TheConstants.{MOST_HIVES}
+use Rattle.refusals.specs.declared.limits.TheConstants.{MOST_HIVES}
 
 -- the words behind the first, where they are one, two or four
 abbrev pub one_of : List (List ℕ) → Option (List ℕ)

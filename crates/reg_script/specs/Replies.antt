@@ -5,7 +5,7 @@ use Rattle.std.specs.Fmt.{decimal}
 use Rattle.std.specs.Int.{w16, to_be_bytes}
 use Rattle.std.specs.Str.{bytes_eq}
 use Rattle.hex.specs.Hex.{encode_lower}
-use Rattle.reg_names.specs.Refusals.{refusal_text}
+use Rattle.refusals.specs.Refusals.{refusal_text}
 use Rattle.reg_script.specs.declared.reply.Reply.{Reply}
 use Rattle.reg_script.specs.declared.reply.Reply.TheVariants.{Done, Created, CreatedInside, Opened, Accepted, Value, Keys, Values, Info, Committed, Flushed, StillActive, HasCommitted, RolledBack, Refused}
 

@@ -12,7 +12,7 @@ use crate::requests::{request, request_with};
 use crate::texts::{label, small_number, uuid, whole_number};
 use crate::unread::Unread;
 use crate::words::{first_word, next_word, one_word, two_words};
-use reg_names::limits::MOST_HIVES;
+use refusals::limits::MOST_HIVES;
 use std::alloc::Global;
 
 /// Reads one line, without the byte that ends it.

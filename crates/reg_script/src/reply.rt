@@ -6,7 +6,8 @@ ghost use Rattle.std.specs.Int.{w16, to_be_bytes};
 ghost use Rattle.hex.specs.Hex.{encode_lower};
 ghost use Rattle.reg_script.specs.Replies.{reply_text, reply_line, unit_text, name_text, names_text, data_text};
 
-use reg_names::{Name, Refusal};
+use refusals::Refusal;
+use reg_names::Name;
 use reg_tree::{Data, Names};
 use std::io;
 use std::io::Write;

@@ -8,7 +8,7 @@ use Rattle.std.proofs.lemmas.Bool.Decides.{nat_tests}
 use Rattle.std.proofs.lemmas.List.{length-append}
 use mathlib.Core.Bool.{false≢true}
 use Rattle.reg_names.specs.Names.{folded, folded_path}
-use Rattle.reg_names.specs.declared.refusal.Refusal.{Refusal}
+use Rattle.refusals.specs.declared.refusal.Refusal.{Refusal}
 use Rattle.reg_tree_parts.specs.Orders.{path_order}
 use Rattle.reg_tree_parts.specs.Rows.{Row}
 use Rattle.reg_tree_parts.specs.NewRows.{new_row}
@@ -24,7 +24,7 @@ use Rattle.reg_tree.proofs.Depths.{beginning_there, levels_missing}
 use Rattle.reg_tree.proofs.Paths.{told, eq_is, eq_self, begins-append, split_begins}
 use Rattle.std.proofs.Math.Seq.{take-append_seam}
 use Rattle.std.proofs.Common.{eqb}
-use Rattle.reg_names.specs.declared.refusal.Refusal.TheVariants.{Fixed, HasSubkeys}
+use Rattle.refusals.specs.declared.refusal.Refusal.TheVariants.{Fixed, HasSubkeys}
 use Rattle.reg_tree_parts.specs.ValueEdits.{values_with, values_without}
 use Rattle.reg_tree.proofs.Changes.{nothing_below}
 use Rattle.reg_tree.proofs.Made.{row-tree_after}

@@ -3,9 +3,9 @@ use Rattle.std.specs.Prelude.{◌≡◌, ℕ, nat_lt, ◌==◌, Bool, false, not
 use Rattle.std.specs.Result.{is_err}
 use Rattle.std.specs.FinMap as finite
 use Rattle.reg_names.specs.Names.{folded, folded_path}
-use Rattle.reg_names.specs.declared.refusal.Refusal.{Refusal}
-use Rattle.reg_names.specs.declared.refusal.Refusal.TheVariants.{NotFound, HasSubkeys, TooDeep, TooLarge, Fixed}
-use Rattle.reg_names.specs.declared.limits.TheConstants.{MOST_NEW_LEVELS, MOST_VALUE_BYTES, MOST_WEIGHT}
+use Rattle.refusals.specs.declared.refusal.Refusal.{Refusal}
+use Rattle.refusals.specs.declared.refusal.Refusal.TheVariants.{NotFound, HasSubkeys, TooDeep, TooLarge, Fixed}
+use Rattle.refusals.specs.declared.limits.TheConstants.{MOST_NEW_LEVELS, MOST_VALUE_BYTES, MOST_WEIGHT}
 use Rattle.reg_tree_parts.specs.Rows.{Row}
 use Rattle.reg_tree.specs.Maps.{TreeMap, row, is_there, subkeys, missing, weight}
 use Rattle.reg_tree.specs.Operations.{hive_of, tree_after}

@@ -1,6 +1,6 @@
 -- What the laws of operations speak of: all hives' trees, and accepted changes one after another.
 use Rattle.std.specs.Prelude.{◌≡◌, ◌≤◌, ℕ, List, [], ◌∷◌, Some, IsOk, slice_get, ⊤}
-use Rattle.reg_names.specs.declared.limits.TheConstants.{MOST_WEIGHT}
+use Rattle.refusals.specs.declared.limits.TheConstants.{MOST_WEIGHT}
 use Rattle.reg_tree.specs.Maps.{TreeMap, IsTree, weight}
 use Rattle.reg_tree.specs.Judgement.{legal, applied, applied_one}
 use Rattle.reg_tree.specs.declared.op.Op.{Op}

@@ -3,8 +3,8 @@
 //! They have no code: each is the contract of a function with an empty body, for whoever builds on trees.
 ghost use Rattle.std.specs.Prelude.{◌≡◌, ◌≤◌, ◌≢◌, ℕ, List, ◌++◌, Some, IsOk, Ok, Err, false, if◌then◌else◌, slice_get};
 ghost use Rattle.reg_names.specs.Names.{folded_path};
-ghost use Rattle.reg_names.specs.declared.refusal.Refusal.TheVariants.{TooLarge};
-ghost use Rattle.reg_names.specs.declared.limits.TheConstants.{MOST_WEIGHT};
+ghost use Rattle.refusals.specs.declared.refusal.Refusal.TheVariants.{TooLarge};
+ghost use Rattle.refusals.specs.declared.limits.TheConstants.{MOST_WEIGHT};
 ghost use Rattle.reg_tree_parts.specs.Nodes.{begins_path};
 ghost use Rattle.reg_tree.specs.Maps.{TreeMap, IsTree, row, weight};
 ghost use Rattle.reg_tree.specs.Operations.{hive_of, spelled_path};

@@ -11,8 +11,9 @@ mod change;
 mod lists;
 
 use crate::op::{Legality, Op};
-use reg_names::limits::{MOST_NEW_LEVELS, MOST_VALUE_BYTES};
-use reg_names::{Name, Path, Refusal, ValueName};
+use refusals::Refusal;
+use refusals::limits::{MOST_NEW_LEVELS, MOST_VALUE_BYTES};
+use reg_names::{Name, Path, ValueName};
 use reg_tree_parts::{Data, Key, Node, Value};
 use std::alloc::{AllocError, Global};
 use std::marker::Model;

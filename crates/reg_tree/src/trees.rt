@@ -1,7 +1,7 @@
 //! The trees of all hives of a store.
 ghost use Rattle.std.specs.Prelude.{◌≡◌, length, replicate, IfOk, slice_get};
 ghost use Rattle.std.specs.Option.{option_copied};
-ghost use Rattle.reg_names.specs.Names.{IsOrNoMemory};
+ghost use Rattle.refusals.specs.Answers.{IsOrNoMemory};
 ghost use Rattle.reg_tree.specs.Fresh.{fresh_tree};
 ghost use Rattle.reg_tree.specs.Judgement.{legal, applied, applied_one};
 
@@ -11,7 +11,7 @@ mod writes;
 use crate::element::Element;
 use crate::op::{Legality, Op};
 use crate::tree::Tree;
-use reg_names::Refusal;
+use refusals::Refusal;
 use std::alloc::{AllocError, Global};
 use std::marker::Model;
 

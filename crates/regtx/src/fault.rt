@@ -1,5 +1,5 @@
 //! What the program says where it can't begin its work.
-use reg_names::Refusal;
+use refusals::Refusal;
 use regtx_parts::Status;
 use std::alloc::{AllocError, AllocFailed};
 use std::io;

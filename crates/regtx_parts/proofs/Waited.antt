@@ -2,7 +2,7 @@
 use Rattle.std.proofs.Common.{◌≡◌, ℕ, ◌≤◌, false, [], ◌∷◌, Option, Some, refl, sym, ◌∙◌, ap, subst, inl}
 use Rattle.std.specs.Prelude.{MatchResult, Result, Ok, Err}
 use Rattle.std.specs.Result.{IsErrAnd}
-use Rattle.reg_names.specs.declared.refusal.Refusal.{Refusal}
+use Rattle.refusals.specs.declared.refusal.Refusal.{Refusal}
 use Rattle.machine.specs.Machine.{Machine, last_number}
 use Rattle.machine.specs.Steps.{Step}
 use Rattle.machine.specs.declared.event.Event.TheVariants.{Acked}

@@ -1,7 +1,7 @@
 -- What the lines of a script ask of a store, and what they are answered.
 use Rattle.std.specs.Prelude.{◌≡◌, ◌≢◌, ℕ, ◌⊎◌, List, Option, Some, None, Result, Ok, Err}
-use Rattle.reg_names.specs.declared.refusal.Refusal.{Refusal}
-use Rattle.reg_names.specs.declared.refusal.Refusal.TheVariants.{NoMemory, NoSuchHandle}
+use Rattle.refusals.specs.declared.refusal.Refusal.{Refusal}
+use Rattle.refusals.specs.declared.refusal.Refusal.TheVariants.{NoMemory, NoSuchHandle}
 use Rattle.reg_script.specs.Lines.{line_of}
 use Rattle.reg_script.specs.declared.line.Line.{Line}
 use Rattle.reg_script.specs.declared.line.Line.TheVariants.{Hives, At, Session, End, Plain, Begin, Inside, Commit, Rollback, Close, Outcome, Flush}

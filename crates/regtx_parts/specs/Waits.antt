@@ -1,6 +1,6 @@
 -- How a change is waited for: steps of the journal are made until there is a receipt of it.
 use Rattle.std.specs.Prelude.{ℕ, Bool, true, false, List, [], ◌∷◌, Option, Some, None, ◌⊎◌}
-use Rattle.reg_names.specs.declared.refusal.Refusal.{Refusal}
+use Rattle.refusals.specs.declared.refusal.Refusal.{Refusal}
 use Rattle.machine.specs.Machine.{Machine}
 use Rattle.machine.specs.Steps.{Step, Run}
 use Rattle.machine.specs.declared.event.Progress.{Progress}

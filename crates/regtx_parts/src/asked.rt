@@ -1,10 +1,11 @@
 //! What a request of a script asks for, once its names are found right.
 ghost use Rattle.std.specs.Prelude.{◌≡◌, ◌⊎◌, Ok, Err, MatchResult};
-ghost use Rattle.reg_names.specs.declared.refusal.Refusal.TheVariants.{NoMemory};
+ghost use Rattle.refusals.specs.declared.refusal.Refusal.TheVariants.{NoMemory};
 ghost use Rattle.regtx_parts.specs.Requests.{place_of, requested, requested_at};
 
 use machine::Question;
-use reg_names::{Name, Path, Refusal};
+use refusals::Refusal;
+use reg_names::{Name, Path};
 use reg_script::{Place, Request};
 use reg_tree::Op;
 use std::alloc::Global;

@@ -10,7 +10,7 @@ use crate::labels::Labels;
 use crate::told::reply_of;
 use crate::waiting::wait;
 use machine::{Event, Reply as Answer, Tx};
-use reg_names::Refusal;
+use refusals::Refusal;
 use reg_script::{Label, Line, Reply, Request, Unread, read_line};
 use std::alloc::{AllocError, Global};
 use transactions::PlainStore;

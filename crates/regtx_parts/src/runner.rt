@@ -8,7 +8,7 @@ ghost use Rattle.regtx_parts.specs.Turns.{TakesLine, Turns};
 
 use crate::ending::{Ending, Status};
 use crate::player::Player;
-use reg_names::Refusal;
+use refusals::Refusal;
 use reg_script::Reply;
 use std::alloc::{AllocError, Global};
 use std::io;

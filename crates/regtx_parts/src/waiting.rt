@@ -5,7 +5,7 @@ ghost use Rattle.machine.specs.Steps.{Step};
 ghost use Rattle.regtx_parts.specs.Waits.{IsWaited, IsAsked, IsStepped};
 
 use machine::{Event, Reply as Answer};
-use reg_names::Refusal;
+use refusals::Refusal;
 use transactions::PlainStore;
 
 /// Makes steps of the journal until there is a receipt of the change of this number, which was accepted. Refused as

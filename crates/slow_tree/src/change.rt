@@ -1,7 +1,8 @@
 //! A slow tree after an operation: a new list, made row by row.
 ghost use Rattle.std.specs.Prelude.{◌≡◌, [], ◌∷◌, ◌++◌, IfOk, MatchResult};
 ghost use Rattle.std.specs.Option.{option_map};
-ghost use Rattle.reg_names.specs.Names.{folded_path, IsOrNoMemory};
+ghost use Rattle.reg_names.specs.Names.{folded_path};
+ghost use Rattle.refusals.specs.Answers.{IsOrNoMemory};
 ghost use Rattle.reg_tree_parts.specs.ValueEdits.{values_with, values_without};
 ghost use Rattle.reg_tree.specs.Judgement.{changed, judged, legal_in, legal_after};
 ghost use Rattle.reg_tree.specs.Maps.{missing, row, weight};
@@ -12,8 +13,9 @@ use crate::key::SlowKey;
 use crate::path::{copied, is_new, is_parent, is_same};
 use crate::row::SlowRow;
 use crate::tree::SlowTree;
-use reg_names::limits::MOST_WEIGHT;
-use reg_names::{Name, Refusal, ValueName};
+use refusals::Refusal;
+use refusals::limits::MOST_WEIGHT;
+use reg_names::{Name, ValueName};
 use reg_tree::{Data, Legality, Op};
 use std::alloc::{AllocError, Global};
 

@@ -6,7 +6,7 @@
 #![tactic(auto)]
 
 use hive_cells::{Image, Looks};
-use reg_names::Refusal;
+use refusals::Refusal;
 use std::alloc::{AllocError, Global};
 use std::process::ExitCode;
 

@@ -1,7 +1,7 @@
 //! Who holds claims.
 use crate::operations::Step;
 use conflicts::{ClaimTable, Owner, claims};
-use reg_names::Refusal;
+use refusals::Refusal;
 use std::alloc::Global;
 use std::process::Abort;
 use std::test::Fail;

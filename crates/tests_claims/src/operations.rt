@@ -1,6 +1,7 @@
 //! Operations said by texts, and whether the claims of two conflict.
 use conflicts::{claims, conflict};
-use reg_names::{Name, Path, Refusal};
+use refusals::Refusal;
+use reg_names::{Name, Path};
 use reg_tree::{Data, Op};
 use std::alloc::Global;
 use std::test::Fail;

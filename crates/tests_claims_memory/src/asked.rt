@@ -2,7 +2,7 @@
 use crate::operations::Step;
 use crate::outcome::Outcome;
 use conflicts::{ClaimTable, Owner, claims};
-use reg_names::Refusal;
+use refusals::Refusal;
 use reg_tree::Op;
 use std::alloc::{AllocError, Global};
 

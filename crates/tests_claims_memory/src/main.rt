@@ -14,7 +14,7 @@ use crate::asked::{Answers, Asked, holders_are};
 use crate::operations::Step;
 use crate::outcome::Outcome;
 use conflicts::{ClaimTable, Owner, claims, conflict};
-use reg_names::Refusal;
+use refusals::Refusal;
 use reg_tree::Op;
 use std::alloc::{AllocError, Global};
 use std::process::ExitCode;

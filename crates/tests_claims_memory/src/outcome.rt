@@ -1,5 +1,5 @@
 //! How calls ended.
-use reg_names::Refusal;
+use refusals::Refusal;
 
 /// How a call ended, or several together.
 #[derive(Clone, Copy)]

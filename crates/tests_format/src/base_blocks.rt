@@ -1,7 +1,7 @@
 //! Base blocks: their bytes, whether they are clean, and which are refused.
 use crate::fixtures::BAD_LOG;
 use base_block::{AppliedNumber, BaseBlock, FileType, SequenceNumber, Signature, sum};
-use reg_names::{Cause, Refusal};
+use refusals::{Cause, Refusal};
 use uuid::Uuid;
 
 // what a broken base block is refused with

@@ -1,7 +1,7 @@
 //! Bins and cells: what `Image` answers, with bytes written out by hand from the format's description.
 
 use hive_cells::{Image, Looks};
-use reg_names::{Cause, Refusal};
+use refusals::{Cause, Refusal};
 use std::alloc::{AllocError, Global};
 use std::test::Fail;
 

@@ -1,7 +1,7 @@
 //! Dirty pages: which a range marks, their bitmap, and how they are found in order.
 use crate::fixtures::{Span, marked};
 use dirty_vector::DirtyVector;
-use reg_names::Refusal;
+use refusals::Refusal;
 use std::alloc::{AllocError, Global};
 use std::test::Fail;
 

@@ -3,7 +3,7 @@
 use base_block::{BaseBlock, SequenceNumber};
 use dirt_log::{LogSteps, PIECE_BYTES, write_steps};
 use dirty_vector::DirtyVector;
-use reg_names::{Cause, Refusal};
+use refusals::{Cause, Refusal};
 use std::alloc::{AllocError, Global};
 use uuid::Uuid;
 

@@ -4,7 +4,7 @@ use crate::fixtures::{
 };
 use base_block::{BaseBlock, SequenceNumber};
 use dirt_log::{LogSteps, PIECE_BYTES, clean_primary_stands, read};
-use reg_names::Refusal;
+use refusals::Refusal;
 use std::alloc::{AllocError, Global};
 use std::test::Fail;
 

@@ -1,7 +1,8 @@
 //! The limits of data, of a transaction's change, of a tree's weight at a commit, and of journal room.
 use crate::fixtures::played;
 use machine::{Event, Outcome, Reply, Tx};
-use reg_names::{Name, Path, Refusal};
+use refusals::Refusal;
+use reg_names::{Name, Path};
 use reg_tree::{Data, Op};
 use regtx_parts::Status;
 use std::alloc::Global;

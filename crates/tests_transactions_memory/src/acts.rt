@@ -4,7 +4,7 @@ use crate::operations::Step;
 use crate::seat::{Seat, Seen};
 use crate::stage::Stage;
 use machine::Outcome;
-use reg_names::Refusal;
+use refusals::Refusal;
 use reg_tree::Trees;
 use std::alloc::AllocError;
 use transactions::Written;

@@ -19,7 +19,7 @@ use crate::ended::Ended;
 use crate::operations::{Key, Step};
 use crate::seat::Seen;
 use crate::stage::Stage;
-use reg_names::Refusal;
+use refusals::Refusal;
 use reg_tree::Trees;
 use std::alloc::Global;
 use std::process::ExitCode;

@@ -1,5 +1,6 @@
 //! Operations, said by the texts of their keys.
-use reg_names::{Name, Path, Refusal};
+use refusals::Refusal;
+use reg_names::{Name, Path};
 use reg_tree::{Data, Op};
 use std::alloc::Global;
 

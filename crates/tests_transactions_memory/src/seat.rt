@@ -1,7 +1,7 @@
 //! What a transaction of the script is to answer.
 use crate::operations::{Held, Step};
 use machine::{NoSuchTransaction, NotEnded, Outcome, Tx};
-use reg_names::Refusal;
+use refusals::Refusal;
 
 /// What the first key shows.
 #[derive(Clone, Copy, PartialEq, Eq)]

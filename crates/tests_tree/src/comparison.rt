@@ -1,6 +1,7 @@
 //! Registry trees compared with a plain slow registry, after each step of many small runs.
 use crate::fixtures::{self, HEAVY, Step};
-use reg_names::{Path, Refusal, ValueName};
+use refusals::Refusal;
+use reg_names::{Path, ValueName};
 use reg_tree::{Data, Element, Legality, Trees, Value};
 use slow_tree::{SlowKey, SlowTree};
 use std::alloc::{AllocError, Global};

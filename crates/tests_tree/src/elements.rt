@@ -1,6 +1,6 @@
 //! Accepted changes: their length as journal text, and their operations in order.
 use crate::fixtures::{Counts, Step, data_are, element, infos_are, set, zeros};
-use reg_names::Refusal;
+use refusals::Refusal;
 use reg_tree::{Element, Ops, Trees};
 use std::alloc::Global;
 use std::test::Fail;

@@ -1,5 +1,6 @@
 //! Names, paths, operations and readings of trees, made from texts.
-use reg_names::{Name, Path, Refusal, ValueName};
+use refusals::Refusal;
+use reg_names::{Name, Path, ValueName};
 use reg_tree::{Data, Element, Legality, Op, Ops, Trees};
 use std::alloc::{AllocError, Global};
 use std::process::Abort;

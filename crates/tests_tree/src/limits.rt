@@ -3,7 +3,8 @@ use crate::fixtures::{
     Answer, Counts, HEAVY, LEGAL, Step, act, answers, counts, create, delete, info, most_data,
     path, set, set_data, take, tells, zeros,
 };
-use reg_names::{Name, Refusal};
+use refusals::Refusal;
+use reg_names::Name;
 use reg_tree::{Data, Trees};
 use std::alloc::{AllocError, Global};
 use std::process::Abort;

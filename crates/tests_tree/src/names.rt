@@ -1,6 +1,7 @@
 //! Names and paths: which may be made, how they compare, and names that only a hive file can bring.
 use crate::fixtures::{counts, path, says, units};
-use reg_names::{Name, Path, Refusal, folded_unit};
+use refusals::Refusal;
+use reg_names::{Name, Path, folded_unit};
 use reg_tree::{Data, Key, Trees};
 use reg_tree_parts::{Node, Values};
 use std::alloc::{AllocError, Global};

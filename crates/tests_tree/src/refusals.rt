@@ -1,6 +1,6 @@
 //! What refusals print.
 use crate::fixtures::says;
-use reg_names::{Cause, Refusal};
+use refusals::{Cause, Refusal};
 use std::alloc::Global;
 
 // whether a refusal prints as a text

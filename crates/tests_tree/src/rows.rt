@@ -3,7 +3,7 @@ use crate::fixtures::{
     Answer, Counts, Datum, LEGAL, Step, counts, data_are, infos_are, keys_are, path, take,
     values_are,
 };
-use reg_names::Refusal;
+use refusals::Refusal;
 use reg_tree::{Legality, Trees};
 use std::alloc::Global;
 use std::process::Abort;

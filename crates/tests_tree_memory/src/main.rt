@@ -5,7 +5,8 @@
 //! nothing was refused, 1 where memory was and each call took it well, and 2 where a call answered wrongly.
 #![tactic(auto)]
 
-use reg_names::{Name, Path, Refusal};
+use refusals::Refusal;
+use reg_names::{Name, Path};
 use reg_tree::{Data, Element, Legality, Op, Ops, Trees};
 use std::alloc::{AllocError, Global};
 use std::process::ExitCode;

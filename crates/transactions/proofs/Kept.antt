@@ -3,7 +3,7 @@ use Rattle.std.proofs.Common.{◌≡◌, ℕ, ◌+◌, true, false, arith, List,
 use Rattle.std.specs.Prelude.{Contains, map, slice_set, OnErr}
 use Rattle.std.proofs.lemmas.Bool.{ltb-false}
 use Rattle.std.proofs.lemmas.List.Sums.{sum_by-append}
-use Rattle.reg_names.specs.declared.limits.TheConstants.{MOST_ELEMENT_BYTES}
+use Rattle.refusals.specs.declared.limits.TheConstants.{MOST_ELEMENT_BYTES}
 use Rattle.reg_tree.specs.Texts.{op_text_len, ops_text_len}
 use Rattle.reg_tree.specs.Judgement.{applied}
 use Rattle.machine.specs.Machine.{too_long}

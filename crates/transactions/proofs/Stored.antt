@@ -7,9 +7,9 @@ use Rattle.std.specs.declared.snapshot.Snapshot.{Snapshot}
 use Rattle.std.proofs.lemmas.Bool.Decides.{nat_tests}
 use Rattle.std.proofs.lemmas.Option.{none-some, slice_get_past, slice_get-get_or}
 use Rattle.std.proofs.lemmas.List.{map-append, length-append, length-set}
-use Rattle.reg_names.specs.declared.refusal.Refusal.{Refusal}
-use Rattle.reg_names.specs.declared.refusal.Refusal.TheVariants.{NoMemory, NotFound, TooLarge, NoSuchHandle, HistoryFull, JournalFull}
-use Rattle.reg_names.specs.declared.limits.TheConstants.{MOST_HISTORY, GREATEST_NUMBER, MOST_JOURNAL_BYTES}
+use Rattle.refusals.specs.declared.refusal.Refusal.{Refusal}
+use Rattle.refusals.specs.declared.refusal.Refusal.TheVariants.{NoMemory, NotFound, TooLarge, NoSuchHandle, HistoryFull, JournalFull}
+use Rattle.refusals.specs.declared.limits.TheConstants.{MOST_HISTORY, GREATEST_NUMBER, MOST_JOURNAL_BYTES}
 use Rattle.reg_tree.specs.Maps.{TreeMap}
 use Rattle.reg_tree.specs.Fresh.{fresh_tree}
 use Rattle.reg_tree.specs.Operations.{hive_of}

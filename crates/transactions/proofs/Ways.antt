@@ -6,9 +6,9 @@ use Rattle.std.specs.Option.{option_map}
 use Rattle.slab.specs.Slab.{Slab, Updates, entries_from}
 use Rattle.slab.proofs.SlabLemmas.{length-entries_from}
 use Rattle.std.proofs.lemmas.Bool.{le-leb, lt-leb}
-use Rattle.reg_names.specs.declared.refusal.Refusal.{Refusal}
-use Rattle.reg_names.specs.declared.refusal.Refusal.TheVariants.{NotActive, NoSeat, NoMemory, TooLarge, Conflict}
-use Rattle.reg_names.specs.declared.limits.TheConstants.{MOST_TRANSACTIONS}
+use Rattle.refusals.specs.declared.refusal.Refusal.{Refusal}
+use Rattle.refusals.specs.declared.refusal.Refusal.TheVariants.{NotActive, NoSeat, NoMemory, TooLarge, Conflict}
+use Rattle.refusals.specs.declared.limits.TheConstants.{MOST_TRANSACTIONS}
 use Rattle.reg_tree.specs.Maps.{TreeMap}
 use Rattle.reg_tree.specs.Texts.{ops_text_len}
 use Rattle.reg_tree.specs.Judgement.{legal}

@@ -1,9 +1,9 @@
 -- How a table keeps a transaction.
 use Rattle.std.specs.Prelude.{◌≡◌, ℕ, ◌+◌, ◌<◌, ◌≤◌, ◌++◌, ◌∷◌, [], List, map, length, vec_capacity, Contains, Option, IfSome, IsSome, false, Ok, Some, None, ⊤, true, ◌↔◌, slice_index_or}
 use Rattle.std.specs.Option.{option_map}
-use Rattle.reg_names.specs.declared.limits.TheConstants.{MOST_ELEMENT_BYTES}
-use Rattle.reg_names.specs.declared.refusal.Refusal.{Refusal}
-use Rattle.reg_names.specs.declared.refusal.Refusal.TheVariants.{NoSuchHandle}
+use Rattle.refusals.specs.declared.limits.TheConstants.{MOST_ELEMENT_BYTES}
+use Rattle.refusals.specs.declared.refusal.Refusal.{Refusal}
+use Rattle.refusals.specs.declared.refusal.Refusal.TheVariants.{NoSuchHandle}
 use Rattle.reg_tree.specs.Maps.{TreeMap}
 use Rattle.reg_tree.specs.Texts.{ops_text_len}
 use Rattle.reg_tree.specs.Judgement.{applied, legal}

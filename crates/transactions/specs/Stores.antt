@@ -2,9 +2,9 @@
 use Rattle.std.specs.Prelude.{◌≡◌, ◌≤◌, ℕ, ◌+◌, ◌||◌, nat_le, nat_lt, Bool, false, List, length, map, Option, Result, Ok, Err, refl}
 use Rattle.std.specs.Coded.{Coded, code_by, coded×, coded_ℕ, coded_list, coded_bool}
 use Rattle.std.specs.declared.snapshot.Snapshot.{Snapshot}
-use Rattle.reg_names.specs.declared.refusal.Refusal.{Refusal}
-use Rattle.reg_names.specs.declared.refusal.Refusal.TheVariants.{HistoryFull, JournalFull}
-use Rattle.reg_names.specs.declared.limits.TheConstants.{MOST_HISTORY, MOST_JOURNAL_BYTES, GREATEST_NUMBER}
+use Rattle.refusals.specs.declared.refusal.Refusal.{Refusal}
+use Rattle.refusals.specs.declared.refusal.Refusal.TheVariants.{HistoryFull, JournalFull}
+use Rattle.refusals.specs.declared.limits.TheConstants.{MOST_HISTORY, MOST_JOURNAL_BYTES, GREATEST_NUMBER}
 use Rattle.reg_tree.specs.Maps.{TreeMap}
 use Rattle.reg_tree.specs.contracts.element.Element as element
 use Rattle.reg_tree.specs.declared.element.Element.{Element}

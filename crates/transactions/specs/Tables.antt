@@ -1,9 +1,9 @@
 -- What a table of transactions shows.
 use Rattle.std.specs.Prelude.{◌≡◌, ℕ, ◌+◌, ◌-◌, ◌^◌, ◌==◌, ◌||◌, nat_le, Bool, false, if◌then◌else◌, List, Option, Some, None, Ok, ◌⊎◌}
 use Rattle.std.specs.List.{list_any}
-use Rattle.reg_names.specs.declared.refusal.Refusal.{Refusal}
-use Rattle.reg_names.specs.declared.refusal.Refusal.TheVariants.{NoMemory, NoSeat}
-use Rattle.reg_names.specs.declared.limits.TheConstants.{MOST_TRANSACTIONS}
+use Rattle.refusals.specs.declared.refusal.Refusal.{Refusal}
+use Rattle.refusals.specs.declared.refusal.Refusal.TheVariants.{NoMemory, NoSeat}
+use Rattle.refusals.specs.declared.limits.TheConstants.{MOST_TRANSACTIONS}
 use Rattle.reg_tree.specs.Maps.{TreeMap}
 use Rattle.reg_tree.specs.Texts.{element_text_len}
 use Rattle.reg_tree.specs.Judgement.{legal}

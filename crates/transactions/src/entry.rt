@@ -1,7 +1,7 @@
 //! One transaction as a table keeps it: its operations, and the trees that it sees.
 ghost use Rattle.std.specs.Prelude.{◌≡◌, ◌⊎◌, ◌+◌, ◌≤◌, ◌==◌, ◌&&◌, IfOk, OnErr, OnOk, MatchResult, Some, None, Err};
-ghost use Rattle.reg_names.specs.declared.limits.TheConstants.{MOST_ELEMENT_BYTES};
-ghost use Rattle.reg_names.specs.declared.refusal.Refusal.TheVariants.{NoMemory};
+ghost use Rattle.refusals.specs.declared.limits.TheConstants.{MOST_ELEMENT_BYTES};
+ghost use Rattle.refusals.specs.declared.refusal.Refusal.TheVariants.{NoMemory};
 ghost use Rattle.reg_tree.specs.Texts.{op_text_len, ops_text_len};
 ghost use Rattle.reg_tree.specs.Judgement.{legal};
 ghost use Rattle.transactions.specs.Entries.{transaction_of, IsViewed, HasView, HasViewAt, HasViewFor, IsJudged, IsSameEntry, HasRoom};
@@ -9,8 +9,9 @@ ghost use Rattle.machine.specs.Machine.{looked_up, read_refusal, too_long};
 ghost use Rattle.machine.specs.Transactions.{view, with_op, ended, is_active, fresh_transaction};
 
 use machine::{Found, Outcome, Question, levels_made, looked_up};
-use reg_names::limits::MOST_ELEMENT_BYTES;
-use reg_names::{Path, Refusal};
+use refusals::Refusal;
+use refusals::limits::MOST_ELEMENT_BYTES;
+use reg_names::Path;
 use reg_tree::{Op, Trees};
 use std::alloc::{AllocError, Global};
 use std::mem;

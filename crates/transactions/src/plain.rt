@@ -1,7 +1,7 @@
 //! A store without a disk: one step makes all accepted changes durable.
 ghost use Rattle.std.specs.Prelude.{◌≡◌, ◌+◌, ◌⊎◌, ◌==◌, true, false, Some, None, IfOk, MatchResult};
 ghost use Rattle.std.specs.List.{list_any};
-ghost use Rattle.reg_names.specs.declared.refusal.Refusal.TheVariants.{NoSuchHandle};
+ghost use Rattle.refusals.specs.declared.refusal.Refusal.TheVariants.{NoSuchHandle};
 ghost use Rattle.machine.specs.Steps.{Step};
 ghost use Rattle.machine.specs.Machine.{fresh_machine, last_number};
 ghost use Rattle.transactions.specs.Stores.{Answers, room_refusal_for};
@@ -9,8 +9,9 @@ ghost use Rattle.transactions.specs.Stores.{Answers, room_refusal_for};
 use crate::entry::CHANGE_BYTES;
 use crate::table::{TxTable, Written};
 use machine::{Event, Progress, Question, Reply, Sessions, Tx, levels_made, looked_up};
-use reg_names::limits::{MOST_HISTORY, MOST_JOURNAL_BYTES};
-use reg_names::{Path, Refusal};
+use refusals::Refusal;
+use refusals::limits::{MOST_HISTORY, MOST_JOURNAL_BYTES};
+use reg_names::Path;
 use reg_tree::{Element, Op, Ops, Trees};
 use std::alloc::{AllocError, Global};
 use std::marker::Model;

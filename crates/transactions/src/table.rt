@@ -1,8 +1,8 @@
 //! The transactions of a store.
 ghost use Rattle.std.specs.Prelude.{◌≡◌, ◌⊎◌, ◌+◌, ◌<◌, ◌≤◌, ◌^◌, ◌-◌, ◌||◌, ◌==◌, [], ℕ, nat_le, IfOk, IfSome, OnOk, OnErr, MatchResult, Some, None, true, false};
 ghost use Rattle.std.specs.Option.{option_map, option_copied};
-ghost use Rattle.reg_names.specs.declared.limits.TheConstants.{MOST_TRANSACTIONS};
-ghost use Rattle.reg_names.specs.declared.refusal.Refusal.TheVariants.{NoMemory, NoSeat};
+ghost use Rattle.refusals.specs.declared.limits.TheConstants.{MOST_TRANSACTIONS};
+ghost use Rattle.refusals.specs.declared.refusal.Refusal.TheVariants.{NoMemory, NoSeat};
 ghost use Rattle.reg_tree.specs.Texts.{ops_text_len};
 ghost use Rattle.conflicts.specs.Claims.{claim_of};
 ghost use Rattle.machine.specs.Ends.{refusal_of};
@@ -14,8 +14,9 @@ ghost use Rattle.machine.specs.Transactions.{Transaction, at, own, is_claimed, i
 use crate::entry::{Entry, Judged, View};
 use conflicts::{ClaimTable, Owner, claims};
 use machine::{Found, NoSuchTransaction, NotEnded, Outcome, Question, Tx};
-use reg_names::limits::MOST_TRANSACTIONS;
-use reg_names::{Path, Refusal};
+use refusals::Refusal;
+use refusals::limits::MOST_TRANSACTIONS;
+use reg_names::Path;
 use reg_tree::{Op, Trees};
 use slab::Slab;
 use std::alloc::{AllocError, Global};

@@ -2,7 +2,8 @@
 ghost use Rattle.std.specs.Prelude.{◌≡◌, ◌<◌, List, [], ◌∷◌, ◌++◌, ℕ, cond, length, IsSome, Some, None, IfOk, MatchResult, ◌⊎◌, false};
 ghost use Rattle.std.specs.Result.{is_err};
 ghost use Rattle.std.specs.Ordering.{eq_by_cmp};
-ghost use Rattle.reg_names.specs.Names.{folded, folded_path, IsOrNoMemory};
+ghost use Rattle.reg_names.specs.Names.{folded, folded_path};
+ghost use Rattle.refusals.specs.Answers.{IsOrNoMemory};
 ghost use Rattle.reg_tree_parts.specs.Orders.{path_order};
 ghost use Rattle.reg_tree_parts.specs.Rows.{Row};
 ghost use Rattle.reg_tree_parts.specs.ValueEdits.{values_with, values_without};
@@ -14,8 +15,9 @@ ghost use Rattle.reg_tree.specs.Fresh.{fresh_row, fresh_tree};
 
 use super::Tree;
 use crate::op::{Legality, Op};
-use reg_names::limits::MOST_WEIGHT;
-use reg_names::{Name, Path, Refusal, ValueName};
+use refusals::Refusal;
+use refusals::limits::MOST_WEIGHT;
+use reg_names::{Name, Path, ValueName};
 use reg_tree_parts::{Data, Key, Node, Values};
 use std::alloc::{AllocError, Global};
 use std::sync::Arc;

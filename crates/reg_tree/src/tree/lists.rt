@@ -9,7 +9,8 @@ ghost use Rattle.reg_tree.specs.TreeLists.{subkeys_at, value_names_at};
 
 use super::Tree;
 use crate::names::Names;
-use reg_names::{Name, Path, Refusal};
+use refusals::Refusal;
+use reg_names::{Name, Path};
 use reg_tree_parts::{Node, Values};
 use std::alloc::{AllocError, Global};
 

@@ -7,7 +7,8 @@ ghost use Rattle.reg_tree.specs.TreeLists.{value_in, value_index_in, value_names
 use super::Trees;
 use crate::names::Names;
 use crate::tree::Info;
-use reg_names::{Name, Path, Refusal};
+use refusals::Refusal;
+use reg_names::{Name, Path};
 use reg_tree_parts::Value;
 use std::alloc::Global;
 

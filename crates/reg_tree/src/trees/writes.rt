@@ -5,7 +5,7 @@ ghost use Rattle.reg_tree.specs.Judgement.{legal, applied, applied_one, outweigh
 use super::Trees;
 use crate::op::Op;
 use crate::tree::Tree;
-use reg_names::Refusal;
+use refusals::Refusal;
 use std::alloc::{AllocError, Global};
 
 impl Trees {

@@ -1,5 +1,5 @@
 use Rattle.std.proofs.Common.{◌≤◌, ◌-◌, Option}
-use Rattle.reg_names.specs.declared.refusal.Refusal.{Refusal}
+use Rattle.refusals.specs.declared.refusal.Refusal.{Refusal}
 use Rattle.machine.specs.Machine.{Machine, last_number}
 use Rattle.regtx_parts.specs.Waits.{IsWaited}
 use Rattle.regtx_parts.proofs.waiting.wait.Given as goal

@@ -1,5 +1,5 @@
 use Rattle.std.proofs.Common.{◌≡◌, ◌+◌, ◌<◌, ◌^◌, Some, None}
-use Rattle.reg_names.specs.declared.refusal.Refusal.TheVariants.{NoSeat}
+use Rattle.refusals.specs.declared.refusal.Refusal.TheVariants.{NoSeat}
 use Rattle.transactions.specs.Entries.{transaction_of}
 use Rattle.transactions.specs.Tables.{Starts, seat_refusal}
 use Rattle.machine.specs.Transactions.{fresh_transaction}

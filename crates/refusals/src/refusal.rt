@@ -1,7 +1,7 @@
 //! Why a call is refused, and the exact text that the program prints for it.
 ghost use Rattle.std.specs.Prelude.{◌≡◌, Some};
-ghost use Rattle.reg_names.specs.Refusals.{cause_text, refusal_name, refusal_text};
-ghost use Rattle.reg_names.specs.declared.refusal.Refusal.TheVariants.{NoMemory};
+ghost use Rattle.refusals.specs.Refusals.{cause_text, refusal_name, refusal_text};
+ghost use Rattle.refusals.specs.declared.refusal.Refusal.TheVariants.{HiveDamaged, NoMemory};
 
 use std::alloc::{AllocError, AllocFailed};
 use std::fmt;
@@ -168,5 +168,14 @@ impl<T: Drop> From<AllocFailed<T>> for Refusal {
 
     fn from(_: AllocFailed<T>) -> Refusal {
         Refusal::NoMemory
+    }
+}
+
+/// Damage told by a part that doesn't know which hive it is in: that of hive 0.
+impl From<Cause> for Refusal {
+    ghost from_gives = { λ cause refusal. refusal ≡ HiveDamaged 0 cause };
+
+    fn from(cause: Cause) -> Refusal {
+        Refusal::HiveDamaged { hive: 0, cause }
     }
 }

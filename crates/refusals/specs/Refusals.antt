@@ -2,10 +2,10 @@
 -- hive goes on with the hive's number and the cause.
 use Rattle.std.specs.Prelude.{ℕ, List, ◌++◌, codes}
 use Rattle.std.specs.Fmt.{decimal}
-use Rattle.reg_names.specs.declared.refusal.Cause.{Cause}
-use Rattle.reg_names.specs.declared.refusal.Refusal.{Refusal}
-use Rattle.reg_names.specs.declared.refusal.Cause.TheVariants as cause
-use Rattle.reg_names.specs.declared.refusal.Refusal.TheVariants as refusal
+use Rattle.refusals.specs.declared.refusal.Cause.{Cause}
+use Rattle.refusals.specs.declared.refusal.Refusal.{Refusal}
+use Rattle.refusals.specs.declared.refusal.Cause.TheVariants as cause
+use Rattle.refusals.specs.declared.refusal.Refusal.TheVariants as refusal
 
 -- the name of a cause
 abbrev pub cause_text : Cause → List ℕ

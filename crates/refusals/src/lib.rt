@@ -1,0 +1,14 @@
+//! Why the calls of this project are refused, and the limits at which they are.
+//!
+//! A [`Refusal`] is the one answer of every call that may fail, whatever crate it is of; damage of a hive goes on with
+//! the hive's number and a [`Cause`]. [`limits`] names each limit of the project once.
+//!
+//! What is promised: each refusal prints its stated text, and what becomes a refusal by `?` becomes the stated one:
+//! memory that was not given is `NoMemory`, and damage that a part of a hive tells without knowing the hive's number is
+//! that of hive 0, until whoever knows the number puts it in.
+#![tactic(auto)]
+
+pub mod limits;
+mod refusal;
+
+pub use refusal::{Cause, Refusal};
