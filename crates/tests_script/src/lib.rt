@@ -1,19 +1,9 @@
-//! Tests of the script language and of the runs of scripts, over a reader and a writer in memory.
+//! Tests of runs that no script can say: readers and writers that fail, and the store asked directly.
 //!
-//! Expected texts are worked by hand from the stated rules.
+//! Expected texts are worked by hand from the stated rules. What a script can say is a file of `runs/`.
 #![tactic(auto)]
 
 #[cfg(test)]
-mod fixtures;
-#[cfg(test)]
 mod limits;
 #[cfg(test)]
-mod lines;
-#[cfg(test)]
-mod runs;
-#[cfg(test)]
-mod sessions;
-#[cfg(test)]
 mod streams;
-#[cfg(test)]
-mod units_of_work;

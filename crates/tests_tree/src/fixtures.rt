@@ -31,11 +31,6 @@ pub type Answer = Result<Legality, Refusal>;
 /// The answer to an operation that changes the tree.
 pub const LEGAL: Answer = Ok(Legality::Legal);
 
-/// Names of as many values of the greatest length as a new tree may have.
-pub const HEAVY: [&str; 15] = [
-    "a", "b", "c", "d", "e", "f", "g", "h", "i", "j", "k", "l", "m", "n", "o",
-];
-
 /// A key's subkeys and values, and the moment of its last write.
 pub type Counts = (usize, usize, u64);
 
@@ -108,11 +103,6 @@ pub fn unset(alloc: Global, hive: u8, at: &str, name: &str) -> Result<Op, Refusa
 /// So many zeros.
 pub fn zeros(alloc: Global, count: usize) -> Result<Vec<u8>, AllocError> {
     vec![in alloc; 0; count]
-}
-
-/// Data of the greatest length.
-pub fn most_data(alloc: Global) -> Result<Data, AllocError> {
-    Data::from_vec(zeros(alloc, 1_048_576)?)
 }
 
 pub fn element(alloc: Global, moment: u64, op: Op) -> Result<Element, AllocError> {
@@ -193,23 +183,6 @@ pub fn infos_are(
     }
 }
 
-/// Compares the names of keys' subkeys in their order, each with a blank behind it.
-pub fn keys_are(rt: &impl Abort, alloc: Global, trees: &Trees, wanted: &[(u8, &str, &str)]) {
-    for (hive, at, names) in wanted {
-        says(rt, has_keys(alloc, trees, *hive, at, names), true, at);
-    }
-}
-
-fn has_keys(
-    alloc: Global,
-    trees: &Trees,
-    hive: u8,
-    at: &str,
-    names: &str,
-) -> Result<bool, Refusal> {
-    Ok(keys(alloc, trees, hive, at)?.as_str() == names)
-}
-
 /// Compares the names of keys' values in their order, each with a blank behind it.
 pub fn values_are(rt: &impl Abort, alloc: Global, trees: &Trees, wanted: &[(u8, &str, &str)]) {
     for (hive, at, names) in wanted {
@@ -250,18 +223,6 @@ pub fn info(alloc: Global, trees: &Trees, hive: u8, at: &str) -> Result<Counts, 
     let path = path(alloc, at)?;
     let info = trees.query_info(hive, &path)?;
     Ok((info.subkeys, info.values, info.time))
-}
-
-fn keys(alloc: Global, trees: &Trees, hive: u8, at: &str) -> Result<String, Refusal> {
-    let path = path(alloc, at)?;
-    let mut text = String::new(alloc);
-    for index in 0..1000 {
-        match trees.enum_key(hive, &path, index) {
-            Ok(name) => push_name(&mut text, name.units())?,
-            Err(_) => break,
-        }
-    }
-    Ok(text)
 }
 
 fn values(alloc: Global, trees: &Trees, hive: u8, at: &str) -> Result<String, Refusal> {

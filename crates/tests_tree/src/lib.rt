@@ -1,18 +1,14 @@
-//! Tests of names, paths, registry trees and their operations, with expected values worked by hand from
-//! the stated rules, and a comparison of the trees with a plain slow registry.
+//! Tests of names, paths, trees and accepted changes that no script can say, with expected values worked by hand from
+//! the stated rules. What a script can say is a file of `runs/`.
 #![tactic(auto)]
 
-#[cfg(test)]
-mod comparison;
 #[cfg(test)]
 mod elements;
 #[cfg(test)]
 mod fixtures;
 #[cfg(test)]
-mod limits;
-#[cfg(test)]
 mod names;
 #[cfg(test)]
-mod refusals;
-#[cfg(test)]
 mod rows;
+#[cfg(test)]
+mod texts;

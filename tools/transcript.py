@@ -1,0 +1,112 @@
+"""Transcripts of runs of the program: scripts with the replies and the status that are expected.
+
+A file of runs is text (`NAME.run`), or a program that prints such text (`NAME.py`), for scripts too long to be kept.
+Its lines:
+
+    # TEXT          a comment
+    command: WORD   the sub-command of the runs that follow; `play` at first
+    == TITLE        a run begins: what it shows
+    > LINE          a line of the script, as it stands
+    >: LINE|        the same, where `\\xHH` is a byte and `\\\\` a backslash, and the `|` ends it
+    >| LINE         the script's last line, without the LF that ends a line
+    TEXT            a line that is printed, beneath the line of the script that it answers
+    status N        the status that the run ends with, and the end of the run
+    ! LINE          a run of its own: this line, as a script's second, is not understood and ends the run
+    !: LINE|        the same, spelled as behind `>:`
+"""
+import os
+import re
+import subprocess
+import sys
+from dataclasses import dataclass, field
+
+
+@dataclass
+class Run:
+    """A script and what it is to print."""
+
+    where: str
+    title: str
+    command: str
+    script: list = field(default_factory=list)  # lines, each with its LF but perhaps the last
+    replies: list = field(default_factory=list)  # for each line of the script, and first for none, what is printed
+    status: int = 0
+
+    def text(self):
+        """The script."""
+        return b"".join(self.script)
+
+    def printed(self):
+        """What the run is to print."""
+        return b"".join(b"".join(lines) for lines in self.replies)
+
+
+def spelled(text):
+    """The bytes of a line that is spelled with escapes and ends with `|`."""
+    if not text.endswith("|"):
+        raise ValueError("a line behind ':' ends with '|'")
+    whole = re.sub(r"\\(x[0-9a-f]{2}|\\)", lambda m: "\\" if m[1] == "\\" else chr(int(m[1][1:], 16)), text[:-1])
+    return whole.encode("latin-1")
+
+
+def line_of(mark, rest):
+    """The bytes of a line of the script: behind `:` spelled with escapes, else as they stand behind one blank."""
+    return spelled(rest[2:]) if rest.startswith(": ") else rest[1:].encode()
+
+
+def not_understood(where, command, line):
+    """The run in which this line, as a script's second, ends the run."""
+    shown = line.decode("latin-1")
+    script = [b"hives 1\n", line + b"\n", b"create 0:A\n"]
+    return Run(where, f"no line: {shown!r}", command, script, [[], [b"ok\n"], [b"line 2: not understood\n"], []], 2)
+
+
+def parse(name, text):
+    """The runs of a file, in order."""
+    command, run, runs = "play", None, []
+    for number, line in enumerate(text.split("\n"), 1):
+        where = f"{name}:{number}"
+        if run is None:
+            if line.startswith("command: "):
+                command = line[len("command: "):]
+            elif line.startswith("== "):
+                run = Run(where, line[3:], command, replies=[[]])
+            elif line.startswith("!"):
+                runs.append(not_understood(where, command, line_of("!", line[1:])))
+            elif line and not line.startswith("#"):
+                raise ValueError(f"{where}: what is this line?")
+        elif line.startswith(">|"):
+            run.script.append(line[3:].encode())
+            run.replies.append([])
+        elif line.startswith(">"):
+            run.script.append(line_of(">", line[1:]) + b"\n")
+            run.replies.append([])
+        elif line.startswith("status "):
+            run.status = int(line[len("status "):])
+            runs.append(run)
+            run = None
+        else:
+            run.replies[-1].append(line.encode() + b"\n")
+    if run is not None:
+        raise ValueError(f"{run.where}: the run has no status")
+    return runs
+
+
+def read(path):
+    """The runs of the file at a path."""
+    name = os.path.basename(path)
+    if path.endswith(".py"):
+        made = subprocess.run([sys.executable, path], stdout=subprocess.PIPE, check=True)
+        return parse(name, made.stdout.decode())
+    with open(path, encoding="utf-8") as file:
+        return parse(name, file.read())
+
+
+def read_all(paths):
+    """The runs of some files, or of all files of `runs/` where none is named."""
+    here = os.path.dirname(os.path.dirname(os.path.abspath(__file__)))
+    folder = os.path.join(here, "runs")
+    if not paths:
+        names = sorted(name for name in os.listdir(folder) if name.endswith((".run", ".py")))
+        paths = [os.path.join(folder, name) for name in names]
+    return [run for path in paths for run in read(path)]
