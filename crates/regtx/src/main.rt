@@ -1,6 +1,6 @@
 //! The program `regtx`: reads the words of its command line, and leaves the work to `regtx_parts`.
 //!
-//! Everything is printed to standard output. The status is 0 where no reply was a refusal, 1 where one was, the script
+//! Everything is printed to standard output, each reply at once where the script comes from a pipe or a keyboard. The status is 0 where no reply was a refusal, 1 where one was, the script
 //! can't be read or a write fails, and 2 at a line that is none or at wrong words.
 #![tactic(auto)]
 
@@ -12,10 +12,10 @@ use crate::words::script_asked;
 use regtx_parts::{Status, play, refuse_script};
 use std::alloc::Global;
 use std::fs::File;
-use std::io::{BufReader, BufWriter};
+use std::io::{BufReader, BufWriter, LineWriter, Write};
 use std::process::ExitCode;
 use std::rt::{Env, Files};
-use std::{env, io};
+use std::{env, fs, io};
 
 fn main(rt: HostRuntime) -> ExitCode {
     let code = match run(&rt) {
@@ -33,15 +33,39 @@ fn run<R: Files + Print + Env + AllocGlobal>(rt: &R) -> Result<Status, Fault> {
     let alloc = rt.alloc();
     let words = words_given(rt, alloc)?;
     let script = script_asked(alloc, &words)?;
-    let mut writer = BufWriter::new(alloc, io::writer(rt))?;
-    let played = match File::open(rt, script) {
-        Ok(file) => {
-            let mut reader = BufReader::new(alloc, file)?;
-            play(alloc, &mut reader, &mut writer)
-        }
-        Err(_) => refuse_script(&mut writer),
+    let played = if is_at_hand(rt, script) {
+        let mut writer = BufWriter::new(alloc, io::writer(rt))?;
+        play_file(rt, script, &mut writer)?
+    } else {
+        // whoever sends the script may wait for a reply before the next line: each leaves as soon as it is made
+        let mut writer = LineWriter::new(alloc, io::writer(rt))?;
+        play_file(rt, script, &mut writer)?
     };
     Ok(played.unwrap_or(Status::Refused))
+}
+
+// whether reading the script waits for nobody, as that of a plain file
+fn is_at_hand<R: Files>(rt: &R, script: &str) -> bool {
+    match fs::metadata(rt, script) {
+        Ok(metadata) => metadata.is_file(),
+        Err(_) => false,
+    }
+}
+
+// plays the script; the answer within tells of writes that failed
+fn play_file<R: Files + AllocGlobal, W: Write>(
+    rt: &R,
+    script: &str,
+    writer: &mut W,
+) -> Result<io::Result<Status>, Fault> {
+    let alloc = rt.alloc();
+    Ok(match File::open(rt, script) {
+        Ok(file) => {
+            let mut reader = BufReader::new(alloc, file)?;
+            play(alloc, &mut reader, writer)
+        }
+        Err(_) => refuse_script(writer),
+    })
 }
 
 // the words of the command line
