@@ -6,8 +6,8 @@ use Rattle.std.specs.Int.{w16, to_be_bytes}
 use Rattle.std.specs.Str.{bytes_eq}
 use Rattle.hex.specs.Hex.{encode_lower}
 use Rattle.refusals.specs.Refusals.{refusal_text}
-use Rattle.reg_script.specs.declared.reply.Reply.{Reply}
-use Rattle.reg_script.specs.declared.reply.Reply.TheVariants.{Done, Created, CreatedInside, Opened, Accepted, Value, Keys, Values, Info, Committed, Flushed, StillActive, HasCommitted, RolledBack, Refused}
+use Rattle.reg_script.specs.declared.reply.ReplyLine.{ReplyLine}
+use Rattle.reg_script.specs.declared.reply.ReplyLine.TheVariants.{Done, Created, CreatedInside, Opened, Accepted, Value, Keys, Values, Info, Committed, Flushed, StillActive, HasCommitted, RolledBack, Refused}
 
 -- a unit stands for itself from 0x21 to 0x7e, but for `%`; any other is `%` and four hex digits
 abbrev pub unit_text : ℕ → List ℕ
@@ -25,7 +25,7 @@ names_text names = flat_map (λ name. 32 ∷ name_text name) names
 abbrev pub data_text : List ℕ → List ℕ
 data_text bytes = if length bytes == 0 then codes "-" else encode_lower bytes
 
-abbrev pub reply_text : Reply → List ℕ
+abbrev pub reply_text : ReplyLine → List ℕ
 reply_text Done = codes "ok"
 reply_text (Created levels number) = codes "created " ++ decimal levels ++ codes " accepted " ++ decimal number
 reply_text (CreatedInside levels) = codes "created " ++ decimal levels
@@ -43,5 +43,5 @@ reply_text RolledBack = codes "rolledback"
 reply_text (Refused refusal) = refusal_text refusal
 
 -- a reply's line: its text and the byte that ends it
-abbrev pub reply_line : Reply → List ℕ
+abbrev pub reply_line : ReplyLine → List ℕ
 reply_line reply = reply_text reply ++ 10 ∷ []

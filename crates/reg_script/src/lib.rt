@@ -15,5 +15,5 @@ mod words;
 pub use label::{LONGEST_LABEL, Label};
 pub use line::{Line, Place, Request, Text};
 pub use reading::read_line;
-pub use reply::Reply;
+pub use reply::ReplyLine;
 pub use unread::Unread;

@@ -162,6 +162,6 @@ pub enum Line {
         /// The transaction's label.
         label: Label,
     },
-    /// `flush`: writes what was accepted to the hives.
+    /// `flush`: waits until every change accepted so far is durable.
     Flush,
 }

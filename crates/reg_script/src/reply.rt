@@ -17,7 +17,7 @@ const PIECE: usize = 512;
 
 /// What a line of a script is answered.
 #[derive(Drop)]
-pub enum Reply {
+pub enum ReplyLine {
     /// `ok`: what was asked for is done.
     Done,
     /// `created LEVELS accepted N`: so many keys were made, by the change of this number.
@@ -70,7 +70,7 @@ pub enum Reply {
         /// The change's number.
         number: u64,
     },
-    /// `flushed N`: the hives' files hold all changes up to this number.
+    /// `flushed N`: every change up to this number is durable.
     Flushed {
         /// The number of the last change.
         number: u64,
@@ -88,39 +88,39 @@ pub enum Reply {
     },
 }
 
-impl Reply {
+impl ReplyLine {
     /// Writes the reply's text and the byte that ends its line. It takes no memory of its own.
     pub fn write<W: Write>(&self, writer: &mut W) -> io::Result<()>
         ensures { OnOk result (Appends (W.contents writer.old) (W.contents writer.new) (reply_line self.now)) }
     {
         match self {
-            Reply::Done => writeln!(writer, "ok"),
-            Reply::Created { levels, number } => {
+            ReplyLine::Done => writeln!(writer, "ok"),
+            ReplyLine::Created { levels, number } => {
                 writeln!(writer, "created {levels} accepted {number}")
             }
-            Reply::CreatedInside { levels } => writeln!(writer, "created {levels}"),
-            Reply::Opened => writeln!(writer, "opened"),
-            Reply::Accepted { number } => writeln!(writer, "accepted {number}"),
-            Reply::Value { kind, data } => write_value(writer, *kind, data),
-            Reply::Keys { names } => write_keys(writer, names),
-            Reply::Values { names } => write_values(writer, names),
-            Reply::Info {
+            ReplyLine::CreatedInside { levels } => writeln!(writer, "created {levels}"),
+            ReplyLine::Opened => writeln!(writer, "opened"),
+            ReplyLine::Accepted { number } => writeln!(writer, "accepted {number}"),
+            ReplyLine::Value { kind, data } => write_value(writer, *kind, data),
+            ReplyLine::Keys { names } => write_keys(writer, names),
+            ReplyLine::Values { names } => write_values(writer, names),
+            ReplyLine::Info {
                 subkeys,
                 values,
                 time,
             } => writeln!(writer, "info {subkeys} {values} {time}"),
-            Reply::Committed { number } => writeln!(writer, "committed {number}"),
-            Reply::Flushed { number } => writeln!(writer, "flushed {number}"),
-            Reply::StillActive => writeln!(writer, "active"),
-            Reply::HasCommitted => writeln!(writer, "committed"),
-            Reply::RolledBack => writeln!(writer, "rolledback"),
-            Reply::Refused { refusal } => writeln!(writer, "{refusal}"),
+            ReplyLine::Committed { number } => writeln!(writer, "committed {number}"),
+            ReplyLine::Flushed { number } => writeln!(writer, "flushed {number}"),
+            ReplyLine::StillActive => writeln!(writer, "active"),
+            ReplyLine::HasCommitted => writeln!(writer, "committed"),
+            ReplyLine::RolledBack => writeln!(writer, "rolledback"),
+            ReplyLine::Refused { refusal } => writeln!(writer, "{refusal}"),
         }
     }
 }
 
 fn write_value<W: Write>(writer: &mut W, kind: u32, data: &Data) -> io::Result<()>
-    ensures { OnOk result (Appends (W.contents writer.old) (W.contents writer.new) (reply_line (Reply.Value kind «data».now))) }
+    ensures { OnOk result (Appends (W.contents writer.old) (W.contents writer.new) (reply_line (ReplyLine.Value kind «data».now))) }
 {
     write!(writer, "value {kind} ")?;
     write_data(writer, data.bytes())?;
@@ -128,7 +128,7 @@ fn write_value<W: Write>(writer: &mut W, kind: u32, data: &Data) -> io::Result<(
 }
 
 fn write_keys<W: Write>(writer: &mut W, names: &Names) -> io::Result<()>
-    ensures { OnOk result (Appends (W.contents writer.old) (W.contents writer.new) (reply_line (Reply.Keys names.now))) }
+    ensures { OnOk result (Appends (W.contents writer.old) (W.contents writer.new) (reply_line (ReplyLine.Keys names.now))) }
 {
     write!(writer, "keys {}", names.list().len())?;
     write_names(writer, names.list())?;
@@ -136,7 +136,7 @@ fn write_keys<W: Write>(writer: &mut W, names: &Names) -> io::Result<()>
 }
 
 fn write_values<W: Write>(writer: &mut W, names: &Names) -> io::Result<()>
-    ensures { OnOk result (Appends (W.contents writer.old) (W.contents writer.new) (reply_line (Reply.Values names.now))) }
+    ensures { OnOk result (Appends (W.contents writer.old) (W.contents writer.new) (reply_line (ReplyLine.Values names.now))) }
 {
     write!(writer, "values {}", names.list().len())?;
     write_names(writer, names.list())?;

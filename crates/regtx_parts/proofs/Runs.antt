@@ -4,7 +4,7 @@ use Rattle.std.specs.Prelude.{IfOk}
 use Rattle.std.specs.Io.KnownBytes.{Appends, Keeps}
 use Rattle.reg_script.specs.Replies.{reply_line}
 use Rattle.reg_script.proofs.Written.{appends_more}
-use Rattle.reg_script.specs.declared.reply.Reply.TheVariants as reply
+use Rattle.reg_script.specs.declared.reply.ReplyLine.TheVariants as reply
 use Rattle.regtx_parts.specs.Endings.{with_refusal}
 use Rattle.regtx_parts.specs.Scripts.{Script, fresh_script, hives_asked, line_asked}
 use Rattle.regtx_parts.specs.Plays.{lines_of, AreFirst, AreReadOf, WereRead, wrong_text, Ends, PlaysOn, IsPlayed, IsPlayedOn}

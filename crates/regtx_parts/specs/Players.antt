@@ -1,6 +1,6 @@
 -- What a player shows: a script between two lines.
 use Rattle.std.specs.Prelude.{ℕ, Result, Ok, Err}
-use Rattle.reg_script.specs.declared.reply.Reply.{Reply}
+use Rattle.reg_script.specs.declared.reply.ReplyLine.{ReplyLine}
 use Rattle.regtx_parts.specs.Scripts.{Script}
 use Rattle.regtx_parts.specs.Labels.{named_by}
 use Rattle.regtx_parts.specs.declared.player.Player.{Player}
@@ -9,6 +9,6 @@ abbrev pub script_of : Player → Script
 script_of player = record { machine = player.store; moment = player.moment; session = player.session; labels = named_by player.labels }
 
 -- the reply of a line that has waited for a change: what is told of the change's number, or the reply that came in its place
-abbrev pub reply_by : (ℕ → Reply) → Result ℕ Reply → Reply
+abbrev pub reply_by : (ℕ → ReplyLine) → Result ℕ ReplyLine → ReplyLine
 reply_by tell (Ok number) = tell number
 reply_by tell (Err told) = told

@@ -6,8 +6,8 @@ use Rattle.refusals.specs.Refusals.{refusal_text}
 use Rattle.refusals.specs.declared.refusal.Refusal.TheVariants.{NoMemory}
 use Rattle.reg_script.specs.Replies.{reply_line}
 use Rattle.reg_script.specs.declared.line.Line.{Line}
-use Rattle.reg_script.specs.declared.reply.Reply.{Reply}
-use Rattle.reg_script.specs.declared.reply.Reply.TheVariants as reply
+use Rattle.reg_script.specs.declared.reply.ReplyLine.{ReplyLine}
+use Rattle.reg_script.specs.declared.reply.ReplyLine.TheVariants as reply
 use Rattle.regtx_parts.specs.Scripts.{Script, Answers, fresh_script, hives_asked, line_asked}
 use Rattle.regtx_parts.specs.Endings.{with_refusal}
 use Rattle.regtx_parts.specs.declared.ending.Ending.{Ending}
@@ -44,22 +44,9 @@ abbrev pub wrong_text : ℕ → List ℕ
 wrong_text number = codes "line " ++ decimal number ++ codes ": not understood\n"
 
 -- whether a reply is a refusal
-abbrev pub is_refusal : Reply → Bool
-is_refusal reply.Done = false
-is_refusal (reply.Created levels number) = false
-is_refusal (reply.CreatedInside levels) = false
-is_refusal reply.Opened = false
-is_refusal (reply.Accepted number) = false
-is_refusal (reply.Value kind bytes) = false
-is_refusal (reply.Keys names) = false
-is_refusal (reply.Values names) = false
-is_refusal (reply.Info subkeys values time) = false
-is_refusal (reply.Committed number) = false
-is_refusal (reply.Flushed number) = false
-is_refusal reply.StillActive = false
-is_refusal reply.HasCommitted = false
-is_refusal reply.RolledBack = false
+abbrev pub is_refusal : ReplyLine → Bool
 is_refusal (reply.Refused refusal) = true
+is_refusal _ = false
 
 -- a line is not understood, and nothing more is read
 pub record IsWrong (number : ℕ) (lines : List (List ℕ)) (ending : Option Ending) (text : List ℕ) (status : Status) : Type 0 where
@@ -84,7 +71,7 @@ abbrev pub PlaysOn : Script → ℕ → List (List ℕ) → Option Ending → Li
 PlaysOn old number [] ending text status = EndsAs ending text status
 PlaysOn old number (line ∷ lines) ending text status =
     ((line_asked line ≡ None) × IsWrong number lines ending text status)
-    ⊎ ((asked : Line) × (told : Reply) × (new : Script) × (rest : List ℕ) × (later : Status) × (line_asked line ≡ Some asked) × Answers old asked told new
+    ⊎ ((asked : Line) × (told : ReplyLine) × (new : Script) × (rest : List ℕ) × (later : Status) × (line_asked line ≡ Some asked) × Answers old asked told new
     × PlaysOn new (number + 1) lines ending rest later × (text ≡ reply_line told ++ rest) × (status ≡ with_refusal (is_refusal told) later))
 
 -- the first line says how many hives there are; a script without a line is wrong at line 1

@@ -7,8 +7,8 @@ use Rattle.reg_script.specs.declared.line.Place.{Place}
 use Rattle.reg_script.specs.declared.line.Request.{Request}
 use Rattle.reg_script.specs.declared.line.Request.TheVariants.{Create, Delete, Set, Unset, Get, Keys, Values, Info}
 use Rattle.machine.specs.declared.event.Question.TheVariants.{ValueOf, KeysOf, ValuesOf, InfoOf}
-use Rattle.regtx_parts.specs.declared.asked.Asked.{Asked}
-use Rattle.regtx_parts.specs.declared.asked.Asked.TheVariants.{Write, Read}
+use Rattle.regtx_parts.specs.declared.demand.Demand.{Demand}
+use Rattle.regtx_parts.specs.declared.demand.Demand.TheVariants.{Write, Read}
 
 -- where the key of a request stands
 abbrev pub place_of : Request → Place
@@ -31,16 +31,16 @@ abbrev pub value_name_of : List ℕ → Result (List ℕ) Refusal
 value_name_of name = name_if (is_value_name name) name
 
 -- what a request asks of the key at a path
-abbrev pub requested_at : Request → ℕ → List (List ℕ) → Result Asked Refusal
-requested_at (Create place) hive path = Ok (Write (CreateKey hive path))
-requested_at (Delete place) hive path = Ok (Write (DeleteKey hive path))
-requested_at (Set place name kind bytes) hive path = with_name (value_name_of name) (λ named. Ok (Write (SetValue hive path named kind bytes)))
-requested_at (Unset place name) hive path = with_name (value_name_of name) (λ named. Ok (Write (DeleteValue hive path named)))
-requested_at (Get place name) hive path = with_name (value_name_of name) (λ named. Ok (Read hive path (ValueOf named)))
-requested_at (Keys place) hive path = Ok (Read hive path KeysOf)
-requested_at (Values place) hive path = Ok (Read hive path ValuesOf)
-requested_at (Info place) hive path = Ok (Read hive path InfoOf)
+abbrev pub demand_at : Request → ℕ → List (List ℕ) → Result Demand Refusal
+demand_at (Create place) hive path = Ok (Write (CreateKey hive path))
+demand_at (Delete place) hive path = Ok (Write (DeleteKey hive path))
+demand_at (Set place name kind bytes) hive path = with_name (value_name_of name) (λ named. Ok (Write (SetValue hive path named kind bytes)))
+demand_at (Unset place name) hive path = with_name (value_name_of name) (λ named. Ok (Write (DeleteValue hive path named)))
+demand_at (Get place name) hive path = with_name (value_name_of name) (λ named. Ok (Read hive path (ValueOf named)))
+demand_at (Keys place) hive path = Ok (Read hive path KeysOf)
+demand_at (Values place) hive path = Ok (Read hive path ValuesOf)
+demand_at (Info place) hive path = Ok (Read hive path InfoOf)
 
 -- what a request asks for: its path is tested first, then a value's name
-abbrev pub requested : Request → Result Asked Refusal
-requested request = with_name (path_of (place_of request).path) (λ path. requested_at request (place_of request).hive path)
+abbrev pub demand_of : Request → Result Demand Refusal
+demand_of request = with_name (path_of (place_of request).path) (λ path. demand_at request (place_of request).hive path)

@@ -5,8 +5,8 @@ use Rattle.refusals.specs.declared.refusal.Refusal.TheVariants.{NoMemory, NoSuch
 use Rattle.reg_script.specs.Lines.{line_of}
 use Rattle.reg_script.specs.declared.line.Line.{Line}
 use Rattle.reg_script.specs.declared.line.Line.TheVariants.{Hives, At, Session, End, Plain, Begin, Inside, Commit, Rollback, Close, Outcome, Flush}
-use Rattle.reg_script.specs.declared.reply.Reply.{Reply}
-use Rattle.reg_script.specs.declared.reply.Reply.TheVariants as reply
+use Rattle.reg_script.specs.declared.reply.ReplyLine.{ReplyLine}
+use Rattle.reg_script.specs.declared.reply.ReplyLine.TheVariants as reply
 use Rattle.machine.specs.Machine.{Machine, fresh_machine}
 use Rattle.machine.specs.Steps.{Step, with_session}
 use Rattle.machine.specs.declared.handle.Tx.{Tx}
@@ -16,12 +16,12 @@ use Rattle.machine.specs.declared.event.Event.{Event}
 use Rattle.machine.specs.declared.event.Event.TheVariants as event
 use Rattle.machine.specs.declared.event.Found.{Found}
 use Rattle.machine.specs.declared.event.Found.TheVariants as found
-use Rattle.machine.specs.declared.event.Reply.{Reply as Answer}
+use Rattle.machine.specs.declared.event.Reply.{Reply}
 use Rattle.machine.specs.declared.event.Reply.TheVariants as answer
-use Rattle.regtx_parts.specs.Requests.{requested}
+use Rattle.regtx_parts.specs.Requests.{demand_of}
 use Rattle.regtx_parts.specs.Waits.{IsWaited}
-use Rattle.regtx_parts.specs.declared.asked.Asked.{Asked}
-use Rattle.regtx_parts.specs.declared.asked.Asked.TheVariants.{Write, Read}
+use Rattle.regtx_parts.specs.declared.demand.Demand.{Demand}
+use Rattle.regtx_parts.specs.declared.demand.Demand.TheVariants.{Write, Read}
 
 -- a script between two lines: the machine, the moment and the session of what follows, and the transaction that each
 -- label names
@@ -36,30 +36,30 @@ abbrev pub fresh_script : ℕ → Script
 fresh_script hives = record { machine = with_session (fresh_machine hives) 0; moment = 0; session = 0; labels = λ label. None }
 
 -- what was read as a reply
-abbrev pub found_reply : Found → Reply
+abbrev pub found_reply : Found → ReplyLine
 found_reply (found.Value value) = reply.Value value.kind value.«data»
 found_reply (found.Keys names) = reply.Keys names
 found_reply (found.ValueNames names) = reply.Values names
 found_reply (found.Counts info) = reply.Info info.subkeys info.values info.time
 
 -- a write alone, and one in a transaction, with the keys that it made, where it is a creation
-abbrev pub accepted_reply : Option ℕ → ℕ → Reply
+abbrev pub accepted_reply : Option ℕ → ℕ → ReplyLine
 accepted_reply None number = reply.Accepted number
 accepted_reply (Some levels) number = reply.Created levels number
 
-abbrev pub added_reply : Option ℕ → Reply
+abbrev pub added_reply : Option ℕ → ReplyLine
 added_reply None = reply.Done
 added_reply (Some levels) = reply.CreatedInside levels
 
 -- where a transaction stands
-abbrev pub standing_reply : Standing → Reply
+abbrev pub standing_reply : Standing → ReplyLine
 standing_reply standing.Active = reply.StillActive
 standing_reply standing.Committed = reply.HasCommitted
 standing_reply standing.RolledBack = reply.RolledBack
 
 -- An answer of the machine as a reply. No line is replied to by what is to be waited for, a receipt or a step: the
 -- lines that wait have replies of their own.
-abbrev pub reply_of : Answer → Reply
+abbrev pub reply_of : Reply → ReplyLine
 reply_of answer.Done = reply.Done
 reply_of (answer.Accepted levels number) = accepted_reply levels number
 reply_of (answer.Added levels) = added_reply levels
@@ -74,58 +74,58 @@ reply_of answer.NotYet = reply.Done
 reply_of (answer.Stepped progress) = reply.Done
 
 -- the machine is asked one event, and its answer is the reply; nothing else of the script changes
-abbrev pub Asks : Script → Event → Reply → Script → Type 0
-Asks old event told new = (answer : Answer) × Step old.machine event answer new.machine × (told ≡ reply_of answer) × (new ≡ record old { machine = new.machine })
+abbrev pub Asks : Script → Event → ReplyLine → Script → Type 0
+Asks old event told new = (answer : Reply) × Step old.machine event answer new.machine × (told ≡ reply_of answer) × (new ≡ record old { machine = new.machine })
 
 -- the same of an event that is refused
-abbrev pub IsRefusedBy : Script → Event → Reply → Script → Type 0
+abbrev pub IsRefusedBy : Script → Event → ReplyLine → Script → Type 0
 IsRefusedBy old event told new =
     (refusal : Refusal) × Step old.machine event (answer.Refused refusal) new.machine × (told ≡ reply.Refused refusal) × (new ≡ record old { machine = new.machine })
 
 -- the reply of a line that has waited: its own, with the change's number, or the refusal that ended the wait
-abbrev pub waited_reply : Option Refusal → Reply → Reply
+abbrev pub waited_reply : Option Refusal → ReplyLine → ReplyLine
 waited_reply None told = told
 waited_reply (Some refusal) told = reply.Refused refusal
 
 -- What follows an answer: the change whose number it tells is waited for, up to its receipt; any other is the reply.
-abbrev pub Follows : Answer → (ℕ → Reply) → Machine → Reply → Machine → Type 0
+abbrev pub Follows : Reply → (ℕ → ReplyLine) → Machine → ReplyLine → Machine → Type 0
 Follows (answer.Awaits number) tell old told new = (ended : Option Refusal) × IsWaited old number ended new × (told ≡ waited_reply ended (tell number))
 Follows answer tell old told new = (told ≡ reply_of answer) × (new ≡ old)
 
 -- the machine is asked an event, and what it says is to be waited for is waited for
-abbrev pub AsksAndWaits : Script → Event → (ℕ → Reply) → Reply → Script → Type 0
+abbrev pub AsksAndWaits : Script → Event → (ℕ → ReplyLine) → ReplyLine → Script → Type 0
 AsksAndWaits old event tell told new =
-    (answer : Answer) × (mid : Machine) × Step old.machine event answer mid × Follows answer tell mid told new.machine × (new ≡ record old { machine = new.machine })
+    (answer : Reply) × (mid : Machine) × Step old.machine event answer mid × Follows answer tell mid told new.machine × (new ≡ record old { machine = new.machine })
 
 -- a refusal that changes nothing
-abbrev pub IsRefused : Script → Refusal → Reply → Script → Type 0
+abbrev pub IsRefused : Script → Refusal → ReplyLine → Script → Type 0
 IsRefused old refusal told new = (told ≡ reply.Refused refusal) × (new ≡ old)
 
 -- a name that may not stand is refused, and else what the request asks for is asked
-abbrev pub IsNamed : Result Asked Refusal → (Asked → Type 0) → Script → Reply → Script → Type 0
+abbrev pub IsNamed : Result Demand Refusal → (Demand → Type 0) → Script → ReplyLine → Script → Type 0
 IsNamed (Ok asked) asks old told new = asks asked
 IsNamed (Err refusal) asks old told new = IsRefused old refusal told new
 
 -- a label that names nothing is refused, and else its transaction is asked about
-abbrev pub IsLabelled : Option Tx → (Tx → Type 0) → Script → Reply → Script → Type 0
+abbrev pub IsLabelled : Option Tx → (Tx → Type 0) → Script → ReplyLine → Script → Type 0
 IsLabelled (Some tx) asks old told new = asks tx
 IsLabelled None asks old told new = IsRefused old NoSuchHandle told new
 
 -- memory for a name or a label may be refused
-abbrev pub IsHeard : Script → Reply → Script → Type 0 → Type 0
+abbrev pub IsHeard : Script → ReplyLine → Script → Type 0 → Type 0
 IsHeard old told new heard = heard ⊎ IsRefused old NoMemory told new
 
 -- the event of a request alone, in the current session, and of one in a transaction
-abbrev pub event_alone : Script → Asked → Event
+abbrev pub event_alone : Script → Demand → Event
 event_alone script (Write op) = event.Write script.session script.moment op
 event_alone script (Read hive path question) = event.Read script.session hive path question
 
-abbrev pub event_inside : Script → Tx → Asked → Event
+abbrev pub event_inside : Script → Tx → Demand → Event
 event_inside script tx (Write op) = event.TxWrite script.session tx script.moment op
 event_inside script tx (Read hive path question) = event.TxRead script.session tx hive path question
 
 -- the session is open, and the current one from now on
-abbrev pub Enters : Script → ℕ → Reply → Script → Type 0
+abbrev pub Enters : Script → ℕ → ReplyLine → Script → Type 0
 Enters old number told new =
     Step old.machine (event.StartSession number) answer.Done new.machine × (told ≡ reply.Done) × (new ≡ record old { machine = new.machine; session = number })
 
@@ -139,28 +139,28 @@ abbrev pub SameNames : (List ℕ → Option Tx) → (List ℕ → Option Tx) →
 SameNames old new = (label : List ℕ) → new label ≡ old label
 
 -- a transaction is begun, and the label names it from now on
-abbrev pub Begins : Script → List ℕ → List ℕ → Reply → Script → Type 0
+abbrev pub Begins : Script → List ℕ → List ℕ → ReplyLine → Script → Type 0
 Begins old label id told new =
     (tx : Tx) × Step old.machine (event.Begin old.session id) (answer.Begun tx) new.machine × (told ≡ reply.Done)
     × (new ≡ record old { machine = new.machine; labels = new.labels }) × Names old.labels new.labels label tx
 
 -- no transaction is begun, and each label names what it named
-abbrev pub BeginsNothing : Script → List ℕ → Reply → Script → Type 0
+abbrev pub BeginsNothing : Script → List ℕ → ReplyLine → Script → Type 0
 BeginsNothing old id told new =
     (refusal : Refusal) × Step old.machine (event.Begin old.session id) (answer.Refused refusal) new.machine × (told ≡ reply.Refused refusal)
     × (new ≡ record old { machine = new.machine; labels = new.labels }) × SameNames old.labels new.labels
 
 -- From old, the line may be answered this reply, and leave new. Its names are tested first: the path, then a value's
 -- name; then its label.
-abbrev pub Answers : Script → Line → Reply → Script → Type 0
+abbrev pub Answers : Script → Line → ReplyLine → Script → Type 0
 Answers old (Hives count) told new = ⊥
 Answers old (At moment) told new = (told ≡ reply.Done) × (new ≡ record old { moment = moment })
 Answers old (Session number) told new = Enters old number told new ⊎ IsRefusedBy old (event.StartSession number) told new
 Answers old (End number) told new = Asks old (event.EndSession number) told new
 Answers old (Plain request) told new =
-    IsHeard old told new (IsNamed (requested request) (λ asked. Asks old (event_alone old asked) told new) old told new)
+    IsHeard old told new (IsNamed (demand_of request) (λ asked. Asks old (event_alone old asked) told new) old told new)
 Answers old (Inside label request) told new =
-    IsHeard old told new (IsNamed (requested request) (λ asked. IsLabelled (old.labels label) (λ tx. Asks old (event_inside old tx asked) told new) old told new) old told new)
+    IsHeard old told new (IsNamed (demand_of request) (λ asked. IsLabelled (old.labels label) (λ tx. Asks old (event_inside old tx asked) told new) old told new) old told new)
 Answers old (Begin label id) told new = IsHeard old told new (Begins old label id told new ⊎ BeginsNothing old id told new)
 Answers old (Commit label) told new =
     IsLabelled (old.labels label) (λ tx. AsksAndWaits old (event.CommitAccept old.session tx old.moment) reply.Committed told new) old told new

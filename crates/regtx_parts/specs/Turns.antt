@@ -3,7 +3,7 @@ use Rattle.std.specs.Prelude.{◌≡◌, ℕ, List, ◌∷◌, Option, Some, IfS
 use Rattle.std.specs.Io.KnownBytes.{Appends}
 use Rattle.reg_script.specs.Replies.{reply_line}
 use Rattle.reg_script.specs.declared.line.Line.{Line}
-use Rattle.reg_script.specs.declared.reply.Reply.{Reply}
+use Rattle.reg_script.specs.declared.reply.ReplyLine.{ReplyLine}
 use Rattle.regtx_parts.specs.Scripts.{Script, Answers, line_asked}
 use Rattle.regtx_parts.specs.Plays.{lines_of, is_refusal, IsPlayedOn}
 use Rattle.regtx_parts.specs.declared.runner.Turn.{Turn}
@@ -17,5 +17,5 @@ TakesLine known rest line = IfSome known (λ bytes. (left : List ℕ) × (rest �
 abbrev pub Turns : Script → ℕ → Option (List ℕ) → Option (List ℕ) → Turn → Script → Option (List ℕ) → Option (List ℕ) → Type 0
 Turns old number known before (Over status) new rest after = IsPlayedOn old number known before after status
 Turns old number known before (Replied refused) new rest after =
-    (line : List ℕ) × (asked : Line) × (told : Reply) × TakesLine known rest line × (line_asked line ≡ Some asked) × Answers old asked told new
+    (line : List ℕ) × (asked : Line) × (told : ReplyLine) × TakesLine known rest line × (line_asked line ≡ Some asked) × Answers old asked told new
     × Appends before after (reply_line told) × (refused ≡ is_refusal told)

@@ -5,12 +5,12 @@
 //! of it by `specs/Scripts`, and the text by `specs/Plays`.
 #![tactic(auto)]
 
-mod asked;
+mod demand;
 mod ending;
 mod labels;
 mod player;
+mod replies;
 mod runner;
-mod told;
 mod waiting;
 
 pub use ending::Status;

@@ -1,17 +1,17 @@
 //! A script's store, asked line by line.
 ghost use Rattle.std.specs.Prelude.{◌≡◌, ℕ, Some, None, MatchResult, MatchOption, IfOk, IfSome, IfNone};
 ghost use Rattle.reg_script.specs.declared.line.Line.{Line as AnyLine};
-ghost use Rattle.reg_script.specs.declared.reply.Reply.{Reply as AnyReply};
+ghost use Rattle.reg_script.specs.declared.reply.ReplyLine.{ReplyLine as AnyReplyLine};
 ghost use Rattle.regtx_parts.specs.Scripts.{Asks, Answers, AsksAndWaits, event_alone, event_inside, later_line, line_asked, hives_asked, fresh_script};
 ghost use Rattle.regtx_parts.specs.Players.{script_of, reply_by};
 
-use crate::asked::{Asked, requested};
+use crate::demand::{Demand, demand_of};
 use crate::labels::Labels;
-use crate::told::reply_of;
+use crate::replies::reply_of;
 use crate::waiting::wait;
-use machine::{Event, Reply as Answer, Tx};
+use machine::{Event, Reply, Tx};
 use refusals::Refusal;
-use reg_script::{Label, Line, Reply, Request, Unread, read_line};
+use reg_script::{Label, Line, ReplyLine, Request, Unread, read_line};
 use std::alloc::{AllocError, Global};
 use transactions::PlainStore;
 use uuid::Uuid;
@@ -43,7 +43,7 @@ impl Player {
         ensures { IfOk result (λ player. script_of player ≡ fresh_script hives) }
     {
         let mut store = PlainStore::new(alloc, usize::from(hives))?;
-        let Answer::Done = store.event(Event::StartSession { session: 0 }) else {
+        let Reply::Done = store.event(Event::StartSession { session: 0 }) else {
             return Err(AllocError);
         };
         Ok(Player {
@@ -56,7 +56,11 @@ impl Player {
 
     /// Answers a further line of the script, or nothing where the bytes are no such line. Memory is refused only for
     /// reading the line, before anything is asked.
-    pub(crate) fn hear(&mut self, alloc: Global, bytes: &[u8]) -> Result<Option<Reply>, AllocError>
+    pub(crate) fn reply_to(
+        &mut self,
+        alloc: Global,
+        bytes: &[u8],
+    ) -> Result<Option<ReplyLine>, AllocError>
         ensures none { IfOk result (λ made. IfNone made (line_asked bytes.now ≡ None)) }
         ensures some { IfOk result (λ made. IfSome made (λ told. (asked : AnyLine) × (line_asked bytes.now ≡ Some asked) × Answers (script_of self.old) asked told (script_of self.new))) }
     {
@@ -68,14 +72,14 @@ impl Player {
     }
 
     // answers the line, or nothing where it is a script's first
-    fn answer(&mut self, alloc: Global, line: Line) -> Option<Reply>
+    fn answer(&mut self, alloc: Global, line: Line) -> Option<ReplyLine>
         ensures { MatchOption result (later_line (Some line) ≡ None) (λ told. (later_line (Some line) ≡ Some line) × Answers (script_of self.old) line told (script_of self.new)) }
     {
         let told = match line {
             Line::Hives { .. } => return None,
             Line::At { moment } => {
                 self.moment = moment;
-                Ok(Reply::Done)
+                Ok(ReplyLine::Done)
             }
             Line::Session { number } => Ok(self.enter(number)),
             Line::End { number } => Ok(self.ask(Event::EndSession { session: number })),
@@ -90,50 +94,55 @@ impl Player {
         };
         match told {
             Ok(told) => Some(told),
-            Err(refusal) => Some(Reply::Refused { refusal }),
+            Err(refusal) => Some(ReplyLine::Refused { refusal }),
         }
     }
 
     // opens the session, and makes it the current one
-    fn enter(&mut self, number: u32) -> Reply
+    fn enter(&mut self, number: u32) -> ReplyLine
         ensures { Answers (script_of self.old) (Line.Session number) result (script_of self.new) }
     {
         match self.store.event(Event::StartSession { session: number }) {
-            Answer::Done => {
+            Reply::Done => {
                 self.session = number;
-                Reply::Done
+                ReplyLine::Done
             }
             answer => reply_of(answer),
         }
     }
 
-    fn alone(&mut self, alloc: Global, request: Request) -> Result<Reply, Refusal>
-        ensures { MatchResult result (λ told. Answers (script_of self.old) (Line.Plain request) told (script_of self.new)) (λ refusal. Answers (script_of self.old) (Line.Plain request) (Reply.Refused refusal) (script_of self.new)) }
+    fn alone(&mut self, alloc: Global, request: Request) -> Result<ReplyLine, Refusal>
+        ensures { MatchResult result (λ told. Answers (script_of self.old) (Line.Plain request) told (script_of self.new)) (λ refusal. Answers (script_of self.old) (Line.Plain request) (ReplyLine.Refused refusal) (script_of self.new)) }
     {
-        let event = self.event_alone(requested(alloc, request)?);
+        let event = self.event_alone(demand_of(alloc, request)?);
         Ok(self.ask(event))
     }
 
-    fn inside(&mut self, alloc: Global, label: Label, request: Request) -> Result<Reply, Refusal>
-        ensures { MatchResult result (λ told. Answers (script_of self.old) (Line.Inside label request) told (script_of self.new)) (λ refusal. Answers (script_of self.old) (Line.Inside label request) (Reply.Refused refusal) (script_of self.new)) }
+    fn inside(
+        &mut self,
+        alloc: Global,
+        label: Label,
+        request: Request,
+    ) -> Result<ReplyLine, Refusal>
+        ensures { MatchResult result (λ told. Answers (script_of self.old) (Line.Inside label request) told (script_of self.new)) (λ refusal. Answers (script_of self.old) (Line.Inside label request) (ReplyLine.Refused refusal) (script_of self.new)) }
     {
-        let asked = requested(alloc, request)?;
+        let asked = demand_of(alloc, request)?;
         let event = self.event_inside(self.tx(label)?, asked);
         Ok(self.ask(event))
     }
 
     // the request in the current session, at the moment of now
-    fn event_alone(&self, asked: Asked) -> Event
+    fn event_alone(&self, asked: Demand) -> Event
         ensures { result ≡ event_alone (script_of self.now) asked }
     {
         let session = self.session;
         match asked {
-            Asked::Write { op } => Event::Write {
+            Demand::Write { op } => Event::Write {
                 session,
                 moment: self.moment,
                 op,
             },
-            Asked::Read {
+            Demand::Read {
                 hive,
                 path,
                 question,
@@ -147,18 +156,18 @@ impl Player {
     }
 
     // the same in a transaction
-    fn event_inside(&self, tx: Tx, asked: Asked) -> Event
+    fn event_inside(&self, tx: Tx, asked: Demand) -> Event
         ensures { result ≡ event_inside (script_of self.now) tx asked }
     {
         let session = self.session;
         match asked {
-            Asked::Write { op } => Event::TxWrite {
+            Demand::Write { op } => Event::TxWrite {
                 session,
                 tx,
                 moment: self.moment,
                 op,
             },
-            Asked::Read {
+            Demand::Read {
                 hive,
                 path,
                 question,
@@ -174,22 +183,22 @@ impl Player {
 
     // begins a transaction that the label names; room for the label is made first, so that no transaction is begun which
     // nothing names
-    fn begin_as(&mut self, alloc: Global, label: Label, id: Uuid) -> Result<Reply, Refusal>
-        ensures { MatchResult result (λ told. Answers (script_of self.old) (Line.Begin label id) told (script_of self.new)) (λ refusal. Answers (script_of self.old) (Line.Begin label id) (Reply.Refused refusal) (script_of self.new)) }
+    fn begin_as(&mut self, alloc: Global, label: Label, id: Uuid) -> Result<ReplyLine, Refusal>
+        ensures { MatchResult result (λ told. Answers (script_of self.old) (Line.Begin label id) told (script_of self.new)) (λ refusal. Answers (script_of self.old) (Line.Begin label id) (ReplyLine.Refused refusal) (script_of self.new)) }
     {
         self.labels.make_room(label)?;
         let session = self.session;
         match self.store.event(Event::Begin { session, id }) {
-            Answer::Begun { tx } => {
+            Reply::Begun { tx } => {
                 self.labels.name(label, tx);
-                Ok(Reply::Done)
+                Ok(ReplyLine::Done)
             }
             answer => Ok(reply_of(answer)),
         }
     }
 
-    fn commit(&mut self, label: Label) -> Result<Reply, Refusal>
-        ensures { MatchResult result (λ told. Answers (script_of self.old) (Line.Commit label) told (script_of self.new)) (λ refusal. Answers (script_of self.old) (Line.Commit label) (Reply.Refused refusal) (script_of self.new)) }
+    fn commit(&mut self, label: Label) -> Result<ReplyLine, Refusal>
+        ensures { MatchResult result (λ told. Answers (script_of self.old) (Line.Commit label) told (script_of self.new)) (λ refusal. Answers (script_of self.old) (Line.Commit label) (ReplyLine.Refused refusal) (script_of self.new)) }
     {
         let session = self.session;
         let moment = self.moment;
@@ -200,40 +209,40 @@ impl Player {
             moment,
         };
         match self.ask_and_wait(event) {
-            Ok(number) => Ok(Reply::Committed { number }),
+            Ok(number) => Ok(ReplyLine::Committed { number }),
             Err(told) => Ok(told),
         }
     }
 
-    fn rollback(&mut self, label: Label) -> Result<Reply, Refusal>
-        ensures { MatchResult result (λ told. Answers (script_of self.old) (Line.Rollback label) told (script_of self.new)) (λ refusal. Answers (script_of self.old) (Line.Rollback label) (Reply.Refused refusal) (script_of self.new)) }
+    fn rollback(&mut self, label: Label) -> Result<ReplyLine, Refusal>
+        ensures { MatchResult result (λ told. Answers (script_of self.old) (Line.Rollback label) told (script_of self.new)) (λ refusal. Answers (script_of self.old) (Line.Rollback label) (ReplyLine.Refused refusal) (script_of self.new)) }
     {
         let session = self.session;
         let tx = self.tx(label)?;
         Ok(self.ask(Event::Rollback { session, tx }))
     }
 
-    fn close(&mut self, label: Label) -> Result<Reply, Refusal>
-        ensures { MatchResult result (λ told. Answers (script_of self.old) (Line.Close label) told (script_of self.new)) (λ refusal. Answers (script_of self.old) (Line.Close label) (Reply.Refused refusal) (script_of self.new)) }
+    fn close(&mut self, label: Label) -> Result<ReplyLine, Refusal>
+        ensures { MatchResult result (λ told. Answers (script_of self.old) (Line.Close label) told (script_of self.new)) (λ refusal. Answers (script_of self.old) (Line.Close label) (ReplyLine.Refused refusal) (script_of self.new)) }
     {
         let session = self.session;
         let tx = self.tx(label)?;
         Ok(self.ask(Event::Close { session, tx }))
     }
 
-    fn outcome(&mut self, label: Label) -> Result<Reply, Refusal>
-        ensures { MatchResult result (λ told. Answers (script_of self.old) (Line.Outcome label) told (script_of self.new)) (λ refusal. Answers (script_of self.old) (Line.Outcome label) (Reply.Refused refusal) (script_of self.new)) }
+    fn outcome(&mut self, label: Label) -> Result<ReplyLine, Refusal>
+        ensures { MatchResult result (λ told. Answers (script_of self.old) (Line.Outcome label) told (script_of self.new)) (λ refusal. Answers (script_of self.old) (Line.Outcome label) (ReplyLine.Refused refusal) (script_of self.new)) }
     {
         let session = self.session;
         let tx = self.tx(label)?;
         Ok(self.ask(Event::Outcome { session, tx }))
     }
 
-    fn flush(&mut self) -> Reply
+    fn flush(&mut self) -> ReplyLine
         ensures { Answers (script_of self.old) Line.Flush result (script_of self.new) }
     {
         match self.ask_and_wait(Event::FlushAsk) {
-            Ok(number) => Reply::Flushed { number },
+            Ok(number) => ReplyLine::Flushed { number },
             Err(told) => told,
         }
     }
@@ -249,7 +258,7 @@ impl Player {
     }
 
     // asks one event, whose answer is the reply
-    fn ask(&mut self, event: Event) -> Reply
+    fn ask(&mut self, event: Event) -> ReplyLine
         ensures { Asks (script_of self.old) event result (script_of self.new) }
     {
         reply_of(self.store.event(event))
@@ -257,13 +266,13 @@ impl Player {
 
     // asks an event, and waits for the change whose number it answers; `Err` is the reply where it answers no number, or
     // the wait is refused
-    fn ask_and_wait(&mut self, event: Event) -> Result<u64, Reply>
-        ensures { (tell : ℕ → AnyReply) → AsksAndWaits (script_of self.old) event tell (reply_by tell result) (script_of self.new) }
+    fn ask_and_wait(&mut self, event: Event) -> Result<u64, ReplyLine>
+        ensures { (tell : ℕ → AnyReplyLine) → AsksAndWaits (script_of self.old) event tell (reply_by tell result) (script_of self.new) }
     {
         match self.store.event(event) {
-            Answer::Awaits { number } => match wait(&mut self.store, number) {
+            Reply::Awaits { number } => match wait(&mut self.store, number) {
                 Ok(()) => Ok(number),
-                Err(refusal) => Err(Reply::Refused { refusal }),
+                Err(refusal) => Err(ReplyLine::Refused { refusal }),
             },
             answer => Err(reply_of(answer)),
         }

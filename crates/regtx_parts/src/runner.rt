@@ -9,7 +9,7 @@ ghost use Rattle.regtx_parts.specs.Turns.{TakesLine, Turns};
 use crate::ending::{Ending, Status};
 use crate::player::Player;
 use refusals::Refusal;
-use reg_script::Reply;
+use reg_script::ReplyLine;
 use std::alloc::{AllocError, Global};
 use std::io;
 use std::io::{BufRead, Write};
@@ -67,7 +67,7 @@ fn run<R: BufRead, W: Write>(alloc: Global, reader: &mut R, writer: &mut W) -> i
     }
     match Player::begin(alloc, &line) {
         Ok(Some(mut player)) => {
-            Reply::Done.write(writer)?;
+            ReplyLine::Done.write(writer)?;
             go_on(alloc, &mut player, reader, &mut line, writer)
         }
         Ok(None) => wrong(writer, 1),
@@ -112,7 +112,7 @@ fn take_turn<R: BufRead, W: Write>(
         let status = end(writer, ending)?;
         return Ok(Turn::Over { status });
     }
-    match player.hear(alloc, line) {
+    match player.reply_to(alloc, line) {
         Ok(Some(told)) => {
             told.write(writer)?;
             let is_refusal = is_refusal(&told);
@@ -129,11 +129,11 @@ fn take_turn<R: BufRead, W: Write>(
     }
 }
 
-fn is_refusal(told: &Reply) -> bool
+fn is_refusal(told: &ReplyLine) -> bool
     ensures { result ≡ is_refusal told.now }
 {
     match told {
-        Reply::Refused { .. } => true,
+        ReplyLine::Refused { .. } => true,
         _ => false,
     }
 }

@@ -4,7 +4,7 @@ ghost use Rattle.machine.specs.Machine.{last_number};
 ghost use Rattle.machine.specs.Steps.{Step};
 ghost use Rattle.regtx_parts.specs.Waits.{IsWaited, IsAsked, IsStepped};
 
-use machine::{Event, Reply as Answer};
+use machine::{Event, Reply};
 use refusals::Refusal;
 use transactions::PlainStore;
 
@@ -22,22 +22,22 @@ pub(crate) fn wait(store: &mut PlainStore, number: u64) -> Result<(), Refusal>
 
 // whether there is a receipt of the change
 fn has_receipt(store: &mut PlainStore, number: u64) -> Result<bool, Refusal>
-    ensures { MatchResult result (λ has. IsAsked store.old number has store.new) (λ refusal. Step store.old (Event.Acked number) (Answer.Refused refusal) store.new) }
+    ensures { MatchResult result (λ has. IsAsked store.old number has store.new) (λ refusal. Step store.old (Event.Acked number) (Reply.Refused refusal) store.new) }
 {
     match store.event(Event::Acked { number }) {
-        Answer::Receipt { .. } => Ok(true),
-        Answer::Refused { refusal } => Err(refusal),
+        Reply::Receipt { .. } => Ok(true),
+        Reply::Refused { refusal } => Err(refusal),
         _ => Ok(false),
     }
 }
 
 // one step of the journal
 fn step(store: &mut PlainStore) -> Result<(), Refusal>
-    ensures made { MatchResult result (λ _. IsStepped store.old store.new) (λ refusal. Step store.old Event.JournalStep (Answer.Refused refusal) store.new) }
+    ensures made { MatchResult result (λ _. IsStepped store.old store.new) (λ refusal. Step store.old Event.JournalStep (Reply.Refused refusal) store.new) }
     ensures durable { store.new.durable ≡ last_number store.new }
 {
     match store.event(Event::JournalStep) {
-        Answer::Refused { refusal } => Err(refusal),
+        Reply::Refused { refusal } => Err(refusal),
         _ => Ok(()),
     }
 }

@@ -13,8 +13,8 @@ returns-in_ok-status-in-Ok-None g c =
     stops_wrong (script_of c.args.player.now) c.args.number (g.R.Read.remaining c.args.reader.now) (g.R.Read.remaining c.next_line.new.reader) (g.W.Write.contents c.args.writer.now) (g.W.Write.contents c.wrong.new.writer)
     c.next_line.new.line.items c.in_ok-status-in-Ok-None.status c.in_default.ensures.line (ap line_asked (sym c.deref.ensures.value) ∙ none) said.0 said.1
 
-pub returns-in_ok-status-in-Err-hear : goal.returns-in_ok-status-in-Err-hear
-returns-in_ok-status-in-Err-hear g c =
-    let said = c.in_ok-status-in-Err-hear.ensures in
-    ends_here (script_of c.args.player.now) c.args.number (g.R.Read.remaining c.args.reader.now) (g.W.Write.contents c.args.writer.now) (g.W.Write.contents c.end-in-Err-hear.new.writer)
-    OutOfMemory said.0 c.in_ok-status-in-Err-hear.status (none_read (g.R.Read.remaining c.args.reader.now) OutOfMemory is_end) said.1 said.2
+pub returns-in_ok-status-in-Err-reply_to : goal.returns-in_ok-status-in-Err-reply_to
+returns-in_ok-status-in-Err-reply_to g c =
+    let said = c.in_ok-status-in-Err-reply_to.ensures in
+    ends_here (script_of c.args.player.now) c.args.number (g.R.Read.remaining c.args.reader.now) (g.W.Write.contents c.args.writer.now) (g.W.Write.contents c.end-in-Err-reply_to.new.writer)
+    OutOfMemory said.0 c.in_ok-status-in-Err-reply_to.status (none_read (g.R.Read.remaining c.args.reader.now) OutOfMemory is_end) said.1 said.2

@@ -1,7 +1,7 @@
 //! What a request of a script asks for, once its names are found right.
 ghost use Rattle.std.specs.Prelude.{◌≡◌, ◌⊎◌, Ok, Err, MatchResult};
 ghost use Rattle.refusals.specs.declared.refusal.Refusal.TheVariants.{NoMemory};
-ghost use Rattle.regtx_parts.specs.Requests.{place_of, requested, requested_at};
+ghost use Rattle.regtx_parts.specs.Requests.{place_of, demand_of, demand_at};
 
 use machine::Question;
 use refusals::Refusal;
@@ -12,7 +12,7 @@ use std::alloc::Global;
 
 /// What a request asks for.
 #[derive(Drop)]
-pub(crate) enum Asked {
+pub(crate) enum Demand {
     /// An operation is to be carried out.
     Write {
         /// The operation.
@@ -30,13 +30,13 @@ pub(crate) enum Asked {
 }
 
 /// What the request asks for. Its path is tested first, then a value's name: refused as they are, and with `NoMemory`.
-pub(crate) fn requested(alloc: Global, request: Request) -> Result<Asked, Refusal>
-    ensures { MatchResult result (λ asked. requested request ≡ Ok asked) (λ refusal. (requested request ≡ Err refusal) ⊎ (refusal ≡ NoMemory)) }
+pub(crate) fn demand_of(alloc: Global, request: Request) -> Result<Demand, Refusal>
+    ensures { MatchResult result (λ asked. demand_of request ≡ Ok asked) (λ refusal. (demand_of request ≡ Err refusal) ⊎ (refusal ≡ NoMemory)) }
 {
     let place = place_of(&request);
     let hive = place.hive;
     let path = Path::parse(alloc, place.path.units())?;
-    requested_at(alloc, request, hive, path)
+    demand_at(alloc, request, hive, path)
 }
 
 fn place_of(request: &Request) -> &Place
@@ -55,12 +55,12 @@ fn place_of(request: &Request) -> &Place
 }
 
 // what the request asks of the key at this path
-fn requested_at(alloc: Global, request: Request, hive: u8, path: Path) -> Result<Asked, Refusal>
-    ensures { MatchResult result (λ asked. requested_at request hive path ≡ Ok asked) (λ refusal. (requested_at request hive path ≡ Err refusal) ⊎ (refusal ≡ NoMemory)) }
+fn demand_at(alloc: Global, request: Request, hive: u8, path: Path) -> Result<Demand, Refusal>
+    ensures { MatchResult result (λ asked. demand_at request hive path ≡ Ok asked) (λ refusal. (demand_at request hive path ≡ Err refusal) ⊎ (refusal ≡ NoMemory)) }
 {
     Ok(match request {
-        Request::Create { place: _place } => written(Op::CreateKey { hive, path }),
-        Request::Delete { place: _place } => written(Op::DeleteKey { hive, path }),
+        Request::Create { place: _place } => write_demand(Op::CreateKey { hive, path }),
+        Request::Delete { place: _place } => write_demand(Op::DeleteKey { hive, path }),
         Request::Set {
             place: _place,
             name,
@@ -68,7 +68,7 @@ fn requested_at(alloc: Global, request: Request, hive: u8, path: Path) -> Result
             data,
         } => {
             let name = Name::value(alloc, name.units())?;
-            written(Op::SetValue {
+            write_demand(Op::SetValue {
                 hive,
                 path,
                 name,
@@ -81,31 +81,31 @@ fn requested_at(alloc: Global, request: Request, hive: u8, path: Path) -> Result
             name,
         } => {
             let name = Name::value(alloc, name.units())?;
-            written(Op::DeleteValue { hive, path, name })
+            write_demand(Op::DeleteValue { hive, path, name })
         }
         Request::Get {
             place: _place,
             name,
         } => {
             let name = Name::value(alloc, name.units())?;
-            read(hive, path, Question::ValueOf { name })
+            read_demand(hive, path, Question::ValueOf { name })
         }
-        Request::Keys { place: _place } => read(hive, path, Question::KeysOf),
-        Request::Values { place: _place } => read(hive, path, Question::ValuesOf),
-        Request::Info { place: _place } => read(hive, path, Question::InfoOf),
+        Request::Keys { place: _place } => read_demand(hive, path, Question::KeysOf),
+        Request::Values { place: _place } => read_demand(hive, path, Question::ValuesOf),
+        Request::Info { place: _place } => read_demand(hive, path, Question::InfoOf),
     })
 }
 
-fn written(op: Op) -> Asked
-    ensures { result ≡ Asked.Write op }
+fn write_demand(op: Op) -> Demand
+    ensures { result ≡ Demand.Write op }
 {
-    Asked::Write { op }
+    Demand::Write { op }
 }
 
-fn read(hive: u8, path: Path, question: Question) -> Asked
-    ensures { result ≡ Asked.Read hive path question }
+fn read_demand(hive: u8, path: Path, question: Question) -> Demand
+    ensures { result ≡ Demand.Read hive path question }
 {
-    Asked::Read {
+    Demand::Read {
         hive,
         path,
         question,

@@ -1,0 +1,74 @@
+//! An answer of the store as the reply to a line.
+ghost use Rattle.std.specs.Prelude.{◌≡◌};
+ghost use Rattle.regtx_parts.specs.Scripts.{reply_of, found_reply, accepted_reply, added_reply, standing_reply};
+
+use machine::{Found, Outcome, Reply};
+use reg_script::ReplyLine;
+use reg_tree::Value;
+
+/// The reply to the line that asked. What is to be waited for, a receipt and a step are no line's reply: the lines that
+/// wait have replies of their own.
+pub(crate) fn reply_of(answer: Reply) -> ReplyLine
+    ensures { result ≡ reply_of answer }
+{
+    match answer {
+        Reply::Accepted { levels, number } => accepted_reply(levels, number),
+        Reply::Added { levels } => added_reply(levels),
+        Reply::Opened => ReplyLine::Opened,
+        Reply::Read { found } => found_reply(found),
+        Reply::Stands { outcome } => standing_reply(outcome),
+        Reply::Refused { refusal } => ReplyLine::Refused { refusal },
+        Reply::Done
+        | Reply::Begun { .. }
+        | Reply::Awaits { .. }
+        | Reply::Receipt { .. }
+        | Reply::NotYet
+        | Reply::Stepped { .. } => ReplyLine::Done,
+    }
+}
+
+fn accepted_reply(levels: Option<usize>, number: u64) -> ReplyLine
+    ensures { result ≡ accepted_reply levels number }
+{
+    match levels {
+        Some(levels) => ReplyLine::Created { levels, number },
+        None => ReplyLine::Accepted { number },
+    }
+}
+
+fn added_reply(levels: Option<usize>) -> ReplyLine
+    ensures { result ≡ added_reply levels }
+{
+    match levels {
+        Some(levels) => ReplyLine::CreatedInside { levels },
+        None => ReplyLine::Done,
+    }
+}
+
+fn found_reply(found: Found) -> ReplyLine
+    ensures { result ≡ found_reply found }
+{
+    match found {
+        Found::Value { value } => {
+            let Value { kind, data, .. } = value;
+            ReplyLine::Value { kind, data }
+        }
+        Found::Keys { names } => ReplyLine::Keys { names },
+        Found::ValueNames { names } => ReplyLine::Values { names },
+        Found::Counts { info } => ReplyLine::Info {
+            subkeys: info.subkeys,
+            values: info.values,
+            time: info.time,
+        },
+    }
+}
+
+fn standing_reply(outcome: Outcome) -> ReplyLine
+    ensures { result ≡ standing_reply outcome }
+{
+    match outcome {
+        Outcome::Active => ReplyLine::StillActive,
+        Outcome::Committed => ReplyLine::HasCommitted,
+        Outcome::RolledBack => ReplyLine::RolledBack,
+    }
+}
