@@ -9,6 +9,7 @@ Its lines:
     > LINE          a line of the script, as it stands
     >: LINE|        the same, where `\\xHH` is a byte and `\\\\` a backslash, and the `|` ends it
     >| LINE         the script's last line, without the LF that ends a line
+    < PATH          the script is that of a file, by its path from the top of the repository
     TEXT            a line that is printed, beneath the line of the script that it answers
     status N        the status that the run ends with, and the end of the run
     ! LINE          a run of its own: this line, as a script's second, is not understood and ends the run
@@ -19,6 +20,8 @@ import re
 import subprocess
 import sys
 from dataclasses import dataclass, field
+
+TOP = os.path.dirname(os.path.dirname(os.path.abspath(__file__)))
 
 
 @dataclass
@@ -61,6 +64,12 @@ def not_understood(where, command, line):
     return Run(where, f"no line: {shown!r}", command, script, [[], [b"ok\n"], [b"line 2: not understood\n"], []], 2)
 
 
+def script_of(path):
+    """The lines of a script in a file, by its path from the top of the repository."""
+    with open(os.path.join(TOP, path), "rb") as file:
+        return file.readlines()
+
+
 def parse(name, text):
     """The runs of a file, in order."""
     command, run, runs = "play", None, []
@@ -75,6 +84,8 @@ def parse(name, text):
                 runs.append(not_understood(where, command, line_of("!", line[1:])))
             elif line and not line.startswith("#"):
                 raise ValueError(f"{where}: what is this line?")
+        elif line.startswith("< "):
+            run.script = script_of(line[2:])
         elif line.startswith(">|"):
             run.script.append(line[3:].encode())
             run.replies.append([])
@@ -104,8 +115,7 @@ def read(path):
 
 def read_all(paths):
     """The runs of some files, or of all files of `runs/` where none is named."""
-    here = os.path.dirname(os.path.dirname(os.path.abspath(__file__)))
-    folder = os.path.join(here, "runs")
+    folder = os.path.join(TOP, "runs")
     if not paths:
         names = sorted(name for name in os.listdir(folder) if name.endswith((".run", ".py")))
         paths = [os.path.join(folder, name) for name in names]
