@@ -1,9 +1,9 @@
 -- How "whatever a crash since then might have left has P" goes on over a call.
-use Rattle.std.proofs.Common.{◌≡◌, ℕ, ◌<◌, ◌≤◌, ⊎_elim, List, refl, ◌∙◌, subst, arith}
+use Rattle.std.proofs.Common.{◌≡◌, ℕ, ◌<◌, ◌≤◌, ⊎_elim, List, refl, sym, ◌∙◌, subst, arith}
 use Rattle.std.proofs.lemmas.Bool.{cases_lt}
-use Rattle.disk_model.specs.FileState.{FileState}
-use Rattle.disk_model.specs.Call.{Passes, Extends}
-use Rattle.disk_model.specs.Crash.{AlwaysLeaves, LeavesOnly, LeavesOnlyHonest}
+use Rattle.disk_model.specs.FileState.{FileState, IsSound}
+use Rattle.disk_model.specs.Call.{Passes, KeepsOthers, Extends, OneCall}
+use Rattle.disk_model.specs.Crash.{AlwaysLeaves, LeavesHonest, ShowsHonest, LeavesOnly, LeavesOnlyHonest}
 
 -- two moments at which each file has the same state
 same_state : (a b : ℕ → FileState) → ((f : ℕ) → a f ≡ b f) → a ≡ b
@@ -79,3 +79,23 @@ extends_over old mid new start before now first second = record {
 -- what every crash leaves, a crash that leaves honest first sectors leaves
 pub honest_too : (has_sector : ℕ → Type 0) (states : ℕ → ℕ → FileState) (clock since : ℕ) (P : (ℕ → List ℕ) → Type 0) → LeavesOnly states clock since P → LeavesOnlyHonest has_sector states clock since P
 honest_too has_sector states clock since P always files (k, from, upto, was) = always files (k, from, upto, was.0)
+
+-- what a read gives is left by some crash
+pub shown_left : (has_sector : ℕ → Type 0) (state : ℕ → FileState) → ((f : ℕ) → IsSound (state f)) → ShowsHonest has_sector state → LeavesHonest has_sector state (λ f. (state f).seen)
+shown_left has_sector state sound honest = (λ f. (sound f).left, honest)
+
+-- at most one call, by a part with files of its own: none, one of the disk's, and what is then known of time
+pub no_call : (own : ℕ → Type 0) (states : ℕ → ℕ → FileState) (clock : ℕ) → OneCall own states states clock clock
+no_call own states clock = record { later = omega arith; one = omega arith; past = λ k f le. refl; others = λ f out. refl }
+
+pub disk_call : (own : ℕ → Type 0) (file : ℕ) → own file → (old new : ℕ → ℕ → FileState) (before now : ℕ) → Passes old new before now → KeepsOthers file (old before) (new now)
+    → OneCall own old new before now
+disk_call own file is_own old new before now time others = record {
+  later = omega (arith, time.clock);
+  one = omega (arith, time.clock);
+  past = time.past;
+  others = λ f out. others f (λ is. out (subst own (sym is) is_own));
+}
+
+pub extends_call : (own : ℕ → Type 0) (old new : ℕ → ℕ → FileState) (before now : ℕ) → OneCall own old new before now → Extends old new before now
+extends_call own old new before now call = record { later = call.later; past = call.past }

@@ -1,5 +1,7 @@
 -- What each call of a disk does, whichever call it is.
-use Rattle.std.specs.Prelude.{◌≡◌, ◌≢◌, ℕ, ◌+◌, ◌-◌, ◌≤◌, min, List, length, take, drop, Result, MatchResult}
+use Rattle.std.specs.Prelude.{◌≡◌, ◌≢◌, ℕ, ◌+◌, ◌-◌, ◌≤◌, min, List, length, take, drop, Result, Ok, Err, MatchResult}
+use Rattle.refusals.specs.declared.refusal.Refusal.{Refusal}
+use Rattle.refusals.specs.declared.refusal.Refusal.TheVariants.{DiskFault}
 use Rattle.disk_model.specs.FileState.{FileState}
 
 -- one moment goes by, and what was before stays as it was
@@ -24,3 +26,18 @@ pub record Reads (offset : ℕ) (seen old_buffer new_buffer : List ℕ) (count :
 pub record Extends (old_states new_states : ℕ → ℕ → FileState) (old_clock new_clock : ℕ) : Type 0 where
   pub later : old_clock ≤ new_clock
   pub past : (k f : ℕ) → k ≤ old_clock → new_states k f ≡ old_states k f
+
+-- At most one device call, by a part that has files of its own: the clock goes on by one at most, each earlier moment is as
+-- it was, and each file that isn't its own is as before.
+pub record OneCall (own : ℕ → Type 0) (old_states new_states : ℕ → ℕ → FileState) (old_clock new_clock : ℕ) : Type 0 where
+  pub later : old_clock ≤ new_clock
+  pub one : new_clock ≤ old_clock + 1
+  pub past : (k f : ℕ) → k ≤ old_clock → new_states k f ≡ old_states k f
+  pub others : (f : ℕ) → ¬ (own f) → new_states new_clock f ≡ old_states old_clock f
+
+-- A step of at most one device call answers DiskFault exactly where the device failed in it: the number of failures is then
+-- one more, and at every other answer as it was.
+abbrev pub HasFailed : {T : Type 0} → Result T Refusal → ℕ → ℕ → Type 0
+HasFailed (Ok x) old new = new ≡ old
+HasFailed (Err DiskFault) old new = new ≡ old + 1
+HasFailed (Err refusal) old new = new ≡ old

@@ -11,6 +11,12 @@ LeavesAll state files = (f : ℕ) → Leaves (state f) (files f)
 abbrev pub LeavesHonest : (ℕ → Type 0) → (ℕ → FileState) → (ℕ → List ℕ) → Type 0
 LeavesHonest has_sector state files = LeavesAll state files × ((f : ℕ) → has_sector f → IsHonest (state f) (files f))
 
+-- What a read gives has an honest first sector, in each file that is to have one. A write that failed may have left any part
+-- of what it wrote there, and a life that ends in a fault goes on from it without a crash: so this is its premise, as an
+-- honest first sector of what a crash leaves is that of a crash.
+abbrev pub ShowsHonest : (ℕ → Type 0) → (ℕ → FileState) → Type 0
+ShowsHonest has_sector state = (f : ℕ) → has_sector f → IsHonest (state f) (state f).seen
+
 -- at some moment from `since` to `clock` these files might have been left so
 abbrev pub AtSome : ((ℕ → FileState) → (ℕ → List ℕ) → Type 0) → (ℕ → ℕ → FileState) → ℕ → ℕ → (ℕ → List ℕ) → Type 0
 AtSome left states clock since files = (k : ℕ) × (since ≤ k) × (k ≤ clock) × left (states k) files

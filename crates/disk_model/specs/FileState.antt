@@ -31,7 +31,8 @@ IsWritten [] p = ⊥
 IsWritten (range ∷ ranges) p = Covers range p ⊎ IsWritten ranges p
 
 -- A crash at this moment may leave these bytes: of some length that the file has had since the last sync, and as they
--- were at that sync below the least length and outside what was written. All else is anything.
+-- were at that sync below the least length and outside what was written. All else is anything: nothing here says that what
+-- is left there are bytes, so a definition that reads what a crash left has to answer at lists of any numbers.
 pub record Leaves (file : FileState) (bytes : List ℕ) : Type 0 where
   pub no_shorter : file.least ≤ length bytes
   pub no_longer : length bytes ≤ file.greatest

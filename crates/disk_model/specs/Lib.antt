@@ -8,5 +8,6 @@ pub mod Plan
 pub mod Room
 pub mod Sector
 pub mod Shown
+pub mod StoreFiles
 pub mod Tear
 pub mod Written

@@ -2,6 +2,7 @@
 #![tactic(auto)]
 
 mod disk;
+pub mod laws;
 mod mem_disk;
 mod mem_file;
 mod past;

@@ -1,10 +1,11 @@
 //! Files in memory, as a disk. It fails as a plan says, and where it finds no memory.
-ghost use Rattle.std.specs.Prelude.{◌≡◌, ℕ, ◌≤◌, [], length, All, IfOk, OnOk, OnErr, IsErr};
+ghost use Rattle.std.specs.Prelude.{◌≡◌, ℕ, ◌≤◌, [], length, IfOk, OnOk, OnErr, IsErr};
 ghost use Rattle.disk_model.specs.FileState.{Writes, MayWrite, Cuts, MayCut, Syncs, at_rest, Leaves};
 ghost use Rattle.disk_model.specs.Sector.{IsHonest};
 ghost use Rattle.disk_model.specs.Tear.{IsCrashOf, WritesWholeSectors};
 ghost use Rattle.disk_model.specs.Call.{KeepsOthers, Reads};
 ghost use Rattle.disk_model.specs.MemFile.{state_of, HasRoom};
+ghost use Rattle.std.specs.List.{AllWithin};
 
 use crate::mem_file::MemFile;
 use crate::past::Past;
@@ -41,17 +42,19 @@ impl MemDisk {
         }
     }
 
-    /// Takes memory ahead: within the next `calls` calls no call takes any, where no file gets more than `bytes` bytes longer.
-    /// A refused one may have taken some of it.
-    pub fn room(&mut self, bytes: usize, calls: usize) -> Result<(), AllocError>
-        ensures room { OnOk result (IsRoomy bytes calls self.new) }
+    /// Takes memory ahead for the files with numbers below `files`: of the next `calls` calls none on such a file takes any,
+    /// where none of these files gets more than `bytes` bytes longer. What other files would need is not taken. A refused
+    /// one may have taken some of it.
+    pub fn room(&mut self, files: u32, bytes: usize, calls: usize) -> Result<(), AllocError>
+        requires { files ≤ FILES }
+        ensures room { OnOk result (IsRoomy files bytes calls self.new) }
         ensures files { (k f : ℕ) →
             ⟦<MemDisk as Disk>⟧.state_at self.new k f ≡ ⟦<MemDisk as Disk>⟧.state_at self.old k f }
         ensures clock { ⟦<MemDisk as Disk>⟧.clock self.new ≡ ⟦<MemDisk as Disk>⟧.clock self.old }
         ensures failures { ⟦<MemDisk as Disk>⟧.failures self.new ≡ ⟦<MemDisk as Disk>⟧.failures self.old }
     {
-        make_up_to(&mut self.files, FILES as usize)?;
-        reserve(&mut self.files, bytes, calls)
+        make_up_to(&mut self.files, files as usize)?;
+        reserve(&mut self.files, files as usize, bytes, calls)
     }
 
     /// The disk after a crash now, as `tear` says. What is left counts as synced. `plan` is that of the new disk; this one stays.
@@ -102,13 +105,19 @@ fn make_up_to(files: &mut Vec<MemFile>, count: usize) -> Result<(), AllocError>
     Ok(())
 }
 
-/// Takes the memory that each of the files needs to get so many bytes longer in so many calls.
-fn reserve(files: &mut Vec<MemFile>, bytes: usize, calls: usize) -> Result<(), AllocError>
+/// Takes the memory that each of the first `count` files needs to get so many bytes longer in so many calls.
+fn reserve(
+    files: &mut Vec<MemFile>,
+    count: usize,
+    bytes: usize,
+    calls: usize,
+) -> Result<(), AllocError>
+    requires { count ≤ length files.old.items }
     ensures same { (f : ℕ) → state_of files.new.items f ≡ state_of files.old.items f }
     ensures as_many { length files.new.items ≡ length files.old.items }
-    ensures room { OnOk result (All (HasRoom bytes calls) files.new.items) }
+    ensures room { OnOk result (AllWithin (HasRoom bytes calls) files.new.items 0 count) }
 {
-    for number in 0..files.len() {
+    for number in 0..count {
         files[number].reserve(bytes, calls)?;
     }
     Ok(())

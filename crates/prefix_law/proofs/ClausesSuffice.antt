@@ -1,12 +1,12 @@
 -- The calls of the journal and of a hive's files, as steps of the protocol.
-use Rattle.std.proofs.Common.{◌≡◌, ◌-◌, ◌⊎◌, inl, inr, ℕ, ◌<◌, ◌≤◌, List, [], refl, ◌↔◌, ◌∙◌, ap, sym, subst, arith, Some}
+use Rattle.std.proofs.Common.{◌≡◌, ◌-◌, ◌⊎◌, inl, inr, ℕ, ◌<◌, ◌≤◌, List, [], refl, ◌↔◌, ◌∙◌, ap, sym, subst, arith, length-drop, Some}
 use Rattle.std.proofs.lemmas.Option.{same_Some}
 use Rattle.prefix_law.specs.Changes.{Rules, AreLegal, ops_on, replay}
-use Rattle.prefix_law.specs.Promises.{Choice, Leaves, BeginsTrim, Answer, Answer.Idle, Answer.More, Answer.Done, Answer.NoMemory, Answer.DiskFault, BeginsWrite, HiveSays}
+use Rattle.prefix_law.specs.Promises.{Choice, Leaves, MayFollow, BeginsTrim, Answer, Answer.Idle, Answer.More, Answer.Done, Answer.NoMemory, Answer.DiskFault, Answer.Faulted, BeginsWrite, HiveSays}
 use Rattle.prefix_law.specs.Recovery.{above}
-use Rattle.prefix_law.specs.Life.{Life, IsLastNaming, ops_in, tree_at}
+use Rattle.prefix_law.specs.Life.{Life, IsLastNaming, opened_number, ops_in, tree_at}
 use Rattle.prefix_law.specs.Kept.{HiveFits, EngineFits, State, IsKept}
-use Rattle.prefix_law.specs.Steps.{AllStay, MayTrim}
+use Rattle.prefix_law.specs.Steps.{pending_elements, AllStay, MayTrim}
 use Rattle.prefix_law.specs.Calls.{JournalStep, TrimStep, FlusherStep, MemoryFits}
 use Rattle.prefix_law.proofs.OnePrefix.{ops_split, ops_above}
 use Rattle.prefix_law.proofs.Replays.{replay_on, replay_front}
@@ -58,6 +58,13 @@ module _ {T Op : Type 0} (r : Rules T Op) (most hives : ℕ) where
       → MayTrim hives s ↔ ((i : ℕ) → i < hives → ops_in s.life i (s.files i).now.1 s.durable ≡ [])
   trim_test s kept = (λ may i lt. sym (lacks s kept i lt) ∙ may i lt, λ held i lt. lacks s kept i lt ∙ held i lt)
 
+  -- what is pending may be handed to the journal
+  pub may_follow : (s : State T Op) → IsKept r most hives s → MayFollow most s.durable (pending_elements s) s.journal.now
+  may_follow s kept = record {
+    ends = kept.ends;
+    room = omega (arith, length-drop (s.durable - opened_number s.life) s.life.accepted, kept.fits.from_opened, kept.fits.to_last, kept.fits.limit);
+  }
+
   same_state : (old new : State T Op) → IsKept r most hives old → new.life ≡ old.life → new.durable ≡ old.durable → new.journal ≡ old.journal
       → AllStay hives old.files new.files → IsKept r most hives new
   same_state old new kept a b c d = moved r most hives old new old.life old.durable old.journal a b c d kept
@@ -65,6 +72,7 @@ module _ {T Op : Type 0} (r : Rules T Op) (most hives : ℕ) where
   pub journal_step : (answer : Answer) (old new : State T Op) → IsKept r most hives old → JournalStep hives answer old new → IsKept r most hives new
   journal_step Idle old new kept step = same_state old new kept step.life step.durable step.journal.2 step.files
   journal_step NoMemory old new kept step = same_state old new kept step.life step.durable step.journal.1 step.files
+  journal_step Faulted old new kept step = same_state old new kept step.life step.durable step.journal step.files
   journal_step Done old new kept step = step_settle r most hives old new kept (record { life = step.life; journal = step.journal; durable = step.durable; files = step.files })
   journal_step More old new kept step = elim (step.journal) as (λ z. IsKept r most hives new) [
     | inl b ↦ step_batch r most hives old new kept (record { life = step.life; durable = step.durable; journal = b; files = step.files })
@@ -83,6 +91,7 @@ module _ {T Op : Type 0} (r : Rules T Op) (most hives : ℕ) where
   pub trim_step : (answer : Answer) (old new : State T Op) → IsKept r most hives old → TrimStep hives answer old new → IsKept r most hives new
   trim_step Idle old new kept step = absurd step.journal
   trim_step NoMemory old new kept step = absurd step.journal
+  trim_step Faulted old new kept step = same_state old new kept step.life step.durable step.journal step.files
   trim_step Done old new kept step = step_settle r most hives old new kept (record { life = step.life; journal = step.journal; durable = step.durable; files = step.files })
   trim_step More old new kept step = begun_trim More old new kept step step.durable step.journal
   trim_step DiskFault old new kept step = elim (step.journal) as (λ z. IsKept r most hives new) [
@@ -117,6 +126,7 @@ module _ {T Op : Type 0} (r : Rules T Op) (most hives : ℕ) where
       by_answer More (inr b) = stay b.1
       by_answer DiskFault (inl b) = begins b
       by_answer DiskFault (inr b) = stay b
+      by_answer Faulted b = stay b
       by_answer Done b = (
         subst (λ (c : Choice (T × ℕ)). (old.files hive).now.1 ≤ c.now.1) (sym b.2) (kept.rises hive lt b.0 (inr b.1)),
         λ x left. let e = only_leaves b.0 x (subst (λ c. Leaves c x) b.2 left) in

@@ -1,5 +1,5 @@
 -- Each step of the protocol, each opening, and so each list of them keeps the invariant.
-use Rattle.std.proofs.Common.{◌≡◌, ◌⊎◌, inl, inr, ℕ, ◌+◌, ◌-◌, ◌<◌, ◌≤◌, List, [], ◌∷◌, ◌++◌, length, take, refl, ◌∙◌, ap, sym, subst, arith, Some, IsTrue}
+use Rattle.std.proofs.Common.{◌≡◌, inl, inr, ℕ, ◌+◌, ◌-◌, ◌<◌, ◌≤◌, List, [], ◌∷◌, ◌++◌, length, take, refl, ◌∙◌, ap, sym, subst, arith, Some, IsTrue}
 use Rattle.std.proofs.lemmas.List.{length-drop, drop-take}
 use Rattle.std.proofs.lemmas.Option.{same_Some}
 use Rattle.std.specs.List.{AllByRecursion}
@@ -9,7 +9,7 @@ use Rattle.prefix_law.specs.Recovery.{Recovers}
 use Rattle.prefix_law.specs.Life.{Life, opened_number, last_number, known_elements, elements_in, tree_at, NamesHive, with_accepted, opened_life, folded_life}
 use Rattle.prefix_law.specs.Kept.{IsPrefix, HiveFits, EngineFits, State, IsKept, IsSafe, opened_state}
 use Rattle.prefix_law.specs.Steps.{pending_elements, OthersStay, AllStay, Accepts, Batches, Settles, Trims, Flushes, Lands, Folds, Step}
-use Rattle.prefix_law.specs.Lives.{Reopens, GoesOn, Runs, OpeningsGoOn, OnlyRises}
+use Rattle.prefix_law.specs.Lives.{Reopens, GoesOn}
 use Rattle.prefix_law.proofs.Lists.{all_take, all_drop}
 use Rattle.prefix_law.proofs.OnePrefix.{part_accepted, one_prefix, only_one}
 use Rattle.prefix_law.proofs.KeepFiles.{only_leaves, ends_nil, keep_files, keep_batch, keep_durable, keep_trim, keep_trimmed, flushed_fits}
@@ -154,49 +154,6 @@ module _ {T Op : Type 0} (r : Rules T Op) (most hives : ℕ) where
       → (new.durable ≡ old.durable) × ((i : ℕ) → i < hives → new.life.trees i ≡ tree_at r old.life (last_number old.life) i)
   reopens_quiet old new engine all step = let g = reopens_goes old new engine step in
       (omega (arith, g.no_loss, g.no_more, all), λ i lt. g.trees i lt ∙ ap (λ n. tree_at r old.life n i) (omega (arith, g.no_loss, g.no_more, all)))
-
-  -- a step or an opening keeps it
-  one_keeps : (s t : State T Op) → IsKept r most hives s → Step r most hives s t ⊎ Reopens r most hives s t → IsKept r most hives t
-  one_keeps s t engine (inl step) = step_keeps s t engine step
-  one_keeps s t engine (inr step) = reopens_keeps s t engine step
-
-  -- and so does any list of them
-  pub runs_keep : (s : State T Op) → IsKept r most hives s → (ts : List (State T Op)) → Runs r most hives s ts
-      → AllByRecursion (IsKept r most hives) (s ∷ ts)
-  runs_keep s engine [] run = (engine, tt)
-  runs_keep s engine (t ∷ ts) run = (engine, runs_keep t (one_keeps s t engine run.0) ts run.1)
-
-  pub runs_safe : (s : State T Op) → IsKept r most hives s → (ts : List (State T Op)) → Runs r most hives s ts
-      → AllByRecursion (IsSafe r most hives) (s ∷ ts)
-  runs_safe s engine [] run = (safe s engine, tt)
-  runs_safe s engine (t ∷ ts) run = (safe s engine, runs_safe t (one_keeps s t engine run.0) ts run.1)
-
-  pub runs_go_on : (s : State T Op) → IsKept r most hives s → (ts : List (State T Op)) → Runs r most hives s ts → OpeningsGoOn r most hives s ts
-  runs_go_on s engine [] run = tt
-  runs_go_on s engine (t ∷ ts) run = (
-    elim (run.0) as (λ z. Step r most hives s t ⊎ GoesOn r hives s t) [ inl a ↦ inl a | inr b ↦ inr (reopens_goes s t engine b) ],
-    runs_go_on t (one_keeps s t engine run.0) ts run.1,
-  )
-
-  step_rises : (old new : State T Op) → IsKept r most hives old → Step r most hives old new → old.durable ≤ new.durable
-  step_rises old new engine (inl step) = omega (arith, step.durable)
-  step_rises old new engine (inr (inl step)) = omega (arith, step.durable)
-  step_rises old new engine (inr (inr (inl step))) = let b = step.journal in omega (arith, (engine.journal_fits b.0 (inr b.1)).holds_durable, step.durable ∙ ap (λ (c : Choice (Spelled Op)). top old.durable c.now) b.2)
-  step_rises old new engine (inr (inr (inr (inl step)))) = omega (arith, step.durable)
-  step_rises old new engine (inr (inr (inr (inr (inl step))))) = omega (arith, step.durable)
-  step_rises old new engine (inr (inr (inr (inr (inr (inl step)))))) = omega (arith, step.durable)
-  step_rises old new engine (inr (inr (inr (inr (inr (inr step)))))) = omega (arith, step.durable)
-
-  all_above : (a b : ℕ) → a ≤ b → (ts : List (State T Op)) → AllByRecursion (λ t. b ≤ t.durable) ts → AllByRecursion (λ t. a ≤ t.durable) ts
-  all_above a b le [] h = tt
-  all_above a b le (t ∷ ts) h = (omega (arith, le, h.0), all_above a b le ts h.1)
-
-  pub runs_rise : (s : State T Op) → IsKept r most hives s → (ts : List (State T Op)) → Runs r most hives s ts → OnlyRises (s ∷ ts)
-  runs_rise s engine [] run = (tt, tt)
-  runs_rise s engine (t ∷ ts) run =
-      let rest = runs_rise t (one_keeps s t engine run.0) ts run.1 in
-      let le : s.durable ≤ t.durable = elim (run.0) as (λ z. s.durable ≤ t.durable) [ inl a ↦ step_rises s t engine a | inr b ↦ (reopens_goes s t engine b).no_loss ] in
-      ((le, all_above s.durable t.durable le ts rest.0), rest)
 
   pub begun : (spelled : Spelled Op) (held : ℕ → T × ℕ) (n : ℕ) (trees : ℕ → T) → Recovers r most hives spelled held n trees
       → AllByRecursion (NamesHive hives) spelled.elements → IsKept r most hives (opened_state n trees spelled held)

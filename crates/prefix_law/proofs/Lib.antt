@@ -10,3 +10,4 @@ pub mod OfFiles
 pub mod HiveByHive
 pub mod EachMoment
 pub mod WrongExamples
+pub mod RunsKeep

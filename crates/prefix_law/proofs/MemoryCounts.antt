@@ -2,7 +2,7 @@
 use Rattle.std.proofs.Common.{◌≡◌, ◌⊎◌, inl, inr, ℕ, ◌<◌, ◌≤◌, refl, ◌∙◌, ap, sym, subst, arith, Some}
 use Rattle.std.proofs.lemmas.Option.{none-some, same_Some}
 use Rattle.prefix_law.specs.Changes.{Rules}
-use Rattle.prefix_law.specs.Promises.{Choice, Leaves, Answer, Answer.Idle, Answer.More, Answer.Done, Answer.NoMemory, Answer.DiskFault, HiveSays}
+use Rattle.prefix_law.specs.Promises.{Choice, Leaves, Answer, Answer.Idle, Answer.More, Answer.Done, Answer.NoMemory, Answer.DiskFault, Answer.Faulted, HiveSays}
 use Rattle.prefix_law.specs.Life.{Life}
 use Rattle.prefix_law.specs.Kept.{HiveFits, EngineFits, State, IsKept}
 use Rattle.prefix_law.specs.Steps.{OthersStay}
@@ -27,6 +27,7 @@ stands_after memory More file written own (inl b) = inl (ap (λ (c : Choice _). 
 stands_after memory More file written own (inr b) = inl (ap (λ (c : Choice _). c.now) b.1)
 stands_after memory DiskFault file written own (inl b) = inl (ap (λ (c : Choice _). c.now) b.1)
 stands_after memory DiskFault file written own (inr b) = inl (ap (λ (c : Choice _). c.now) b)
+stands_after memory Faulted file written own says = inl (ap (λ (c : Choice _). c.now) says)
 stands_after memory Done file written (inl none) says = absurd (none-some says.0 (sym none ∙ says.1))
 stands_after memory Done file written (inr some) says = inr (ap (λ (c : Choice _). c.now) says.2 ∙ sym (same_Some memory says.0 (sym some ∙ says.1)))
 

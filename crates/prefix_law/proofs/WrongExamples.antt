@@ -285,10 +285,10 @@ empty_breaks = (
   opened_kept 2 (change 0 1 ∷ change 1 2 ∷ []) (λ i. (pair (1 ∷ []) (2 ∷ []) i, 2)) refl (omega arith) (λ i lt. omega arith) (names_first 1, (names_second 2, tt)),
   (omega arith, refl, refl, refl, λ j lt. refl),
   (
-    inl (inr (inl (record { life = refl; durable = refl; journal = (1, omega arith, omega arith, refl, refl); files = λ j lt. refl }))),
+    inl (inl (inr (inl (record { life = refl; durable = refl; journal = (1, omega arith, omega arith, refl, refl); files = λ j lt. refl })))),
     (
-      inl (inr (inr (inl (record { life = refl; journal = (three_spelled, refl, refl); durable = refl; files = λ j lt. refl })))),
-      (inl (inr (inr (inr (inl (record { spells = (change 0 1, change 1 2 ∷ [] ∷ [], refl); may = λ i lt. refl; life = refl; durable = refl; journal = (refl, refl); files = λ j lt. refl }))))), tt),
+      inl (inl (inr (inr (inl (record { life = refl; journal = (three_spelled, refl, refl); durable = refl; files = λ j lt. refl }))))),
+      (inl (inl (inr (inr (inr (inl (record { spells = (change 0 1, change 1 2 ∷ [] ∷ [], refl); may = λ i lt. refl; life = refl; durable = refl; journal = (refl, refl); files = λ j lt. refl })))))), tt),
     ),
   ),
   λ safe. broken (safe nothing (inr refl) (λ i. (pair (1 ∷ []) (2 ∷ []) i, 2)) (λ i lt. inl refl)),

@@ -1,7 +1,7 @@
 -- What an engine makes of the promises of its journal and of its hives' files: one call each.
 use Rattle.std.specs.Prelude.{◌≡◌, ℕ, ◌+◌, ◌<◌, ◌≤◌, List, ◌∷◌, None}
 use Rattle.prefix_law.specs.Changes.{Rules, Element}
-use Rattle.prefix_law.specs.Promises.{Spelled, Choice, top, Answer, Answer.Idle, Answer.More, Answer.Done, Answer.NoMemory, Answer.DiskFault, JournalSays, TrimSays, HiveSays}
+use Rattle.prefix_law.specs.Promises.{Spelled, Choice, top, Answer, Answer.Idle, Answer.More, Answer.Done, Answer.NoMemory, Answer.DiskFault, Answer.Faulted, JournalSays, TrimSays, HiveSays}
 use Rattle.prefix_law.specs.Kept.{HiveFits, State}
 use Rattle.prefix_law.specs.Steps.{pending_elements, OthersStay, AllStay, MayTrim}
 
@@ -13,6 +13,7 @@ durable_after Idle durable journal = durable
 durable_after More durable journal = durable
 durable_after NoMemory durable journal = durable
 durable_after DiskFault durable journal = durable
+durable_after Faulted durable journal = durable
 
 -- The engine hands the pending elements to a batch step of the journal.
 pub record JournalStep {T Op : Type 0} (hives : ℕ) (answer : Answer) (old new : State T Op) : Type 0 where

@@ -2,11 +2,12 @@
 use Rattle.std.specs.Prelude.{◌≡◌, ◌⊎◌, ℕ, ◌<◌, ◌≤◌, List, [], ◌∷◌}
 use Rattle.std.specs.List.{AllByRecursion}
 use Rattle.prefix_law.specs.Changes.{Rules}
-use Rattle.prefix_law.specs.Promises.{Leaves, settled, Spelled}
+use Rattle.prefix_law.specs.Promises.{Leaves, settled, Spelled, Answer}
 use Rattle.prefix_law.specs.Recovery.{Recovers}
 use Rattle.prefix_law.specs.Life.{last_number, tree_at, opened_life}
 use Rattle.prefix_law.specs.Kept.{State}
 use Rattle.prefix_law.specs.Steps.{AllStay, Step}
+use Rattle.prefix_law.specs.Memory.{Remembers, Absorbs, MemoryStep}
 
 -- A crash, and an opening of what it left: of the journal and of each hive something that it might leave, and
 -- then any number and trees that are recovered from these. Whether the crash came in a step, between two,
@@ -31,16 +32,21 @@ pub record GoesOn {T Op : Type 0} (rules : Rules T Op) (hives : ℕ) (old new : 
   pub no_more : new.durable ≤ last_number old.life
   pub trees : (i : ℕ) → i < hives → new.life.trees i ≡ tree_at rules old.life new.durable i
 
+-- A step of the protocol, a call in which memory counts as on its way, or a call that changes nothing.
+abbrev pub Moves : {T Op : Type 0} → Rules T Op → ℕ → ℕ → State T Op → State T Op → Type 0
+Moves {T = T} rules most hives s t = Step rules most hives s t ⊎ ((memory : ℕ → T × ℕ) × Remembers rules hives memory s t)
+    ⊎ Absorbs rules hives s t ⊎ ((answer : Answer) × MemoryStep hives answer s t) ⊎ (t ≡ s)
+
 -- Steps of the protocol and openings after crashes, one after another, in any order.
 abbrev pub Runs : {T Op : Type 0} → Rules T Op → ℕ → ℕ → State T Op → List (State T Op) → Type 0
 Runs rules most hives s [] = Unit {0}
-Runs rules most hives s (t ∷ ts) = (Step rules most hives s t ⊎ Reopens rules most hives s t)
+Runs rules most hives s (t ∷ ts) = (Moves rules most hives s t ⊎ Reopens rules most hives s t)
     × Runs rules most hives t ts
 
 -- In such a list, each opening goes on from the state before it.
 abbrev pub OpeningsGoOn : {T Op : Type 0} → Rules T Op → ℕ → ℕ → State T Op → List (State T Op) → Type 0
 OpeningsGoOn rules most hives s [] = Unit {0}
-OpeningsGoOn rules most hives s (t ∷ ts) = (Step rules most hives s t ⊎ GoesOn rules hives s t)
+OpeningsGoOn rules most hives s (t ∷ ts) = (Moves rules most hives s t ⊎ GoesOn rules hives s t)
     × OpeningsGoOn rules most hives t ts
 
 -- No durable number is lost: each is at most all later ones.

@@ -44,13 +44,15 @@ floor durable s = floor_of durable s.below s.elements
 abbrev pub top : {Op : Type 0} → ℕ → Spelled Op → ℕ
 top durable s = floor durable s + length s.elements
 
--- What a step answers. NoMemory and DiskFault are its two refusals.
+-- What a step answers. NoMemory, DiskFault and Faulted are its three refusals: want of memory, a device that
+-- failed in this step, and a device that had failed in an earlier one.
 pub data Answer : Type 0 where
   Idle : Answer
   More : Answer
   Done : Answer
   NoMemory : Answer
   DiskFault : Answer
+  Faulted : Answer
 
 -- What was on its way stands now, and nothing else is on its way.
 abbrev pub Ends : {X : Type 0} → Choice X → Choice X → Type 0
@@ -75,9 +77,15 @@ BeginsTrim old new = (old.next ≡ None) × (new ≡ under_way old.now nothing)
 abbrev pub BeginsWrite : {X : Type 0} → X → Choice X → Choice X → Type 0
 BeginsWrite memory old new = (old.next ≡ None) × (new ≡ under_way old.now memory)
 
+-- Elements that a batch may begin with, where nothing is on its way: what stands ends at the durable number,
+-- behind which they are numbered, and their numbers are at most `most`. What spells no element ends anywhere.
+pub record MayFollow {Op : Type 0} (most durable : ℕ) (handed : List (Element Op)) (now : Spelled Op) : Type 0 where
+  pub ends : top durable now ≡ durable
+  pub room : durable + length handed ≤ most
+
 -- What a batch step of the journal says. Idle: nothing was on its way or handed in. NoMemory: no batch was
 -- begun. More: one was begun, or goes on. Done: what was on its way stands. DiskFault: it may have been
--- begun, and else nothing has changed.
+-- begun, and else nothing has changed. Faulted: nothing has changed.
 abbrev pub JournalSays : {Op : Type 0} → ℕ → List (Element Op) → Answer → Choice (Spelled Op)
     → Choice (Spelled Op) → Type 0
 JournalSays first handed Idle old new = (old.next ≡ None) × (handed ≡ []) × (new ≡ old)
@@ -85,6 +93,7 @@ JournalSays first handed NoMemory old new = (old.next ≡ None) × (new ≡ old)
 JournalSays first handed More old new = BeginsBatch first handed old new ⊎ IsUnderway old new
 JournalSays first handed Done old new = Ends old new
 JournalSays first handed DiskFault old new = BeginsBatch first handed old new ⊎ (new ≡ old)
+JournalSays first handed Faulted old new = new ≡ old
 
 -- What a trim step of the journal says. Its first call begins a trim and its second ends it; it is never
 -- idle, since its caller judges whether to trim, and takes no memory.
@@ -92,6 +101,7 @@ abbrev pub TrimSays : {Op : Type 0} → Answer → Choice (Spelled Op) → Choic
 TrimSays More old new = BeginsTrim old new
 TrimSays Done old new = Ends old new
 TrimSays DiskFault old new = BeginsTrim old new ⊎ (new ≡ old)
+TrimSays Faulted old new = new ≡ old
 TrimSays Idle old new = ⊥
 TrimSays NoMemory old new = ⊥
 
@@ -101,6 +111,7 @@ abbrev pub HiveSays : {T : Type 0} → T × ℕ → Answer → Choice (T × ℕ)
 HiveSays memory More old new = BeginsWrite memory old new ⊎ IsUnderway old new
 HiveSays memory Done old new = Ends old new
 HiveSays memory DiskFault old new = BeginsWrite memory old new ⊎ (new ≡ old)
+HiveSays memory Faulted old new = new ≡ old
 HiveSays memory NoMemory old new = (old.next ≡ None) × (new ≡ old)
 HiveSays memory Idle old new = ⊥
 

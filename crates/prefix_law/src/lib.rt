@@ -28,11 +28,11 @@ ghost use Rattle.std.specs.Prelude.{[], ◌≡◌, ◌≤◌, ◌<◌, ◌+◌, 
 ghost use Rattle.std.specs.List.{AllByRecursion};
 ghost use Rattle.prefix_law.specs.Changes.{Rules, AreLegal, Element, on_hive, ops_on, replay, applied};
 ghost use Rattle.prefix_law.specs.AllHives.{after_elements, run_element};
-ghost use Rattle.prefix_law.specs.Promises.{Choice, Leaves, Spelled, nothing, Answer};
+ghost use Rattle.prefix_law.specs.Promises.{Choice, Leaves, Spelled, nothing, Answer, MayFollow};
 ghost use Rattle.prefix_law.specs.Recovery.{Recovers};
 ghost use Rattle.prefix_law.specs.Life.{Life, NamesHive, IsLastNaming, last_number, tree_at, ops_in};
 ghost use Rattle.prefix_law.specs.Kept.{State, IsKept, IsPrefix, IsSafe, opened_state};
-ghost use Rattle.prefix_law.specs.Steps.{MayTrim, Step};
+ghost use Rattle.prefix_law.specs.Steps.{pending_elements, MayTrim, Step};
 ghost use Rattle.prefix_law.specs.Lives.{Reopens, GoesOn, Runs, OpeningsGoOn, OnlyRises};
 ghost use Rattle.prefix_law.specs.Calls.{JournalStep, TrimStep, FlusherStep, MemoryFits};
 ghost use Rattle.prefix_law.specs.Memory.{with_memory, IsOfMemory, Remembers, Absorbs, MemoryStep};
@@ -89,7 +89,9 @@ pub fn kept<T, Op>()
         IsKept r most hives (opened_state 0 trees nothing (λ i. (trees i, 0))) }
 {}
 
-/// Over any list of steps, crashes and openings, in any order:
+/// Over any list of moves of an engine, crashes and openings, in any order. A move is a step of the protocol, a
+/// call with a hive's memory (that it begins to count as on its way, that it absorbs, or a flush step of it), or a
+/// call that changes nothing.
 ///
 /// - `keeps`: each state has the invariant;
 /// - `safe`: whatever a crash leaves in any state stands for one prefix;
@@ -114,6 +116,8 @@ pub fn lives<T, Op>()
 ///
 /// - `journal`, `trim`, `flusher`: an engine's call of a batch step, a trim step or a flush step keeps the
 ///   invariant.
+/// - `may_follow`: the pending elements may be handed to the journal: what stands of it ends at the durable number,
+///   and there is room for their numbers.
 /// - `trim_test`: a trim may begin exactly where no hive, by what surely stands of it, lacks an operation of
 ///   a durable element.
 /// - `last_naming`: a hive lacks nothing exactly where its number is not below that of the last element that
@@ -129,6 +133,8 @@ pub fn clauses_suffice<T, Op>()
     ensures flusher { (r : Rules T Op) (most hives : ℕ) (answer : Answer) (hive : ℕ)
         (memory : T × ℕ) (old new : State T Op) → IsKept r most hives old →
         FlusherStep r hives answer hive memory old new → IsKept r most hives new }
+    ensures may_follow { (r : Rules T Op) (most hives : ℕ) (s : State T Op) → IsKept r most hives s →
+        MayFollow most s.durable (pending_elements s) s.journal.now }
     ensures trim_test { (r : Rules T Op) (most hives : ℕ) (s : State T Op) → IsKept r most hives s →
         MayTrim hives s ↔ ((i : ℕ) → i < hives → ops_in s.life i (s.files i).now.1 s.durable ≡ []) }
     ensures last_naming { (life : Life T Op) (i hi m : ℕ) → IsLastNaming life i hi m →

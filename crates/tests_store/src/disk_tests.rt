@@ -287,7 +287,7 @@ fn calls_within_the_room_take_no_memory(rt: HostRuntime) -> Result<(), Fail> {
     let alloc = rt.alloc();
     let plan = plan(alloc)?;
     let mut disk = MemDisk::new(alloc, plan);
-    disk.room(1024, CALLS)?;
+    disk.room(2, 1024, CALLS)?;
     for call in calls().iter() {
         assert!(rt; make(&mut disk, call).is_ok());
     }

@@ -1,4 +1,4 @@
-use Rattle.prefix_law.proofs.KeepSteps.{runs_keep, runs_safe, runs_go_on, runs_rise}
+use Rattle.prefix_law.proofs.RunsKeep.{runs_keep, runs_safe, runs_go_on, runs_rise}
 use Rattle.prefix_law.proofs.lives.Goals as goal
 
 pub returns : goal.returns

@@ -5,7 +5,6 @@ use Rattle.disk_model.proofs.mem_disk.reserve.Given as goal
 
 abbrev pub invariant-loop-number : goal.invariant-loop-number
 invariant-loop-number l = record {
-  as_many : l.number-end ≡ length l.files.items;
   at_first : length l.files.items ≡ length l.fn.files.items;
   same : (f : ℕ) → state_of l.files.items f ≡ state_of l.fn.files.items f;
   room : AllWithin (HasRoom l.bytes l.calls) l.files.items 0 l.number;

@@ -1,0 +1,15 @@
+-- What fits by its types, and because it isn't too long.
+use Rattle.std.proofs.Common.{ℕ, ◌^◌, ◌<◌, ◌≤◌, List, [], ◌∷◌, length}
+use Rattle.std.specs.List.{AllByRecursion}
+use Rattle.reg_tree.specs.declared.op.Op.{Op}
+use Rattle.reg_tree.specs.declared.element.Element.{Element}
+use Rattle.reg_tree.specs.Operations.{hive_of}
+use Rattle.reg_tree.specs.Texts.{element_text_len}
+use Rattle.element_text.specs.Text.{OpFits, HasText, Fits}
+
+ops_fit : (hives : ℕ) (ops : List Op) → AllByRecursion HasText ops → AllByRecursion (λ op. hive_of op < hives) ops → AllByRecursion (OpFits hives) ops
+ops_fit hives [] has there = tt
+ops_fit hives (op ∷ ops) has there = (record { hive = there.0; path = has.0.path; tail = has.0.tail }, ops_fit hives ops has.1 there.1)
+
+pub may_fit : (hives : ℕ) (e : Element) → 1 ≤ length e.ops → AllByRecursion HasText e.ops → AllByRecursion (λ op. hive_of op < hives) e.ops → e.moment < 256 ^ 8 → element_text_len e < 256 ^ 4 → Fits hives e
+may_fit hives e some has there moment size = record { some = some; ops = ops_fit hives e.ops has there; moment = moment; size = size }
