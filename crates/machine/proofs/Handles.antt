@@ -9,7 +9,8 @@ use Rattle.std.specs.Cmp.{nat_cmp_is}
 use Rattle.std.proofs.lemmas.Bool.{eqb-true}
 use Rattle.machine.specs.Transactions.{Transaction, at, own_if, own, gone_with, with_op, fresh_transaction}
 use Rattle.machine.specs.Machine.{Machine, is_open, found_in}
-use Rattle.machine.specs.Steps.{Run, Ends, Closes}
+use Rattle.machine.specs.Acts.{Closes}
+use Rattle.machine.specs.Steps.{Run, Ends, ChangesPlaces}
 use Rattle.machine.specs.Kept.{IsKept, IsCounted, IsGone, handle_in, given, numbers_given}
 use Rattle.machine.specs.declared.handle.Tx.{Tx}
 use Rattle.machine.specs.declared.event.Event.{Event}
@@ -91,10 +92,10 @@ gone_for_good old new (e ∷ events) (r ∷ replies) tx g run = gone_for_good ru
 
 -- What is let go is gone, and is not found
 
-pub closed_gone : (old new : Machine) (session : ℕ) (tx : Tx) → IsKept old → Closes old session tx new → IsGone new tx
-closed_gone old new session tx kept c =
+pub closed_gone : (old new : Machine) (session : ℕ) (tx : Tx) → IsKept old → ChangesPlaces old (Closes old.places (found_in old session tx) tx.place new.places) new → IsGone new tx
+closed_gone old new session tx kept (c, next) =
     let f = found_at old session tx c.one c.found in
-    let begun : new.begun ≡ old.begun = ap (λ (m : Machine). m.begun) c.next in
+    let begun : new.begun ≡ old.begun = ap (λ (m : Machine). m.begun) next in
     let known : c.one.generation ≤ old.begun = kept.known tx.place c.one f.0 in
     record { was_begun = omega (arith, f.1, known, begun); not_there = λ one e same. absurd (let none : None ≡ Some one = sym c.put.there ∙ e in cc none) }
 

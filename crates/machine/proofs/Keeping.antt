@@ -4,6 +4,7 @@ use Rattle.std.specs.Prelude.{slice_get, Contains, ⊤}
 use Rattle.std.proofs.lemmas.Bool.Decides.{eqb_tells}
 use Rattle.std.specs.List.{AllByRecursion, list_any}
 use Rattle.refusals.specs.declared.refusal.Refusal.{Refusal}
+use Rattle.refusals.specs.declared.limits.TheConstants.{GREATEST_NUMBER, MOST_JOURNAL_BYTES}
 use Rattle.reg_tree.specs.Maps.{TreeMap}
 use Rattle.reg_tree.specs.Operations.{hive_of}
 use Rattle.reg_tree.specs.Judgement.{judged, legal, legal_if, legal_after, applied}
@@ -24,6 +25,8 @@ use Rattle.machine.specs.Kept.{IsActiveAt, IsKept, handle_in}
 use Rattle.machine.specs.declared.handle.Tx.{Tx}
 use Rattle.machine.specs.declared.event.Event.{Event}
 use Rattle.machine.specs.declared.event.Reply.{Reply}
+use Rattle.machine.proofs.AtCommit.{WeightAlone}
+use Rattle.machine.proofs.Limits.{within_after, history_after, fits_after, within_at_first}
 use Rattle.machine.proofs.Ways.{Descends, RemainsIf, Way, Fewer, Wrote, Longer, Accepted, Began, way, put_or_not, put_descends}
 
 -- the laws of trees and of claims, as they are handed in
@@ -31,7 +34,16 @@ pub record Laws : Type 0 where
   pub trees : (trees : List TreeMap) (elements : List Element) → AreTrees trees → AreTrees (after_elements trees elements)
   pub past : (trees : List TreeMap) (first ops : List Op) (m n k : ℕ) → AreTrees trees → AreApart first ops → AreCarriedOut trees ops m → AreCarriedOut (applied trees first n) ops k
   pub more : (trees : List TreeMap) (ops : List Op) (op : Op) (m k : ℕ) → AreTrees trees → AreCarriedOut trees ops m → judged_in (applied trees ops m) op ≡ Ok Legal → AreCarriedOut trees (ops ++ op ∷ []) k
+  pub light : WeightAlone
   pub holders : (held : List Held) (asker : Option ℕ) (claim : Claim) (owner : ℕ) → Contains (holders_of held asker claim) owner ↔ IsHolder held asker claim owner
+
+-- What is kept of trees and transactions
+
+record Part (machine : Machine) : Type 0 where
+  trees : AreTrees (trees_now machine)
+  known : (place : ℕ) (one : Transaction) → at machine.places place ≡ Some one → one.generation ≤ machine.begun
+  carried : (place : ℕ) (one : Transaction) → IsActiveAt machine.places place one → (moment : ℕ) → AreCarriedOut (trees_now machine) one.ops moment
+  apart : (place other : ℕ) (one two : Transaction) → place ≢ other → IsActiveAt machine.places place one → IsActiveAt machine.places other two → AreApart one.ops two.ops
 
 -- A legal operation may be carried out
 
@@ -150,7 +162,7 @@ module _ (laws : Laws) where
     apart_still : (P : ℕ → Transaction → Type 0) → RemainsIf P old.places new.places → (p q : ℕ) (one two : Transaction) → p ≢ q → IsActiveAt new.places p one → IsActiveAt new.places q two → AreApart one.ops two.ops
     apart_still P r p q one two n a b = k.apart p q one two n (r p one a).0 (r q two b).0
 
-    fewer : new.begun ≡ old.begun → trees_now new ≡ trees_now old → Descends old.places new.places → RemainsIf (λ q one. ⊤) old.places new.places → IsKept new
+    fewer : new.begun ≡ old.begun → trees_now new ≡ trees_now old → Descends old.places new.places → RemainsIf (λ q one. ⊤) old.places new.places → Part new
     fewer b t d r = record {
       trees = trees_still t;
       known = known_still old new b d k;
@@ -159,7 +171,7 @@ module _ (laws : Laws) where
     }
 
     wrote : (op : Op) (moment : ℕ) → new.begun ≡ old.begun → trees_now new ≡ applied (trees_now old) (op ∷ []) moment → Descends old.places new.places →
-        RemainsIf (λ q one. holds (claim_of op) one ≡ false) old.places new.places → IsKept new
+        RemainsIf (λ q one. holds (claim_of op) one ≡ false) old.places new.places → Part new
     wrote op moment b t d r = record {
       trees = trees_after (op ∷ []) moment t;
       known = known_still old new b d k;
@@ -171,7 +183,7 @@ module _ (laws : Laws) where
     }
 
     accepted : (place moment : ℕ) (taken : Transaction) → new.begun ≡ old.begun → trees_now new ≡ applied (trees_now old) taken.ops moment → IsActiveAt old.places place taken →
-        Descends old.places new.places → RemainsIf (λ q one. q ≢ place) old.places new.places → IsKept new
+        Descends old.places new.places → RemainsIf (λ q one. q ≢ place) old.places new.places → Part new
     accepted place moment taken b t was d r = record {
       trees = trees_after taken.ops moment t;
       known = known_still old new b d k;
@@ -183,7 +195,7 @@ module _ (laws : Laws) where
     }
 
     longer : (place moment : ℕ) (op : Op) (was : Transaction) → new.begun ≡ old.begun → trees_now new ≡ trees_now old → IsActiveAt old.places place was →
-        legal (view (trees_now old) was) op ≡ Ok Legal → is_claimed old.places place (claim_of op) ≡ false → Puts old.places new.places place (Some (with_op was op moment)) → IsKept new
+        legal (view (trees_now old) was) op ≡ Ok Legal → is_claimed old.places place (claim_of op) ≡ false → Puts old.places new.places place (Some (with_op was op moment)) → Part new
     longer place moment op was b t there l unmet p = record {
       trees = trees_still t;
       known = known_still old new b (put_descends old.places new.places place (Some (with_op was op moment)) p (λ x e. (was, there.there, ap (λ (t : Transaction). t.generation) (let same : with_op was op moment ≡ x = cc e in same)))) k;
@@ -209,7 +221,7 @@ module _ (laws : Laws) where
         by_places x y one two n (inr s) (inr r) = k.apart x y one two n s.1 r.1
 
     began : (tx : Tx) (session : ℕ) (id : List ℕ) → tx.generation ≡ old.begun + 1 → new.begun ≡ tx.generation → trees_now new ≡ trees_now old →
-        Puts old.places new.places tx.place (Some (fresh_transaction session id tx.generation)) → IsKept new
+        Puts old.places new.places tx.place (Some (fresh_transaction session id tx.generation)) → Part new
     began tx session id n b t p = record {
       trees = trees_still t;
       known = λ q one e. elim (put_or_not old.places new.places tx.place (Some (fresh_transaction session id tx.generation)) p q one e) [
@@ -230,7 +242,7 @@ module _ (laws : Laws) where
         by_places x y one two n (inr s) (inl r) = subst (λ (z : Transaction). AreApart one.ops z.ops) r.1 (apart_none one.ops)
         by_places x y one two n (inr s) (inr r) = k.apart x y one two n s.1 r.1
 
-  kept_by : (old new : Machine) (handle : Option Tx) → IsKept old → Way old new handle → IsKept new
+  kept_by : (old new : Machine) (handle : Option Tx) → IsKept old → Way old new handle → Part new
   kept_by old new _ k (Fewer b t d r) = fewer old new k b t d r
   kept_by old new _ k (Wrote op moment b t d r) = wrote old new k op moment b t d r
   kept_by old new _ k (Longer place moment op one b t a l c p) = longer old new k place moment op one b t a l c p
@@ -238,7 +250,16 @@ module _ (laws : Laws) where
   kept_by old new _ k (Began tx session id n b t p) = began old new k tx session id n b t p
 
   pub kept_after : (old new : Machine) (e : Event) (r : Reply) → IsKept old → Step old e r new → IsKept new
-  kept_after old new e r k s = kept_by old new (handle_in r) k (way old new e r s)
+  kept_after old new e r k s =
+      let part = kept_by old new (handle_in r) k (way old new e r s) in
+      record {
+        trees = part.trees;
+        known = part.known;
+        carried = part.carried;
+        apart = part.apart;
+        within = within_after laws.light old new e r k s;
+        history = history_after laws.light old new e r k s;
+      }
 
   pub kept_along : (old new : Machine) (events : List Event) (replies : List Reply) → IsKept old → Run old events replies new → IsKept new
   kept_along old new [] [] k run = subst IsKept (sym run) k
@@ -251,10 +272,21 @@ nobody : (place : ℕ) (one : Transaction) → at [] place ≡ Some one → ⊥
 nobody zero one e = cc
 nobody (suc place) one e = cc
 
-pub kept_at_first : (trees : List TreeMap) (number room failures : ℕ) → AreTrees trees → IsKept (opened_machine trees number room failures)
-kept_at_first trees number room failures are = record {
+pub kept_at_first : (trees : List TreeMap) (number : ℕ) (journaled : List Element) (failures : ℕ) → AreTrees trees → number ≤ GREATEST_NUMBER → IsKept (opened_machine trees number journaled failures)
+kept_at_first trees number journaled failures are few = record {
   trees = are;
   known = λ place one e. absurd (nobody place one e);
   carried = λ place one a m. absurd (nobody place one a.there);
   apart = λ place other one two n a b. absurd (nobody place one a.there);
+  within = within_at_first trees number journaled failures few;
+  history = tt;
 }
+
+-- the room of the journal along a run
+module _ (laws : Laws) where
+  pub fits_along : (old new : Machine) (events : List Event) (replies : List Reply) → IsKept old → Run old events replies new → old.room ≤ MOST_JOURNAL_BYTES → new.room ≤ MOST_JOURNAL_BYTES
+  fits_along old new [] [] k run fits = subst (λ (m : Machine). m.room ≤ MOST_JOURNAL_BYTES) (sym run) fits
+  fits_along old new [] (r ∷ replies) k run fits = absurd run
+  fits_along old new (e ∷ events) [] k run fits = absurd run
+  fits_along old new (e ∷ events) (r ∷ replies) k run fits =
+      fits_along run.0 new events replies (kept_after laws old run.0 e r k run.1) run.2 (fits_after laws.light old run.0 e r k run.1 fits)

@@ -1,4 +1,7 @@
+pub mod Replies
 pub mod Ways
 pub mod Handles
-pub mod Keeping
 pub mod AtCommit
+pub mod Limits
+pub mod Failing
+pub mod Keeping

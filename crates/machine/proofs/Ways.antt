@@ -15,9 +15,10 @@ use Rattle.reg_tree.specs.declared.op.Legality.TheVariants.{Legal}
 use Rattle.conflicts.specs.Claims.{claim_of}
 use Rattle.machine.specs.Transactions.{Transaction, Places, Puts, Becomes, at, own_if, view, is_active, holds, is_claimed, fresh_transaction, ended, with_op, rolled_back_by, gone_with, inactive_refusal}
 use Rattle.machine.specs.Machine.{Machine, trees_now, is_open, found_in, change, first_of, refused_if, refusal_by, too_long, added_refusal, commit_refusal, commit_refusal_if, fault, room_of}
-use Rattle.machine.specs.Steps.{Accepts, Begins, Adds, Finishes, Commits, Closes, Ends, Step, StepFails, after_commit, with_session}
+use Rattle.machine.specs.Acts.{Adds, Finishes, Closes}
+use Rattle.machine.specs.Steps.{Accepts, Begins, Commits, Ends, Step, StepFails, after_commit, with_session}
 use Rattle.machine.specs.Kept.{IsActiveAt, handle_in}
-use Rattle.machine.specs.Shapes.{DoneOr, ReadOr, AcceptedOr, AddedOr, BegunOr, AwaitsOr, StandsOr, ReceiptOr, SteppedOr}
+use Rattle.machine.proofs.Replies.{done_or, read_or, accepted_or, added_or, begun_or, awaits_or, stands_or, receipt_or, stepped_or}
 use Rattle.machine.specs.declared.handle.Tx.{Tx}
 use Rattle.machine.specs.declared.handle.Outcome.{Outcome}
 use Rattle.machine.specs.declared.handle.Outcome.TheVariants.{Committed, RolledBack}
@@ -36,11 +37,11 @@ never e = cc
 same_or_not : (a b : ℕ) → (a ≡ b) ⊎ (a ≢ b)
 same_or_not a b = elim (eqb_tells a b) [ inl t ↦ inl t.1 | inr f ↦ inr f.1 ]
 
-none_first : (a b : Option Refusal) → first_of a b ≡ None → (a ≡ None) × (b ≡ None)
+pub none_first : (a b : Option Refusal) → first_of a b ≡ None → (a ≡ None) × (b ≡ None)
 none_first None b e = (refl, e)
 none_first (Some r) b e = absurd cc
 
-not_refused : (t : Bool) (r : Refusal) → refused_if t r ≡ None → t ≡ false
+pub not_refused : (t : Bool) (r : Refusal) → refused_if t r ≡ None → t ≡ false
 not_refused true r e = absurd cc
 not_refused false r e = refl
 
@@ -48,7 +49,7 @@ active_if : (t : Bool) → cond t None (Some NotActive) ≡ None → t ≡ true
 active_if true e = refl
 active_if false e = absurd cc
 
-active_of : (one : Transaction) → inactive_refusal (Some one) ≡ None → is_active one ≡ true
+pub active_of : (one : Transaction) → inactive_refusal (Some one) ≡ None → is_active one ≡ true
 active_of one e = active_if (is_active one) e
 
 both : (a b : Bool) (one two : Transaction) → cond (a && b) (Some two) None ≡ Some one → (two ≡ one) × (a ≡ true) × (b ≡ true)
@@ -174,25 +175,25 @@ accepts old new session moment op levels number a = Wrote op moment (ap (λ (m :
     (λ q x one m active. let k : (x ≡ one) × (holds (claim_of op) x ≡ false) = not_rolled (holds (claim_of op) x) x one m active in (k.0, ap (holds (claim_of op)) (sym k.0) ∙ k.1)))
 
 begins : (old new : Machine) (session : ℕ) (id : List ℕ) (tx : Tx) → Begins old session id tx new → Way old new (Some tx)
-begins old new session id tx b = Began tx session id b.numbered (ap (λ (m : Machine). m.begun) b.next ∙ sym b.numbered) (ap trees_now b.next) b.put
+begins old new session id tx b = Began tx session id b.starts.numbered (ap (λ (m : Machine). m.begun) b.next ∙ sym b.starts.numbered) (ap trees_now b.next) b.starts.put
 
-adds : (old new : Machine) (session : ℕ) (tx : Tx) (moment : ℕ) (op : Op) (levels : Option ℕ) → Adds old session tx moment op levels new → Way old new None
-adds old new session tx moment op levels a =
+adds : (old new : Machine) (session : ℕ) (tx : Tx) (moment : ℕ) (op : Op) (levels : Option ℕ) → Adds (trees_now old) old.places (found_in old session tx) tx.place moment op levels new.places → new ≡ record old { places = new.places } → Way old new None
+adds old new session tx moment op levels a next =
     let f = none_first (inactive_refusal (Some a.one)) (added_refusal (trees_now old) old.places tx.place op a.one) a.free in
     let further : Option Refusal = first_of (refused_if (too_long a.one op) TooLarge) (refused_if (is_claimed old.places tx.place (claim_of op)) Conflict) in
     let g : further ≡ None = ap (λ j. refusal_by j further) (sym a.is_legal) ∙ f.1 in
     let h = none_first (refused_if (too_long a.one op) TooLarge) (refused_if (is_claimed old.places tx.place (claim_of op)) Conflict) g in
-    Longer tx.place moment op a.one (ap (λ (m : Machine). m.begun) a.next) (ap trees_now a.next)
+    Longer tx.place moment op a.one (ap (λ (m : Machine). m.begun) next) (ap trees_now next)
     (record { there = (found_at old session tx a.one a.found).0; active = active_of a.one f.0 }) a.is_legal
     (not_refused (is_claimed old.places tx.place (claim_of op)) Conflict h.1) a.put
 
-finishes : (old new : Machine) (session : ℕ) (tx : Tx) → Finishes old session tx RolledBack new → Way old new None
-finishes old new session tx f = Fewer (ap (λ (m : Machine). m.begun) f.next) (ap trees_now f.next)
+finishes : (old new : Machine) (session : ℕ) (tx : Tx) → Finishes old.places (found_in old session tx) tx.place RolledBack new.places → new ≡ record old { places = new.places } → Way old new None
+finishes old new session tx f next = Fewer (ap (λ (m : Machine). m.begun) next) (ap trees_now next)
     (ended_descends old.places new.places tx.place RolledBack f.one (found_at old session tx f.one f.found).0 f.put)
     (λ q one a. ((ended_remains old.places new.places tx.place RolledBack f.one refl f.put q one a).0, tt))
 
-closes : (old new : Machine) (session : ℕ) (tx : Tx) → Closes old session tx new → Way old new None
-closes old new session tx c = Fewer (ap (λ (m : Machine). m.begun) c.next) (ap trees_now c.next)
+closes : (old new : Machine) (session : ℕ) (tx : Tx) → Closes old.places (found_in old session tx) tx.place new.places → new ≡ record old { places = new.places } → Way old new None
+closes old new session tx c next = Fewer (ap (λ (m : Machine). m.begun) next) (ap trees_now next)
     (put_descends old.places new.places tx.place None c.put (λ one e. absurd cc))
     (λ q one a. ((put_remains old.places new.places tx.place None c.put (λ one e. absurd cc) q one a).0, tt))
 
@@ -236,57 +237,6 @@ session_opened old new session e = by_case (is_open old session) e
     by_case true e = same old new e
     by_case false e = still old new (ap (λ (m : Machine). m.begun) e) (ap trees_now e) (ap (λ (m : Machine). m.places) e)
 
--- Answers by their shapes
-
-module _ (X : Reply → Type 0) where
-  done_or : (D : Type 0) (R : Refusal → Type 0) (r : Reply) → DoneOr D R r → (D → X reply.Done) → ((e : Refusal) → R e → X (reply.Refused e)) → X r
-  done_or D R reply.Done s f g = f s
-  done_or D R (reply.Refused e) s f g = g e s
-  done_or D R _ s f g = absurd s
-
-  read_or : (D : Found → Type 0) (R : Refusal → Type 0) (r : Reply) → ReadOr D R r → ((v : Found) → D v → X (reply.Read v)) → ((e : Refusal) → R e → X (reply.Refused e)) → X r
-  read_or D R (reply.Read v) s f g = f v s
-  read_or D R (reply.Refused e) s f g = g e s
-  read_or D R _ s f g = absurd s
-
-  accepted_or : (D : Option ℕ → ℕ → Type 0) (O : Type 0) (R : Refusal → Type 0) (r : Reply) → AcceptedOr D O R r → ((l : Option ℕ) (n : ℕ) → D l n → X (reply.Accepted l n)) → (O → X reply.Opened) → ((e : Refusal) → R e → X (reply.Refused e)) → X r
-  accepted_or D O R (reply.Accepted l n) s f h g = f l n s
-  accepted_or D O R reply.Opened s f h g = h s
-  accepted_or D O R (reply.Refused e) s f h g = g e s
-  accepted_or D O R _ s f h g = absurd s
-
-  added_or : (D : Option ℕ → Type 0) (O : Type 0) (R : Refusal → Type 0) (r : Reply) → AddedOr D O R r → ((l : Option ℕ) → D l → X (reply.Added l)) → (O → X reply.Opened) → ((e : Refusal) → R e → X (reply.Refused e)) → X r
-  added_or D O R (reply.Added l) s f h g = f l s
-  added_or D O R reply.Opened s f h g = h s
-  added_or D O R (reply.Refused e) s f h g = g e s
-  added_or D O R _ s f h g = absurd s
-
-  begun_or : (D : Tx → Type 0) (R : Refusal → Type 0) (r : Reply) → BegunOr D R r → ((t : Tx) → D t → X (reply.Begun t)) → ((e : Refusal) → R e → X (reply.Refused e)) → X r
-  begun_or D R (reply.Begun t) s f g = f t s
-  begun_or D R (reply.Refused e) s f g = g e s
-  begun_or D R _ s f g = absurd s
-
-  awaits_or : (D : ℕ → Type 0) (R : Refusal → Type 0) (r : Reply) → AwaitsOr D R r → ((n : ℕ) → D n → X (reply.Awaits n)) → ((e : Refusal) → R e → X (reply.Refused e)) → X r
-  awaits_or D R (reply.Awaits n) s f g = f n s
-  awaits_or D R (reply.Refused e) s f g = g e s
-  awaits_or D R _ s f g = absurd s
-
-  stands_or : (D : Outcome → Type 0) (R : Refusal → Type 0) (r : Reply) → StandsOr D R r → ((o : Outcome) → D o → X (reply.Stands o)) → ((e : Refusal) → R e → X (reply.Refused e)) → X r
-  stands_or D R (reply.Stands o) s f g = f o s
-  stands_or D R (reply.Refused e) s f g = g e s
-  stands_or D R _ s f g = absurd s
-
-  receipt_or : (D : ℕ → Type 0) (W : Type 0) (R : Refusal → Type 0) (r : Reply) → ReceiptOr D W R r → ((n : ℕ) → D n → X (reply.Receipt n)) → (W → X reply.NotYet) → ((e : Refusal) → R e → X (reply.Refused e)) → X r
-  receipt_or D W R (reply.Receipt n) s f h g = f n s
-  receipt_or D W R reply.NotYet s f h g = h s
-  receipt_or D W R (reply.Refused e) s f h g = g e s
-  receipt_or D W R _ s f h g = absurd s
-
-  stepped_or : (D : Type 0) (R : Refusal → Type 0) (r : Reply) → SteppedOr D R r → ((p : Progress) → D → X (reply.Stepped p)) → ((e : Refusal) → R e → X (reply.Refused e)) → X r
-  stepped_or D R (reply.Stepped p) s f g = f p s
-  stepped_or D R (reply.Refused e) s f g = g e s
-  stepped_or D R _ s f g = absurd s
-
 -- Each step is one of the ways
 
 pub way : (old new : Machine) (e : Event) (r : Reply) → Step old e r new → Way old new (handle_in r)
@@ -296,10 +246,10 @@ way old new (event.Read session hive path question) r s = read_or (λ r. Way old
 way old new (event.Write session moment op) r s = accepted_or (λ r. Way old new (handle_in r)) _ _ _ r s (λ l n d. accepts old new session moment op l n d) (λ d. same old new d.next) (λ e f. same old new f.1)
 way old new (event.Begin session id) r s = begun_or (λ r. Way old new (handle_in r)) _ _ r s (λ tx d. begins old new session id tx d) (λ e f. same old new f.1)
 way old new (event.TxRead session tx hive path question) r s = read_or (λ r. Way old new (handle_in r)) _ _ r s (λ v d. same old new d.next) (λ e f. same old new f.1)
-way old new (event.TxWrite session tx moment op) r s = added_or (λ r. Way old new (handle_in r)) _ _ _ r s (λ l d. adds old new session tx moment op l d.1) (λ d. same old new d.1.next) (λ e f. same old new f.1)
+way old new (event.TxWrite session tx moment op) r s = added_or (λ r. Way old new (handle_in r)) _ _ _ r s (λ l d. adds old new session tx moment op l d.1.0 d.1.1) (λ d. same old new d.2) (λ e f. same old new f.1)
 way old new (event.CommitAccept session tx moment) r s = awaits_or (λ r. Way old new (handle_in r)) _ _ r s (λ n d. commits old new session tx moment n d) (λ e f. same old new f.1)
-way old new (event.Rollback session tx) r s = done_or (λ r. Way old new (handle_in r)) _ _ r s (λ d. finishes old new session tx d) (λ e f. same old new f.1)
-way old new (event.Close session tx) r s = done_or (λ r. Way old new (handle_in r)) _ _ r s (λ d. closes old new session tx d) (λ e f. same old new f.1)
+way old new (event.Rollback session tx) r s = done_or (λ r. Way old new (handle_in r)) _ _ r s (λ d. finishes old new session tx d.0 d.1) (λ e f. same old new f.1)
+way old new (event.Close session tx) r s = done_or (λ r. Way old new (handle_in r)) _ _ r s (λ d. closes old new session tx d.0 d.1) (λ e f. same old new f.1)
 way old new (event.Outcome session tx) r s = stands_or (λ r. Way old new (handle_in r)) _ _ r s (λ o d. same old new d.next) (λ e f. same old new f.1)
 way old new event.FlushAsk r s = awaits_or (λ r. Way old new (handle_in r)) _ _ r s (λ n d. same old new d.2) (λ e f. same old new f.1)
 way old new (event.Acked number) r s = receipt_or (λ r. Way old new (handle_in r)) _ _ _ r s (λ n d. same old new d.2) (λ d. same old new d.2) (λ e f. same old new f.1.1)

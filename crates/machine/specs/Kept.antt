@@ -1,14 +1,16 @@
 -- What every state of the machine keeps: what is known of transactions that are held, and of handles.
-use Rattle.std.specs.Prelude.{◌≡◌, ◌≢◌, ◌⊎◌, ℕ, ◌+◌, ◌≤◌, true, List, [], ◌∷◌, map, filter_map, Option, Some, None, Ok, Err, ⊤}
+use Rattle.std.specs.Prelude.{◌≡◌, ◌≢◌, ◌⊎◌, ℕ, ◌+◌, ◌<◌, ◌≤◌, true, length, List, [], ◌∷◌, map, filter_map, Option, Some, None, Ok, Err, ⊤}
 use Rattle.refusals.specs.declared.refusal.Refusal.TheVariants.{TooLarge}
+use Rattle.refusals.specs.declared.limits.TheConstants.{GREATEST_NUMBER, MOST_HISTORY, MOST_SESSIONS, MOST_TRANSACTIONS}
 use Rattle.reg_tree.specs.Maps.{TreeMap}
-use Rattle.reg_tree.specs.Judgement.{legal, applied_one}
+use Rattle.reg_tree.specs.Judgement.{legal, applied, applied_one}
 use Rattle.reg_tree.specs.Sequences.{AreTrees}
+use Rattle.reg_tree.specs.declared.element.Element.{Element}
 use Rattle.reg_tree.specs.declared.op.Op.{Op}
 use Rattle.reg_tree.specs.declared.op.Legality.TheVariants.{Legal}
 use Rattle.conflicts.specs.Skeletons.{AreCarriedOut, AreApart}
-use Rattle.machine.specs.Transactions.{Transaction, Places, at, is_active}
-use Rattle.machine.specs.Machine.{Machine, trees_now}
+use Rattle.machine.specs.Transactions.{Transaction, Places, at, is_active, count_held}
+use Rattle.machine.specs.Machine.{Machine, trees_now, last_number, pending, room_with}
 use Rattle.machine.specs.declared.handle.Tx.{Tx}
 use Rattle.machine.specs.declared.event.Reply.{Reply}
 use Rattle.machine.specs.declared.event.Reply.TheVariants as reply
@@ -18,14 +20,41 @@ pub record IsActiveAt (places : Places) (place : ℕ) (one : Transaction) : Type
   pub there : at places place ≡ Some one
   pub active : is_active one ≡ true
 
+-- the numbers, seats and room of a state: what was there at the opening is durable, and nothing is that was not accepted;
+-- numbers and changes, sessions and transactions are within their limits; and the journal's room is at least what an
+-- empty journal takes with the changes that are not durable yet
+pub record IsWithin (machine : Machine) : Type 0 where
+  pub opened : machine.before ≤ machine.durable
+  pub known : machine.durable ≤ last_number machine
+  pub numbers : last_number machine ≤ GREATEST_NUMBER
+  pub changes : length machine.accepted ≤ MOST_HISTORY
+  pub sessions : length machine.sessions ≤ MOST_SESSIONS
+  pub held : count_held machine.places ≤ MOST_TRANSACTIONS
+  pub room : room_with (pending machine) ≤ machine.room
+
+-- each operation, on the trees after those before it, is legal and changes something
+abbrev pub AreLegalChanges : List TreeMap → List Op → ℕ → Type 0
+AreLegalChanges trees [] moment = ⊤
+AreLegalChanges trees (op ∷ ops) moment = (legal trees op ≡ Ok Legal) × AreLegalChanges (applied_one trees op moment) ops moment
+
+-- each accepted change has an operation, and on the trees after those before it all of its operations are legal and
+-- change something
+abbrev pub AreLegalHistory : List TreeMap → List Element → Type 0
+AreLegalHistory trees [] = ⊤
+AreLegalHistory trees (element ∷ elements) =
+    (0 < length element.ops) × AreLegalChanges trees element.ops element.moment
+    × AreLegalHistory (applied trees element.ops element.moment) elements
+
 -- What every state keeps: the trees of now are trees; no transaction's number is above how many were begun; the
--- operations of an active transaction may be carried out in turn on the trees of now, at whatever moment; and no claims
--- of two active transactions conflict.
+-- operations of an active transaction may be carried out in turn on the trees of now, at whatever moment; no claims of
+-- two active transactions conflict; numbers, seats and room are within their limits; and each accepted change was legal.
 pub record IsKept (machine : Machine) : Type 0 where
   pub trees : AreTrees (trees_now machine)
   pub known : (place : ℕ) (one : Transaction) → at machine.places place ≡ Some one → one.generation ≤ machine.begun
   pub carried : (place : ℕ) (one : Transaction) → IsActiveAt machine.places place one → (moment : ℕ) → AreCarriedOut (trees_now machine) one.ops moment
   pub apart : (place other : ℕ) (one two : Transaction) → place ≢ other → IsActiveAt machine.places place one → IsActiveAt machine.places other two → AreApart one.ops two.ops
+  pub within : IsWithin machine
+  pub history : AreLegalHistory machine.opened machine.accepted
 
 -- each operation, on the trees after those before it, is legal, or refused for weight alone
 abbrev pub AreLegalButForWeight : List TreeMap → List Op → ℕ → Type 0
@@ -33,25 +62,10 @@ AreLegalButForWeight trees [] moment = ⊤
 AreLegalButForWeight trees (op ∷ ops) moment =
     ((legal trees op ≡ Ok Legal) ⊎ (legal trees op ≡ Err TooLarge)) × AreLegalButForWeight (applied_one trees op moment) ops moment
 
--- each operation, on the trees after those before it, is legal and changes something
-abbrev pub AreLegalChanges : List TreeMap → List Op → ℕ → Type 0
-AreLegalChanges trees [] moment = ⊤
-AreLegalChanges trees (op ∷ ops) moment = (legal trees op ≡ Ok Legal) × AreLegalChanges (applied_one trees op moment) ops moment
-
 -- the handle that an answer gives
 abbrev pub handle_in : Reply → Option Tx
 handle_in (reply.Begun tx) = Some tx
-handle_in reply.Done = None
-handle_in (reply.Accepted levels number) = None
-handle_in (reply.Added levels) = None
-handle_in reply.Opened = None
-handle_in (reply.Read found) = None
-handle_in (reply.Awaits number) = None
-handle_in (reply.Stands outcome) = None
-handle_in (reply.Receipt number) = None
-handle_in reply.NotYet = None
-handle_in (reply.Stepped progress) = None
-handle_in (reply.Refused refusal) = None
+handle_in _ = None
 
 -- the handles that answers give, in order, and their numbers
 abbrev pub given : List Reply → List Tx

@@ -2,6 +2,7 @@ pub mod Ends
 pub mod Transactions
 pub mod Machine
 pub mod Shapes
+pub mod Acts
 pub mod Steps
 pub mod Kept
 pub mod Codes

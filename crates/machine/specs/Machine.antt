@@ -43,11 +43,6 @@ pub record Machine : Type 0 where
   pub failures : ℕ
   pub faulted : Bool
 
--- a store as it was opened: no change was accepted, and nobody is there
-abbrev pub opened_machine : List TreeMap → ℕ → ℕ → ℕ → Machine
-opened_machine trees number room failures =
-    record { opened = trees; before = number; accepted = []; sessions = []; places = []; begun = 0; durable = number; room = room; failures = failures; faulted = false }
-
 -- the journal's header and first gate take 65 bytes, and each change 17 and its length
 abbrev pub room_of : Element → ℕ
 room_of element = 17 + element_text_len element
@@ -55,9 +50,26 @@ room_of element = 17 + element_text_len element
 abbrev pub room_with : List Element → ℕ
 room_with elements = 65 + sum_by room_of elements
 
+-- a store as it was opened on trees after the change of a number, its journal spelling changes: no change was accepted
+-- since, and nobody is there
+abbrev pub opened_machine : List TreeMap → ℕ → List Element → ℕ → Machine
+opened_machine trees number journaled failures =
+    record {
+      opened = trees;
+      before = number;
+      accepted = [];
+      sessions = [];
+      places = [];
+      begun = 0;
+      durable = number;
+      room = room_with journaled;
+      failures = failures;
+      faulted = false;
+    }
+
 -- a store of new hives, whose journal is empty
 abbrev pub fresh_machine : ℕ → Machine
-fresh_machine hives = opened_machine (replicate hives fresh_tree) 0 (room_with []) 0
+fresh_machine hives = opened_machine (replicate hives fresh_tree) 0 [] 0
 
 -- the trees after all accepted changes
 abbrev pub trees_now : Machine → List TreeMap
@@ -130,23 +142,25 @@ refusal_by (Err refusal) further = Some refusal
 refusal_by (Ok Opened) further = None
 refusal_by (Ok Legal) further = further
 
--- why a change has no room: 1,048,576 changes were accepted in this opening, or the last number is the greatest; or
+-- why a change of so many bytes has no room: 1,048,576 changes were accepted in this opening, or the last number is the greatest; or
 -- the journal has not room enough
-abbrev pub room_refusal : Machine → Element → Option Refusal
-room_refusal machine element =
+abbrev pub room_refusal : Machine → ℕ → Option Refusal
+room_refusal machine long =
     first_of (refused_if (nat_le MOST_HISTORY (length machine.accepted) || nat_le GREATEST_NUMBER (last_number machine)) HistoryFull)
-    (refused_if (nat_lt MOST_JOURNAL_BYTES (machine.room + room_of element)) JournalFull)
+    (refused_if (nat_lt MOST_JOURNAL_BYTES (machine.room + (17 + long))) JournalFull)
 
 -- why an operation is not accepted by itself
 abbrev pub write_refusal : Machine → ℕ → ℕ → Op → Option Refusal
 write_refusal machine session moment op =
-    first_of (fault machine) (first_of (closed_refusal machine session) (refusal_by (legal (trees_now machine) op) (room_refusal machine (change moment op))))
+    first_of (fault machine) (first_of (closed_refusal machine session) (refusal_by (legal (trees_now machine) op) (room_refusal machine (element_text_len (change moment op)))))
 
 -- 1,024 transactions are held, or 18,446,744,073,709,551,615 were begun
+abbrev pub seat_refusal : Places → ℕ → Option Refusal
+seat_refusal places begun = refused_if (nat_le MOST_TRANSACTIONS (count_held places) || nat_le (2 ^ 64 - 1) begun) NoSeat
+
 abbrev pub begin_refusal : Machine → ℕ → Option Refusal
 begin_refusal machine session =
-    first_of (fault machine) (first_of (closed_refusal machine session)
-    (refused_if (nat_le MOST_TRANSACTIONS (count_held machine.places) || nat_le (2 ^ 64 - 1) machine.begun) NoSeat))
+    first_of (fault machine) (first_of (closed_refusal machine session) (seat_refusal machine.places machine.begun))
 
 -- a transaction that isn't there, or has ended, is not read
 abbrev pub seen : List TreeMap → ℕ → List (List ℕ) → Question → Option Transaction → Option Found
@@ -171,7 +185,7 @@ added_refusal_if now places place op (Some one) = first_of (inactive_refusal (So
 abbrev pub commit_refusal : Machine → ℕ → Transaction → Option Refusal
 commit_refusal machine moment one =
     if length one.ops == 0 then None
-    else first_of (refused_if (any_outweighs (trees_now machine) one.ops moment) TooLarge) (room_refusal machine (record { moment = moment; ops = one.ops }))
+    else first_of (refused_if (any_outweighs (trees_now machine) one.ops moment) TooLarge) (room_refusal machine (element_text_len (record { moment = moment; ops = one.ops })))
 
 abbrev pub commit_refusal_if : Machine → ℕ → Option Transaction → Option Refusal
 commit_refusal_if machine moment None = Some NoSuchHandle

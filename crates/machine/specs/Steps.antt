@@ -1,5 +1,5 @@
 -- The steps of the machine: what it may answer to each event, and what it is then.
-use Rattle.std.specs.Prelude.{◌≡◌, ℕ, ◌+◌, ◌<◌, ◌≤◌, not, ◌==◌, true, if◌then◌else◌, List, [], ◌∷◌, ◌++◌, length, filter, slice_get, Option, Some, None, Ok, ◌⊎◌, is_some}
+use Rattle.std.specs.Prelude.{◌≡◌, ℕ, ◌+◌, ◌<◌, ◌≤◌, not, ◌==◌, Bool, true, false, if◌then◌else◌, List, [], ◌∷◌, ◌++◌, length, filter, slice_get, Option, Some, None, Ok, ◌⊎◌, is_some}
 use Rattle.refusals.specs.declared.refusal.Refusal.{Refusal}
 use Rattle.refusals.specs.declared.refusal.Refusal.TheVariants.{NoMemory, NotFound, DiskFault}
 use Rattle.reg_tree.specs.Maps.{TreeMap}
@@ -9,11 +9,14 @@ use Rattle.reg_tree.specs.declared.op.Legality.TheVariants.{Legal, Opened}
 use Rattle.conflicts.specs.Claims.{claim_of}
 use Rattle.machine.specs.Transactions.{Transaction, Puts, Becomes, at, view, fresh_transaction, ended, with_op, rolled_back_by, gone_with, missing_refusal, inactive_refusal}
 use Rattle.machine.specs.Machine.{Machine, trees_now, last_number, pending, room_with, room_of, is_open, found_in, change, first_of, fault, closed_refusal, start_refusal, looked_up, read_refusal, levels_made, write_refusal, begin_refusal, seen, added_refusal_if, commit_refusal_if}
+use Rattle.machine.specs.Acts.{Starts, Adds, Opens, Finishes, Closes}
 use Rattle.machine.specs.Shapes.{DoneOr, ReadOr, AcceptedOr, AddedOr, BegunOr, AwaitsOr, StandsOr, ReceiptOr, SteppedOr}
 use Rattle.machine.specs.declared.handle.Tx.{Tx}
 use Rattle.machine.specs.declared.handle.Outcome.{Outcome}
 use Rattle.machine.specs.declared.handle.Outcome.TheVariants.{Committed, RolledBack}
 use Rattle.machine.specs.declared.event.Found.{Found}
+use Rattle.machine.specs.declared.event.Progress.{Progress}
+use Rattle.machine.specs.declared.event.Progress.TheVariants.{Idle, Done}
 use Rattle.machine.specs.declared.event.Event.{Event}
 use Rattle.machine.specs.declared.event.Event.TheVariants as event
 use Rattle.machine.specs.declared.event.Reply.{Reply}
@@ -52,44 +55,20 @@ pub record Accepts (old : Machine) (session moment : ℕ) (op : Op) (levels : Op
   pub rolled_back : Becomes (rolled_back_by (claim_of op)) old.places new.places
 
 -- a key that is there is opened, and nothing changes
-pub record Opens (old : Machine) (refusal : Option Refusal) (trees : List TreeMap) (op : Op) (new : Machine) : Type 0 where
+pub record OpensAlone (old : Machine) (refusal : Option Refusal) (trees : List TreeMap) (op : Op) (new : Machine) : Type 0 where
   pub free : refusal ≡ None
   pub is_there : legal trees op ≡ Ok Opened
   pub next : new ≡ old
 
--- a transaction is begun at a place that is free; its number is one that none had before
+-- a transaction is begun
 pub record Begins (old : Machine) (session : ℕ) (id : List ℕ) (tx : Tx) (new : Machine) : Type 0 where
   pub free : begin_refusal old session ≡ None
-  pub vacant : at old.places tx.place ≡ None
-  pub numbered : tx.generation ≡ old.begun + 1
+  pub starts : Starts old.places old.begun session id tx new.places
   pub next : new ≡ record old { begun = old.begun + 1; places = new.places }
-  pub put : Puts old.places new.places tx.place (Some (fresh_transaction session id tx.generation))
 
--- an operation is the last of a transaction's
-pub record Adds (old : Machine) (session : ℕ) (tx : Tx) (moment : ℕ) (op : Op) (levels : Option ℕ) (new : Machine) : Type 0 where
-  pub one : Transaction
-  pub found : found_in old session tx ≡ Some one
-  pub free : added_refusal_if (trees_now old) old.places tx.place op (Some one) ≡ None
-  pub is_legal : legal (view (trees_now old) one) op ≡ Ok Legal
-  pub made : levels ≡ levels_made (view (trees_now old) one) op
-  pub next : new ≡ record old { places = new.places }
-  pub put : Puts old.places new.places tx.place (Some (with_op one op moment))
-
--- a key that is there in a transaction's view is opened, and nothing changes
-pub record OpensInside (old : Machine) (session : ℕ) (tx : Tx) (op : Op) (new : Machine) : Type 0 where
-  pub one : Transaction
-  pub found : found_in old session tx ≡ Some one
-  pub free : added_refusal_if (trees_now old) old.places tx.place op (Some one) ≡ None
-  pub is_there : legal (view (trees_now old) one) op ≡ Ok Opened
-  pub next : new ≡ old
-
--- a transaction ends, and nothing else changes
-pub record Finishes (old : Machine) (session : ℕ) (tx : Tx) (outcome : Outcome) (new : Machine) : Type 0 where
-  pub one : Transaction
-  pub found : found_in old session tx ≡ Some one
-  pub active : inactive_refusal (Some one) ≡ None
-  pub next : new ≡ record old { places = new.places }
-  pub put : Puts old.places new.places tx.place (Some (ended outcome one))
+-- something is done with a transaction, and nothing else changes
+abbrev pub ChangesPlaces : Machine → Type 0 → Machine → Type 0
+ChangesPlaces old act new = act × (new ≡ record old { places = new.places })
 
 -- a transaction without operations commits as nothing, whose number is 0; any other is the next change, all its
 -- operations together
@@ -106,13 +85,6 @@ pub record Commits (old : Machine) (session : ℕ) (tx : Tx) (moment number : �
   pub next : new ≡ record (after_commit old moment one) { places = new.places }
   pub put : Puts old.places new.places tx.place (Some (ended Committed one))
 
--- a transaction is let go
-pub record Closes (old : Machine) (session : ℕ) (tx : Tx) (new : Machine) : Type 0 where
-  pub one : Transaction
-  pub found : found_in old session tx ≡ Some one
-  pub next : new ≡ record old { places = new.places }
-  pub put : Puts old.places new.places tx.place None
-
 -- it is told where a transaction stands
 pub record Stands (old : Machine) (session : ℕ) (tx : Tx) (outcome : Outcome) (new : Machine) : Type 0 where
   pub one : Transaction
@@ -121,22 +93,31 @@ pub record Stands (old : Machine) (session : ℕ) (tx : Tx) (outcome : Outcome) 
   pub told : outcome ≡ one.outcome
   pub next : new ≡ old
 
--- the journal's room stays, or a trim has ended and it is that of the changes which are not durable yet
-abbrev pub RoomStays : Machine → Machine → Type 0
-RoomStays old new = (new.room ≡ old.room) ⊎ (new.room ≡ room_with (pending new))
+-- a step has ended a trim: it is done, made nothing durable, and the room is that of the changes which are not durable
+pub record EndsTrim (old : Machine) (progress : Progress) (new : Machine) : Type 0 where
+  pub done : progress ≡ Done
+  pub durable : new.durable ≡ old.durable
+  pub room : new.room ≡ room_with (pending old)
 
--- a step of the journal may make changes durable, of those that were accepted; nothing is ever durable no more
-pub record Journals (old new : Machine) : Type 0 where
+-- the journal's room stays, or a trim has ended
+abbrev pub KeepsRoom : Machine → Progress → Machine → Type 0
+KeepsRoom old progress new = (new.room ≡ old.room) ⊎ EndsTrim old progress new
+
+-- a step of the journal may make changes durable, of those that were accepted; nothing is ever durable no more. It may
+-- end a trim in place of that; where there was nothing to do, nothing changes
+pub record Journals (old : Machine) (progress : Progress) (new : Machine) : Type 0 where
   pub free : fault old ≡ None
   pub next : new ≡ record old { durable = new.durable; room = new.room }
   pub grows : old.durable ≤ new.durable
   pub within : new.durable ≤ last_number old
-  pub room : RoomStays old new
+  pub room : KeepsRoom old progress new
+  pub idle : progress ≡ Idle → new ≡ old
 
-pub record Trims (old new : Machine) : Type 0 where
+-- a step of a trim
+pub record Trims (old : Machine) (progress : Progress) (new : Machine) : Type 0 where
   pub free : fault old ≡ None
   pub next : new ≡ record old { room = new.room }
-  pub room : RoomStays old new
+  pub room : KeepsRoom old progress new
 
 pub record Flushes (old : Machine) (hive : ℕ) (new : Machine) : Type 0 where
   pub free : fault old ≡ None
@@ -157,6 +138,13 @@ pub record Breaks (old : Machine) (refusal : Refusal) (new : Machine) : Type 0 w
 abbrev pub StepFails : Machine → Option Refusal → Refusal → Machine → Type 0
 StepFails old wanted refusal new = Refuses old wanted refusal new ⊎ ((wanted ≡ None) × Breaks old refusal new)
 
+-- the events that may make a call of the device: a step of the journal, of a flush, of a trim
+abbrev pub is_step : Event → Bool
+is_step event.JournalStep = true
+is_step (event.FlusherStep hive) = true
+is_step event.TrimStep = true
+is_step _ = false
+
 -- From old, the machine may give this answer to the event and go on to new.
 abbrev pub Step : Machine → Event → Reply → Machine → Type 0
 -- sessions open and end
@@ -171,7 +159,7 @@ Step old (event.Read session hive path question) reply new =
 -- a write by itself is accepted at once
 Step old (event.Write session moment op) reply new =
     AcceptedOr (λ levels number. Accepts old session moment op levels number new)
-    (Opens old (write_refusal old session moment op) (trees_now old) op new)
+    (OpensAlone old (write_refusal old session moment op) (trees_now old) op new)
     (λ r. Refuses old (write_refusal old session moment op) r new) reply
 -- a transaction is begun; it is read and written as it sees the trees
 Step old (event.Begin session id) reply new =
@@ -180,17 +168,17 @@ Step old (event.TxRead session tx hive path question) reply new =
     ReadOr (λ found. Tells old (inactive_refusal (found_in old session tx)) (seen (trees_now old) hive path question (found_in old session tx)) found new)
     (λ r. Refuses old (first_of (inactive_refusal (found_in old session tx)) (read_refusal (seen (trees_now old) hive path question (found_in old session tx)))) r new) reply
 Step old (event.TxWrite session tx moment op) reply new =
-    AddedOr (λ levels. (fault old ≡ None) × Adds old session tx moment op levels new)
-    ((fault old ≡ None) × OpensInside old session tx op new)
+    AddedOr (λ levels. (fault old ≡ None) × ChangesPlaces old (Adds (trees_now old) old.places (found_in old session tx) tx.place moment op levels new.places) new)
+    ((fault old ≡ None) × Opens (trees_now old) old.places (found_in old session tx) tx.place op × (new ≡ old))
     (λ r. Refuses old (first_of (fault old) (added_refusal_if (trees_now old) old.places tx.place op (found_in old session tx))) r new) reply
 -- a transaction ends, and is let go
 Step old (event.CommitAccept session tx moment) reply new =
     AwaitsOr (λ number. Commits old session tx moment number new)
     (λ r. Refuses old (first_of (fault old) (commit_refusal_if old moment (found_in old session tx))) r new) reply
 Step old (event.Rollback session tx) reply new =
-    DoneOr (Finishes old session tx RolledBack new) (λ r. IsRefused old (inactive_refusal (found_in old session tx)) r new) reply
+    DoneOr (ChangesPlaces old (Finishes old.places (found_in old session tx) tx.place RolledBack new.places) new) (λ r. IsRefused old (inactive_refusal (found_in old session tx)) r new) reply
 Step old (event.Close session tx) reply new =
-    DoneOr (Closes old session tx new) (λ r. IsRefused old (missing_refusal (found_in old session tx)) r new) reply
+    DoneOr (ChangesPlaces old (Closes old.places (found_in old session tx) tx.place new.places) new) (λ r. IsRefused old (missing_refusal (found_in old session tx)) r new) reply
 Step old (event.Outcome session tx) reply new =
     StandsOr (λ outcome. Stands old session tx outcome new)
     (λ r. IsRefused old (first_of (fault old) (missing_refusal (found_in old session tx))) r new) reply
@@ -201,10 +189,10 @@ Step old (event.Acked number) reply new =
     ReceiptOr (λ told. (told ≡ number) × (number ≤ old.durable) × (new ≡ old))
     ((old.durable < number) × (fault old ≡ None) × (new ≡ old))
     (λ r. (old.durable < number) × IsRefused old (fault old) r new) reply
-Step old event.JournalStep reply new = SteppedOr (Journals old new) (λ r. StepFails old (fault old) r new) reply
+Step old event.JournalStep reply new = SteppedOr (λ progress. Journals old progress new) (λ r. StepFails old (fault old) r new) reply
 Step old (event.FlusherStep hive) reply new =
-    SteppedOr (Flushes old hive new) (λ r. StepFails old (first_of (fault old) (no_hive old hive)) r new) reply
-Step old event.TrimStep reply new = SteppedOr (Trims old new) (λ r. StepFails old (fault old) r new) reply
+    SteppedOr (λ progress. Flushes old hive new) (λ r. StepFails old (first_of (fault old) (no_hive old hive)) r new) reply
+Step old event.TrimStep reply new = SteppedOr (λ progress. Trims old progress new) (λ r. StepFails old (fault old) r new) reply
 
 -- the machine may give these answers to these events, one after another
 abbrev pub Run : Machine → List Event → List Reply → Machine → Type 0

@@ -2,15 +2,18 @@
 //!
 //! They have no code of their own: each is the contract of a function that does nothing, for whoever keeps a store by
 //! the machine.
-ghost use Rattle.std.specs.Prelude.{◌≡◌, ℕ, false, List, Some, None};
+ghost use Rattle.std.specs.Prelude.{◌≡◌, ◌≤◌, ℕ, true, false, List, Some, None};
 ghost use Rattle.std.specs.List.Sorted.{IsStrictlySortedBy};
 ghost use Rattle.std.specs.Ordering.{nat_cmp};
+ghost use Rattle.refusals.specs.declared.limits.TheConstants.{GREATEST_NUMBER, MOST_JOURNAL_BYTES};
+ghost use Rattle.refusals.specs.declared.refusal.Refusal.TheVariants.{DiskFault};
 ghost use Rattle.reg_tree.specs.Maps.{TreeMap};
+ghost use Rattle.reg_tree.specs.declared.element.Element.{Element};
 ghost use Rattle.reg_tree.specs.Judgement.{any_outweighs};
 ghost use Rattle.reg_tree.specs.Sequences.{AreTrees, AreLegal};
 ghost use Rattle.machine.specs.Transactions.{Transaction, own};
 ghost use Rattle.machine.specs.Machine.{Machine, opened_machine, trees_now, found_in};
-ghost use Rattle.machine.specs.Steps.{Step, Run};
+ghost use Rattle.machine.specs.Steps.{Step, Run, is_step};
 ghost use Rattle.machine.specs.Kept.{IsKept, IsActiveAt, AreLegalButForWeight, AreLegalChanges, IsCounted, IsGone, handle_in, numbers_given};
 ghost use Rattle.machine.specs.declared.handle.Tx.{Tx};
 ghost use Rattle.machine.specs.declared.event.Event.{Event};
@@ -18,22 +21,50 @@ ghost use Rattle.machine.specs.declared.event.Event.TheVariants as event;
 ghost use Rattle.machine.specs.declared.event.Reply.{Reply};
 ghost use Rattle.machine.specs.declared.event.Reply.TheVariants as reply;
 
-/// What every state of a store keeps, from its opening on: the trees of now are trees, no transaction's number is above
-/// how many were begun, the operations of each active transaction may be carried out in turn on the trees of now, and
-/// no claims of two active transactions conflict.
+/// What every state of a store keeps, from its opening on.
 ///
-/// - `begins`: it is so as a store is opened on trees.
+/// The trees of now are trees, no transaction's number is above how many were begun, the operations of each active
+/// transaction may be carried out in turn on the trees of now, and no claims of two active transactions conflict.
+/// What was there at the opening is durable and nothing is that was not accepted, numbers, changes, sessions and
+/// transactions are within their limits, and the journal's room is at least that of the changes which are not durable
+/// yet. Each accepted change was legal where it was accepted, and each of its operations changed something.
+///
+/// - `begins`: it is so as a store is opened on trees, whatever its journal spells.
 /// - `step`, `run`: each step keeps it, and so does every run.
 pub fn states_are_kept()
-    ensures begins { (trees : List TreeMap) (number room failures : ℕ) → AreTrees trees → IsKept (opened_machine trees number room failures) }
-    ensures step { (old new : Machine) (event : Event) (reply : Reply) → IsKept old → Step old event reply new → IsKept new }
-    ensures run { (old new : Machine) (events : List Event) (replies : List Reply) → IsKept old → Run old events replies new → IsKept new }
+    ensures begins { (trees : List TreeMap) (number : ℕ) (journaled : List Element) (failures : ℕ) →
+        AreTrees trees → number ≤ GREATEST_NUMBER → IsKept (opened_machine trees number journaled failures) }
+    ensures step { (old new : Machine) (event : Event) (reply : Reply) → IsKept old → Step old event reply new →
+        IsKept new }
+    ensures run { (old new : Machine) (events : List Event) (replies : List Reply) → IsKept old →
+        Run old events replies new → IsKept new }
 {
     reg_tree::laws::trees_stay();
+    reg_tree::laws::weight_alone_refuses();
     conflicts::laws::stay_legal();
     conflicts::laws::one_more();
     conflicts::laws::holders_are_exact();
 }
+
+/// The journal's room stays within its limit, where it was at the opening.
+pub fn room_stays_within()
+    ensures step { (old new : Machine) (event : Event) (reply : Reply) → IsKept old → Step old event reply new →
+        old.room ≤ MOST_JOURNAL_BYTES → new.room ≤ MOST_JOURNAL_BYTES }
+    ensures run { (old new : Machine) (events : List Event) (replies : List Reply) → IsKept old →
+        Run old events replies new → old.room ≤ MOST_JOURNAL_BYTES → new.room ≤ MOST_JOURNAL_BYTES }
+{
+    reg_tree::laws::trees_stay();
+    reg_tree::laws::weight_alone_refuses();
+    conflicts::laws::stay_legal();
+    conflicts::laws::one_more();
+    conflicts::laws::holders_are_exact();
+}
+
+/// Only a step may be answered that the device failed: every other event makes no call of it.
+pub fn steps_alone_fail()
+    ensures { (old new : Machine) (event : Event) → Step old event (reply.Refused DiskFault) new →
+        is_step event ≡ true }
+{}
 
 /// At a commit no operation is illegal but for weight: others may have changed the trees since it was written, but
 /// nothing that its claim guards.

@@ -12,6 +12,7 @@ mod event;
 mod handle;
 pub mod laws;
 mod reading;
+pub mod room;
 mod sessions;
 
 pub use event::{Event, Found, Progress, Question, Reply};

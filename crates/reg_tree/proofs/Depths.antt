@@ -9,7 +9,8 @@ use Rattle.reg_names.specs.Names.{folded, folded_path}
 use Rattle.reg_tree_parts.specs.Orders.{path_order}
 use Rattle.reg_tree_parts.specs.Rows.{Row}
 use Rattle.reg_tree_parts.specs.Nodes.{Entries, row_at}
-use Rattle.reg_tree.specs.Maps.{TreeMap, row, is_there, beginnings, missing, IsTree, IsRooted}
+use Rattle.reg_tree.specs.Maps.{TreeMap, row, is_there, beginnings, missing, IsTree}
+use Rattle.reg_tree.specs.Spellable.{IsRooted}
 use Rattle.reg_tree.specs.Operations.{depth_there}
 use Rattle.reg_tree.proofs.Rows.{row_is}
 

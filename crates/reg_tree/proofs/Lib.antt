@@ -11,3 +11,4 @@ pub mod Stays
 pub mod Listed
 pub mod Times
 pub mod Weighing
+pub mod Spelling

@@ -7,3 +7,4 @@ pub mod Texts
 pub mod TreeLists
 pub mod Sequences
 pub mod Times
+pub mod Spellable

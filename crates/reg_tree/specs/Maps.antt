@@ -4,7 +4,7 @@ use Rattle.std.specs.FinMap as finite
 use Rattle.reg_names.specs.Names.{folded}
 use Rattle.reg_tree_parts.specs.Orders.{path_order}
 use Rattle.reg_tree_parts.specs.Rows.{Row}
-use Rattle.reg_tree_parts.specs.Nodes.{Entries, IsNode, entries_weight, names_below}
+use Rattle.reg_tree_parts.specs.Nodes.{entries_weight, names_below}
 
 -- a tree: the row of each key, by its folded path
 abbrev pub TreeMap : Type 0
@@ -40,8 +40,3 @@ pub record IsTree (tree : TreeMap) : Type 0 where
   pub root : IsSome (row tree [])
   pub parents : (path : List (List ℕ)) (name : List ℕ) → IsSome (row tree (path ++ name ∷ [])) → IsSome (row tree path)
   pub named : (path : List (List ℕ)) (name : List ℕ) (key : Row) → row tree (path ++ name ∷ []) ≡ Some key → folded key.name ≡ name
-
--- what holds of the entries of a tree: they are those of a node, and make a tree
-pub record IsRooted (entries : Entries) : Type 0 where
-  pub node : IsNode entries
-  pub tree : IsTree (finite.from_sorted entries)

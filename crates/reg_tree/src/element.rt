@@ -6,6 +6,11 @@ use crate::op::Op;
 use std::alloc::{AllocError, Global};
 use std::marker::Model;
 
+/// Bytes of a change as journal text beside its operations.
+pub const CHANGE_BYTES: u64 = 16;
+
+const _: () = prove!(CHANGE_BYTES == 16);
+
 /// One or more operations, in their order.
 #[derive(Drop)]
 pub struct Ops {
@@ -70,7 +75,7 @@ impl Element {
     pub fn text_len(&self) -> u64
         ensures { result ≡ min (element_text_len self.now) u64.MAX }
     {
-        let mut total = 16u64;
+        let mut total = CHANGE_BYTES;
         for op in self.ops.list() {
             total = total.saturating_add(op.text_len());
         }

@@ -15,9 +15,9 @@ mod op;
 mod tree;
 mod trees;
 
-pub use element::{Element, Ops};
+pub use element::{CHANGE_BYTES, Element, Ops};
 pub use names::Names;
 pub use op::{Legality, Op};
-pub use reg_tree_parts::{Data, Key, Value};
-pub use tree::{Info, Tree};
+pub use reg_tree_parts::{Data, Key, Node, Value, Values};
+pub use tree::{Info, NOT_DELETABLE, Tree};
 pub use trees::Trees;

@@ -2,7 +2,9 @@
 ghost use Rattle.std.specs.Prelude.{◌≡◌, ◌+◌, ◌-◌, ◌<◌, ◌≤◌, ◌==◌, length, take, List, [], ℕ, ◌++◌, IfSome, IfNone, IfOk, MatchResult, min};
 ghost use Rattle.reg_names.specs.Names.{folded_path};
 ghost use Rattle.reg_tree_parts.specs.Nodes.{row_at, names_below, IsNode};
-ghost use Rattle.reg_tree.specs.Maps.{row, is_there, subkeys, missing, weight};
+ghost use Rattle.std.specs.FinMap as finite;
+ghost use Rattle.reg_tree.specs.Maps.{row, is_there, subkeys, missing, weight, IsTree};
+ghost use Rattle.reg_tree.specs.Spellable.{IsSpellable};
 ghost use Rattle.reg_tree.specs.Operations.{depth_there};
 ghost use Rattle.reg_tree.specs.Judgement.{judged, judged_create, judged_delete_at, judged_set, judged_unset};
 ghost use Rattle.reg_tree.specs.Reads.{value_at, value_index, subkey_index, info_of, IsMissing};
@@ -19,7 +21,7 @@ use std::alloc::{AllocError, Global};
 use std::marker::Model;
 use std::sync::Arc;
 
-/// The tree of one hive: a map from folded paths to rows.
+/// The tree of one hive: a map from folded paths to rows, each of which a hive file can spell.
 ///
 /// A change makes a new tree, which shares all nodes off its path; a clone shares all of them.
 #[derive(Drop)]
@@ -33,7 +35,8 @@ impl Model for Tree {
     ghost use Rattle.std.specs.Arc.{arc_value};
     ghost use Rattle.reg_tree_parts.specs.Rows.{row_code};
     ghost use Rattle.reg_tree_parts.specs.Orders.{path_order};
-    ghost use Rattle.reg_tree.specs.Maps.{TreeMap, IsRooted};
+    ghost use Rattle.reg_tree.specs.Maps.{TreeMap};
+    ghost use Rattle.reg_tree.specs.Spellable.{IsRooted};
 
     ghost Value = { TreeMap };
 
@@ -44,8 +47,10 @@ impl Model for Tree {
     ghost invariant = { λ inside. IsRooted (arc_value inside.root) };
 }
 
-// the flag of a key that is not to be deleted
-const NOT_DELETABLE: u16 = 0x0008;
+/// The flag of a key that is not to be deleted.
+pub const NOT_DELETABLE: u16 = 0x0008;
+
+const _: () = prove!(NOT_DELETABLE == 0x0008);
 
 /// What a key has.
 #[derive(Clone, Copy)]
@@ -59,6 +64,26 @@ pub struct Info {
 }
 
 impl Tree {
+    /// The tree of a root's node, for whoever reads keys from a hive file.
+    pub fn from_root(alloc: Global, root: Node) -> Result<Tree, AllocError>
+        requires { IsSpellable (finite.from_sorted root) }
+        ensures { IfOk result (λ tree. tree ≡ finite.from_sorted root) }
+    {
+        let _ = root.key();
+        let root = Arc::new(alloc, root)?;
+        Ok(Tree { root })
+    }
+
+    /// The root's node, which holds all keys. A hive file can spell them.
+    pub fn root(&self) -> &Node
+        ensures same { self.now ≡ finite.from_sorted result.now }
+        ensures node { IsNode result.now }
+        ensures tree { IsTree self.now }
+        ensures spellable { IsSpellable self.now }
+    {
+        &self.root
+    }
+
     /// The weight of the tree, or the greatest number of 64 bits where it is more.
     pub fn weight(&self) -> u64
         ensures { result ≡ min (weight self.now) u64.MAX }

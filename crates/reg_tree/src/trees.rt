@@ -1,5 +1,6 @@
 //! The trees of all hives of a store.
-ghost use Rattle.std.specs.Prelude.{◌≡◌, length, replicate, IfOk, slice_get};
+ghost use Rattle.std.specs.Prelude.{◌≡◌, ◌≤◌, length, replicate, IfOk, slice_get};
+ghost use Rattle.refusals.specs.declared.limits.TheConstants.{MOST_TREES};
 ghost use Rattle.std.specs.Option.{option_copied};
 ghost use Rattle.refusals.specs.Answers.{IsOrNoMemory};
 ghost use Rattle.reg_tree.specs.Fresh.{fresh_tree};
@@ -15,7 +16,7 @@ use refusals::Refusal;
 use std::alloc::{AllocError, Global};
 use std::marker::Model;
 
-/// The trees of all hives, by the hives' numbers.
+/// The trees of all hives, by the hives' numbers: 1 to 17 of them.
 ///
 /// A change makes new trees, which share all that stays.
 #[derive(Drop)]
@@ -35,11 +36,18 @@ impl Model for Trees {
     ghost coded = { coded_list (finite.code (coded_list (coded_list coded_ℕ)) row_code) };
 
     ghost view = { λ inside. inside.hives.items };
+
+    ghost use Rattle.std.specs.Prelude.{◌≤◌, length};
+    ghost use Rattle.refusals.specs.declared.limits.TheConstants.{MOST_TREES};
+
+    ghost invariant = { λ inside. (1 ≤ length inside.hives.items) × (length inside.hives.items ≤ MOST_TREES) };
 }
 
 impl Trees {
     /// The trees of this many new hives.
     pub fn new(alloc: Global, hives: usize) -> Result<Trees, AllocError>
+        requires some { 1 ≤ hives }
+        requires few { hives ≤ MOST_TREES }
         ensures { IfOk result (λ trees. trees ≡ replicate hives fresh_tree) }
     {
         let mut made = Vec::with_capacity(alloc, hives)?;
@@ -49,9 +57,20 @@ impl Trees {
         Ok(Trees { hives: made })
     }
 
-    /// How many hives there are.
+    /// These trees, by the numbers of their hives.
+    pub fn from_vec(hives: Vec<Tree>) -> Trees
+        requires some { 1 ≤ length hives.items }
+        requires few { length hives.items ≤ MOST_TREES }
+        ensures { result ≡ hives.items }
+    {
+        Trees { hives }
+    }
+
+    /// How many hives there are: 1 to 17.
     pub fn len(&self) -> usize
-        ensures { result ≡ length self.now }
+        ensures all { result ≡ length self.now }
+        ensures some { 1 ≤ result }
+        ensures few { result ≤ MOST_TREES }
     {
         self.hives.len()
     }

@@ -3,6 +3,7 @@ pub mod Keys
 pub mod ValueLists
 pub mod Finds
 pub mod Rises
+pub mod Parents
 pub mod NamesBelow
 pub mod NodeLists
 pub mod PathSteps

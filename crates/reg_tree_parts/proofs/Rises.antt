@@ -7,7 +7,7 @@ use Rattle.std.specs.Cmp.{tied_itself}
 use Rattle.std.specs.FinMap.Entries.{is_sorted, below_all}
 use Rattle.reg_tree_parts.specs.Orders.{name_order, path_order}
 use Rattle.reg_tree_parts.specs.Rows.{Row}
-use Rattle.reg_tree_parts.specs.Nodes.{Entries, below, all_below, entries_of, IsNode, AreNodes}
+use Rattle.reg_tree_parts.specs.Nodes.{Entries, below, all_below, entries_of, AreNodes}
 use Rattle.reg_tree_parts.proofs.Keys.{names_total}
 use Rattle.reg_tree_parts.proofs.Places.{front_of, back_of, less_of}
 
@@ -76,11 +76,6 @@ sorted_all (kid ∷ kids) nodes h =
     sorted_joined kid.0 kid.1 kids (sorted_same kid.0 kid.1 nodes.0.rises) (front_of (below_all name_order kid.0 kids) (is_sorted name_order kids) h)
     (sorted_all kids nodes.1 (back_of (below_all name_order kid.0 kids) (is_sorted name_order kids) h))
 
--- a key with subkeys in order is a node
-pub is_node : (row : Row) (kids : List (List ℕ × Entries)) → AreNodes kids → T (is_sorted name_order kids) → IsNode (entries_of row kids)
-is_node row kids nodes h = record {
-  row = row;
-  others = all_below kids;
-  whole = refl;
-  rises = both_of (below_all path_order [] (all_below kids)) (is_sorted path_order (all_below kids)) (root_below_all kids) (sorted_all kids nodes h);
-}
+-- a key and its subkeys in order
+pub entries_rise : (row : Row) (kids : List (List ℕ × Entries)) → AreNodes kids → T (is_sorted name_order kids) → T (is_sorted path_order (entries_of row kids))
+entries_rise row kids nodes h = both_of (below_all path_order [] (all_below kids)) (is_sorted path_order (all_below kids)) (root_below_all kids) (sorted_all kids nodes h)

@@ -1,5 +1,5 @@
 -- What a node stands for: the entries of the key and of all keys below it, each a path from it on and a row.
-use Rattle.std.specs.Prelude.{if◌then◌else◌, ◌≡◌, ℕ, min, Bool, true, false, ◌&&◌, Option, Some, None, filter, List, [], ◌∷◌, ◌++◌, map, sum_by, T}
+use Rattle.std.specs.Prelude.{if◌then◌else◌, ◌≡◌, ℕ, min, Bool, true, false, ◌&&◌, Option, Some, None, IsSome, filter, List, [], ◌∷◌, ◌++◌, map, sum_by, T}
 use Rattle.std.specs.FinMap.Entries.{is_sorted, find}
 use Rattle.std.specs.Ordering.{eq_by_cmp}
 use Rattle.std.below.core.specs.declared.int.u64.TheConstants.{MAX}
@@ -53,12 +53,19 @@ entries_of row kids = ([], row) ∷ all_below kids
 abbrev pub entries_weight : Entries → ℕ
 entries_weight entries = sum_by (λ e. row_weight e.1) entries
 
--- the entries of one key and those below it: first its own, then others whose paths rise
+-- the row that stands at a path
+abbrev pub row_at : Entries → List (List ℕ) → Option Row
+row_at entries path = find path_order path entries
+
+-- the entries of one key and those below it: first its own, then others whose paths rise; each key's parent is there,
+-- and a key below the first stands under the fold of its name
 pub record IsNode (entries : Entries) : Type 0 where
   pub row : Row
   pub others : Entries
   pub whole : entries ≡ ([], row) ∷ others
   pub rises : T (is_sorted path_order entries)
+  pub parents : (path : List (List ℕ)) (name : List ℕ) → IsSome (row_at entries (path ++ name ∷ [])) → IsSome (row_at entries path)
+  pub named : (path : List (List ℕ)) (name : List ℕ) (key : Row) → row_at entries (path ++ name ∷ []) ≡ Some key → folded key.name ≡ name
 
 -- each of a list of subkeys is one
 abbrev pub AreNodes : List (List ℕ × Entries) → Type 0
@@ -71,10 +78,6 @@ pub record NodeFits (row : Row) (kids : List (List ℕ × Entries)) (weight : �
   pub nodes : AreNodes kids
   pub rises : T (is_sorted name_order kids)
   pub weighs : weight ≡ min (entries_weight (entries_of row kids)) MAX
-
--- the row that stands at a path
-abbrev pub row_at : Entries → List (List ℕ) → Option Row
-row_at entries path = find path_order path entries
 
 -- the row that stands at a path of what was found, if anything was
 abbrev pub row_in : Option Entries → List (List ℕ) → Option Row

@@ -30,6 +30,11 @@ impl Model for Key {
     ghost view = { λ inside. record { name = inside.name; class = inside.class; flags = inside.flags; descriptor = inside.descriptor; time = inside.time; values = inside.values } };
 }
 
+/// The weight of a key without name, class, descriptor and values.
+pub const KEY_WEIGHT: u64 = 192;
+
+const _: () = prove!(KEY_WEIGHT == 192);
+
 impl Key {
     /// A key of these parts.
     pub fn new(
@@ -149,6 +154,6 @@ impl Key {
             .saturating_add(class)
             .saturating_add(descriptor)
             .saturating_add(values)
-            .saturating_add(192)
+            .saturating_add(KEY_WEIGHT)
     }
 }

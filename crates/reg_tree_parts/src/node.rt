@@ -51,6 +51,18 @@ impl Model for Node {
 }
 
 impl Node {
+    /// A key with these subkeys, which are in the order of their folded names.
+    pub fn new(alloc: Global, key: Key, subkeys: Vec<Arc<Node>>) -> Result<Node, AllocError>
+        requires nodes { AreNodes (kid_entries subkeys.items) }
+        requires rises { T (is_sorted name_order (kid_entries subkeys.items)) }
+        ensures is { IfOk result (λ made. made ≡ entries_of key (kid_entries subkeys.items)) }
+        ensures node { IfOk result IsNode }
+    {
+        let key = Arc::new(alloc, key)?;
+        let subkeys = ArcSlice::from_vec(subkeys)?;
+        Ok(Node::made(key, subkeys))
+    }
+
     /// The weight of the key and of all keys below it, or the greatest number of 64 bits where it is more.
     pub fn weight(&self) -> u64
         ensures { result ≡ min (entries_weight self.now) u64.MAX }

@@ -17,6 +17,11 @@ pub struct Value {
     pub data: Data,
 }
 
+/// The weight of a value without name and data.
+pub const VALUE_WEIGHT: u64 = 128;
+
+const _: () = prove!(VALUE_WEIGHT == 128);
+
 impl Value {
     /// The weight of the value: 128, twice the units of its name, and its bytes; or the greatest number of
     /// 64 bits where that is more.
@@ -28,7 +33,7 @@ impl Value {
         units
             .saturating_mul(2)
             .saturating_add(bytes)
-            .saturating_add(128)
+            .saturating_add(VALUE_WEIGHT)
     }
 
     /// A copy that shares the units of the name and the data.

@@ -1,5 +1,6 @@
 //! A script's store, asked line by line.
-ghost use Rattle.std.specs.Prelude.{◌≡◌, ℕ, Some, None, MatchResult, MatchOption, IfOk, IfSome, IfNone};
+ghost use Rattle.std.specs.Prelude.{◌≡◌, ◌≤◌, ℕ, Some, None, MatchResult, MatchOption, IfOk, IfSome, IfNone};
+ghost use Rattle.refusals.specs.declared.limits.TheConstants.{MOST_TREES};
 ghost use Rattle.reg_script.specs.declared.line.Line.{Line as AnyLine};
 ghost use Rattle.reg_script.specs.declared.reply.ReplyLine.{ReplyLine as AnyReplyLine};
 ghost use Rattle.regtx_parts.specs.Scripts.{Asks, Answers, AsksAndWaits, event_alone, event_inside, later_line, line_asked, hives_asked, fresh_script};
@@ -32,7 +33,10 @@ impl Player {
         ensures some { IfOk result (λ made. IfSome made (λ player. (hives : ℕ) × (hives_asked bytes.now ≡ Some hives) × (script_of player ≡ fresh_script hives))) }
     {
         match read_line(alloc, bytes) {
-            Ok(Line::Hives { count }) => Ok(Some(Player::new(alloc, count)?)),
+            Ok(Line::Hives { count }) => {
+                reg_script::grammar::reads_what_is_spelled();
+                Ok(Some(Player::new(alloc, count)?))
+            }
             Ok(_) | Err(Unread::NotUnderstood) => Ok(None),
             Err(Unread::NoMemory) => Err(AllocError),
         }
@@ -40,6 +44,8 @@ impl Player {
 
     // a store of this many new hives, in which session 0 is open; it is refused for want of memory alone
     fn new(alloc: Global, hives: u8) -> Result<Player, AllocError>
+        requires some { 1 ≤ hives }
+        requires few { hives ≤ MOST_TREES }
         ensures { IfOk result (λ player. script_of player ≡ fresh_script hives) }
     {
         let mut store = PlainStore::new(alloc, usize::from(hives))?;

@@ -56,6 +56,13 @@ fn is_active(store: &mut PlainStore, tx: Tx) -> bool {
     }
 }
 
+fn is_durable(store: &mut PlainStore, number: u64) -> bool {
+    match store.event(Event::Acked { number }) {
+        Reply::Receipt { .. } => true,
+        _ => false,
+    }
+}
+
 fn set(alloc: Global, data: &Data) -> Result<Op, Refusal> {
     Ok(Op::SetValue {
         hive: 0,
@@ -130,6 +137,20 @@ fn a_change_that_the_journal_has_no_room_for_is_refused(rt: HostRuntime) -> Resu
     assert!(&rt; is_refused(&over, Refusal::JournalFull));
     let fits = written(alloc, &mut store, 1_045_272)?;
     assert!(&rt; number(&fits) == Some(65));
+    Ok(())
+}
+
+// steps make the changes durable, and free no room
+#[test]
+fn steps_free_no_room(rt: HostRuntime) -> Result<(), Fail> {
+    let alloc = rt.alloc();
+    let (mut store, _) = nearly_full(alloc)?;
+    for event in [Event::JournalStep, Event::TrimStep, Event::JournalStep] {
+        store.event(event);
+    }
+    assert!(&rt; is_durable(&mut store, 64));
+    let over = written(alloc, &mut store, 1_045_273)?;
+    assert!(&rt; is_refused(&over, Refusal::JournalFull));
     Ok(())
 }
 

@@ -32,7 +32,7 @@ use Rattle.machine.specs.declared.event.Question.{Question}
 use Rattle.machine.specs.declared.event.Reply.{Reply}
 use Rattle.machine.specs.declared.event.Reply.TheVariants as reply
 use Rattle.transactions.specs.Tables.{Table, EndsWith, IsPending, IsPendingOf, holds_if, is_listed, rolled_back_if}
-use Rattle.transactions.specs.Stores.{Answers, IsTied, store_of, room_refusal_for}
+use Rattle.transactions.specs.Stores.{Answers, IsTied, store_of}
 
 -- an error that is handed on is the answer
 on_refusal : (m : Machine) (event : Event) (res : Result Reply Refusal) (why : Refusal) → IsErrAnd res (λ e. e ≡ why) → Step m event (reply.Refused why) m → Answers m event res m
@@ -106,7 +106,7 @@ missed m session hive path question trees res why o e w h =
     (either w (λ r. second (closed_refusal m session) (read_refusal (looked_up (trees_now m) hive path question)) (Some why) (opened_none m session o) (ap (λ t. read_refusal (looked_up t hive path question)) (sym e) ∙ r)), refl)
 
 -- what a write is refused after its session
-may_write : (m : Machine) (session moment : ℕ) (op : Op) (wanted : Option Refusal) → fault m ≡ None → is_open m session ≡ true → refusal_by (legal (trees_now m) op) (room_refusal m (change moment op)) ≡ wanted → write_refusal m session moment op ≡ wanted
+may_write : (m : Machine) (session moment : ℕ) (op : Op) (wanted : Option Refusal) → fault m ≡ None → is_open m session ≡ true → refusal_by (legal (trees_now m) op) (room_refusal m (element_text_len (change moment op))) ≡ wanted → write_refusal m session moment op ≡ wanted
 may_write m session moment op wanted f o e = second _ _ wanted f (second _ _ wanted (opened_none m session o) e)
 
 -- a write that is not legal
@@ -114,20 +114,20 @@ pub illegal_write : (m : Machine) (session moment : ℕ) (op : Op) (trees : List
     IsErrAnd res (λ e. e ≡ why) → Answers m (event.Write session moment op) res m
 illegal_write m session moment op trees res why f o e w h =
     on_refusal m (event.Write session moment op) res why h
-    (either w (λ r. may_write m session moment op (Some why) f o (ap (λ l. refusal_by l (room_refusal m (change moment op))) (ap (λ t. legal t op) (sym e) ∙ r))), refl)
+    (either w (λ r. may_write m session moment op (Some why) f o (ap (λ l. refusal_by l (room_refusal m (element_text_len (change moment op)))) (ap (λ t. legal t op) (sym e) ∙ r))), refl)
 
 -- a length that is cut off at the greatest number of 64 bits has no room either
 tests : (room long cut : ℕ) → cut ≡ min long 18446744073709551615 → nat_lt MOST_JOURNAL_BYTES (room + (17 + cut)) ≡ nat_lt MOST_JOURNAL_BYTES (room + (17 + long))
 tests room long cut e = grind (arith, nat_tests)
 
-pub capped : (m : Machine) (long cut : ℕ) → cut ≡ min long 18446744073709551615 → room_refusal_for m cut ≡ room_refusal_for m long
+pub capped : (m : Machine) (long cut : ℕ) → cut ≡ min long 18446744073709551615 → room_refusal m cut ≡ room_refusal m long
 capped m long cut e = ap (λ b. first_of (refused_if (nat_le MOST_HISTORY (length m.accepted) || nat_le GREATEST_NUMBER (last_number m)) HistoryFull) (refused_if b JournalFull)) (tests m.room long cut e)
 
 pub crowded_write : (m : Machine) (session moment : ℕ) (op : Op) (trees : List TreeMap) (res : Result Reply Refusal) (why : Refusal) (long : ℕ) → fault m ≡ None → is_open m session ≡ true → trees ≡ trees_now m → legal trees op ≡ Ok Legal →
-    long ≡ min (element_text_len (change moment op)) 18446744073709551615 → room_refusal_for m long ≡ Some why → IsErrAnd res (λ e. e ≡ why) → Answers m (event.Write session moment op) res m
+    long ≡ min (element_text_len (change moment op)) 18446744073709551615 → room_refusal m long ≡ Some why → IsErrAnd res (λ e. e ≡ why) → Answers m (event.Write session moment op) res m
 crowded_write m session moment op trees res why long f o e l c r h =
     on_refusal m (event.Write session moment op) res why h
-    (inl (may_write m session moment op (Some why) f o (ap (λ x. refusal_by x (room_refusal m (change moment op))) (ap (λ t. legal t op) (sym e) ∙ l) ∙ sym (capped m (element_text_len (change moment op)) long c) ∙ r)), refl)
+    (inl (may_write m session moment op (Some why) f o (ap (λ x. refusal_by x (room_refusal m (element_text_len (change moment op)))) (ap (λ t. legal t op) (sym e) ∙ l) ∙ sym (capped m (element_text_len (change moment op)) long c) ∙ r)), refl)
 
 -- as many hives are there as were
 one_as_long : (trees : List TreeMap) (slot : Option TreeMap) (op : Op) (moment : ℕ) → length (applied_if trees slot op moment) ≡ length trees
@@ -168,7 +168,7 @@ not_full true last room e = absurd (none-some HistoryFull (sym e))
 not_full false last room e = refl
 
 -- where there is room, the history is not full
-pub below_most : (m : Machine) (long : ℕ) → room_refusal_for m long ≡ None → length m.accepted < MOST_HISTORY
+pub below_most : (m : Machine) (long : ℕ) → room_refusal m long ≡ None → length m.accepted < MOST_HISTORY
 below_most m long e =
     let open_history = not_full (nat_le MOST_HISTORY (length m.accepted)) (nat_le GREATEST_NUMBER (last_number m)) _ e in
     grind (arith, nat_tests, open_history)
@@ -199,7 +199,7 @@ roll claim (Some one) = roll_by (is_active one) (list_any (λ op. meets claim (c
 
 module _ (o : List TreeMap) (a b : List (Snapshot Element)) (s : List ℕ) (t u v : Table) (d r q : ℕ) (last : Snapshot Element) where
   pub accepts : (session moment number : ℕ) (op : Op) (levels : Option ℕ) (trees : List TreeMap) (listed : List ℕ) → IsTied t (store_of o a s t d r) → is_open (store_of o a s t d r) session ≡ true →
-      legal t.trees op ≡ Ok Legal → room_refusal (store_of o a s t d r) (change moment op) ≡ None → levels ≡ levels_made t.trees op → number ≡ v.number →
+      legal t.trees op ≡ Ok Legal → room_refusal (store_of o a s t d r) (element_text_len (change moment op)) ≡ None → levels ≡ levels_made t.trees op → number ≡ v.number →
       b ≡ a ++ last ∷ [] → last.value ≡ change moment op → q ≡ r + room_of (change moment op) → u ≡ record t { trees = trees; number = t.number + 1 } → v ≡ record u { places = v.places } →
       ((place : ℕ) → at v.places place ≡ rolled_back_if (is_listed listed place) (at u.places place)) → ((place : ℕ) → is_listed listed place ≡ holds_if (claim_of op) (at t.places place)) →
       Accepts (store_of o a s t d r) session moment op levels number (store_of o b s v d q)
@@ -210,7 +210,7 @@ module _ (o : List TreeMap) (a b : List (Snapshot Element)) (s : List ℕ) (t u 
       let count : v.number ≡ t.number + 1 = ap (λ (x : Table). x.number) rest ∙ ap (λ (x : Table). x.number) moved in
       let legal_now : legal (trees_now old) op ≡ Ok Legal = ap (λ x. legal x op) (sym i.trees) ∙ l in
       record {
-        free = may_write old session moment op None refl there (ap (λ x. refusal_by x (room_refusal old (change moment op))) legal_now ∙ room);
+        free = may_write old session moment op None refl there (ap (λ x. refusal_by x (room_refusal old (element_text_len (change moment op)))) legal_now ∙ room);
         is_legal = legal_now;
         made = made ∙ ap (λ x. levels_made x op) i.trees;
         numbered = n ∙ count ∙ ap (λ x. x + 1) i.number;
@@ -226,7 +226,7 @@ not_crowded true crowded e = absurd (none-some HistoryFull (sym e))
 not_crowded false true e = absurd (none-some JournalFull (sym e))
 not_crowded false false e = refl
 
-pub uncut : (m : Machine) (long cut : ℕ) → room_refusal_for m cut ≡ None → cut ≡ min long 18446744073709551615 → cut ≡ long
+pub uncut : (m : Machine) (long cut : ℕ) → room_refusal m cut ≡ None → cut ≡ min long 18446744073709551615 → cut ≡ long
 uncut m long cut e f =
     let within = not_crowded (nat_le MOST_HISTORY (length m.accepted) || nat_le GREATEST_NUMBER (last_number m)) (nat_lt MOST_JOURNAL_BYTES (m.room + (17 + cut))) e in
     grind (arith, nat_tests, within, f)
@@ -237,14 +237,14 @@ cut_change moment op one cut e f = omega (arith, e, f)
 
 -- what the change of some transaction's operations is refused
 pub pending_refusal : (m : Machine) (moment : ℕ) (slot : Option Transaction) (ops : List Op) (long : ℕ) (wanted : Option Refusal) → IsPending slot ops long → (length ops == 0) ≡ false →
-    first_of (refused_if (any_outweighs (trees_now m) ops moment) TooLarge) (room_refusal_for m long) ≡ wanted → commit_refusal_if m moment slot ≡ wanted
+    first_of (refused_if (any_outweighs (trees_now m) ops moment) TooLarge) (room_refusal m long) ≡ wanted → commit_refusal_if m moment slot ≡ wanted
 pending_refusal m moment None ops long wanted p some e = absurd p
 pending_refusal m moment (Some one) ops long wanted p some e =
-    let full : Option Refusal = first_of (refused_if (any_outweighs (trees_now m) one.ops moment) TooLarge) (room_refusal m (record { moment = moment; ops = one.ops })) in
+    let full : Option Refusal = first_of (refused_if (any_outweighs (trees_now m) one.ops moment) TooLarge) (room_refusal m (element_text_len (record { moment = moment; ops = one.ops }))) in
     second (inactive_refusal (Some one)) (cond (length one.ops == 0) None full) wanted p.active
     (ap (λ x. cond x None full) (ap (λ (x : List Op). length x == 0) (sym p.given) ∙ some)
-    ∙ ap (λ x. first_of (refused_if (any_outweighs (trees_now m) x moment) TooLarge) (room_refusal m (record { moment = moment; ops = one.ops }))) (sym p.given)
-    ∙ ap (λ x. first_of (refused_if (any_outweighs (trees_now m) ops moment) TooLarge) (room_refusal_for m x)) (sym (p.long moment)) ∙ e)
+    ∙ ap (λ x. first_of (refused_if (any_outweighs (trees_now m) x moment) TooLarge) (room_refusal m (element_text_len (record { moment = moment; ops = one.ops })))) (sym p.given)
+    ∙ ap (λ x. first_of (refused_if (any_outweighs (trees_now m) ops moment) TooLarge) (room_refusal m x)) (sym (p.long moment)) ∙ e)
 
 -- the transaction of a handle in an open session
 found : (m : Machine) (session : ℕ) (tx : Tx) → is_open m session ≡ true → found_in m session tx ≡ own m.places session tx
@@ -267,43 +267,43 @@ module _ (m : Machine) (session moment : ℕ) (tx : Tx) (why : Refusal) (res : R
       ((any_outweighs trees ops moment ≡ true) × (why ≡ TooLarge)) ⊎ (why ≡ NoMemory) → Answers m (event.CommitAccept session tx moment) res m
   heavy_commit trees ops long e p some w =
       uncommitted (either w (λ both. pending_refusal m moment (own m.places session tx) ops long (Some why) p some
-      (first _ (room_refusal_for m long) why (ap (λ x. refused_if x TooLarge) (ap (λ x. any_outweighs x ops moment) (sym e) ∙ both.0) ∙ ap Some (sym both.1)))))
+      (first _ (room_refusal m long) why (ap (λ x. refused_if x TooLarge) (ap (λ x. any_outweighs x ops moment) (sym e) ∙ both.0) ∙ ap Some (sym both.1)))))
 
   pub crowded_commit : (trees : List TreeMap) (ops : List Op) (long : ℕ) → trees ≡ trees_now m → IsPending (own m.places session tx) ops long → (length ops == 0) ≡ false → any_outweighs trees ops moment ≡ false →
-      room_refusal_for m long ≡ Some why → Answers m (event.CommitAccept session tx moment) res m
+      room_refusal m long ≡ Some why → Answers m (event.CommitAccept session tx moment) res m
   crowded_commit trees ops long e p some light r =
       uncommitted (inl (pending_refusal m moment (own m.places session tx) ops long (Some why) p some
-      (second _ (room_refusal_for m long) (Some why) (ap (λ x. refused_if x TooLarge) (ap (λ x. any_outweighs x ops moment) (sym e) ∙ light)) r)))
+      (second _ (room_refusal m long) (Some why) (ap (λ x. refused_if x TooLarge) (ap (λ x. any_outweighs x ops moment) (sym e) ∙ light)) r)))
 
 -- the operations that are handed out are those that were pending
 pub same_ops : (t u : Table) (session : ℕ) (tx : Tx) (ops given : List Op) (long : ℕ) → IsPending (own t.places session tx) ops long → EndsWith t session tx Committed given u → ops ≡ given
 same_ops t u session tx ops given long p e =
-    let q : IsPendingOf e.one ops long = subst (λ x. IsPending x ops long) e.found p in
+    let q : IsPendingOf e.finishes.one ops long = subst (λ x. IsPending x ops long) e.finishes.found p in
     q.given ∙ sym e.given
 
 module _ (o : List TreeMap) (a b : List (Snapshot Element)) (s : List ℕ) (t u v : Table) (d r q : ℕ) (last : Snapshot Element) where
   pub commits : (session moment number : ℕ) (tx : Tx) (trees : List TreeMap) (ops given : List Op) (long : ℕ) → IsTied t (store_of o a s t d r) → is_open (store_of o a s t d r) session ≡ true →
-      IsPending (own t.places session tx) ops long → EndsWith t session tx Committed given u → (length ops == 0) ≡ false → any_outweighs t.trees ops moment ≡ false → room_refusal_for (store_of o a s t d r) long ≡ None →
+      IsPending (own t.places session tx) ops long → EndsWith t session tx Committed given u → (length ops == 0) ≡ false → any_outweighs t.trees ops moment ≡ false → room_refusal (store_of o a s t d r) long ≡ None →
       number ≡ v.number → b ≡ a ++ last ∷ [] → last.value ≡ record { moment = moment; ops = given } → q ≡ r + (17 + long) → v ≡ record u { trees = trees; number = u.number + 1 } →
       Commits (store_of o a s t d r) session tx moment number (store_of o b s v d q)
   commits session moment number tx trees ops given long i there p ends some light room n e f g moved =
       let old = store_of o a s t d r in
-      let element : Element = record { moment = moment; ops = ends.one.ops } in
+      let element : Element = record { moment = moment; ops = ends.finishes.one.ops } in
       let before : List Element = map (λ x. x.value) a in
-      let mine : IsPendingOf ends.one ops long = subst (λ x. IsPending x ops long) ends.found p in
-      let kept : (length ends.one.ops == 0) ≡ false = ap (λ (x : List Op). length x == 0) (sym mine.given) ∙ some in
+      let mine : IsPendingOf ends.finishes.one ops long = subst (λ x. IsPending x ops long) ends.finishes.found p in
+      let kept : (length ends.finishes.one.ops == 0) ≡ false = ap (λ (x : List Op). length x == 0) (sym mine.given) ∙ some in
       let grown : map (λ x. x.value) b ≡ before ++ element ∷ [] = recorded a b last element e (f ∙ ap (λ (x : List Op). let y : Element = record { moment = moment; ops = x } in y) ends.given) in
       let begun : v.begun ≡ t.begun = ap (λ (x : Table). x.begun) moved ∙ ap (λ (x : Table). x.begun) ends.next in
       let count : v.number ≡ t.number + 1 = ap (λ (x : Table). x.number) moved ∙ ap (λ (x : Table). x.number + 1) ends.next in
       let full : q ≡ r + room_of element = g ∙ ap (λ x. r + (17 + x)) (mine.long moment) in
       record {
-        one = ends.one;
-        found = found old session tx there ∙ ends.found;
-        free = pending_refusal old moment (Some ends.one) ops long None mine some (second _ (room_refusal_for old long) None (ap (λ x. refused_if x TooLarge) (ap (λ x. any_outweighs x ops moment) (sym i.trees) ∙ light)) room);
+        one = ends.finishes.one;
+        found = found old session tx there ∙ ends.finishes.found;
+        free = pending_refusal old moment (Some ends.finishes.one) ops long None mine some (second _ (room_refusal old long) None (ap (λ x. refused_if x TooLarge) (ap (λ x. any_outweighs x ops moment) (sym i.trees) ∙ light)) room);
         numbered = n ∙ count ∙ ap (λ x. x + 1) i.number ∙ ap (λ x. cond x 0 (last_number old + 1)) (sym kept);
         next = ap (λ x. record old { accepted = x; places = v.places; begun = v.begun; room = q }) grown
             ∙ ap (λ x. record old { accepted = before ++ element ∷ []; places = v.places; begun = x; room = q }) begun
             ∙ ap (λ x. record old { accepted = before ++ element ∷ []; places = v.places; room = x }) full
             ∙ ap (λ x. record (cond x old (record old { accepted = before ++ element ∷ []; room = r + room_of element })) { places = v.places }) (sym kept);
-        put = subst (λ x. Puts t.places x tx.place (Some (ended Committed ends.one))) (sym (ap (λ (x : Table). x.places) moved)) ends.put;
+        put = subst (λ x. Puts t.places x tx.place (Some (ended Committed ends.finishes.one))) (sym (ap (λ (x : Table). x.places) moved)) ends.finishes.put;
       }

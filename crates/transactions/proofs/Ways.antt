@@ -17,11 +17,11 @@ use Rattle.reg_tree.specs.declared.op.Legality.TheVariants.{Legal, Opened}
 use Rattle.conflicts.specs.Claims.{claim_of}
 use Rattle.reg_tree.specs.declared.op.Op.{Op}
 use Rattle.machine.specs.Transactions.{Transaction, Places, Puts, view, is_claimed, at, own, own_if, ended, is_active, inactive_refusal, fresh_transaction, count_held}
-use Rattle.machine.specs.Machine.{refused_if, first_of, refusal_by, too_long, added_refusal_if}
+use Rattle.machine.specs.Machine.{seat_refusal, refused_if, first_of, refusal_by, too_long, added_refusal_if}
 use Rattle.machine.specs.declared.handle.Tx.{Tx}
 use Rattle.machine.specs.declared.handle.Outcome.{Outcome}
 use Rattle.machine.specs.declared.handle.Outcome.TheVariants.{RolledBack}
-use Rattle.transactions.specs.Tables.{Table, EndsWith, Starts, seat_refusal, rolled_back_if}
+use Rattle.transactions.specs.Tables.{Table, EndsWith, Begins, rolled_back_if}
 use Rattle.transactions.specs.Entries.{transaction_of, places_of, IsEntry, IsViewed, IsJudged, IsJudgedBy, IsJudgedOf, judge_refusal, illegal}
 use Rattle.transactions.specs.declared.entry.Entry.{Entry}
 use Rattle.transactions.specs.declared.entry.Judged.{Judged}
@@ -61,23 +61,27 @@ pub ends : (trees : List TreeMap) (number begun : ℕ) (old new : Slab Entry) (s
     (e.session == session && e.generation == tx.generation) ≡ true → is_active (transaction_of e) ≡ true → Updates old new tx.place (Some after) → transaction_of after ≡ ended outcome (transaction_of e) → ops ≡ e.ops.items →
     EndsWith (shown trees number begun old.slots) session tx outcome ops (shown trees number begun new.slots)
 ends trees number begun old new session tx outcome ops e after there its active u kept given = record {
-  one = transaction_of e;
-  found = own_found old.slots session tx e there its;
-  active = may_end (transaction_of e) active;
+  finishes = record {
+    one = transaction_of e;
+    found = own_found old.slots session tx e there its;
+    active = may_end (transaction_of e) active;
+    put = subst (λ t. Puts (places_of old.slots) (places_of new.slots) tx.place (Some t)) kept (puts old new tx.place (Some after) u);
+  };
   given = given;
   next = refl;
-  put = subst (λ t. Puts (places_of old.slots) (places_of new.slots) tx.place (Some t)) kept (puts old new tx.place (Some after) u);
 }
 
 -- a transaction is begun
-pub starts : (trees : List TreeMap) (number begun : ℕ) (old new : Slab Entry) (session : ℕ) (id : List ℕ) (place : ℕ) (e : Entry) → seat_refusal (shown trees number begun old.slots) ≡ None → slot old.slots place ≡ None →
-    Updates old new place (Some e) → transaction_of e ≡ fresh_transaction session id (begun + 1) → Starts (shown trees number begun old.slots) session id (record { place = place; generation = begun + 1 }) (shown trees number (begun + 1) new.slots)
-starts trees number begun old new session id place e free vacant u kept = record {
+pub begins : (trees : List TreeMap) (number begun : ℕ) (old new : Slab Entry) (session : ℕ) (id : List ℕ) (place : ℕ) (e : Entry) → seat_refusal (places_of old.slots) begun ≡ None → slot old.slots place ≡ None →
+    Updates old new place (Some e) → transaction_of e ≡ fresh_transaction session id (begun + 1) → Begins (shown trees number begun old.slots) session id (record { place = place; generation = begun + 1 }) (shown trees number (begun + 1) new.slots)
+begins trees number begun old new session id place e free vacant u kept = record {
   free = free;
-  vacant = at_of old.slots place ∙ ap (option_map transaction_of) vacant;
-  numbered = refl;
+  starts = record {
+    vacant = at_of old.slots place ∙ ap (option_map transaction_of) vacant;
+    numbered = refl;
+    put = subst (λ t. Puts (places_of old.slots) (places_of new.slots) place (Some t)) kept (puts old new place (Some e) u);
+  };
   next = refl;
-  put = subst (λ t. Puts (places_of old.slots) (places_of new.slots) place (Some t)) kept (puts old new place (Some e) u);
 }
 
 -- as many transactions are held as entries
@@ -92,17 +96,17 @@ count_shown slots = sym (length-entries_from 0 (places_of slots)) ∙ as_long 0 
 seats : (held begun : ℕ) (few left : Bool) → nat_le MOST_TRANSACTIONS held ≡ few → nat_le (2 ^ 64 - 1) begun ≡ left → (nat_le MOST_TRANSACTIONS held || nat_le (2 ^ 64 - 1) begun) ≡ (few || left)
 seats held begun few left e f = ap (λ b. b || nat_le (2 ^ 64 - 1) begun) e ∙ ap (λ b. few || b) f
 
-module _ (trees : List TreeMap) (number begun : ℕ) (slots : List (Option Entry)) (held : ℕ) (counted : held ≡ count_by is_some slots) where
-  by_count : seat_refusal (shown trees number begun slots) ≡ refused_if (nat_le MOST_TRANSACTIONS held || nat_le (2 ^ 64 - 1) begun) NoSeat
+module _ (begun : ℕ) (slots : List (Option Entry)) (held : ℕ) (counted : held ≡ count_by is_some slots) where
+  by_count : seat_refusal (places_of slots) begun ≡ refused_if (nat_le MOST_TRANSACTIONS held || nat_le (2 ^ 64 - 1) begun) NoSeat
   by_count = ap (λ n. refused_if (nat_le MOST_TRANSACTIONS n || nat_le (2 ^ 64 - 1) begun) NoSeat) (count_shown slots ∙ sym counted)
 
-  pub some_seat : held < MOST_TRANSACTIONS → begun + 1 < 2 ^ 64 → seat_refusal (shown trees number begun slots) ≡ None
+  pub some_seat : held < MOST_TRANSACTIONS → begun + 1 < 2 ^ 64 → seat_refusal (places_of slots) begun ≡ None
   some_seat few below = by_count ∙ ap (λ b. refused_if b NoSeat) (seats held begun false false (lt-leb MOST_TRANSACTIONS held few) (lt-leb (2 ^ 64 - 1) begun (omega (arith, below))))
 
-  pub no_seat : MOST_TRANSACTIONS ≤ held → seat_refusal (shown trees number begun slots) ≡ Some NoSeat
+  pub no_seat : MOST_TRANSACTIONS ≤ held → seat_refusal (places_of slots) begun ≡ Some NoSeat
   no_seat many = by_count ∙ ap (λ b. refused_if b NoSeat) (ap (λ b. b || nat_le (2 ^ 64 - 1) begun) (le-leb MOST_TRANSACTIONS held many))
 
-  pub none_left : held < MOST_TRANSACTIONS → 2 ^ 64 ≤ begun + 1 → seat_refusal (shown trees number begun slots) ≡ Some NoSeat
+  pub none_left : held < MOST_TRANSACTIONS → 2 ^ 64 ≤ begun + 1 → seat_refusal (places_of slots) begun ≡ Some NoSeat
   none_left few many = by_count ∙ ap (λ b. refused_if b NoSeat) (seats held begun false true (lt-leb MOST_TRANSACTIONS held few) (le-leb (2 ^ 64 - 1) begun (omega (arith, many))))
 
 -- a slab with more room has the same entries

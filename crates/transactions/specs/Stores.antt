@@ -35,12 +35,6 @@ abbrev pub Answers : Machine → Event → Result Reply Refusal → Machine → 
 Answers old event (Ok answer) new = Step old event answer new
 Answers old event (Err refusal) new = Step old event (reply.Refused refusal) new
 
--- why a change of so many bytes has no room
-abbrev pub room_refusal_for : Machine → ℕ → Option Refusal
-room_refusal_for machine long =
-    first_of (refused_if (nat_le MOST_HISTORY (length machine.accepted) || nat_le GREATEST_NUMBER (last_number machine)) HistoryFull)
-    (refused_if (nat_lt MOST_JOURNAL_BYTES (machine.room + (17 + long))) JournalFull)
-
 -- how machines are told apart: by their parts
 abbrev pub machine_code : Coded Machine
 machine_code =

@@ -12,7 +12,8 @@ use Rattle.reg_tree.specs.declared.op.Legality.TheVariants.{Legal}
 use Rattle.reg_tree.specs.declared.op.Legality.TheVariants as legality
 use Rattle.claims_law.specs.Skeleton.{Claim}
 use Rattle.machine.specs.Ends.{refusal_of}
-use Rattle.machine.specs.Machine.{refused_if, added_refusal_if, levels_made}
+use Rattle.machine.specs.Machine.{seat_refusal}
+use Rattle.machine.specs.Acts.{Starts, Adds, Opens, Finishes}
 use Rattle.machine.specs.Transactions.{Transaction, Places, Puts, at, own, view, is_active, ended, holds, with_op, fresh_transaction, count_held, inactive_refusal}
 use Rattle.machine.specs.declared.handle.Tx.{Tx}
 use Rattle.machine.specs.declared.handle.NotEnded.{NotEnded}
@@ -49,67 +50,31 @@ abbrev pub rolled_back_if : Bool → Option Transaction → Option Transaction
 rolled_back_if listed None = None
 rolled_back_if listed (Some one) = if listed then Some (rolled_back one) else Some one
 
--- 1,024 transactions are held, or 18,446,744,073,709,551,615 were begun
-abbrev pub seat_refusal : Table → Option Refusal
-seat_refusal table = refused_if (nat_le MOST_TRANSACTIONS (count_held table.places) || nat_le (2 ^ 64 - 1) table.begun) NoSeat
-
--- a transaction is begun at a place that is free
-pub record Starts (old : Table) (session : ℕ) (id : List ℕ) (tx : Tx) (new : Table) : Type 0 where
-  pub free : seat_refusal old ≡ None
-  pub vacant : at old.places tx.place ≡ None
-  pub numbered : tx.generation ≡ old.begun + 1
+-- a transaction is begun
+pub record Begins (old : Table) (session : ℕ) (id : List ℕ) (tx : Tx) (new : Table) : Type 0 where
+  pub free : seat_refusal old.places old.begun ≡ None
+  pub starts : Starts old.places old.begun session id tx new.places
   pub next : new ≡ record old { begun = old.begun + 1; places = new.places }
-  pub put : Puts old.places new.places tx.place (Some (fresh_transaction session id tx.generation))
 
--- an operation is the last of a transaction's
-pub record Adds (old : Table) (session : ℕ) (tx : Tx) (moment : ℕ) (op : Op) (levels : Option ℕ) (new : Table) : Type 0 where
-  pub one : Transaction
-  pub found : own old.places session tx ≡ Some one
-  pub free : added_refusal_if old.trees old.places tx.place op (Some one) ≡ None
-  pub is_legal : legal (view old.trees one) op ≡ Ok Legal
-  pub made : levels ≡ levels_made (view old.trees one) op
-  pub next : new ≡ record old { places = new.places }
-  pub put : Puts old.places new.places tx.place (Some (with_op one op moment))
+-- something is done with a transaction, and nothing else changes
+abbrev pub ChangesPlaces : Table → Type 0 → Table → Type 0
+ChangesPlaces old act new = act × (new ≡ record old { places = new.places })
 
--- a key that is there in a transaction's view is opened, and nothing changes
-pub record Opens (old : Table) (session : ℕ) (tx : Tx) (op : Op) (new : Table) : Type 0 where
-  pub one : Transaction
-  pub found : own old.places session tx ≡ Some one
-  pub free : added_refusal_if old.trees old.places tx.place op (Some one) ≡ None
-  pub is_there : legal (view old.trees one) op ≡ Ok legality.Opened
-  pub next : new ≡ old
-
+-- an operation is the last of a transaction's, or opens a key that is there in its view
 abbrev pub Writes : Table → ℕ → Tx → ℕ → Op → Written → Table → Type 0
-Writes old session tx moment op (Added levels) new = Adds old session tx moment op levels new
-Writes old session tx moment op Opened new = Opens old session tx op new
+Writes old session tx moment op (Added levels) new =
+    ChangesPlaces old (Adds old.trees old.places (own old.places session tx) tx.place moment op levels new.places) new
+Writes old session tx moment op Opened new = Opens old.trees old.places (own old.places session tx) tx.place op × (new ≡ old)
 
--- a transaction ends
-pub record Finishes (old : Table) (session : ℕ) (tx : Tx) (outcome : Outcome) (new : Table) : Type 0 where
-  pub one : Transaction
-  pub found : own old.places session tx ≡ Some one
-  pub active : inactive_refusal (Some one) ≡ None
-  pub next : new ≡ record old { places = new.places }
-  pub put : Puts old.places new.places tx.place (Some (ended outcome one))
-
--- it ends, and these were its operations
+-- a transaction ends, and these were its operations
 pub record EndsWith (old : Table) (session : ℕ) (tx : Tx) (outcome : Outcome) (ops : List Op) (new : Table) : Type 0 where
-  pub one : Transaction
-  pub found : own old.places session tx ≡ Some one
-  pub active : inactive_refusal (Some one) ≡ None
-  pub given : ops ≡ one.ops
+  pub finishes : Finishes old.places (own old.places session tx) tx.place outcome new.places
+  pub given : ops ≡ finishes.one.ops
   pub next : new ≡ record old { places = new.places }
-  pub put : Puts old.places new.places tx.place (Some (ended outcome one))
 
 -- a transaction that isn't there, or isn't active, does not end
 abbrev pub IsNotEnded : Table → ℕ → Tx → NotEnded → Table → Type 0
 IsNotEnded old session tx why new = (inactive_refusal (own old.places session tx) ≡ Some (refusal_of why)) × (new ≡ old)
-
--- a transaction is let go
-pub record Closes (old : Table) (session : ℕ) (tx : Tx) (new : Table) : Type 0 where
-  pub one : Transaction
-  pub found : own old.places session tx ≡ Some one
-  pub next : new ≡ record old { places = new.places }
-  pub put : Puts old.places new.places tx.place None
 
 -- these are the operations of an active transaction, and its length as a change
 pub record IsPendingOf (one : Transaction) (ops : List Op) (length : ℕ) : Type 0 where

@@ -12,13 +12,10 @@ use machine::{Found, Outcome, Question, levels_made, looked_up};
 use refusals::Refusal;
 use refusals::limits::MOST_ELEMENT_BYTES;
 use reg_names::Path;
-use reg_tree::{Op, Trees};
+use reg_tree::{CHANGE_BYTES, Op, Trees};
 use std::alloc::{AllocError, Global};
 use std::mem;
 use uuid::Uuid;
-
-/// Bytes of a change as journal text beside its operations.
-pub(crate) const CHANGE_BYTES: u64 = 16;
 
 /// The trees with a transaction's operations applied at a moment, made when the last accepted change had a number.
 #[derive(Drop)]

@@ -1,28 +1,23 @@
 //! A store without a disk: one step makes all accepted changes durable.
-ghost use Rattle.std.specs.Prelude.{◌≡◌, ◌+◌, ◌⊎◌, ◌==◌, true, false, Some, None, IfOk, MatchResult};
+ghost use Rattle.std.specs.Prelude.{◌≡◌, ◌≤◌, ◌+◌, ◌⊎◌, ◌==◌, true, false, Some, None, IfOk, MatchResult};
 ghost use Rattle.std.specs.List.{list_any};
 ghost use Rattle.refusals.specs.declared.refusal.Refusal.TheVariants.{NoSuchHandle};
-ghost use Rattle.machine.specs.Steps.{Step};
-ghost use Rattle.machine.specs.Machine.{fresh_machine, last_number};
-ghost use Rattle.transactions.specs.Stores.{Answers, room_refusal_for};
+ghost use Rattle.refusals.specs.declared.limits.TheConstants.{MOST_TREES};
+ghost use Rattle.machine.specs.Steps.{Step, is_step};
+ghost use Rattle.machine.specs.Machine.{fresh_machine, last_number, room_refusal};
+ghost use Rattle.transactions.specs.Stores.{Answers};
 
-use crate::entry::CHANGE_BYTES;
 use crate::table::{TxTable, Written};
+use machine::room::{CHANGE_START, JOURNAL_START};
 use machine::{Event, Progress, Question, Reply, Sessions, Tx, levels_made, looked_up};
 use refusals::Refusal;
 use refusals::limits::{MOST_HISTORY, MOST_JOURNAL_BYTES};
 use reg_names::Path;
-use reg_tree::{Element, Op, Ops, Trees};
+use reg_tree::{CHANGE_BYTES, Element, Op, Ops, Trees};
 use std::alloc::{AllocError, Global};
 use std::marker::Model;
 use std::snapshot::Snapshot;
 use uuid::Uuid;
-
-/// Bytes of the journal's header and first gate.
-const JOURNAL_START: u64 = 65;
-
-/// Bytes that the journal takes for a change beside its text.
-const CHANGE_START: u64 = 17;
 
 /// A store in memory, seen by contracts as the state of the machine.
 ///
@@ -54,8 +49,10 @@ impl Model for PlainStore {
 }
 
 impl PlainStore {
-    /// A store of this many new hives.
+    /// A store of this many new hives: 1 to 17.
     pub fn new(alloc: Global, hives: usize) -> Result<PlainStore, AllocError>
+        requires some { 1 ≤ hives }
+        requires few { hives ≤ MOST_TREES }
         ensures { IfOk result (λ store. store ≡ fresh_machine hives) }
     {
         let trees = Trees::new(alloc, hives)?;
@@ -70,10 +67,12 @@ impl PlainStore {
         })
     }
 
-    /// One event: a step of the machine. After a step of the journal each accepted change is durable.
+    /// One event: a step of the machine. After a step of the journal each accepted change is durable; no step frees
+    /// room of the journal.
     pub fn event(&mut self, event: Event) -> Reply
         ensures step { Step self.old event result self.new }
         ensures durable { event ≡ Event.JournalStep → self.new.durable ≡ last_number self.new }
+        ensures room { is_step event ≡ true → self.new.room ≡ self.old.room }
     {
         match self.answer(event) {
             Ok(reply) => reply,
@@ -84,6 +83,7 @@ impl PlainStore {
     fn answer(&mut self, event: Event) -> Result<Reply, Refusal>
         ensures step { Answers self.old event result self.new }
         ensures durable { event ≡ Event.JournalStep → self.new.durable ≡ last_number self.new }
+        ensures room { is_step event ≡ true → self.new.room ≡ self.old.room }
     {
         match event {
             Event::StartSession { session } => self.start_session(session),
@@ -189,7 +189,7 @@ impl PlainStore {
 
     // the room that the journal has used with one change more, of so many bytes
     fn room_with(&self, length: u64) -> Result<u64, Refusal>
-        ensures { MatchResult result (λ room. (room_refusal_for self.now length ≡ None) × (room ≡ self.now.room + (17 + length))) (λ refusal. room_refusal_for self.now length ≡ Some refusal) }
+        ensures { MatchResult result (λ room. (room_refusal self.now length ≡ None) × (room ≡ self.now.room + (17 + length))) (λ refusal. room_refusal self.now length ≡ Some refusal) }
     {
         if self.accepted.len() as u64 >= MOST_HISTORY {
             return Err(Refusal::HistoryFull);
@@ -310,15 +310,18 @@ impl PlainStore {
     fn journal_step(&mut self) -> Reply
         ensures step { Step self.old Event.JournalStep result self.new }
         ensures durable { self.new.durable ≡ last_number self.new }
+        ensures room { self.new.room ≡ self.old.room }
     {
         let number = self.table.number();
-        let progress = if self.durable == number {
-            Progress::Idle
-        } else {
-            Progress::Done
-        };
+        if self.durable == number {
+            return Reply::Stepped {
+                progress: Progress::Idle,
+            };
+        }
         self.durable = number;
-        Reply::Stepped { progress }
+        Reply::Stepped {
+            progress: Progress::Done,
+        }
     }
 
     fn flusher_step(&self, hive: u8) -> Result<Reply, Refusal>

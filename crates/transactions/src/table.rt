@@ -7,8 +7,9 @@ ghost use Rattle.reg_tree.specs.Texts.{ops_text_len};
 ghost use Rattle.conflicts.specs.Claims.{claim_of};
 ghost use Rattle.machine.specs.Ends.{refusal_of};
 ghost use Rattle.transactions.specs.Entries.{transaction_of, MayAdd, IsAdded, IsJudgedOf, judge_refusal};
-ghost use Rattle.machine.specs.Machine.{refused_if, first_of, read_refusal, seen, added_refusal_if, too_long};
-ghost use Rattle.transactions.specs.Tables.{Denies, Starts, Writes, Finishes, EndsWith, IsNotEnded, Closes, IsPending, seat_refusal, is_of, holds_if, is_listed, rolled_back_if};
+ghost use Rattle.machine.specs.Acts.{Finishes, Closes};
+ghost use Rattle.machine.specs.Machine.{refused_if, first_of, read_refusal, seen, seat_refusal, added_refusal_if, too_long};
+ghost use Rattle.transactions.specs.Tables.{Denies, Begins, ChangesPlaces, Writes, EndsWith, IsNotEnded, IsPending, is_of, holds_if, is_listed, rolled_back_if};
 ghost use Rattle.machine.specs.Transactions.{Transaction, at, own, is_claimed, is_active_outcome, Becomes, Puts, gone_with, count_held, missing_refusal, inactive_refusal};
 
 use crate::entry::{Entry, Judged, View};
@@ -119,7 +120,7 @@ impl TxTable {
     /// Begins a transaction for a unit of work, which may be any. Refused with `NoSeat` exactly where 1,024
     /// transactions are held or 18,446,744,073,709,551,615 were begun, and with `NoMemory`.
     pub fn begin(&mut self, session: u32, id: Uuid) -> Result<Tx, Refusal>
-        ensures { MatchResult result (λ tx. Starts self.old session id tx self.new) (λ refusal. Denies self.old (seat_refusal self.old) refusal self.new) }
+        ensures { MatchResult result (λ tx. Begins self.old session id tx self.new) (λ refusal. Denies self.old (seat_refusal self.old.places self.old.begun) refusal self.new) }
     {
         if self.places.len() >= MOST_TRANSACTIONS {
             return Err(Refusal::NoSeat);
@@ -285,7 +286,7 @@ impl TxTable {
 
     /// Rolls an active transaction back. Takes no memory.
     pub fn rollback(&mut self, session: u32, tx: Tx) -> Result<(), NotEnded>
-        ensures { MatchResult result (λ _. Finishes self.old session tx Outcome.RolledBack self.new) (λ why. IsNotEnded self.old session tx why self.new) }
+        ensures { MatchResult result (λ _. ChangesPlaces self.old (Finishes self.old.places (own self.old.places session tx) tx.place Outcome.RolledBack self.new.places) self.new) (λ why. IsNotEnded self.old session tx why self.new) }
     {
         self.end(session, tx, Outcome::RolledBack)?;
         Ok(())
@@ -312,7 +313,7 @@ impl TxTable {
 
     /// Lets a transaction go; one that is active is rolled back. Takes no memory.
     pub fn close(&mut self, session: u32, tx: Tx) -> Result<(), NoSuchTransaction>
-        ensures { MatchResult result (λ _. Closes self.old session tx self.new) (λ _. (own self.old.places session tx ≡ None) × (self.new ≡ self.old)) }
+        ensures { MatchResult result (λ _. ChangesPlaces self.old (Closes self.old.places (own self.old.places session tx) tx.place self.new.places) self.new) (λ _. (own self.old.places session tx ≡ None) × (self.new ≡ self.old)) }
     {
         if self.own(session, tx).is_none() {
             return Err(NoSuchTransaction);

@@ -1,8 +1,8 @@
 //! The node of the root after one operation: a new node along the operation's path, all else shared.
-ghost use Rattle.std.specs.Prelude.{◌≡◌, ◌<◌, List, [], ◌∷◌, ◌++◌, ℕ, cond, length, IsSome, Some, None, IfOk, MatchResult, ◌⊎◌, false};
+ghost use Rattle.std.specs.Prelude.{◌≡◌, ◌<◌, true, List, [], ◌∷◌, ◌++◌, ℕ, cond, length, IsSome, Some, None, IfOk, MatchResult, ◌⊎◌, false};
 ghost use Rattle.std.specs.Result.{is_err};
 ghost use Rattle.std.specs.Ordering.{eq_by_cmp};
-ghost use Rattle.reg_names.specs.Names.{folded, folded_path};
+ghost use Rattle.reg_names.specs.Names.{folded, folded_path, is_path, is_value_name};
 ghost use Rattle.refusals.specs.Answers.{IsOrNoMemory};
 ghost use Rattle.reg_tree_parts.specs.Orders.{path_order};
 ghost use Rattle.reg_tree_parts.specs.Rows.{Row};
@@ -12,6 +12,7 @@ ghost use Rattle.reg_tree.specs.Maps.{row, is_there, subkeys, weight};
 ghost use Rattle.reg_tree.specs.Operations.{row_created, row_deleted, row_edited, row_after};
 ghost use Rattle.reg_tree.specs.Judgement.{judged, changed, legal_in, legal_after, IsWritten};
 ghost use Rattle.reg_tree.specs.Fresh.{fresh_row, fresh_tree};
+ghost use Rattle.reg_tree.specs.Spellable.{IsNamed};
 
 use super::Tree;
 use crate::op::{Legality, Op};
@@ -50,6 +51,7 @@ impl Tree {
         requires { IsSome (row self.now (folded_path path.now)) }
         ensures rows { IfOk result (λ made. (q : List (List ℕ)) → row_at made q ≡ row_edited (λ key. record key { values = values_with key.values name.now kind data.now }) self.now (folded_path path.now) moment q) }
         ensures node { IfOk result IsNode }
+        ensures named { (is_path path.now ≡ true) × (is_value_name name.now ≡ true) }
     {
         let Some(node) = self.node(path.names()) else {
             unreachable!();
@@ -71,6 +73,7 @@ impl Tree {
         requires { IsSome (row self.now (folded_path path.now)) }
         ensures rows { IfOk result (λ made. (q : List (List ℕ)) → row_at made q ≡ row_edited (λ key. record key { values = values_without key.values name.now }) self.now (folded_path path.now) moment q) }
         ensures node { IfOk result IsNode }
+        ensures named { (is_path path.now ≡ true) × (is_value_name name.now ≡ true) }
     {
         let Some(node) = self.node(path.names()) else {
             unreachable!();
@@ -88,6 +91,7 @@ impl Tree {
         requires alone { length (subkeys self.now (folded_path path.now)) ≡ 0 }
         ensures rows { IfOk result (λ made. (q : List (List ℕ)) → row_at made q ≡ row_deleted self.now (folded_path path.now) moment q) }
         ensures node { IfOk result IsNode }
+        ensures named { is_path path.now ≡ true }
     {
         let Some((last, parent)) = path.names().split_last() else {
             unreachable!();
@@ -105,6 +109,7 @@ impl Tree {
         requires { is_there self.now (folded_path path.now) ≡ false }
         ensures rows { IfOk result (λ made. (q : List (List ℕ)) → row_at made q ≡ row_created self.now path.now moment q) }
         ensures node { IfOk result IsNode }
+        ensures named { is_path path.now ≡ true }
     {
         let names = path.names();
         let (node, depth) = self.nearest(names);
@@ -124,6 +129,7 @@ impl Tree {
         requires { judged self.now op.now ≡ Ok Legality.Legal }
         ensures rows { IfOk result (λ made. (q : List (List ℕ)) → row_at made q ≡ row_after self.now op.now moment q) }
         ensures node { IfOk result IsNode }
+        ensures named { IsNamed op.now }
     {
         match op {
             Op::CreateKey { path, .. } => self.create_key(alloc, path, moment),
@@ -241,6 +247,8 @@ fn fresh_key(alloc: Global) -> Result<Key, AllocError>
 
 // the flags of a new hive's root: that of a root, and not to be deleted
 const FRESH_FLAGS: u16 = 0x000c;
+
+const _: () = prove!(FRESH_FLAGS == 0x000c);
 
 // a self-relative security descriptor of revision 1 without owner, group and lists
 const FRESH_DESCRIPTOR: [u8; 20] = [

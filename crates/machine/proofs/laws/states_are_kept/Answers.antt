@@ -6,6 +6,7 @@ laws c = record {
   trees = c.trees_stay.ensures.all;
   past = c.stay_legal.ensures;
   more = c.one_more.ensures;
+  light = c.weight_alone_refuses.ensures;
   holders = c.holders_are_exact.ensures.who;
 }
 

@@ -1,4 +1,4 @@
-use Rattle.reg_tree_parts.proofs.Rises.{is_node}
+use Rattle.reg_tree_parts.proofs.Parents.{is_node}
 use Rattle.reg_tree_parts.proofs.node.Node.made.Goals as goal
 
 pub returns-clause-node : goal.returns-clause-node

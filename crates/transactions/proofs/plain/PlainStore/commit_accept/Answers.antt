@@ -1,5 +1,5 @@
 use Rattle.std.proofs.Common.{◌≡◌, ◌+◌, None, List, [], ◌∷◌, ◌++◌}
-use Rattle.transactions.specs.Stores.{room_refusal_for}
+use Rattle.machine.specs.Machine.{room_refusal}
 use Rattle.std.proofs.Common.{sym, ◌∙◌, ap}
 use Rattle.machine.specs.Machine.{fault, is_open}
 use Rattle.transactions.proofs.Stored.{closed_commit}
@@ -51,8 +51,8 @@ returns-in_err-room c =
 abbrev old_store : (c : goal.After-drop-element) → Machine
 old_store c = store_of c.self.inside.opened.value c.self.inside.accepted.items c.self.inside.sessions c.self.inside.table c.self.inside.durable c.self.inside.room
 
-roomy : (c : goal.After-drop-element) → room_refusal_for (old_store c) c.in_ok-pending.pending.text_len ≡ None
-roomy c = ap (λ m. room_refusal_for m c.in_ok-pending.pending.text_len) c.self.view_is ∙ c.in_ok-room.ensures.0
+roomy : (c : goal.After-drop-element) → room_refusal (old_store c) c.in_ok-pending.pending.text_len ≡ None
+roomy c = ap (λ m. room_refusal m c.in_ok-pending.pending.text_len) c.self.view_is ∙ c.in_ok-room.ensures.0
 
 added : (c : goal.After-drop-element) → c.push_reserved.new.self.items ≡ c.self.inside.accepted.items ++ c.of.result ∷ []
 added c = c.push_reserved.ensures.items ∙ ap (λ (x : List (Snapshot Element)). x ++ c.of.result ∷ []) c.reserve.ensures.items

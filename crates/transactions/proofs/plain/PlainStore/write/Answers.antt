@@ -1,5 +1,5 @@
 use Rattle.std.proofs.Common.{◌≡◌, ◌+◌, None, List, [], ◌∷◌, ◌++◌}
-use Rattle.transactions.specs.Stores.{room_refusal_for}
+use Rattle.machine.specs.Machine.{room_refusal}
 use Rattle.std.proofs.Common.{sym, ◌∙◌, ap}
 use Rattle.machine.specs.Machine.{fault, is_open}
 use Rattle.transactions.proofs.Stored.{closed_write}
@@ -48,8 +48,8 @@ cut c = cut_change c.args.moment c.args.op c.text_len.result c.saturating_add.re
 abbrev old_store : (c : goal.After-drop-holders-inside-2) → Machine
 old_store c = store_of c.self.inside.opened.value c.self.inside.accepted.items c.self.inside.sessions c.self.inside.table c.self.inside.durable c.self.inside.room
 
-roomy : (c : goal.After-drop-holders-inside-2) → room_refusal_for (old_store c) c.saturating_add.result ≡ None
-roomy c = ap (λ m. room_refusal_for m c.saturating_add.result) c.self.view_is ∙ c.in_ok-room.ensures.0
+roomy : (c : goal.After-drop-holders-inside-2) → room_refusal (old_store c) c.saturating_add.result ≡ None
+roomy c = ap (λ m. room_refusal m c.saturating_add.result) c.self.view_is ∙ c.in_ok-room.ensures.0
 
 added : (c : goal.After-drop-holders-inside-2) → c.push_reserved.new.self.items ≡ c.self.inside.accepted.items ++ c.of.result ∷ []
 added c = c.push_reserved.ensures.items ∙ ap (λ (x : List (Snapshot Element)). x ++ c.of.result ∷ []) c.reserve.ensures.items
@@ -73,7 +73,7 @@ returns c =
     (store_of c.self.inside.opened.value c.push_reserved.new.self.items c.self.inside.sessions c.roll_back_all.new.self c.self.inside.durable c.in_ok-room.room)) c.self.view_is
     (accepts c.self.inside.opened.value c.self.inside.accepted.items c.push_reserved.new.self.items c.self.inside.sessions c.self.inside.table c.moved.new.self c.roll_back_all.new.self c.self.inside.durable c.self.inside.room c.in_ok-room.room
     c.of.result c.args.session c.args.moment c.number.result c.args.op c.levels_made-levels.result c.in-Some.made c.in_ok-holders.holders c.self.invariant c.in_ok-open.ensures
-    (ap (λ x. legal x c.args.op) (sym c.trees.ensures) ∙ (written c).0) (ap (room_refusal_for (old_store c)) (sym exact) ∙ roomy c)
+    (ap (λ x. legal x c.args.op) (sym c.trees.ensures) ∙ (written c).0) (ap (room_refusal (old_store c)) (sym exact) ∙ roomy c)
     (c.levels_made-levels.ensures ∙ ap (λ x. levels_made x c.args.op) c.trees-2.ensures) c.number.ensures (added c) (recorded_is c)
     (c.in_ok-room.ensures.1 ∙ ap (λ m. m.room + (17 + c.saturating_add.result)) (sym c.self.view_is) ∙ ap (λ x. c.self.inside.room + (17 + x)) exact)
     c.moved.ensures c.roll_back_all.ensures.rest c.roll_back_all.ensures.rolled_back c.in_ok-holders.ensures)

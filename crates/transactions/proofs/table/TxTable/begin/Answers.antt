@@ -1,7 +1,8 @@
 use Rattle.std.proofs.Common.{◌≡◌, ◌+◌, ◌<◌, ◌^◌, Some, None}
 use Rattle.refusals.specs.declared.refusal.Refusal.TheVariants.{NoSeat}
 use Rattle.transactions.specs.Entries.{transaction_of}
-use Rattle.transactions.specs.Tables.{Starts, seat_refusal}
+use Rattle.transactions.specs.Tables.{Begins}
+use Rattle.machine.specs.Machine.{seat_refusal}
 use Rattle.machine.specs.Transactions.{fresh_transaction}
 use Rattle.std.proofs.Common.{inl, refl, sym, ◌∙◌, ap, subst}
 use Rattle.slab.specs.Slab.{Updates}
@@ -10,7 +11,7 @@ use Rattle.transactions.specs.Entries.{AreKept}
 use Rattle.transactions.specs.Tables.{Table}
 use Rattle.transactions.proofs.Kept.{kept_begun}
 use Rattle.transactions.proofs.Slots.{slot}
-use Rattle.transactions.proofs.Ways.{starts, begun_entry, shown, no_seat, some_seat, updates_of, slot_of}
+use Rattle.transactions.proofs.Ways.{begins, begun_entry, shown, no_seat, some_seat, updates_of, slot_of}
 use Rattle.transactions.proofs.table.TxTable.begin.Goals as goal
 
 next : (c : goal.After-insert_reserved-place) → c.in-Some.generation ≡ c.self.inside.begun + 1
@@ -31,7 +32,7 @@ kept c = c.begun-entry.ensures.kept ∙ ap (fresh_transaction c.args.session c.a
 -- src/table.rt:124:13
 pub returns-then-len-ge-MOST_TRANSACTIONS : goal.returns-then-len-ge-MOST_TRANSACTIONS
 returns-then-len-ge-MOST_TRANSACTIONS c =
-    (inl (subst (λ (t : Table). seat_refusal t ≡ Some NoSeat) c.self.view_is (no_seat c.self.inside.trees c.self.inside.number c.self.inside.begun c.self.inside.places.slots c.len.result c.len.ensures c.if-len-ge-MOST_TRANSACTIONS.true)), refl)
+    (inl (subst (λ (t : Table). seat_refusal t.places t.begun ≡ Some NoSeat) c.self.view_is (no_seat c.self.inside.begun c.self.inside.places.slots c.len.result c.len.ensures c.if-len-ge-MOST_TRANSACTIONS.true)), refl)
 
 -- src/table.rt:120:5
 pub invariant_of-self-2 : goal.invariant_of-self-2
@@ -44,8 +45,8 @@ invariant_of-self-2 c =
 -- src/table.rt:120:5
 pub returns : goal.returns
 returns c =
-    subst (λ (t : Table). Starts t c.args.session c.args.id (record { place = c.insert_reserved-place.result; generation = c.in-Some.generation }) (shown c.self.inside.trees c.self.inside.number c.in-Some.generation c.insert_reserved-place.new.self.slots)) c.self.view_is
-    (subst (λ generation. Starts (shown c.self.inside.trees c.self.inside.number c.self.inside.begun c.self.inside.places.slots) c.args.session c.args.id (record { place = c.insert_reserved-place.result; generation = generation })
+    subst (λ (t : Table). Begins t c.args.session c.args.id (record { place = c.insert_reserved-place.result; generation = c.in-Some.generation }) (shown c.self.inside.trees c.self.inside.number c.in-Some.generation c.insert_reserved-place.new.self.slots)) c.self.view_is
+    (subst (λ generation. Begins (shown c.self.inside.trees c.self.inside.number c.self.inside.begun c.self.inside.places.slots) c.args.session c.args.id (record { place = c.insert_reserved-place.result; generation = generation })
     (shown c.self.inside.trees c.self.inside.number generation c.insert_reserved-place.new.self.slots)) (sym (next c))
-    (starts c.self.inside.trees c.self.inside.number c.self.inside.begun c.self.inside.places c.insert_reserved-place.new.self c.args.session c.args.id c.insert_reserved-place.result c.begun-entry.result
-    (some_seat c.self.inside.trees c.self.inside.number c.self.inside.begun c.self.inside.places.slots c.len.result c.len.ensures c.if-len-ge-MOST_TRANSACTIONS.false (below c)) (vacant c) (changed c) (kept c)))
+    (begins c.self.inside.trees c.self.inside.number c.self.inside.begun c.self.inside.places c.insert_reserved-place.new.self c.args.session c.args.id c.insert_reserved-place.result c.begun-entry.result
+    (some_seat c.self.inside.begun c.self.inside.places.slots c.len.result c.len.ensures c.if-len-ge-MOST_TRANSACTIONS.false (below c)) (vacant c) (changed c) (kept c)))
