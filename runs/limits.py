@@ -169,23 +169,3 @@ run(
     ],
     1,
 )
-
-# the same value over and over; what was accepted stays readable, and an empty transaction still commits
-run(
-    "one opening accepts 1,048,576 changes",
-    [
-        (f"begin t {ID}", "ok"),
-        (f"begin u {ID}", "ok"),
-        *[("set 0: v 4 -", f"accepted {number}") for number in range(1, 1_048_576)],
-        ("tx t set 0: w 4 -", "ok"),
-        ("commit t", "committed 1048576"),
-        ("set 0: v 4 01", "E12 HistoryFull"),
-        (f"begin t {ID}", "ok"),
-        ("tx t create 0:K", "created 1"),
-        ("commit t", "E12 HistoryFull"),
-        ("outcome t", "active"),
-        ("commit u", "committed 0"),
-        ("get 0: v", "value 4 -"),
-    ],
-    1,
-)
