@@ -32,11 +32,9 @@ impl Player {
         ensures none { IfOk result (λ made. IfNone made (hives_asked bytes.now ≡ None)) }
         ensures some { IfOk result (λ made. IfSome made (λ player. (hives : ℕ) × (hives_asked bytes.now ≡ Some hives) × (script_of player ≡ fresh_script hives))) }
     {
+        reg_script::grammar::reads_what_is_spelled();
         match read_line(alloc, bytes) {
-            Ok(Line::Hives { count }) => {
-                reg_script::grammar::reads_what_is_spelled();
-                Ok(Some(Player::new(alloc, count)?))
-            }
+            Ok(Line::Hives { count }) => Ok(Some(Player::new(alloc, count)?)),
             Ok(_) | Err(Unread::NotUnderstood) => Ok(None),
             Err(Unread::NoMemory) => Err(AllocError),
         }
