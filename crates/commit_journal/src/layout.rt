@@ -13,5 +13,7 @@ pub const FIRST_GATE: u64 = 64;
 pub const MOST_BODY_BYTES: u64 = 8_388_608;
 
 const _: () = prove!(OPEN_GATE == 0xc3);
+
 const _: () = prove!(FIRST_GATE == 64);
+
 const _: () = prove!(MOST_BODY_BYTES == 8 * 1_048_576);
