@@ -11,28 +11,31 @@ use Rattle.base_block.specs.Layout.{is_clean_block}
 abbrev pub IsBinsSize : ℕ → Type 0
 IsBinsSize size = (size % 4096 ≡ 0) × (size ≢ 0)
 
--- the versions and the format of the profile: 1.5, format 1
-abbrev pub IsOfProfile : BaseBlock → Type 0
-IsOfProfile b = (b.major ≡ 1) × (b.minor ≡ 5) × (b.format ≡ 1)
+-- the versions and the format that a primary file may have: 1.5, format 1
+abbrev pub IsPrimaryVersion : BaseBlock → Type 0
+IsPrimaryVersion b = (b.major ≡ 1) × (b.minor ≡ 5) × (b.format ≡ 1)
 
--- what every block that is used has: `regf`, versions and format of the profile, a bins size within the limit
+-- those that a log may have: 1.5, format 1
+abbrev pub IsLogVersion : BaseBlock → Type 0
+IsLogVersion b = (b.major ≡ 1) × (b.minor ≡ 5) × (b.format ≡ 1)
+
+-- what every block that is used has, whatever its file is: `regf`, and a bins size within the limit
 pub record IsUsable (b : BaseBlock) : Type 0 where
   pub signature : b.signature.0 ≡ 0x6667_6572
-  pub profile : IsOfProfile b
   pub bins_size : IsBinsSize b.bins_size
   pub within : b.bins_size ≤ MOST_BINS_BYTES
 
 -- a block of a primary file that may be used
 abbrev pub IsPrimary : BaseBlock → Type 0
-IsPrimary b = IsUsable b × (b.file_type.0 ≡ 0)
+IsPrimary b = IsUsable b × IsPrimaryVersion b × (b.file_type.0 ≡ 0)
 
--- a block of a whole log: clean, and of the type 1 or 2
+-- a block of a whole log: clean, of a log's version, and of the type 1 or 2
 abbrev pub IsLog : BaseBlock → Type 0
-IsLog b = IsUsable b × IsTrue (is_clean_block b) × ((b.file_type.0 ≡ 1) ⊎ (b.file_type.0 ≡ 2))
+IsLog b = IsUsable b × IsTrue (is_clean_block b) × IsLogVersion b × ((b.file_type.0 ≡ 1) ⊎ (b.file_type.0 ≡ 2))
 
 -- why a primary file's block is refused: the refusal's reason stands in the block
 abbrev pub PrimaryRefused : BaseBlock → Refusal → Type 0
 PrimaryRefused b (refusal.HiveDamaged zero cause.BadBase) = (b.signature.0 ≢ 0x6667_6572) ⊎ (¬ IsBinsSize b.bins_size)
-PrimaryRefused b refusal.Unsupported = ¬ (IsOfProfile b × (b.file_type.0 ≡ 0))
+PrimaryRefused b refusal.Unsupported = ¬ (IsPrimaryVersion b × (b.file_type.0 ≡ 0))
 PrimaryRefused b refusal.TooLarge = MOST_BINS_BYTES < b.bins_size
 PrimaryRefused b _ = ⊥

@@ -2,7 +2,7 @@
 //! file, or that of the log which an unclean one is repaired from.
 
 ghost use Rattle.std.specs.Prelude.{◌≡◌, ◌↔◌, IsOk, IfErr, IsTrue};
-ghost use Rattle.base_block.specs.Judgements.{IsPrimary, IsLog, IsUsable, IsBinsSize, IsOfProfile, PrimaryRefused};
+ghost use Rattle.base_block.specs.Judgements.{IsPrimary, IsLog, IsUsable, IsBinsSize, IsPrimaryVersion, IsLogVersion, PrimaryRefused};
 
 use crate::block::{BaseBlock, FILE_FORMAT, MAJOR_VERSION, MINOR_VERSION};
 use crate::fields::{FileType, Signature};
@@ -12,23 +12,26 @@ use refusals::{Cause, Refusal};
 // bins data come in bins of this many bytes, or of multiples of it
 const BIN_BYTES: u32 = 4096;
 
+// the numbers of the format, so that a slip in one of them is no crate
+const _: () = prove!(MAJOR_VERSION == 1);
+const _: () = prove!(MINOR_VERSION == 5);
+const _: () = prove!(FILE_FORMAT == 1);
+const _: () = prove!(BIN_BYTES == 4096);
+
 impl BaseBlock {
     /// Judges the block of a primary file that is used. Refused with `HiveDamaged` of hive 0 with the
     /// cause `BadBase` where the signature isn't `regf` or the bins size is 0 or no multiple of 4,096,
-    /// with `Unsupported` where a version, the format or the type is outside the profile (1.5, format 1,
-    /// type 0), and with `TooLarge` where the bins size is over the limit. Where several of these hold,
+    /// with `Unsupported` where a version, the format or the type is outside a primary file's profile (1.5,
+    /// format 1, type 0), and with `TooLarge` where the bins size is over the limit. Where several of these hold,
     /// one of them is told.
     pub fn judge_primary(&self) -> Result<(), Refusal>
         ensures ok { IsOk result ↔ IsPrimary self.now }
         ensures why { IfErr result (PrimaryRefused self.now) }
     {
         if self.signature != Signature::REGF || !self.has_bins_size() {
-            return Err(Refusal::HiveDamaged {
-                hive: 0,
-                cause: Cause::BadBase,
-            });
+            return Err(Refusal::from(Cause::BadBase));
         }
-        if !self.is_of_profile() || self.file_type != FileType::PRIMARY {
+        if !self.is_primary_version() || self.file_type != FileType::PRIMARY {
             return Err(Refusal::Unsupported);
         }
         if self.bins_size as usize > MOST_BINS_BYTES {
@@ -38,35 +41,42 @@ impl BaseBlock {
     }
 
     /// Judges the block of a log that is used. Refused with `HiveDamaged` of hive 0 with the cause
-    /// `BadLog` alone: where the sum is wrong or the numbers differ, where the signature, a version or the
-    /// format isn't the profile's, where the type is neither 1 nor 2, and where the bins size is 0, no
-    /// multiple of 4,096 or over the limit.
+    /// `BadLog` alone: where the sum is wrong or the numbers differ, where the signature isn't `regf`, where a
+    /// version or the format is outside a log's profile (1.5, format 1), where the type is neither 1 nor 2,
+    /// and where the bins size is 0, no multiple of 4,096 or over the limit.
     pub fn judge_log(&self) -> Result<(), Refusal>
         ensures ok { IsOk result ↔ IsLog self.now }
         ensures why { IfErr result (λ e. e ≡ Refusal.HiveDamaged 0 Cause.BadLog) }
     {
-        if self.is_usable() && self.is_clean() && self.file_type.is_log() {
+        if self.is_usable()
+            && self.is_clean()
+            && self.is_log_version()
+            && self.file_type.is_log()
+        {
             return Ok(());
         }
-        Err(Refusal::HiveDamaged {
-            hive: 0,
-            cause: Cause::BadLog,
-        })
+        Err(Refusal::from(Cause::BadLog))
     }
 
-    // whether the signature, the versions, the format and the bins size are those of a block that is used
+    // whether the signature and the bins size are those of a block that is used, whatever its file is
     fn is_usable(&self) -> bool
         ensures { IsTrue result ↔ IsUsable self.now }
     {
         self.signature == Signature::REGF
-            && self.is_of_profile()
             && self.has_bins_size()
             && self.bins_size as usize <= MOST_BINS_BYTES
     }
 
-    // whether the versions and the format are the profile's
-    fn is_of_profile(&self) -> bool
-        ensures { IsTrue result ↔ IsOfProfile self.now }
+    // whether a primary file may have the versions and the format
+    fn is_primary_version(&self) -> bool
+        ensures { IsTrue result ↔ IsPrimaryVersion self.now }
+    {
+        self.major == MAJOR_VERSION && self.minor == MINOR_VERSION && self.format == FILE_FORMAT
+    }
+
+    // whether a log may have them
+    fn is_log_version(&self) -> bool
+        ensures { IsTrue result ↔ IsLogVersion self.now }
     {
         self.major == MAJOR_VERSION && self.minor == MINOR_VERSION && self.format == FILE_FORMAT
     }
