@@ -46,8 +46,9 @@ bitmap_again image v sector long =
 -- a block of a log of its own
 log_of : (b : BaseBlock) (v : Pages) → IsLoggable b v → IsLog (block_as_read b)
 log_of b v h = (
-  record { signature = h.usable.signature; profile = h.usable.profile; bins_size = h.usable.bins_size; within = h.usable.within },
+  record { signature = h.usable.signature; bins_size = h.usable.bins_size; within = h.usable.within },
   eq-eqb b.primary.0 b.secondary.0 h.equal,
+  h.version,
   inl refl,
 )
 

@@ -2,3 +2,4 @@ pub mod PageBytes
 pub mod Whole
 pub mod Replaced
 pub mod Again
+pub mod Needed

@@ -95,6 +95,23 @@ repaired_same old other v pages same = fill_by_all (repaired_byte other v pages)
       | inr off ↦ clean_byte old v pages i off ∙ same i h off ∙ sym (clean_byte other v pages i off)
     ])
 
+-- and on the bytes of dirty pages
+pub repaired_by : (old : List ℕ) (v : Pages) (pages other : List ℕ)
+    → ((i : ℕ) → i < v.bins_size → is_dirty v (i / 512) ≡ true → get_or pages (512 * marked_count (is_dirty v) (i / 512) + i % 512) 0 ≡ get_or other (512 * marked_count (is_dirty v) (i / 512) + i % 512) 0)
+    → repaired old v pages ≡ repaired old v other
+unfolding repaired
+repaired_by old v pages other same = fill_by_all (repaired_byte old v other) (map (repaired_byte old v pages) (range_with_len 0 v.bins_size)) v.bins_size 0 (length-map-range_with_len (repaired_byte old v pages) 0 v.bins_size)
+    (λ i h. get_or-map-range_with_len (repaired_byte old v pages) 0 v.bins_size i i 0 h (omega arith) ∙ elim (cases_Bool (is_dirty v (i / 512))) [
+      | inl on ↦ dirty_byte old v pages i on ∙ same i h on ∙ sym (dirty_byte old v other i on)
+      | inr off ↦ clean_byte old v pages i off ∙ sym (clean_byte old v other i off)
+    ])
+
+-- a dirty page is among those that are counted
+pub dirty_counts : (v : Pages) (page : ℕ) → is_dirty v page ≡ true → 512 * (page + 1) ≤ v.bins_size → marked_count (is_dirty v) page + 1 ≤ dirty_count v
+dirty_counts v page on within =
+    let here : IsNextDirty v page page = (omega arith, within, on, (λ p low high. absurd (omega (arith, low, high)))) in
+    (count_next v page page here).2
+
 -- ---- a page of an image
 
 pub put_page_byte : (image new : List ℕ) (page i : ℕ) → length new ≡ 512 → 512 * (page + 1) ≤ length image

@@ -1,12 +1,12 @@
 -- Logs that are whole, and what they repair (regf format, old transaction log).
-use Rattle.std.specs.Prelude.{true, ◌≡◌, ◌≢◌, ◌≤◌, ◌<◌, ℕ, ◌+◌, ◌*◌, ◌/◌, ◌%◌, false, if◌then◌else◌, List, take, drop, length, map, slice_index, codes}
+use Rattle.std.specs.Prelude.{true, ◌≡◌, ◌≢◌, ◌≤◌, ◌<◌, ℕ, ◌+◌, ◌*◌, ◌/◌, ◌%◌, ◌==◌, false, if◌then◌else◌, List, take, drop, length, map, slice_index, codes}
 use Rattle.std.specs.List.{range_with_len}
 use Rattle.refusals.specs.declared.refusal.Refusal.{Refusal}
 use Rattle.refusals.specs.declared.refusal.Refusal.TheVariants.{HiveDamaged}
 use Rattle.refusals.specs.declared.refusal.Cause.TheVariants.{BadLog}
 use Rattle.base_block.specs.declared.block.BaseBlock.{BaseBlock}
 use Rattle.base_block.specs.Layout.{block_at}
-use Rattle.base_block.specs.Judgements.{IsUsable, IsLog}
+use Rattle.base_block.specs.Judgements.{IsUsable, IsLog, IsLogVersion}
 use Rattle.dirty_vector.specs.Marks.{is_marked_in_bitmap, marked_count, marked_below}
 use Rattle.dirty_vector.specs.Pages.{Pages, is_dirty, dirty_count}
 use Rattle.dirt_log.specs.LogText.{bitmap_end, pages_at}
@@ -61,9 +61,18 @@ repaired_byte image v pages i = if is_dirty v (i / 512) then slice_index pages (
 unfoldable pub repaired : List ℕ → Pages → List ℕ → List ℕ
 repaired image v pages = map (repaired_byte image v pages) (range_with_len 0 v.bins_size)
 
--- a block that a log of these pages may have: usable, with equal numbers, and of their size
+-- where the bytes of a log end that are read: behind the last page that it marks, or behind the bitmap where it marks
+-- none
+abbrev pub log_end : List ℕ → ℕ
+log_end bytes =
+    let size = (block_of bytes).bins_size in
+    let count = dirty_count (pages_in bytes) in
+    if count == 0 then bitmap_end size else pages_at size + 512 * count
+
+-- a block that a log of these pages may have: usable, of a log's version, with equal numbers, and of their size
 pub record IsLoggable (b : BaseBlock) (v : Pages) : Type 0 where
   pub usable : IsUsable b
+  pub version : IsLogVersion b
   pub equal : b.primary.0 ≡ b.secondary.0
   pub size : b.bins_size ≡ v.bins_size
 

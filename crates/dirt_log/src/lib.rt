@@ -6,12 +6,14 @@
 //! is read only where the primary file isn't clean.
 #![tactic(auto)]
 
+mod fronts;
 mod held;
 mod pages;
 mod reading;
 mod repair;
 mod steps;
 
+pub use fronts::{front_is_read, front_is_repaired};
 pub use held::{clean_primary_stands, log_repairs};
 pub use reading::{DirtLog, read};
 pub use steps::{LogSteps, PIECE_BYTES, write_steps};

@@ -18,6 +18,10 @@ pub(crate) const LETTERS: &[u8] = b"DIRT";
 /// Where the bitmap stands.
 pub(crate) const BITMAP_AT: usize = 516;
 
+const _: () = prove!(BYTES_PER_BITMAP_BYTE == 4096);
+const _: () = prove!(LETTERS_AT == 512);
+const _: () = prove!(BITMAP_AT == 516);
+
 /// Where the dirty pages begin: at the end of the bitmap, rounded up to a multiple of 512.
 pub(crate) fn pages_start(bins_size: usize) -> usize
     requires { bins_size ≤ MOST_BINS_BYTES }

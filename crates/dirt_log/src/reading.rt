@@ -50,23 +50,13 @@ pub fn read(alloc: Global, bytes: &[u8]) -> Result<DirtLog<'_>, Refusal>
     })
 }
 
-/// The refusal of a log that isn't whole.
-pub(crate) fn bad_log() -> Refusal
-    ensures { result ≡ not_whole }
-{
-    Refusal::HiveDamaged {
-        hive: 0,
-        cause: Cause::BadLog,
-    }
-}
-
 // the block of the first sector, judged as that of a log
 fn read_block(bytes: &[u8]) -> Result<BaseBlock, Refusal>
     ensures ok { IfOk result (λ base. (base ≡ block_of bytes.now) × IsLog base × (512 ≤ length bytes.now)) }
     ensures refused { IfErr result (λ e. (e ≡ not_whole) × ¬ (IsLog (block_of bytes.now) × (512 ≤ length bytes.now))) }
 {
     if bytes.len() < LETTERS_AT {
-        return Err(bad_log());
+        return Err(Refusal::from(Cause::BadLog));
     }
     let mut sector = [0; 512];
     sector.copy_from_slice(&bytes[..LETTERS_AT]);
@@ -85,7 +75,7 @@ fn read_bitmap(bytes: &[u8], bins_size: usize) -> Result<&[u8], Refusal>
 {
     let end = BITMAP_AT + bins_size / BYTES_PER_BITMAP_BYTE;
     if bytes.len() < end || &bytes[LETTERS_AT..BITMAP_AT] != LETTERS {
-        return Err(bad_log());
+        return Err(Refusal::from(Cause::BadLog));
     }
     Ok(&bytes[BITMAP_AT..end])
 }
@@ -99,7 +89,7 @@ fn read_pages(bytes: &[u8], start: usize, len: usize) -> Result<&[u8], Refusal>
         return Ok(&[]);
     }
     if bytes.len() < start || bytes.len() - start < len {
-        return Err(bad_log());
+        return Err(Refusal::from(Cause::BadLog));
     }
     Ok(&bytes[start..start + len])
 }

@@ -6,9 +6,9 @@ ghost use Rattle.dirty_vector.specs.Pages.{dirty_count};
 ghost use Rattle.dirt_log.specs.WholeLog.{not_whole, IsCovered, repaired};
 
 use crate::pages::page_bytes;
-use crate::reading::{DirtLog, bad_log};
+use crate::reading::DirtLog;
 use dirty_vector::{DirtyVector, PAGE_BYTES};
-use refusals::Refusal;
+use refusals::{Cause, Refusal};
 
 impl DirtLog<'_> {
     /// Repairs the bins data of the primary file that the log belongs to: cuts or lengthens it to the
@@ -22,7 +22,7 @@ impl DirtLog<'_> {
         ensures err { OnErr result (image.new.items ≡ image.old.items) }
     {
         if !covers(&self.vector, image.len()) {
-            return Err(bad_log());
+            return Err(Refusal::from(Cause::BadLog));
         }
         image.resize(self.vector.bins_size(), 0)?;
         put_logged(&self.vector, self.pages, image);

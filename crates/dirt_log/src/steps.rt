@@ -16,6 +16,8 @@ use std::marker::Model;
 /// The most bytes in a piece of a log.
 pub const PIECE_BYTES: usize = 65_536;
 
+const _: () = prove!(PIECE_BYTES == 65_536);
+
 /// The text of a log, which is given in pieces and held by nobody. Contracts see it as the list of its
 /// bytes.
 #[derive(Drop)]

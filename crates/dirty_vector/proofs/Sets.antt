@@ -10,9 +10,9 @@ use Rattle.std.proofs.lemmas.Bool.Decides.{nat_tests}
 use Rattle.std.proofs.Math.Nat.{add-zero}
 use Rattle.std.proofs.lemmas.List.FromFn.{fill_by_all, length-map-range_with_len, get_or-map-range_with_len}
 use Rattle.dirty_vector.specs.Marks.{is_marked, is_marked_in_bitmap, marked_count, marked_below, IsNthMark}
-use Rattle.dirty_vector.specs.Pages.{Pages, is_dirty, dirty_count, is_bins_size, Touches, fresh_pages, read_pages, bit_of, bitmap_byte, bitmap_of, NoneFrom, IsNextDirty, IsNthDirty, IsFirstRun}
+use Rattle.dirty_vector.specs.Pages.{Pages, is_dirty, dirty_count, is_bins_size, Touches, clean_pages, fresh_pages, read_pages, bit_of, bitmap_byte, bitmap_of, NoneFrom, IsNextDirty, IsNthDirty, IsFirstRun}
 use Rattle.dirty_vector.specs.Kept.{pages_of, IsKept, IsBlank}
-use Rattle.std.specs.Prelude.{Option, Some, None, MatchOption}
+use Rattle.std.specs.Prelude.{Option, Some, None, MatchOption, replicate}
 use Rattle.dirty_vector.proofs.Bytes.{none_marked}
 use Rattle.dirty_vector.proofs.Words.{same_count}
 use Rattle.refusals.specs.declared.refusal.Refusal.{Refusal}
@@ -164,6 +164,21 @@ pub made_read : (size : ℕ) (words new bitmap : List ℕ) → IsBlank size word
 made_read size words new bitmap blank same =
     ap (λ (d : set.FinSet nat_cmp). done (pages size d)) (same_below (is_marked new) (is_marked_in_bitmap bitmap) (size / 512) same)
     ∙ sym (ap (λ (b : Bool). cond b (done (pages size (marked_below (is_marked_in_bitmap bitmap) (size / 512)))) (failed TooLarge)) blank.good)
+
+-- words without a mark are those of clean bins data
+pub made_clean : (size : ℕ) (old words : List ℕ) (v : Pages) → pages_of size old ≡ v → words ≡ replicate (length words) 0 → pages_of size words ≡ clean_pages v.bins_size
+made_clean size old words v is zeros = ap (λ (d : set.FinSet nat_cmp). pages size d) (none_below (is_marked words) (size / 512) (none_marked words zeros)) ∙ ap (λ (u : Pages). clean_pages u.bins_size) is
+
+-- the same words are those of larger bins data
+pub kept_larger : (size larger : ℕ) (words : List ℕ) → IsKept size words → is_bins_size larger ≡ true → size ≤ larger → IsKept larger words
+kept_larger size larger words kept good more =
+    let most : larger ≤ 67108864 = leb-true larger 67108864 (and_parts (eqb (larger % 4096) 0 && leb 4096 larger) (leb larger 67108864) good).1 in
+    record { good = good; room = omega (arith, kept.long); long = kept.long; inside = λ page past. kept.inside page (omega arith) }
+
+pub same_in_larger : (size larger : ℕ) (words : List ℕ) (v : Pages) → IsKept size words → pages_of size words ≡ v → is_bins_size larger ≡ true → v.bins_size ≤ larger → (page : ℕ) → is_dirty (pages_of larger words) page ≡ is_dirty v page
+same_in_larger size larger words v kept is good more page =
+    let size_is : v.bins_size ≡ size = ap (λ (u : Pages). u.bins_size) (sym is) in
+    dirty_is_marked larger words (kept_larger size larger words kept good (omega (arith, size_is))) page ∙ sym (dirty_is_marked size words kept page) ∙ ap (λ (u : Pages). is_dirty u page) is
 
 -- what marking the pages of a range leaves
 pub marked_range : (size : ℕ) (old new : List ℕ) (start end : ℕ) → IsKept size old → start < end → end ≤ size

@@ -7,16 +7,16 @@ use Rattle.dirty_vector.specs.Pages.{Pages, is_bins_size}
 abbrev pub pages_of : ℕ → List ℕ → Pages
 pages_of size words = record { bins_size = size; dirty = marked_below (is_marked words) (size / 512) }
 
--- the words have a bit for each page, and no mark past the last
+-- there are words for the largest bins data, with a bit for each page, and no mark past the last
 pub record IsKept (size : ℕ) (words : List ℕ) : Type 0 where
   pub good : is_bins_size size ≡ true
   pub room : size ≤ 32768 * length words
-  pub few : length words ≤ 2048
+  pub long : length words ≡ 2048
   pub inside : (page : ℕ) → size / 512 ≤ page → is_marked words page ≡ false
 
--- words for a size without a mark
+-- words for the largest bins data, without a mark
 pub record IsBlank (size : ℕ) (words : List ℕ) : Type 0 where
   pub good : is_bins_size size ≡ true
   pub room : size ≤ 32768 * length words
-  pub few : length words ≤ 2048
+  pub long : length words ≡ 2048
   pub zeros : words ≡ replicate (length words) 0

@@ -35,9 +35,13 @@ Touches start end page = (byte : ℕ) × (start ≤ byte) × (byte < end) × (by
 abbrev pub is_bins_size : ℕ → Bool
 is_bins_size size = (size % 4096 == 0) && nat_le 4096 size && nat_le size MOST_BINS_BYTES
 
+-- bins data of a size without a dirty page
+abbrev pub clean_pages : ℕ → Pages
+clean_pages size = record { bins_size = size; dirty = set.empty }
+
 -- what making a vector answers: no dirty page, or TooLarge for what is no size of bins data
 abbrev pub fresh_pages : ℕ → Result Pages Refusal
-fresh_pages size = if is_bins_size size then Ok (record { bins_size = size; dirty = set.empty }) else Err TooLarge
+fresh_pages size = if is_bins_size size then Ok (clean_pages size) else Err TooLarge
 
 -- what reading a bitmap answers: the pages that it marks, or TooLarge for what is no size of bins data
 abbrev pub read_pages : ℕ → List ℕ → Result Pages Refusal

@@ -5,7 +5,7 @@ ghost use Rattle.std.specs.FinSet as set;
 ghost use Rattle.refusals.specs.Answers.{IsOrNoMemory, RefusedFor};
 ghost use Rattle.dirty_vector.specs.Kept.{IsBlank};
 ghost use Rattle.dirty_vector.specs.Marks.{is_marked_in_bitmap, marked_below};
-ghost use Rattle.dirty_vector.specs.Pages.{is_dirty, dirty_count, is_bins_size, Touches, NoneFrom, IsNextDirty, IsNthDirty, IsFirstRun, fresh_pages, read_pages, bitmap_of};
+ghost use Rattle.dirty_vector.specs.Pages.{is_dirty, dirty_count, is_bins_size, Touches, NoneFrom, IsNextDirty, IsNthDirty, IsFirstRun, clean_pages, fresh_pages, read_pages, bitmap_of};
 
 use crate::bitmap::{read_bitmap, write_bitmap};
 use crate::marks::{WORD_BITS, count_marks, first_page, is_page_marked, mark_pages, nth_mark};
@@ -22,7 +22,16 @@ pub const PAGE_BYTES: usize = 512;
 // bins data come in bins of this many bytes, or of multiples of it
 const BIN_BYTES: usize = 4096;
 
+// words with a bit for each page of the largest bins data
+const MOST_WORDS: usize = MOST_BINS_BYTES / PAGE_BYTES / WORD_BITS;
+
+const _: () = prove!(PAGE_BYTES == 512);
+const _: () = prove!(BIN_BYTES == 4096);
+const _: () = prove!(MOST_WORDS == 2048);
+
 /// The set of the dirty pages of hive bins data of one size.
+///
+/// It is made with words for the largest bins data, which are 16,384 bytes, so that it grows without memory.
 #[derive(Drop)]
 pub struct DirtyVector {
     bins_size: usize,
@@ -86,6 +95,26 @@ impl DirtyVector {
                 (range.end - 1) / PAGE_BYTES,
             );
         }
+    }
+
+    /// Marks no page any more. Takes no memory.
+    pub fn clear(&mut self)
+        ensures { self.new ≡ clean_pages self.old.bins_size }
+    {
+        self.words.fill(0);
+    }
+
+    /// Makes this a vector of larger bins data: the pages that are dirty stay so, and each page that has a byte
+    /// past the old size is dirty too. Takes no memory.
+    pub fn grow(&mut self, bins_size: usize)
+        requires size { is_bins_size bins_size ≡ true }
+        requires larger { self.old.bins_size ≤ bins_size }
+        ensures size { self.new.bins_size ≡ bins_size }
+        ensures pages { (page : ℕ) → IsTrue (is_dirty self.new page) ↔ (IsTrue (is_dirty self.old page) ⊎ Touches self.old.bins_size bins_size page) }
+    {
+        let old_size = self.bins_size;
+        self.bins_size = bins_size;
+        self.mark(old_size..bins_size);
     }
 
     /// How many pages are dirty.
@@ -174,7 +203,7 @@ impl DirtyVector {
     }
 }
 
-// Words without a mark, with a bit for each page of bins data of a size.
+// Words without a mark, with a bit for each page of the largest bins data, where this is a size of such data.
 fn blank_words(alloc: Global, bins_size: usize) -> Result<Vec<u64>, Refusal>
     ensures ok { IfOk result (λ words. IsBlank bins_size words.items) }
     ensures refused { IfErr result (RefusedFor Refusal.TooLarge (is_bins_size bins_size ≡ false)) }
@@ -185,5 +214,5 @@ fn blank_words(alloc: Global, bins_size: usize) -> Result<Vec<u64>, Refusal>
     {
         return Err(Refusal::TooLarge);
     }
-    Ok(vec![in alloc; 0; (bins_size / PAGE_BYTES).div_ceil(WORD_BITS)]?)
+    Ok(vec![in alloc; 0; MOST_WORDS]?)
 }
