@@ -14,8 +14,11 @@ const BIN_BYTES: u32 = 4096;
 
 // the numbers of the format, so that a slip in one of them is no crate
 const _: () = prove!(MAJOR_VERSION == 1);
+
 const _: () = prove!(MINOR_VERSION == 5);
+
 const _: () = prove!(FILE_FORMAT == 1);
+
 const _: () = prove!(BIN_BYTES == 4096);
 
 impl BaseBlock {
@@ -48,11 +51,7 @@ impl BaseBlock {
         ensures ok { IsOk result ↔ IsLog self.now }
         ensures why { IfErr result (λ e. e ≡ Refusal.HiveDamaged 0 Cause.BadLog) }
     {
-        if self.is_usable()
-            && self.is_clean()
-            && self.is_log_version()
-            && self.file_type.is_log()
-        {
+        if self.is_usable() && self.is_clean() && self.is_log_version() && self.file_type.is_log() {
             return Ok(());
         }
         Err(Refusal::from(Cause::BadLog))

@@ -1,6 +1,5 @@
 -- What hangs on the front of a log and of a primary file alone.
-use Rattle.std.proofs.Common.{◌≡◌, ◌≢◌, ◌≤◌, ◌<◌, ℕ, ◌+◌, ◌*◌, ◌/◌, ◌%◌, cond, eqb, Bool, List, length, take, drop, get_or, refl, sym, ap, subst, ◌∙◌, inl, inr, arith, ◌↔◌}
-use Rattle.std.specs.Prelude.{codes}
+use Rattle.std.proofs.Common.{◌≡◌, ◌≢◌, ◌≤◌, ℕ, ◌+◌, ◌*◌, ◌/◌, ◌%◌, cond, Bool, List, length, take, drop, sym, ap, subst, ◌∙◌, inl, inr, arith, ◌↔◌}
 use Rattle.std.proofs.lemmas.Bool.{cases_eq, eq-eqb, ne_eqb}
 use Rattle.std.proofs.lemmas.List.{length-take, get_or-take, take-take, drop-take}
 use Rattle.base_block.specs.declared.block.BaseBlock.{BaseBlock}

@@ -19,7 +19,9 @@ pub(crate) const LETTERS: &[u8] = b"DIRT";
 pub(crate) const BITMAP_AT: usize = 516;
 
 const _: () = prove!(BYTES_PER_BITMAP_BYTE == 4096);
+
 const _: () = prove!(LETTERS_AT == 512);
+
 const _: () = prove!(BITMAP_AT == 516);
 
 /// Where the dirty pages begin: at the end of the bitmap, rounded up to a multiple of 512.

@@ -26,7 +26,9 @@ const BIN_BYTES: usize = 4096;
 const MOST_WORDS: usize = MOST_BINS_BYTES / PAGE_BYTES / WORD_BITS;
 
 const _: () = prove!(PAGE_BYTES == 512);
+
 const _: () = prove!(BIN_BYTES == 4096);
+
 const _: () = prove!(MOST_WORDS == 2048);
 
 /// The set of the dirty pages of hive bins data of one size.

@@ -1,4 +1,4 @@
-use Rattle.std.proofs.Common.{◌≡◌, ℕ, Bool, ap, ◌⊎◌, ◌↔◌, IsTrue, subst}
+use Rattle.std.proofs.Common.{ℕ, Bool, ap, ◌⊎◌, ◌↔◌, IsTrue, subst}
 use Rattle.dirty_vector.specs.Pages.{Pages, is_dirty, Touches}
 use Rattle.dirty_vector.proofs.Sets.{same_in_larger}
 use Rattle.dirty_vector.proofs.vector.DirtyVector.grow.Goals as goal
