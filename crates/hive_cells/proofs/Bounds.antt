@@ -41,12 +41,6 @@ group_put pages groups page size most end g within end_is all =
       ];
     }
 
--- a group with more pages, which have the bound 0
-pub group_longer : (pages pages' groups groups' : List ℕ) → AreGrouped pages groups → length pages' ≤ 128 * length groups'
-    → ((k : ℕ) → slice_index pages' k ≡ slice_index pages k) → ((k : ℕ) → slice_index groups' k ≡ slice_index groups k) → AreGrouped pages' groups'
-group_longer pages pages' groups groups' g enough same groups_same =
-    record { enough = enough; most = λ k. omega (arith, same k, groups_same (k / 128), g.most k) }
-
 -- ---- cells that are the same
 
 -- a free cell that is the same was free, with its size

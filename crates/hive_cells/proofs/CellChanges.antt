@@ -11,7 +11,7 @@ use Rattle.hive_cells.proofs.Marking.{SetsMark, set_mark}
 use Rattle.hive_cells.proofs.Region.{ChangesCells, size_same, kind_same, all_again, stays_at, same_at, words_same}
 
 -- a size that is put leaves the words before and behind it
-puts_beside : (old new : List ℕ) (at size : ℕ) (kind : Bool) → PutsSize old new at size kind → (other : ℕ) → ((other + 4 ≤ at) ⊎ (at + 4 ≤ other)) → word_at new other ≡ word_at old other
+pub puts_beside : (old new : List ℕ) (at size : ℕ) (kind : Bool) → PutsSize old new at size kind → (other : ℕ) → ((other + 4 ≤ at) ⊎ (at + 4 ≤ other)) → word_at new other ≡ word_at old other
 puts_beside old new at size kind p other (inl low) = words_same old new other (λ i after before. p.others i (inl (omega arith)))
 puts_beside old new at size kind p other (inr high) = words_same old new other (λ i after before. p.others i (inr (omega arith)))
 

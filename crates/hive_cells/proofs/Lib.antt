@@ -1,6 +1,7 @@
 pub mod Bits
 pub mod Bounds
 pub mod CellChanges
+pub mod Images
 pub mod Lookups
 pub mod Marking
 pub mod NewBin

@@ -36,6 +36,14 @@ module _ (bytes words : List ℕ) (k : IsKept bytes words) where
       let size : cell_size bytes (8 * (at / 8)) ≡ cell_size bytes at = ap (cell_size bytes) here in
       k.starts.same slot ∙ ap is_cell_mark (c.inside slot (omega arith) (omega arith))
 
+  -- a cell that begins behind another one begins behind its end
+  pub begins_apart : (at other : ℕ) → BeginsCell bytes at → BeginsCell bytes other → at < other → other < at + cell_size bytes at → ⊥
+  begins_apart at other found behind after before =
+      let b = bit_of_cell other behind in
+      let no : is_start words (other / 8) ≡ false = none_inside at (other / 8) found (omega (arith, b.0)) (omega (arith, b.0)) in
+      let yes : is_start words (other / 8) ≡ true = b.1 in
+      cc
+
   -- ---- the cell before
 
   -- where no cell begins before an offset, none ends there

@@ -2,12 +2,11 @@
 use Rattle.std.proofs.Common.{eqb, ◌≡◌, ◌≢◌, ℕ, ◌+◌, ◌-◌, ◌*◌, ◌%◌, ◌/◌, ◌<◌, ◌≤◌, true, false, List, ◌++◌, length, refl, sym, ◌∙◌, subst, inl, inr, arith, ap}
 use Rattle.std.specs.Prelude.{slice_index, slice_range, slice_set, replicate, ◌⊎◌}
 use Rattle.std.proofs.lemmas.List.{length-append, length-replicate, get_or_append_left, get_or-append_right, get_or-replicate, get_or_past}
-use Rattle.refusals.specs.declared.limits.TheConstants.{MOST_BINS_BYTES}
 use Rattle.std.proofs.lemmas.Bool.{cases_eq, cases_lt}
-use Rattle.hive_cells.specs.Tiles.{word_at, BinStart, first_bin, next_bin, IsBin, bin_size, IsCell, cell_size, is_allocated, cell_data, BeginsCell, IsFreeCell, HasFree}
+use Rattle.hive_cells.specs.Tiles.{word_at, BinStart, first_bin, next_bin, IsBin, bin_size, IsCell, cell_size, is_allocated, cell_data, BeginsCell, IsFreeCell}
 use Rattle.hive_cells.specs.Marks.{Mark, Inside, Bin, Cell, mark_at, BinMarked, CellMarked, IsMarked, IsBetweenBins, IsCellMarkedAt}
-use Rattle.hive_cells.specs.Changes.{AllStay, LaysBin, PutsSize, HasRoom, least_bin}
-use Rattle.hive_cells.specs.Starts.{IsKept, AreBounds, Raises, IsIndexed, PutsStart, SameCell, is_start, is_cell_mark, bound_at}
+use Rattle.hive_cells.specs.Changes.{AllStay, LaysBin, PutsSize, AddsFreeBin}
+use Rattle.hive_cells.specs.Starts.{IsKept, AreBounds, Raises, PutsStart, SameCell, is_start, is_cell_mark, bound_at}
 use Rattle.hive_cells.proofs.Marking.{SetsMark, set_mark, bin_set, cell_set, bin_ended, all_marked}
 use Rattle.hive_cells.proofs.Reached.{LiesInBin, bin_over, starts_at_mark, mark_at_start}
 use Rattle.hive_cells.proofs.Region.{words_same, size_same, kind_same, range_same}
@@ -288,12 +287,12 @@ word_before : (old new : List ℕ) (at other : ℕ) → WritesWord old new at �
 word_before old new at other w low = words_same old new other (λ i after before. w i (inl (omega arith)))
 
 -- the words that are written one after another lay a bin
-pub lays : (b0 b1 b2 b3 b4 : List ℕ) (at size : ℕ) → at + size ≡ length b0 → 32 ≤ size
+pub lays : (b0 b1 b2 b3 b4 : List ℕ) (at size : ℕ) → at + size ≡ length b0 → 32 ≤ size → ((i : ℕ) → at ≤ i → slice_index b0 i ≡ 0)
     → word_at b1 at ≡ 0x6e69_6268 → WritesWord b0 b1 at → length b1 ≡ length b0
     → word_at b2 (at + 4) ≡ at → WritesWord b1 b2 (at + 4) → length b2 ≡ length b1
     → word_at b3 (at + 8) ≡ size → WritesWord b2 b3 (at + 8) → length b3 ≡ length b2
     → PutsSize b3 b4 (at + 32) (size - 32) false → LaysBin b0 b4 at
-lays b0 b1 b2 b3 b4 at size whole wide e1 w1 n1 e2 w2 n2 e3 w3 n3 p =
+lays b0 b1 b2 b3 b4 at size whole wide zeros e1 w1 n1 e2 w2 n2 e3 w3 n3 p =
     let cell : cell_size b4 (at + 32) ≡ size - 32 = p.size_is in
     let size_is : bin_size b4 at ≡ size = word_before b3 b4 (at + 32) (at + 8) p.others (omega arith) ∙ e3 in
     let len : length b4 ≡ length b3 = p.len in
@@ -303,6 +302,7 @@ lays b0 b1 b2 b3 b4 at size whole wide e1 w1 n1 e2 w2 n2 e3 w3 n3 p =
       size_is = omega arith;
       cell_is = omega arith;
       is_free = p.kind_is;
+      zeros = λ i after before. p.others i (inl before) ∙ w3 i (inr (omega arith)) ∙ w2 i (inr (omega arith)) ∙ w1 i (inr (omega arith)) ∙ zeros i (omega arith);
       len = omega arith;
       others = λ i before. p.others i (inl (omega arith)) ∙ w3 i (inl (omega arith)) ∙ w2 i (inl (omega arith)) ∙ w1 i (inl before);
     }
@@ -340,23 +340,20 @@ module _ (bytes : List ℕ) (words : List ℕ) (n : ℕ) where
   starts_before : (k : ℕ) → k < 64 * length words → is_start (words ++ replicate n 0) k ≡ is_start words k
   starts_before k low = ap (λ (w : ℕ). eqb (bit_at w (k % 64)) 1) (get_or_append_left words (replicate n 0) 0 (k / 64) (omega arith))
 
--- the bin and its cell, ready to be allocated, with the bits and the bounds
-pub room : (bytes grown bytes' words words' bounds bounds' bounds'' : List ℕ) (more size at : ℕ) → at ≡ length bytes → (k : IsKept bytes words) → AreBounds bytes bounds → more ≡ least_bin size
+-- the bin and its free cell are added, with the bits and the bounds
+pub bin_added : (bytes grown bytes' words words' bounds bounds' : List ℕ) (more at : ℕ) → at ≡ length bytes → (k : IsKept bytes words) → AreBounds bytes bounds → more % 4096 ≡ 0 → 0 < more
     → grown ≡ bytes ++ replicate more 0 → PutsStart (words ++ replicate (more / 512) 0) words' ((at + 32) / 8) true → LaysBin grown bytes' at
-    → at + more ≤ MOST_BINS_BYTES → (¬ HasFree bytes size)
-    → at + more ≤ 4096 * length bounds' → ((j : ℕ) → slice_index bounds' j ≡ slice_index bounds j) → Raises bounds' bounds'' ((at + 32) / 4096) (cell_size bytes' (at + 32))
-    → HasRoom bytes bytes' (at + 32) size × IsIndexed bytes' words' bounds''
+    → at + more ≤ 4096 * length bounds → Raises bounds bounds' ((at + 32) / 4096) (more - 32)
+    → AddsFreeBin bytes bytes' more × IsKept bytes' words' × AreBounds bytes' bounds'
 unfolding with_bin with_cell
-room bytes grown bytes' words words' bounds bounds' bounds'' more size at at_is k b more_is bytes_are put l' limit none enough same raised =
+bin_added bytes grown bytes' words words' bounds bounds' more at at_is k b pages some bytes_are put l' enough raised =
     let m : IsMarked bytes k.marks = k.all in
     let l : LaysBin grown bytes' (length bytes) = subst (λ (x : ℕ). LaysBin grown bytes' x) at_is l' in
-    let pages : more % 4096 ≡ 0 = omega arith in
-    let some : 0 < more = omega arith in
-    let marks' : List Mark = k.marks ++ replicate (more / 8) Inside in
     let g : Grows bytes bytes' k.marks (k.marks ++ replicate (more / 8) Inside) = grows bytes grown bytes' k.marks (k.marks ++ replicate (more / 8) Inside) more m some pages bytes_are refl l in
     let long : length grown ≡ length bytes + more = rw bytes_are (length-append bytes (replicate more 0) ∙ ap (λ (x : ℕ). length bytes + x) (length-replicate {A = ℕ} more 0)) in
     let len : length bytes' ≡ length grown = l.len in
     let cell_is : length bytes + (32 + cell_size bytes' (length bytes + 32)) ≡ length bytes' = l.cell_is in
+    let size_is : length bytes + bin_size bytes' (length bytes) ≡ length bytes' = l.size_is in
     let cell : IsFreeCell bytes' (length bytes + 32) = (laid_begins bytes grown bytes' k.marks (k.marks ++ replicate (more / 8) Inside) m g l, l.is_free) in
     let words_long : length (words ++ replicate (more / 512) 0) ≡ length words + more / 512 = length-append words (replicate (more / 512) 0) ∙ ap (λ (x : ℕ). length words + x) (length-replicate {A = ℕ} (more / 512) 0) in
     let bin : SetsMark (k.marks ++ replicate (more / 8) Inside) (slice_set (k.marks ++ replicate (more / 8) Inside) (length bytes / 8) Bin) (length bytes / 8) Bin = bin_set_here bytes grown bytes' k.marks (k.marks ++ replicate (more / 8) Inside) m g l in
@@ -375,29 +372,32 @@ room bytes grown bytes' words words' bounds bounds' bounds'' more size at at_is 
       ]
     ]) in (
       record {
-        limit = omega arith;
-        cell = subst (λ (x : ℕ). IsFreeCell bytes' (x + 32)) (sym at_is) cell;
-        fits = subst (λ (x : ℕ). size ≤ cell_size bytes' (x + 32)) (sym at_is) (omega arith);
-        stay = laid_stay bytes grown bytes' k.marks (k.marks ++ replicate (more / 8) Inside) m g l;
-        longer = omega arith;
+        adds = record {
+          longer = omega arith;
+          bin = laid_bin bytes grown bytes' k.marks (k.marks ++ replicate (more / 8) Inside) m g l;
+          size_is = omega arith;
+          zeros = l.zeros;
+        };
+        cell = cell;
+        cell_is = omega arith;
         same = g.same;
-        grows = inr (none, omega arith);
-        has_place = λ no. elim no [ inl over ↦ omega arith | inr needs ↦ omega (arith, needs.1) ];
+        stay = laid_stay bytes grown bytes' k.marks (k.marks ++ replicate (more / 8) Inside) m g l;
+        cells = laid_same bytes grown bytes' k.marks (k.marks ++ replicate (more / 8) Inside) m g l;
       },
       record {
-        cells = record {
-          marks = slice_set (slice_set (k.marks ++ replicate (more / 8) Inside) (length bytes / 8) Bin) ((length bytes + 32) / 8) Cell;
-          all = laid_marked bytes grown bytes' k.marks (k.marks ++ replicate (more / 8) Inside) m g l;
-          starts = record { len = omega (arith, put.len); same = same_starts };
-        };
-        free = record {
-          len = omega (arith, raised.len);
-          most = λ other free. elim (cases_eq other (length bytes + 32)) [
-            | inl here ↦ subst (λ (x : ℕ). cell_size bytes' x ≤ bound_at bounds'' x) (ap (λ (x : ℕ). x + 32) at_is ∙ sym here) raised.here
-            | inr apart ↦
-                let was = free_was bytes bytes' other (laid_same bytes grown bytes' k.marks (k.marks ++ replicate (more / 8) Inside) m g l other apart) free in
-                omega (arith, was.1, b.most other was.0, same (other / 4096), raised.more (other / 4096))
-          ];
-        };
+        marks = slice_set (slice_set (k.marks ++ replicate (more / 8) Inside) (length bytes / 8) Bin) ((length bytes + 32) / 8) Cell;
+        all = laid_marked bytes grown bytes' k.marks (k.marks ++ replicate (more / 8) Inside) m g l;
+        starts = record { len = omega (arith, put.len); same = same_starts };
+      },
+      record {
+        len = omega (arith, raised.len);
+        most = λ other free. elim (cases_eq other (length bytes + 32)) [
+          | inl here ↦
+              let place : at + 32 ≡ other = omega arith in
+              subst (λ (x : ℕ). cell_size bytes' x ≤ bound_at bounds' x) place (omega (arith, raised.here, ap (λ (x : ℕ). cell_size bytes' (x + 32)) at_is))
+          | inr apart ↦
+              let was = free_was bytes bytes' other (laid_same bytes grown bytes' k.marks (k.marks ++ replicate (more / 8) Inside) m g l other apart) free in
+              omega (arith, was.1, b.most other was.0, raised.more (other / 4096))
+        ];
       },
     )

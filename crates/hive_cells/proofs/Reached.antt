@@ -234,7 +234,7 @@ pub whole_at_mark : (bytes : List ℕ) (marks : List Mark) → IsMarked bytes ma
 whole_at_mark bytes marks m at w =
     let slot : 8 * (at / 8) ≡ at = omega (arith, w.eights) in
     let c : CellMarked bytes marks (length bytes) (at / 8) = m.all.cells (at / 8) w.is_cell in
-    subst (λ (x : ℕ). IsWholeCell bytes x) slot (record { least = c.sound.least; within = c.sound.within })
+    subst (λ (x : ℕ). IsWholeCell bytes x) slot (record { eights = omega arith; least = c.sound.least; within = c.sound.within })
 
 -- a cell that begins at an offset is marked there
 pub mark_at_start : (bytes : List ℕ) (marks : List Mark) → IsMarked bytes marks → (end at : ℕ) → CellStart bytes end at → IsCellMarkedAt marks at

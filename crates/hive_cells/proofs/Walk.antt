@@ -24,8 +24,8 @@ pub no_start : (n k : ℕ) → is_start (replicate n 0) k ≡ false
 no_start n k = ap (λ (w : ℕ). eqb (bit_at w (k % 64)) 1) (zero_word n (k / 64)) ∙ ap (λ (b : ℕ). eqb b 1) (bit_at-zero (k % 64))
 
 -- the walk begins
-pub walk_start : (bytes : List ℕ) → length bytes % 4096 ≡ 0 → StandsBetween bytes (replicate (length bytes / 512) 0) (replicate (length bytes / 4096) 0) 0
-walk_start bytes pages =
+pub walk_start : (bytes : List ℕ) (bounds : ℕ) → length bytes % 4096 ≡ 0 → length bytes / 4096 ≤ bounds → 16384 ≤ bounds → StandsBetween bytes (replicate (length bytes / 512) 0) (replicate bounds 0) 0
+walk_start bytes bounds pages enough most_pages =
     let count : ℕ = length bytes / 8 in
     let inside : (k : ℕ) → mark_at (replicate count Inside) k ≡ Inside = inside_marks count in
     record {
@@ -36,7 +36,8 @@ walk_start bytes pages =
         same = λ k. no_start (length bytes / 512) k ∙ ap is_cell_mark (sym (inside k));
       };
       free = record {
-        len = omega (arith, length-replicate {A = ℕ} (length bytes / 4096) 0);
+        len = omega (arith, length-replicate {A = ℕ} bounds 0);
+        most_pages = omega (arith, length-replicate {A = ℕ} bounds 0);
         most = λ k marked. absurd (let none : mark_at (replicate count Inside) k ≡ Inside = inside k in let no : ⊥ = cc in no);
       };
     }
@@ -65,6 +66,7 @@ cell_walked bytes words words' bounds bounds' end at behind s before cell is put
         starts = puts_same bytes bytes s.marks (slice_set s.marks (at / 8) Cell) words words' (at / 8) Cell s.starts set put refl;
         free = record {
           len = omega (arith, s.free.len);
+          most_pages = omega (arith, s.free.most_pages);
           most = λ k marked free. elim (cases_eq k (at / 8)) [
             | inl same ↦
                 let k_is : at ≡ 8 * k = omega arith in
@@ -95,6 +97,7 @@ bin_walked bytes words bounds at end s before bin is =
         };
         free = record {
           len = s.free.len;
+          most_pages = s.free.most_pages;
           most = λ k marked. elim (cases_eq k (at / 8)) [
             | inl same ↦ absurd (let here : mark_at (slice_set s.marks (at / 8) Bin) (at / 8) ≡ Bin = set.here in let no : ⊥ = cc in no)
             | inr other ↦ s.free.most k (sym (set.others k other) ∙ marked)
@@ -115,6 +118,7 @@ all_walked bytes words bounds at s past =
     let all : IsMarked bytes s.marks = all_marked bytes s.marks at s.walk past in
     record {
       cells = record { marks = s.marks; all = all; starts = s.starts };
+      most_pages = s.free.most_pages;
       free = record {
         len = s.free.len;
         most = λ cell found.

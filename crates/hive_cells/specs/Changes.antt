@@ -1,10 +1,12 @@
 -- What a change of the cells leaves: which are allocated, with which data, and which bytes were written.
-use Rattle.std.specs.Prelude.{◌≡◌, ◌≢◌, ℕ, zero, ◌+◌, ◌*◌, ◌/◌, ◌<◌, ◌≤◌, Bool, false, List, length, slice_index, ◌↔◌, ◌⊎◌}
+use Rattle.std.specs.Prelude.{◌≡◌, ◌≢◌, ℕ, zero, ◌+◌, ◌-◌, ◌*◌, ◌/◌, ◌<◌, ◌≤◌, Bool, false, List, length, slice_index, ◌↔◌, ◌⊎◌}
 use Rattle.refusals.specs.declared.refusal.Refusal.{Refusal}
 use Rattle.refusals.specs.declared.refusal.Refusal.TheVariants as refusal
 use Rattle.refusals.specs.declared.refusal.Cause.TheVariants as cause
 use Rattle.refusals.specs.declared.limits.TheConstants.{MOST_BINS_BYTES}
-use Rattle.hive_cells.specs.Tiles.{word_at, bin_size, is_allocated, cell_size, IsAllocatedCell, IsFreeCell, HasFree, cell_data}
+use Rattle.hive_cells.specs.Tiles.{word_at, IsBin, bin_size, is_allocated, cell_size, BeginsCell, IsAllocatedCell, IsFreeCell, HasFree, cell_data}
+use Rattle.hive_cells.specs.Starts.{SameCell, OtherCells}
+use Rattle.hive_cells.specs.Bins.{Bins}
 
 -- at an offset an allocated cell begins after the change exactly where one did before, and its size and its data
 -- are the same
@@ -42,13 +44,66 @@ pub record PutsSize (old new : List ℕ) (at size : ℕ) (allocated : Bool) : Ty
   pub kind_is : is_allocated new at ≡ allocated
   pub others : (i : ℕ) → ((i < at) ⊎ (at + 4 ≤ i)) → slice_index new i ≡ slice_index old i
 
--- a bin with one free cell is laid behind the data, from an offset up to the new end
+-- what is free after a change at an offset was so before, with the same size
+pub record StaysFree (old new : List ℕ) (at : ℕ) : Type 0 where
+  pub same : IsFreeCell new at ↔ IsFreeCell old at
+  pub size : IsFreeCell old at → cell_size new at ≡ cell_size old at
+
+-- the cell at an offset becomes allocated or free, and all others stay
+pub record Turns (old new : List ℕ) (at : ℕ) (allocated : Bool) : Type 0 where
+  pub begins : BeginsCell new at
+  pub kind : is_allocated new at ≡ allocated
+  pub size : cell_size new at ≡ cell_size old at
+  pub stay : OthersStay old new at
+  pub cells : OtherCells old new at at
+  pub written : RewritesWithin old new at (at + 4)
+
+-- the free cell at an offset becomes two free ones, of which the first has a size
+pub record Splits (old new : List ℕ) (at size : ℕ) : Type 0 where
+  pub first : IsFreeCell new at
+  pub first_size : cell_size new at ≡ size
+  pub second : IsFreeCell new (at + size)
+  pub second_size : size + cell_size new (at + size) ≡ cell_size old at
+  pub stay : AllStay old new
+  pub cells : OtherCells old new at (at + size)
+  pub written : RewritesWithin old new at (at + size + 4)
+
+-- the free cells at an offset and behind it become one
+pub record Joins (old new : List ℕ) (at next : ℕ) : Type 0 where
+  pub joined : IsFreeCell new at
+  pub size : cell_size new at ≡ cell_size old at + cell_size old next
+  pub gone : ¬ BeginsCell new next
+  pub stay : AllStay old new
+  pub cells : OtherCells old new at next
+  pub written : RewritesWithin old new at (at + 4)
+
+-- the free cell at an offset has taken in the free cell behind it, if there was one
+pub record JoinsBehind (old new : List ℕ) (at : ℕ) : Type 0 where
+  pub free : IsFreeCell new at
+  pub least : cell_size old at ≤ cell_size new at
+  pub joined : (next : ℕ) → IsFreeCell old next → next ≡ at + cell_size old at → at + cell_size new at ≡ next + cell_size old next
+  pub stay : AllStay old new
+  pub before : (other : ℕ) → other < at → SameCell old new other
+  pub written : RewritesWithin old new at (at + 4)
+
+-- the free cell before the one at an offset has taken that in, if there was one: it begins at another offset then
+pub record JoinsBefore (old new : List ℕ) (at from : ℕ) : Type 0 where
+  pub before : from ≤ at
+  pub free : IsFreeCell new from
+  pub end : from + cell_size new from ≡ at + cell_size old at
+  pub joined : (first : ℕ) → IsFreeCell old first → first + cell_size old first ≡ at → from ≡ first
+  pub stay : AllStay old new
+  pub written : RewritesWithin old new from (from + 4)
+
+-- a bin with one free cell is laid behind the data, from an offset up to the new end: its header says `hbin`, the offset
+-- and its size, and what is neither that nor the cell's size is 0
 pub record LaysBin (old new : List ℕ) (at : ℕ) : Type 0 where
   pub signature : word_at new at ≡ 0x6e69_6268
   pub own_offset : word_at new (at + 4) ≡ at
   pub size_is : at + bin_size new at ≡ length new
   pub cell_is : at + (32 + cell_size new (at + 32)) ≡ length new
   pub is_free : is_allocated new (at + 32) ≡ false
+  pub zeros : (i : ℕ) → at + 12 ≤ i → i < at + 32 → slice_index new i ≡ 0
   pub len : length new ≡ length old
   pub others : (i : ℕ) → i < at → slice_index new i ≡ slice_index old i
 
@@ -56,9 +111,37 @@ pub record LaysBin (old new : List ℕ) (at : ℕ) : Type 0 where
 abbrev pub least_bin : ℕ → ℕ
 least_bin size = (size + 4127) / 4096 * 4096
 
--- the data stay as long as they are, or get longer by a bin for a cell of a size, where no free cell is as long
-abbrev pub GrowsForNeed : List ℕ → List ℕ → ℕ → Type 0
-GrowsForNeed old new size = (length new ≡ length old) ⊎ ((¬ HasFree old size) × (length new ≡ length old + least_bin size))
+-- the data get longer by a bin of a size: its header says `hbin`, where it begins and its size, and has zeros behind
+pub record AddsBin (old new : List ℕ) (size : ℕ) : Type 0 where
+  pub longer : length new ≡ length old + size
+  pub bin : IsBin new (length old)
+  pub size_is : bin_size new (length old) ≡ size
+  pub zeros : (i : ℕ) → length old + 12 ≤ i → i < length old + 32 → slice_index new i ≡ 0
+
+-- a bin with one free cell is added
+pub record AddsFreeBin (old new : List ℕ) (size : ℕ) : Type 0 where
+  pub adds : AddsBin old new size
+  pub cell : IsFreeCell new (length old + 32)
+  pub cell_is : 32 + cell_size new (length old + 32) ≡ size
+  pub same : (i : ℕ) → i < length old → slice_index new i ≡ slice_index old i
+  pub stay : AllStay old new
+  pub cells : (at : ℕ) → at ≢ length old + 32 → SameCell old new at
+
+-- the free cell of some room at an offset, from which a cell of a size is taken, is one of the data; or none of these is
+-- as long, and it is that of a bin which is added, the least one for the cell
+abbrev pub IsRoomFor : List ℕ → List ℕ → ℕ → ℕ → ℕ → Type 0
+IsRoomFor old new size offset room =
+    (IsFreeCell old offset × (cell_size old offset ≡ room) × (length new ≡ length old))
+    ⊎ ((¬ HasFree old size) × AddsBin old new (least_bin size) × (offset ≡ length old + 32) × (32 + room ≡ least_bin size))
+
+-- a cell is taken from a free cell of some room at an offset: what is over is one free cell, and all other free cells
+-- stay
+pub record LeavesRest (old new : List ℕ) (offset room : ℕ) : Type 0 where
+  pub within : cell_size new offset ≤ room
+  pub rest : cell_size new offset < room → IsFreeCell new (offset + cell_size new offset)
+  pub rest_size : cell_size new offset < room → cell_size new offset + cell_size new (offset + cell_size new offset) ≡ room
+  pub alone : (at : ℕ) → IsFreeCell new at → offset ≤ at → at < offset + room → at ≡ offset + cell_size new offset
+  pub others : (at : ℕ) → ((at < offset) ⊎ (offset + room ≤ at)) → StaysFree old new at
 
 -- a cell of a size has no place: the data are over the limit, or no free cell is as long and a bin for it would take
 -- the data over the limit
@@ -70,17 +153,36 @@ pub record HasRoom (old new : List ℕ) (at size : ℕ) : Type 0 where
   pub limit : length new ≤ MOST_BINS_BYTES
   pub cell : IsFreeCell new at
   pub fits : size ≤ cell_size new at
+  pub within : at + cell_size new at ≤ length new
   pub stay : AllStay old new
+  pub cells : (other : ℕ) → other ≢ at → SameCell old new other
   pub longer : length old ≤ length new
   pub same : (i : ℕ) → i < length old → slice_index new i ≡ slice_index old i
-  pub grows : GrowsForNeed old new size
+  pub source : IsRoomFor old new size at (cell_size new at)
   pub has_place : ¬ HasNoPlace old size
 
--- why no cell of a size is allocated
-abbrev pub PlaceRefused : List ℕ → ℕ → Refusal → Type 0
-PlaceRefused bytes size refusal.NoMemory = ¬ HasNoPlace bytes size
-PlaceRefused bytes size refusal.TooLarge = HasNoPlace bytes size
-PlaceRefused bytes size _ = ⊥
+-- why no cell of a size is allocated: it has no place; or no free cell is as long, and there is no memory reserved for
+-- the bin that has it
+abbrev pub PlaceRefused : Bins → ℕ → Refusal → Type 0
+PlaceRefused old size refusal.NoMemory = (¬ HasNoPlace old.bytes size) × (¬ HasFree old.bytes size) × (old.spare < least_bin size)
+PlaceRefused old size refusal.TooLarge = HasNoPlace old.bytes size
+PlaceRefused old size _ = ⊥
+
+-- what is spare gets less by what the data get longer
+abbrev pub UsesSpare : Bins → Bins → Type 0
+UsesSpare old new = new.spare ≡ old.spare - (length new.bytes - length old.bytes)
+
+-- the free cell at an offset is as long as it was, or was split behind a size; all other cells are the same
+pub record Fits (old new : List ℕ) (at size : ℕ) : Type 0 where
+  pub free : IsFreeCell new at
+  pub least : size ≤ cell_size new at
+  pub most : cell_size new at ≤ size + 8
+  pub within : cell_size new at ≤ cell_size old at
+  pub rest : cell_size new at < cell_size old at → IsFreeCell new (at + cell_size new at)
+  pub rest_size : cell_size new at < cell_size old at → cell_size new at + cell_size new (at + cell_size new at) ≡ cell_size old at
+  pub stay : AllStay old new
+  pub cells : (other : ℕ) → other ≢ at → (cell_size new at < cell_size old at → other ≢ at + cell_size new at) → SameCell old new other
+  pub written : RewritesWithin old new at (at + cell_size new at + 4)
 
 -- a free cell is allocated at an offset, of at least a size and at most 8 bytes more
 pub record Takes (old new : List ℕ) (at size : ℕ) : Type 0 where
@@ -89,6 +191,7 @@ pub record Takes (old new : List ℕ) (at size : ℕ) : Type 0 where
   pub least : size ≤ cell_size new at
   pub most : cell_size new at ≤ size + 8
   pub others : OthersStay old new at
+  pub leaves : LeavesRest old new at (cell_size old at)
   pub written : RewritesWithin old new at (at + cell_size new at + 4)
 
 -- the free cell at an offset, in which a freed cell lies, has taken in the free cell that ended where the freed one
@@ -116,15 +219,17 @@ FreeRefused bytes offset refusal.TooLarge = MOST_BINS_BYTES < length bytes
 FreeRefused bytes offset (refusal.HiveDamaged zero cause.BadOffset) = (length bytes ≤ MOST_BINS_BYTES) × (¬ IsAllocatedCell bytes offset)
 FreeRefused bytes offset _ = ⊥
 
--- a cell for data of a length is allocated at an offset, and all other allocated cells stay
+-- a cell for data of a length is allocated at an offset, from a free cell of some room, and all other cells stay
 pub record Allocates (old new : List ℕ) (len offset : ℕ) : Type 0 where
+  pub room : ℕ
   pub has_place : ¬ HasNoPlace old (least_size len)
   pub fresh : ¬ IsAllocatedCell old offset
   pub begins : IsAllocatedCell new offset
   pub least : least_size len ≤ cell_size new offset
   pub most : cell_size new offset ≤ least_size len + 8
   pub others : OthersStay old new offset
-  pub grows : GrowsForNeed old new (least_size len)
+  pub source : IsRoomFor old new (least_size len) offset room
+  pub leaves : LeavesRest old new offset room
   pub written : WritesWithin old new offset (offset + cell_size new offset + 4)
 
 -- bytes of the data of the allocated cell at an offset are written, from one offset up to another

@@ -1,3 +1,4 @@
+pub mod Bins
 pub mod Changes
 pub mod Marks
 pub mod Starts

@@ -41,8 +41,9 @@ pub record IsMarked (bytes : List ℕ) (marks : List Mark) : Type 0 where
   pub pages : length bytes % 4096 ≡ 0
   pub all : IsMarkedTo bytes marks (length bytes)
 
--- a cell is long enough for its size, and ends within the data
+-- a cell begins at a multiple of 8, is long enough for its size, and ends within the data
 pub record IsWholeCell (bytes : List ℕ) (at : ℕ) : Type 0 where
+  pub eights : at % 8 ≡ 0
   pub least : 8 ≤ cell_size bytes at
   pub within : at + cell_size bytes at ≤ length bytes
 

@@ -1,6 +1,6 @@
 -- Where cells begin, kept as bits of words: that of the k-th 8 bytes of the data is bit k % 64 of word k / 64. And
 -- the greatest sizes of free cells, page by page.
-use Rattle.std.specs.Prelude.{◌≡◌, ◌≢◌, ℕ, ◌*◌, ◌/◌, ◌%◌, ◌<◌, ◌≤◌, ◌==◌, Bool, true, false, List, length, slice_index}
+use Rattle.std.specs.Prelude.{◌≡◌, ◌≢◌, ℕ, ◌+◌, ◌*◌, ◌/◌, ◌%◌, ◌<◌, ◌≤◌, ◌==◌, Bool, true, false, List, length, slice_index}
 use Rattle.std.specs.Int.{bit_at}
 use Rattle.hive_cells.specs.Tiles.{IsFreeCell, BeginsCell, word_at, is_allocated, cell_size}
 use Rattle.hive_cells.specs.Marks.{Mark, Cell, mark_at, IsMarked, IsBetweenBins, IsInBin}
@@ -67,10 +67,18 @@ pub record AreBounds (bytes bounds : List ℕ) : Type 0 where
   pub len : length bytes ≤ 4096 * length bounds
   pub most : (at : ℕ) → IsFreeCell bytes at → cell_size bytes at ≤ bound_at bounds at
 
--- what is kept beside the data: bins and cells tile them, and bits and bounds are theirs
+-- what is kept beside the data: bins and cells tile them, bits and bounds are theirs, and there is a bound for each page
+-- of the largest data
 pub record IsIndexed (bytes words bounds : List ℕ) : Type 0 where
   pub cells : IsKept bytes words
   pub free : AreBounds bytes bounds
+  pub most_pages : 16384 ≤ length bounds
+
+-- an image: data with bits and bounds, and memory for some bytes more and their bits
+pub record IsImage (bytes words bounds : List ℕ) (spare room words_room : ℕ) : Type 0 where
+  pub indexed : IsIndexed bytes words bounds
+  pub room_left : length bytes + spare ≤ room
+  pub words_left : length words + spare / 512 ≤ words_room
 
 -- no bound gets less, and the one of a page is at least a size
 pub record Raises (old new : List ℕ) (page size : ℕ) : Type 0 where
@@ -97,6 +105,7 @@ pub record IsNextPage (bounds : List ℕ) (from upto size page : ℕ) : Type 0 w
 -- the bounds of the free cells that are marked so far
 pub record AreBoundsOf (bytes : List ℕ) (marks : List Mark) (bounds : List ℕ) : Type 0 where
   pub len : length bytes ≤ 4096 * length bounds
+  pub most_pages : 16384 ≤ length bounds
   pub most : (k : ℕ) → mark_at marks k ≡ Cell → is_allocated bytes (8 * k) ≡ false → cell_size bytes (8 * k) ≤ bound_at bounds (8 * k)
 
 -- the walk over the data stands between two bins, at an offset

@@ -4,16 +4,22 @@
 //! No free cell is longer than the bound of the page that it begins in. A bound may be too great, since allocating
 //! leaves it as it is: the search that meets it then makes it exact. So a search looks at the bounds of groups of
 //! pages, at those of the pages of one group, and at the cells of a page that has one that is long enough.
-ghost use Rattle.std.specs.Prelude.{◌≡◌, ◌≢◌, ℕ, ◌+◌, ◌*◌, ◌/◌, ◌<◌, ◌≤◌, List, max, length, replicate, slice_set, slice_index, IfOk, OnOk, MatchOption};
-ghost use Rattle.hive_cells.specs.Tiles.{cell_size};
+ghost use Rattle.std.specs.Prelude.{◌≡◌, ◌≢◌, ℕ, ◌+◌, ◌*◌, ◌/◌, ◌^◌, ◌<◌, ◌≤◌, List, max, length, replicate, slice_set, slice_index, IfOk, MatchOption};
 ghost use Rattle.hive_cells.specs.Starts.{AreGrouped, Raises, AllBelow, IsNextPage};
 
-use crate::tiling::{PAGE_BYTES, cell_size};
+use crate::tiling::PAGE_BYTES;
+use refusals::limits::MOST_BINS_BYTES;
 use std::alloc::{AllocError, Global};
 use std::marker::Model;
 
 // how many pages are in a group
 const GROUP: usize = 128;
+
+// the pages of the largest data
+const MOST_PAGES: usize = MOST_BINS_BYTES / PAGE_BYTES;
+
+const _: () = prove!(GROUP == 128);
+const _: () = prove!(MOST_PAGES == 16_384);
 
 /// The bounds of the sizes of free cells, page by page. Contracts see the list of them.
 #[derive(Drop)]
@@ -31,42 +37,36 @@ impl Model for FreeBounds {
 }
 
 impl FreeBounds {
-    /// Bounds of 0 for so many pages.
+    /// Bounds of 0 for so many pages, and for no fewer than the largest data have.
     pub(crate) fn none(alloc: Global, count: usize) -> Result<FreeBounds, AllocError>
-        ensures { IfOk result (λ bounds. bounds ≡ replicate count 0) }
+        ensures { IfOk result (λ bounds. bounds ≡ replicate (max count 16384) 0) }
     {
+        let count = count.max(MOST_PAGES);
         let pages = vec![in alloc; 0; count]?;
         let groups = vec![in alloc; 0; count.div_ceil(GROUP)]?;
         Ok(FreeBounds { pages, groups })
     }
 
-    /// Makes room for so many pages; those that are new have the bound 0.
-    pub(crate) fn cover(&mut self, count: usize) -> Result<(), AllocError>
-        ensures enough { OnOk result (count ≤ length self.new) }
-        ensures longer { length self.old ≤ length self.new }
-        ensures same { (k : ℕ) → slice_index self.new k ≡ slice_index self.old k }
+    /// The same bounds.
+    pub(crate) fn try_clone(&self) -> Result<FreeBounds, AllocError>
+        ensures { IfOk result (λ copy. copy ≡ self.now) }
     {
-        lengthen(&mut self.groups, count.div_ceil(GROUP))?;
-        lengthen(&mut self.pages, count)
+        let pages = self.pages.clone()?;
+        let groups = self.groups.clone()?;
+        Ok(FreeBounds { pages, groups })
     }
 
-    /// Sees that the bound of its page holds of the cell at an offset.
-    pub(crate) fn note(&mut self, bytes: &[u8], at: usize)
-        requires within { at + 4 ≤ length bytes.now }
+    /// Sees that the bound of its page holds of a cell of a size at an offset.
+    pub(crate) fn note(&mut self, at: usize, size: usize)
         requires page { at / 4096 < length self.old }
-        ensures { Raises self.old self.new (at / 4096) (cell_size bytes.now at) }
+        requires fits { size < 2 ^ 32 }
+        ensures { Raises self.old self.new (at / 4096) size }
     {
-        self.raise(at / PAGE_BYTES, cell_size(bytes, at) as u32);
-    }
-
-    // sees that the bound of a page is at least a size
-    fn raise(&mut self, page: usize, size: u32)
-        requires { page < length self.old }
-        ensures { Raises self.old self.new page size }
-    {
+        let page = at / PAGE_BYTES;
         let group = page / GROUP;
-        self.groups[group] = self.groups[group].max(size);
-        self.pages[page] = self.pages[page].max(size);
+        let bound = size as u32;
+        self.groups[group] = self.groups[group].max(bound);
+        self.pages[page] = self.pages[page].max(bound);
     }
 
     /// Puts the bound of a page.
@@ -97,19 +97,6 @@ impl FreeBounds {
         }
         None
     }
-}
-
-// adds bounds of 0 until there are so many
-fn lengthen(bounds: &mut Vec<u32>, count: usize) -> Result<(), AllocError>
-    ensures enough { OnOk result (count ≤ length bounds.new.items) }
-    ensures longer { length bounds.old.items ≤ length bounds.new.items }
-    ensures most { length bounds.new.items ≤ max (length bounds.old.items) count }
-    ensures same { (k : ℕ) → slice_index bounds.new.items k ≡ slice_index bounds.old.items k }
-{
-    if bounds.len() < count {
-        bounds.resize(count, 0)?;
-    }
-    Ok(())
 }
 
 // the greatest of the bounds, or 0

@@ -1,43 +1,68 @@
 //! Hive bins data whose bins and cells tile, with its cells by their offsets.
 ghost use Rattle.std.specs.Prelude.{◌≡◌, ◌+◌, ◌-◌, ◌^◌, ◌<◌, ◌*◌, ◌/◌, ◌%◌, ◌≤◌, List, ℕ, MatchResult, IfOk, IsTrue, ◌↔◌, min, length, slice_range};
+ghost use Rattle.std.specs.Vec.{vec_capacity};
+ghost use Rattle.hive_cells.specs.Bins.{Bins, bins_code, Cells, Shows};
 ghost use Rattle.hive_cells.specs.Tiles.{Tiles, LiesInOneTile, DataRefused, IsAllocatedCell, cell_data, cell_size, is_allocated};
-ghost use Rattle.hive_cells.specs.Marks.{IsWholeCell};
-ghost use Rattle.hive_cells.specs.Starts.{IsIndexed};
-ghost use Rattle.hive_cells.specs.Changes.{Frees, FreeRefused, Allocates, PlaceRefused, HasRoom, Writes, least_size};
+ghost use Rattle.hive_cells.specs.Starts.{IsImage};
+ghost use Rattle.hive_cells.specs.Changes.{RewritesWithin, Frees, FreeRefused, Allocates, PlaceRefused, HasRoom, UsesSpare, Writes, least_size};
 
-use crate::bins::add_bin;
-use crate::edits::{give_back, take, write_data};
+mod edits;
+mod growth;
+mod lookup;
+
 use crate::free_bounds::FreeBounds;
 use crate::looks::Looks;
-use crate::lookup::{find_free, is_cell_allocated};
-use crate::tiling::{MARKED_BYTES, cell_size, damaged, index_of};
+use crate::tiling::{MARKED_BYTES, index_of};
 use refusals::limits::MOST_BINS_BYTES;
 use refusals::{Cause, Refusal};
-use std::alloc::Global;
+use std::alloc::{AllocError, Global};
 use std::marker::Model;
 
-/// The bytes of a cell's size, which stand before its data.
+// the bytes of a cell's size, which stand before its data
 const SIZE_BYTES: usize = 4;
 
+const _: () = prove!(SIZE_BYTES == 4);
+
 /// Hive bins data that bins and cells tile: bins follow one another and fill the data, and the cells of a
-/// bin follow its header of 32 bytes and fill the bin. Contracts see an image as its bytes.
+/// bin follow its header of 32 bytes and fill the bin. Contracts see an image as its bytes, and as the number of bytes
+/// that are spare: by so many it may get longer without memory.
 ///
 /// An image keeps its bytes, a bit for each 8 of them, by which a cell is found without a walk, and for each page
-/// of 4,096 a bound of the sizes of its free cells, by which one is found for an allocation: together about 1/56
-/// of the bytes.
+/// of 4,096 a bound of the sizes of its free cells, by which one is found for an allocation: together 1/64 of the bytes
+/// and 66,048 bytes.
 #[derive(Drop)]
 pub struct Image {
     bytes: Vec<u8>,
     starts: Vec<u64>,
     free: FreeBounds,
+    spare: usize,
 }
 
 impl Model for Image {
-    ghost Value = { List ℕ };
+    ghost Value = { Bins };
 
-    ghost view = { λ image. image.bytes.items };
+    ghost coded = { bins_code };
 
-    ghost invariant = { λ image. IsIndexed image.bytes.items image.starts.items image.free };
+    ghost view = { λ image. record { bytes = image.bytes.items; spare = image.spare } };
+
+    ghost invariant = { λ image. IsImage image.bytes.items image.starts.items image.free image.spare (vec_capacity image.bytes) (vec_capacity image.starts) };
+}
+
+/// Bytes that are not opened as an image, given back with the reason.
+#[derive(Drop)]
+pub struct Unopened {
+    /// Why the bytes are no image.
+    pub refusal: Refusal,
+    /// The bytes.
+    pub bytes: Vec<u8>,
+}
+
+impl From<Unopened> for Refusal {
+    ghost from_gives = { λ unopened refusal. refusal ≡ unopened.refusal };
+
+    fn from(unopened: Unopened) -> Refusal {
+        unopened.refusal
+    }
 }
 
 impl Image {
@@ -47,49 +72,71 @@ impl Image {
     /// that stands in them: `Truncated` where they are not whole pages of 4,096 bytes, `BadBin` where a bin's
     /// signature, offset or size is wrong or the bin doesn't end within the data, `BadCell` where a cell's
     /// size is no multiple of 8, is below 8, or passes the end of its bin. Refused with `NoMemory` where memory
-    /// for the bits and the bounds, about 1/56 of the data's length, was not given.
-    pub fn open(alloc: Global, bytes: Vec<u8>) -> Result<Image, Refusal>
-        ensures { MatchResult result (λ image. (image ≡ bytes.items) × Tiles bytes.items) (DataRefused bytes.items) }
+    /// for the bits and the bounds was not given. A refusal hands the bytes back.
+    pub fn open(alloc: Global, bytes: Vec<u8>) -> Result<Image, Unopened>
+        ensures { MatchResult result
+            (λ image. (image ≡ record { bytes = bytes.items; spare = 0 }) × Tiles bytes.items)
+            (λ unopened. (unopened.bytes.items ≡ bytes.items) × DataRefused bytes.items unopened.refusal) }
     {
-        let (starts, free) = index_of(alloc, &bytes)?;
+        match index_of(alloc, &bytes) {
+            Ok((starts, free)) => Ok(Image {
+                bytes,
+                starts,
+                free,
+                spare: 0,
+            }),
+            Err(refusal) => Err(Unopened { refusal, bytes }),
+        }
+    }
+
+    /// An image of the same bytes, of which none are spare.
+    pub fn try_clone(&self) -> Result<Image, AllocError>
+        ensures { IfOk result (λ copy. copy ≡ record { bytes = self.now.bytes; spare = 0 }) }
+    {
+        let bytes = self.bytes.clone()?;
+        let starts = self.starts.clone()?;
+        let free = self.free.try_clone()?;
         Ok(Image {
             bytes,
             starts,
             free,
+            spare: 0,
         })
     }
 
-    /// The law of every image: bins and cells tile it, and each byte lies in the header of one bin or in one
-    /// cell, and in nothing else. Does nothing.
+    /// The law of every image: bins and cells tile it, each byte lies in the header of one bin or in one cell, and in
+    /// nothing else, and the allocated cells are a function of offsets. Does nothing.
     pub fn tiles(&self, at: usize)
-        ensures tiles { Tiles self.now }
-        ensures once { at < length self.now → LiesInOneTile self.now at }
+        ensures tiles { Tiles self.now.bytes }
+        ensures once { at < length self.now.bytes → LiesInOneTile self.now.bytes at }
+        ensures shown { (cells : Cells) × Shows self.now.bytes cells }
     {
         let _ = &self.bytes;
     }
 
     /// The bytes of the data.
     pub fn len(&self) -> usize
-        ensures { result ≡ length self.now }
+        ensures { result ≡ length self.now.bytes }
     {
         self.bytes.len()
     }
 
     /// Whether the data have no bin.
     pub fn is_empty(&self) -> bool
-        ensures { IsTrue result ↔ (length self.now ≡ 0) }
+        ensures { IsTrue result ↔ (length self.now.bytes ≡ 0) }
     {
         self.bytes.is_empty()
     }
 
     /// The bytes of the data, given back without taking memory.
     pub fn into_bytes(self) -> Vec<u8>
-        ensures { result.items ≡ self }
+        ensures { result.items ≡ self.bytes }
     {
         let Image {
             bytes,
             starts: _,
             free: _,
+            spare: _,
         } = self;
         bytes
     }
@@ -99,16 +146,20 @@ impl Image {
     ///
     /// Refused with `HiveDamaged` of hive 0 and `BadOffset` exactly where no allocated cell begins there.
     pub fn cell(&self, offset: u32, looks: &mut Looks) -> Result<&[u8], Refusal>
-        ensures found { MatchResult result (λ lent. IsAllocatedCell self.now offset × (lent.now ≡ cell_data self.now offset)) (λ refusal. (refusal ≡ Refusal.HiveDamaged 0 Cause.BadOffset) × (¬ IsAllocatedCell self.now offset)) }
-        ensures size { IfOk result (λ lent. length lent.now + 4 ≡ cell_size self.now offset) }
+        ensures found { MatchResult result
+            (λ lent. IsAllocatedCell self.now.bytes offset × (lent.now ≡ cell_data self.now.bytes offset))
+            (λ refusal. (refusal ≡ Refusal.HiveDamaged 0 Cause.BadOffset) × (¬ IsAllocatedCell self.now.bytes offset)) }
+        ensures size { IfOk result (λ lent. length lent.now + 4 ≡ cell_size self.now.bytes offset) }
+        ensures eights { IfOk result (λ lent. offset % 8 ≡ 0) }
+        ensures within { IfOk result (λ lent. offset + cell_size self.now.bytes offset ≤ length self.now.bytes) }
         ensures look { looks.new ≡ min (looks.old + 1) (2 ^ 64 - 1) }
     {
         looks.raise();
         let at = offset as usize;
-        if is_cell_allocated(&self.bytes, &self.starts, at) {
-            Ok(data_of(&self.bytes, at))
+        if self.is_allocated(at) {
+            Ok(self.data_at(at))
         } else {
-            Err(damaged(Cause::BadOffset))
+            Err(Refusal::from(Cause::BadOffset))
         }
     }
 
@@ -117,20 +168,18 @@ impl Image {
     ///
     /// Refused with `HiveDamaged` of hive 0 and `BadOffset` exactly where no allocated cell begins there.
     pub fn write(&mut self, offset: u32, at: usize, source: &[u8]) -> Result<(), Refusal>
-        requires { IsAllocatedCell self.old offset → 4 + at + length source.now ≤ cell_size self.old offset }
-        ensures { MatchResult result (λ _. Writes self.old self.new offset (offset + 4 + at) (offset + 4 + at + length source.now) × (slice_range self.new (offset + 4 + at) (offset + 4 + at + length source.now) ≡ source.now)) (λ refusal. (self.new ≡ self.old) × (refusal ≡ Refusal.HiveDamaged 0 Cause.BadOffset) × (¬ IsAllocatedCell self.old offset)) }
+        requires { IsAllocatedCell self.old.bytes offset → 4 + at + length source.now ≤ cell_size self.old.bytes offset }
+        ensures written { MatchResult result
+            (λ _. Writes self.old.bytes self.new.bytes offset (offset + 4 + at) (offset + 4 + at + length source.now)
+                × (slice_range self.new.bytes (offset + 4 + at) (offset + 4 + at + length source.now) ≡ source.now))
+            (λ refusal. (self.new ≡ self.old) × (refusal ≡ Refusal.HiveDamaged 0 Cause.BadOffset) × (¬ IsAllocatedCell self.old.bytes offset)) }
+        ensures spare { self.new.spare ≡ self.old.spare }
     {
         let cell = offset as usize;
-        if !is_cell_allocated(&self.bytes, &self.starts, cell) {
-            return Err(damaged(Cause::BadOffset));
+        if !self.is_allocated(cell) {
+            return Err(Refusal::from(Cause::BadOffset));
         }
-        write_data(
-            &mut self.bytes,
-            &self.starts,
-            cell,
-            cell + SIZE_BYTES + at,
-            source,
-        );
+        put_bytes(&mut self.bytes, cell + SIZE_BYTES + at, source);
         Ok(())
     }
 
@@ -141,46 +190,58 @@ impl Image {
     /// Refused with `TooLarge` exactly where the data are longer than the limit, and else with `HiveDamaged` of hive
     /// 0 and `BadOffset` exactly where no allocated cell begins there.
     pub fn free(&mut self, offset: u32) -> Result<u32, Refusal>
-        ensures { MatchResult result (λ from. Frees self.old self.new offset from) (λ refusal. (self.new ≡ self.old) × FreeRefused self.old offset refusal) }
+        ensures freed { MatchResult result (λ from. Frees self.old.bytes self.new.bytes offset from)
+            (λ refusal. (self.new ≡ self.old) × FreeRefused self.old.bytes offset refusal) }
+        ensures spare { self.new.spare ≡ self.old.spare }
     {
         let at = offset as usize;
         if self.bytes.len() > MOST_BINS_BYTES {
             return Err(Refusal::TooLarge);
         }
-        if !is_cell_allocated(&self.bytes, &self.starts, at) {
-            return Err(damaged(Cause::BadOffset));
+        if !self.is_allocated(at) {
+            return Err(Refusal::from(Cause::BadOffset));
         }
-        let from = give_back(&mut self.bytes, &mut self.starts, &mut self.free, at);
+        let from = self.give_back(at);
         Ok(from as u32)
     }
 
     /// Allocates a cell for data of a length, and answers where it begins. Its size is the length and four
-    /// bytes, rounded up to a multiple of 8, or 8 bytes more. A free cell that is as long is taken, and what is over
-    /// stays free; where there is none, the least bin for the cell is added behind the data. Of the data before, only
-    /// bytes of the cell and the four bytes behind it are written. What the new cell's data hold is not said.
+    /// bytes, rounded up to a multiple of 8, or 8 bytes more. A free cell that is as long is taken; where there is none,
+    /// the least bin for the cell is added behind the data, and its free cell is taken. What is over is one free cell, and
+    /// all other free cells stay. Of the data before, only bytes of the cell and the four bytes behind it are written.
+    /// What the new cell's data hold is not said.
     ///
     /// Refused with `TooLarge` exactly where the data are longer than the limit, or no free cell is as long and the
-    /// data with a new bin for the cell would be longer than the limit; and else with `NoMemory`.
+    /// data with a new bin for the cell would be longer than the limit; and else with `NoMemory`, where no free cell is
+    /// as long and fewer bytes are spare than the bin has.
     pub fn alloc(&mut self, len: usize) -> Result<u32, Refusal>
-        ensures { MatchResult result (λ offset. Allocates self.old self.new len offset) (λ refusal. (self.new ≡ self.old) × PlaceRefused self.old (least_size len) refusal) }
+        ensures allocated { MatchResult result (λ offset. Allocates self.old.bytes self.new.bytes len offset)
+            (λ refusal. (self.new ≡ self.old) × PlaceRefused self.old (least_size len) refusal) }
+        ensures spare { UsesSpare self.old self.new }
     {
         if self.bytes.len() > MOST_BINS_BYTES || len > MOST_BINS_BYTES {
             return Err(Refusal::TooLarge);
         }
         let size = size_for(len);
-        let at = find_room(&mut self.bytes, &mut self.starts, &mut self.free, size)?;
-        take(&mut self.bytes, &mut self.starts, &mut self.free, at, size);
+        let at = self.find_room(size)?;
+        self.take(at, size);
         Ok(at as u32)
     }
-}
 
-// the data of the cell at an offset
-fn data_of(bytes: &[u8], at: usize) -> &[u8]
-    requires { IsWholeCell bytes.now at }
-    ensures text { result.now ≡ cell_data bytes.now at }
-    ensures size { length result.now + 4 ≡ cell_size bytes.now at }
-{
-    &bytes[at + SIZE_BYTES..at + cell_size(bytes, at)]
+    // a free cell of at least a size, in the data or, where there is none, in a bin that is added
+    fn find_room(&mut self, size: usize) -> Result<usize, Refusal>
+        requires limit { length self.old.bytes ≤ MOST_BINS_BYTES }
+        requires some { 0 < size }
+        requires fits { size ≤ MOST_BINS_BYTES + 16 }
+        ensures { MatchResult result (λ at. HasRoom self.old.bytes self.new.bytes at size × UsesSpare self.old self.new)
+            (λ refusal. (self.new ≡ self.old) × PlaceRefused self.old size refusal) }
+    {
+        let _ = &self.bytes;
+        match self.find_free(size) {
+            Some(at) => Ok(at),
+            None => self.add_bin(size),
+        }
+    }
 }
 
 // the least size of a cell for data of a length
@@ -194,21 +255,11 @@ fn size_for(len: usize) -> usize
     (len + SIZE_BYTES).div_ceil(MARKED_BYTES) * MARKED_BYTES
 }
 
-// a free cell of at least a size, in the data or, where there is none, in a bin that is added
-fn find_room(
-    bytes: &mut Vec<u8>,
-    starts: &mut Vec<u64>,
-    free: &mut FreeBounds,
-    size: usize,
-) -> Result<usize, Refusal>
-    requires indexed { IsIndexed bytes.old.items starts.old.items free.old }
-    requires limit { length bytes.old.items ≤ MOST_BINS_BYTES }
-    requires some { 0 < size }
-    requires fits { size ≤ MOST_BINS_BYTES + 16 }
-    ensures { MatchResult result (λ at. HasRoom bytes.old.items bytes.new.items at size × IsIndexed bytes.new.items starts.new.items free.new) (λ refusal. (bytes.new.items ≡ bytes.old.items) × IsIndexed bytes.old.items starts.new.items free.new × PlaceRefused bytes.old.items size refusal) }
+// writes bytes from an offset on
+fn put_bytes(bytes: &mut [u8], from: usize, source: &[u8])
+    requires { from + length source.now ≤ length bytes.old }
+    ensures written { RewritesWithin bytes.old bytes.new from (from + length source.now) }
+    ensures text { slice_range bytes.new from (from + length source.now) ≡ source.now }
 {
-    match find_free(bytes, starts, free, size) {
-        Some(at) => Ok(at),
-        None => add_bin(bytes, starts, free, size),
-    }
+    bytes[from..from + source.len()].copy_from_slice(source);
 }

@@ -16,15 +16,12 @@
 //! cell although its bound says so is looked at once, and then has its exact bound.
 #![tactic(auto)]
 
-mod bins;
-mod edits;
 mod free_bounds;
 mod image;
 mod looks;
-mod lookup;
 mod starts;
 mod tiling;
 mod words;
 
-pub use image::Image;
+pub use image::{Image, Unopened};
 pub use looks::Looks;

@@ -24,15 +24,14 @@ pub(crate) const WORD_BYTES: usize = 512;
 /// `hbin`, as the number of these four bytes.
 pub(crate) const BIN_SIGNATURE: u32 = 0x6e69_6268;
 
+const _: () = prove!(PAGE_BYTES == 4096);
+const _: () = prove!(BIN_HEADER_BYTES == 32);
+const _: () = prove!(MARKED_BYTES == 8);
+const _: () = prove!(WORD_BYTES == 64 * MARKED_BYTES);
+const _: () = prove!(BIN_SIGNATURE == 0x6e69_6268);
+
 // the lowest stored size that is below 0 as a signed number
 const LOWEST_ALLOCATED: u32 = 0x8000_0000;
-
-// what is wrong, told of hive 0: whoever knows the hive's number puts it in
-pub(crate) fn damaged(cause: Cause) -> Refusal
-    ensures { result ≡ Refusal.HiveDamaged 0 cause }
-{
-    Refusal::HiveDamaged { hive: 0, cause }
-}
 
 // whether the cell at an offset is allocated
 #[tactic(auto, unfolding(crate::specs::Tiles::is_allocated))]
@@ -72,7 +71,7 @@ fn bin_end(bytes: &[u8], at: usize) -> Result<usize, Refusal>
     {
         Ok(at + size)
     } else {
-        Err(damaged(Cause::BadBin))
+        Err(Refusal::from(Cause::BadBin))
     }
 }
 
@@ -86,7 +85,7 @@ fn cell_end(bytes: &[u8], at: usize, end: usize) -> Result<usize, Refusal>
     if size % MARKED_BYTES == 0 && size >= MARKED_BYTES && size <= end - at {
         Ok(at + size)
     } else {
-        Err(damaged(Cause::BadCell))
+        Err(Refusal::from(Cause::BadCell))
     }
 }
 
@@ -105,7 +104,7 @@ fn walk_cell(
     let behind = cell_end(bytes, at, end)?;
     put_start(starts, at / MARKED_BYTES, true);
     if !is_allocated(bytes, at) {
-        free.note(bytes, at);
+        free.note(at, cell_size(bytes, at));
     }
     Ok(behind)
 }
@@ -129,14 +128,15 @@ fn walk_bin(
     Ok(end)
 }
 
-/// Finds where the cells of hive bins data begin, and bounds of the free ones. Refused with `Truncated` where the
+/// Finds where the cells of hive bins data begin, and bounds of the free ones, with one for each page of the largest
+/// data. Refused with `Truncated` where the
 /// data are not whole pages, with `BadBin` and `BadCell` where a bin or a cell begins that is none, and with
 /// `NoMemory`.
 pub(crate) fn index_of(alloc: Global, bytes: &[u8]) -> Result<(Vec<u64>, FreeBounds), Refusal>
     ensures { MatchResult result (λ index. IsIndexed bytes.now index.0.items index.1) (DataRefused bytes.now) }
 {
     if bytes.len() % PAGE_BYTES != 0 {
-        return Err(damaged(Cause::Truncated));
+        return Err(Refusal::from(Cause::Truncated));
     }
     let mut starts = vec![in alloc; 0; bytes.len() / WORD_BYTES]?;
     let mut free = FreeBounds::none(alloc, bytes.len() / PAGE_BYTES)?;
