@@ -1,12 +1,12 @@
 -- What each change of an image's bytes leaves of the image.
-use Rattle.std.proofs.Common.{◌≡◌, ◌≢◌, ℕ, ◌+◌, ◌-◌, ◌/◌, ◌%◌, ◌<◌, ◌≤◌, Bool, true, false, List, ◌++◌, length, refl, sym, ◌∙◌, subst, inl, inr, arith, ap, ◌⊎◌}
-use Rattle.std.specs.Prelude.{Option, Some, None, MatchOption, slice_index, replicate}
+use Rattle.std.proofs.Common.{◌≡◌, ℕ, ◌+◌, ◌-◌, ◌/◌, ◌%◌, ◌<◌, ◌≤◌, Bool, true, false, List, ◌++◌, length, refl, sym, ◌∙◌, subst, inl, inr, arith, ap, ◌⊎◌}
+use Rattle.std.specs.Prelude.{Option, Some, None, MatchOption, replicate}
 use Rattle.std.proofs.lemmas.Bool.{cases_eq, cases_Bool}
 use Rattle.std.proofs.lemmas.List.{length-append, length-replicate}
 use Rattle.hive_cells.proofs.NewBin.{bin_added}
 use Rattle.hive_cells.specs.Bins.{Cells, Shows}
 use Rattle.hive_cells.specs.Tiles.{is_allocated, cell_size, cell_data, BeginsCell, IsAllocatedCell, IsFreeCell}
-use Rattle.hive_cells.specs.Starts.{IsKept, IsImage, AreBounds, PutsStart, Raises, is_start, bound_at}
+use Rattle.hive_cells.specs.Starts.{IsKept, IsImage, AreBounds, PutsStart, Raises, is_start}
 use Rattle.hive_cells.specs.Changes.{PutsSize, RewritesWithin, Turns, Splits, Joins, LaysBin, AddsFreeBin, Writes}
 use Rattle.hive_cells.proofs.CellChanges.{turned, was_split, were_joined, written, puts_beside}
 use Rattle.hive_cells.proofs.Region.{size_same}
@@ -30,8 +30,8 @@ image_turned old new words bounds bounds' spare room words_room at size kind i f
     let c = turned old new words at size kind i.indexed.cells found size_is p in
     let same : cell_size new at ≡ size = p.size_is in (
       image_again old new words words bounds bounds' spare room words_room i p.len refl c.kept
-      (bounds_noted new bounds bounds' at (bounds_on old new bounds at at i.indexed.free c.cells p.len (λ apart free. absurd (apart refl))) (subst (λ (x : ℕ). Raises bounds bounds' (at / 4096) x) (sym same) r))
-      r.len,
+          (bounds_noted new bounds bounds' at (bounds_on old new bounds at at i.indexed.free c.cells p.len (λ apart free. absurd (apart refl))) (subst (λ (x : ℕ). Raises bounds bounds' (at / 4096) x) (sym same) r))
+          r.len,
       record { begins = c.begins; kind = p.kind_is; size = same ∙ size_is; stay = c.stay; cells = c.cells; written = record { len = p.len; others = p.others } },
     )
 
@@ -47,10 +47,10 @@ image_split old half new words words' bounds bounds' spare room words_room at si
     let first : cell_size new at ≡ size = q.size_is in
     let len : length new ≡ length old = q.len ∙ p.len in (
       image_again old new words words' bounds bounds' spare room words_room i len put.len c.kept
-      (bounds_noted new bounds bounds' (at + size)
-      (bounds_on old new bounds at (at + size) i.indexed.free c.cells len (λ apart _. omega (arith, i.indexed.free.most at free)))
-      (subst (λ (x : ℕ). Raises bounds bounds' ((at + size) / 4096) x) (sym second) r))
-      r.len,
+          (bounds_noted new bounds bounds' (at + size)
+          (bounds_on old new bounds at (at + size) i.indexed.free c.cells len (λ apart _. omega (arith, i.indexed.free.most at free)))
+          (subst (λ (x : ℕ). Raises bounds bounds' ((at + size) / 4096) x) (sym second) r))
+          r.len,
       record {
         first = (c.begins, q.kind_is);
         first_size = first;
@@ -72,10 +72,10 @@ image_joined old new words words' bounds bounds' spare room words_room at next s
     let c = both.0 in
     let same : cell_size new at ≡ size = q.size_is in (
       image_again old new words words' bounds bounds' spare room words_room i q.len put.len c.kept
-      (bounds_noted new bounds bounds' at
-      (bounds_on old new bounds next at i.indexed.free (λ other not_next not_at. c.cells other not_at not_next) q.len (λ apart found. absurd (both.1 found.0)))
-      (subst (λ (x : ℕ). Raises bounds bounds' (at / 4096) x) (sym same) r))
-      r.len,
+          (bounds_noted new bounds bounds' at
+          (bounds_on old new bounds next at i.indexed.free (λ other not_next not_at. c.cells other not_at not_next) q.len (λ apart found. absurd (both.1 found.0)))
+          (subst (λ (x : ℕ). Raises bounds bounds' (at / 4096) x) (sym same) r))
+          r.len,
       record {
         joined = (c.begins, q.kind_is);
         size = same ∙ size_is;
@@ -93,10 +93,10 @@ pub image_written : (old new words bounds : List ℕ) (spare room words_room at 
 image_written old new words bounds spare room words_room at from len i found low high r =
     let c = written old new words at from len i.indexed.cells found low high r in (
       image_again old new words words bounds bounds spare room words_room i r.len refl c.kept
-      (bounds_all new bounds at
-      (bounds_on old new bounds at at i.indexed.free c.cells r.len (λ apart free. absurd (apart refl)))
-      (λ free. let kind : is_allocated new at ≡ true = c.stay.begins.1 in let is : is_allocated new at ≡ false = free.1 in let no : ⊥ = cc in no))
-      refl,
+          (bounds_all new bounds at
+          (bounds_on old new bounds at at i.indexed.free c.cells r.len (λ apart free. absurd (apart refl)))
+          (λ free. let kind : is_allocated new at ≡ true = c.stay.begins.1 in let is : is_allocated new at ≡ false = free.1 in let no : ⊥ = cc in no))
+          refl,
       c.stay,
     )
 

@@ -19,6 +19,7 @@ const GROUP: usize = 128;
 const MOST_PAGES: usize = MOST_BINS_BYTES / PAGE_BYTES;
 
 const _: () = prove!(GROUP == 128);
+
 const _: () = prove!(MOST_PAGES == 16_384);
 
 /// The bounds of the sizes of free cells, page by page. Contracts see the list of them.

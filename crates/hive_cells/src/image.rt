@@ -171,7 +171,7 @@ impl Image {
         requires { IsAllocatedCell self.old.bytes offset → 4 + at + length source.now ≤ cell_size self.old.bytes offset }
         ensures written { MatchResult result
             (λ _. Writes self.old.bytes self.new.bytes offset (offset + 4 + at) (offset + 4 + at + length source.now)
-                × (slice_range self.new.bytes (offset + 4 + at) (offset + 4 + at + length source.now) ≡ source.now))
+            × (slice_range self.new.bytes (offset + 4 + at) (offset + 4 + at + length source.now) ≡ source.now))
             (λ refusal. (self.new ≡ self.old) × (refusal ≡ Refusal.HiveDamaged 0 Cause.BadOffset) × (¬ IsAllocatedCell self.old.bytes offset)) }
         ensures spare { self.new.spare ≡ self.old.spare }
     {

@@ -25,9 +25,13 @@ pub(crate) const WORD_BYTES: usize = 512;
 pub(crate) const BIN_SIGNATURE: u32 = 0x6e69_6268;
 
 const _: () = prove!(PAGE_BYTES == 4096);
+
 const _: () = prove!(BIN_HEADER_BYTES == 32);
+
 const _: () = prove!(MARKED_BYTES == 8);
+
 const _: () = prove!(WORD_BYTES == 64 * MARKED_BYTES);
+
 const _: () = prove!(BIN_SIGNATURE == 0x6e69_6268);
 
 // the lowest stored size that is below 0 as a signed number

@@ -96,7 +96,31 @@ fn is_one_bin(image: Image) -> bool {
 
 fn opened(alloc: Global) -> Result<Image, Refusal> {
     let bytes = one_bin(alloc)?;
-    Image::open(alloc, bytes)
+    Ok(Image::open(alloc, bytes)?)
+}
+
+// opening; where memory is refused, the bytes come back
+fn reopened(alloc: Global) -> Result<Outcome, Refusal> {
+    match Image::open(alloc, one_bin(alloc)?) {
+        Ok(image) => Ok(Outcome::right_if(is_one_bin(image))),
+        Err(unopened) => Ok(Outcome::of_refusal(unopened.refusal)
+            .and(Outcome::right_if(unopened.bytes.len() == BIN))),
+    }
+}
+
+// a copy, and memory for two bins; where either is refused, no byte changes. What is reserved is there for cells.
+fn reserved(alloc: Global) -> Result<Outcome, Refusal> {
+    let mut image = opened(alloc)?;
+    let copied = match image.try_clone() {
+        Ok(copy) => Outcome::right_if(is_one_bin(copy)),
+        Err(_) => Outcome::Refused,
+    };
+    match image.reserve(2 * BIN) {
+        Ok(()) => Ok(copied.and(Outcome::right_if(image.alloc(5000).ok() == Some(4128)))),
+        Err(refusal) => Ok(copied
+            .and(Outcome::of_refusal(refusal))
+            .and(Outcome::right_if(is_one_bin(image)))),
+    }
 }
 
 // a cell in a new bin; where memory is refused, no byte changes
@@ -149,6 +173,8 @@ fn outcome_of(ended: Result<Outcome, Refusal>) -> Outcome {
 fn main(rt: HostRuntime) -> ExitCode {
     let alloc = rt.alloc();
     let all = outcome_of(grown(alloc))
+        .and(outcome_of(reopened(alloc)))
+        .and(outcome_of(reserved(alloc)))
         .and(outcome_of(used_on(alloc)))
         .and(outcome_of(many(alloc)));
     match all {

@@ -47,11 +47,11 @@ fn one_bin(alloc: Global) -> Result<Vec<u8>, AllocError> {
 }
 
 fn opened(alloc: Global) -> Result<Image, Refusal> {
-    Image::open(alloc, one_bin(alloc)?)
+    Ok(Image::open(alloc, one_bin(alloc)?)?)
 }
 
 fn empty(alloc: Global) -> Result<Image, Refusal> {
-    Image::open(alloc, Vec::new(alloc))
+    Ok(Image::open(alloc, Vec::new(alloc))?)
 }
 
 const fn damaged(cause: Cause) -> Refusal {
@@ -115,18 +115,30 @@ const SPOILED: [(usize, [u8; 4], Cause, &str); 9] = [
     (48, [0xd8, 0x0f, 0, 0], Cause::BadCell, "past its bin's end"),
 ];
 
+// why bytes are not opened, and how many of them are handed back
+fn refused(alloc: Global, bytes: Vec<u8>) -> Option<(Refusal, usize)> {
+    match Image::open(alloc, bytes) {
+        Ok(_) => None,
+        Err(unopened) => Some((unopened.refusal, unopened.bytes.len())),
+    }
+}
+
 // what opening one bin answers where four bytes of it are spoiled
-fn spoiled(alloc: Global, at: usize, what: &[u8]) -> Result<Option<Refusal>, AllocError> {
+fn spoiled(
+    alloc: Global,
+    at: usize,
+    what: &[u8],
+) -> Result<Option<(Refusal, usize)>, AllocError> {
     let mut bytes = one_bin(alloc)?;
     put(&mut bytes, at, what);
-    Ok(Image::open(alloc, bytes).err())
+    Ok(refused(alloc, bytes))
 }
 
 // what opening one bin answers that is cut by its last byte
-fn cut(alloc: Global) -> Result<Option<Refusal>, AllocError> {
+fn cut(alloc: Global) -> Result<Option<(Refusal, usize)>, AllocError> {
     let mut bytes = one_bin(alloc)?;
     bytes.truncate(BIN - 1);
-    Ok(Image::open(alloc, bytes).err())
+    Ok(refused(alloc, bytes))
 }
 
 #[test]
@@ -135,11 +147,11 @@ fn what_does_not_tile_is_refused(rt: HostRuntime) {
     for (at, what, cause, wrong) in SPOILED {
         assert_eq!(rt;
             spoiled(alloc, at, &what),
-            Ok(Some(damaged(cause))),
+            Ok(Some((damaged(cause), BIN))),
             "{wrong}"
         );
     }
-    assert_eq!(rt; cut(alloc), Ok(Some(damaged(Cause::Truncated))));
+    assert_eq!(rt; cut(alloc), Ok(Some((damaged(Cause::Truncated), 4095))));
 }
 
 // a free bin of two pages, and one with an allocated cell
@@ -154,7 +166,7 @@ const TWO_BINS: [Part; 7] = [
 ];
 
 fn two_bins(alloc: Global) -> Result<Image, Refusal> {
-    Image::open(alloc, with_parts(alloc, 3 * BIN, &TWO_BINS)?)
+    Ok(Image::open(alloc, with_parts(alloc, 3 * BIN, &TWO_BINS)?)?)
 }
 
 #[test]
@@ -253,6 +265,50 @@ fn a_cell_for_five_bytes_has_sixteen(rt: HostRuntime) -> Result<(), Fail> {
     Ok(())
 }
 
+// a new bin's header of 32 bytes, and the size of its one cell
+const NEW_BIN: [u8; 36] = [
+    b'h', b'b', b'i', b'n', 0, 0, 0, 0, 0, 0x10, 0, 0, 0, 0, 0, 0, 0, 0, 0, 0, 0, 0, 0, 0, 0, 0, 0,
+    0, 0, 0, 0, 0, 0xf0, 0xff, 0xff, 0xff,
+];
+
+#[test]
+fn a_new_bin_has_zeros_in_its_header(rt: HostRuntime) -> Result<(), Fail> {
+    let mut image = empty(rt.alloc())?;
+    assert_eq!(rt; first_wrong(&mut image, &FIVES), None);
+    let bytes = image.bytes();
+    assert_eq!(rt; bytes.get(..36), Some(NEW_BIN.as_slice()));
+    assert_eq!(rt; bytes.get(64..68), Some([0xc0u8, 0x0f, 0, 0].as_slice()));
+    assert_eq!(rt; image.len(), BIN);
+    Ok(())
+}
+
+// the copy's free cell is taken, and the image's is left
+const COPIED: [Step; 2] = [Step::Takes(4044, 48), Step::Pages(1)];
+
+#[test]
+fn a_copy_is_changed_alone(rt: HostRuntime) -> Result<(), Fail> {
+    let mut image = opened(rt.alloc())?;
+    let mut copy = image.try_clone()?;
+    assert_eq!(rt; first_wrong(&mut copy, &COPIED), None);
+    assert_eq!(rt; first_wrong(&mut image, &COPIED), None);
+    Ok(())
+}
+
+// what is reserved changes nothing that lies in the image
+const RESERVED: [Step; 3] = [
+    Step::Pages(1),
+    Step::Takes(4100, 4128),
+    Step::Pages(3),
+];
+
+#[test]
+fn memory_is_reserved_for_bins(rt: HostRuntime) -> Result<(), Fail> {
+    let mut image = opened(rt.alloc())?;
+    image.reserve(2 * BIN)?;
+    assert_eq!(rt; first_wrong(&mut image, &RESERVED), None);
+    Ok(())
+}
+
 // of three cells of 24 bytes the second is written and the others are freed, and one more is allocated
 const WRITTEN: [Step; 6] = [
     Step::Takes(20, 32),
@@ -270,7 +326,7 @@ fn is_written(image: &Image, looks: &mut Looks) -> Result<bool, Refusal> {
 }
 
 fn opened_again(alloc: Global, image: Image) -> Result<Image, Refusal> {
-    Image::open(alloc, image.into_bytes())
+    Ok(Image::open(alloc, image.into_bytes())?)
 }
 
 #[test]

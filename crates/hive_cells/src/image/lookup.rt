@@ -3,6 +3,8 @@ ghost use Rattle.std.specs.Prelude.{◌≡◌, ◌≢◌, ℕ, ◌+◌, ◌*◌,
 ghost use Rattle.hive_cells.specs.Tiles.{BeginsCell, IsAllocatedCell, IsFreeCell, HasFree, cell_size, cell_data};
 ghost use Rattle.hive_cells.specs.Marks.{IsWholeCell};
 ghost use Rattle.hive_cells.specs.Starts.{IsKept};
+ghost use Rattle.std.specs.Borrow.{sem};
+ghost use Rattle.hive_cells.specs.Lending.{StaysAsLent};
 
 use super::{Image, SIZE_BYTES};
 use crate::starts::{begins_at, last_start};
@@ -12,6 +14,15 @@ use crate::tiling::{MARKED_BYTES, PAGE_BYTES, cell_size, is_allocated};
 const PAGE_SLOTS: usize = PAGE_BYTES / MARKED_BYTES;
 
 impl Image {
+    /// All bytes of the data, headers and free cells too, for whoever writes them to a file. It takes `&mut self`, since
+    /// nobody who has an image lent is to see a cell's data without a look; the image stays as it is.
+    pub fn bytes(&mut self) -> &[u8]
+        ensures* stays { sem 𝓛 (StaysAsLent self.entry) }
+        ensures all { result.now ≡ self.old.bytes }
+    {
+        &self.bytes
+    }
+
     // whether an allocated cell begins at an offset.
     pub(super) fn is_allocated(&self, at: usize) -> bool
         ensures found { IsTrue result ↔ IsAllocatedCell self.now.bytes at }
@@ -61,7 +72,7 @@ impl Image {
         ensures { MatchOption result
             ((from : ℕ) → IsFreeCell self.now.bytes from → from + cell_size self.now.bytes from ≢ at)
             (λ from. IsFreeCell self.now.bytes from × (from + cell_size self.now.bytes from ≡ at)
-                × ((other : ℕ) → IsFreeCell self.now.bytes other → other + cell_size self.now.bytes other ≡ at → from ≡ other)) }
+            × ((other : ℕ) → IsFreeCell self.now.bytes other → other + cell_size self.now.bytes other ≡ at → from ≡ other)) }
     {
         let slot = last_start(&self.starts, 0, at / MARKED_BYTES)?;
         let from = MARKED_BYTES * slot;

@@ -1,4 +1,4 @@
-use Rattle.std.proofs.Common.{length, ap, sym, subst, arith}
+use Rattle.std.proofs.Common.{sym, subst, arith}
 use Rattle.hive_cells.specs.Bins.{Bins}
 use Rattle.hive_cells.specs.Tiles.{BeginsCell}
 use Rattle.hive_cells.specs.Marks.{IsWholeCell}

@@ -1,8 +1,8 @@
-use Rattle.std.proofs.Common.{◌≡◌, ◌*◌, ℕ, List, true, false, ap, arith, rules, subst, sym}
+use Rattle.std.proofs.Common.{◌≡◌, ◌*◌, ℕ, true, false, ap, arith, rules, subst, sym}
 use Rattle.hive_cells.specs.Bins.{Bins}
 use Rattle.hive_cells.specs.Tiles.{IsFreeCell, BeginsCell, cell_size}
 use Rattle.hive_cells.specs.Marks.{IsWholeCell}
-use Rattle.hive_cells.specs.Starts.{IsKept, NoStart, IsLastStart}
+use Rattle.hive_cells.specs.Starts.{IsKept}
 use Rattle.hive_cells.proofs.CellChanges.{cell_within}
 use Rattle.hive_cells.proofs.Lookups.{none_ends, last_ends}
 use Rattle.hive_cells.proofs.image.Image.free_before.Goals.{else-is_free-via-then-is_free+else-from-size_at, else-is_free-via-else-is_free}

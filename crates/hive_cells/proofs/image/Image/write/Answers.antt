@@ -15,6 +15,8 @@ invariant_of-self c =
 pub returns-clause-written : goal.returns-clause-written
 returns-clause-written c =
     let found : IsAllocatedCell c.args.self.now.bytes c.args.offset = c.if-not-is_allocated.ensures.found.0 (search rules) in
-    rw (with_items_is c.self.inside.bytes c.put_bytes.new.bytes (c.put_bytes.ensures.written.len ∙ c.deref_mut.ensures.len))
-    ((write_all c.self.inside.bytes.items c.args.self.now.bytes c.deref_mut.result.now c.put_bytes.new.bytes c.self.inside.starts.items c.self.inside.free c.self.inside.spare c.self.inside.bytes.cap c.self.inside.starts.cap c.args.offset (c.args.offset + 4 + c.args.at) (length c.args.source.now)
-    (ap (λ (b : Bins). b.bytes) c.self.view_is) c.deref_mut.ensures.value c.self.invariant found (omega arith) (omega (arith, c.requires found)) c.put_bytes.ensures.written).1, c.put_bytes.ensures.text)
+    rw (with_items_is c.self.inside.bytes c.put_bytes.new.bytes (c.put_bytes.ensures.written.len ∙ c.deref_mut.ensures.len)) (
+      (write_all c.self.inside.bytes.items c.args.self.now.bytes c.deref_mut.result.now c.put_bytes.new.bytes c.self.inside.starts.items c.self.inside.free c.self.inside.spare c.self.inside.bytes.cap c.self.inside.starts.cap c.args.offset (c.args.offset + 4 + c.args.at) (length c.args.source.now)
+          (ap (λ (b : Bins). b.bytes) c.self.view_is) c.deref_mut.ensures.value c.self.invariant found (omega arith) (omega (arith, c.requires found)) c.put_bytes.ensures.written).1,
+      c.put_bytes.ensures.text,
+    )
