@@ -1,0 +1,17 @@
+pub mod Readers
+pub mod Numbers
+pub mod Names
+pub mod Values
+pub mod Lists
+pub mod KeyNodes
+pub mod Images
+pub mod Nodes
+pub mod Example
+pub mod Follows
+pub mod Fields
+pub mod Spellings
+pub mod ValueTexts
+pub mod ListTexts
+pub mod KeyTexts
+pub mod BigTexts
+pub mod Wholes
