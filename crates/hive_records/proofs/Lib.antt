@@ -17,3 +17,4 @@ pub mod ManyAgain
 pub mod BigAgain
 pub mod WholesAgain
 pub mod ChildAgain
+pub mod Spelled

@@ -1,4 +1,5 @@
 pub mod Readers
+pub mod Bytes
 pub mod Numbers
 pub mod Names
 pub mod Values

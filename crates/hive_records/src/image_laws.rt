@@ -1,13 +1,14 @@
 //! Which tree hive bins data stand for: laws.
 
-ghost use Rattle.std.specs.Prelude.{◌≡◌, ◌++◌, [], T, ℕ, List, Bool};
+ghost use Rattle.std.specs.Prelude.{◌≡◌, ◌++◌, [], T, ℕ, List, Bool, Ok, Some};
 ghost use Rattle.refusals.specs.declared.refusal.Refusal.{Refusal};
 ghost use Rattle.std.specs.FinMap as finite;
 ghost use Rattle.std.specs.FinMap.Entries.{is_sorted, put};
 ghost use Rattle.reg_tree_parts.specs.Orders.{name_order, path_order};
 ghost use Rattle.reg_tree_parts.specs.Rows.{Row};
 ghost use Rattle.reg_tree_parts.specs.Nodes.{Entries, entries_of};
-ghost use Rattle.reg_tree.specs.Maps.{TreeMap, IsTree};
+ghost use Rattle.reg_tree.specs.Maps.{TreeMap, IsTree, row};
+ghost use Rattle.reg_tree.specs.Spellable.{IsSpellableRow};
 ghost use Rattle.hive_cells.specs.Changes.{StaysAt};
 ghost use Rattle.hive_shape.specs.Lists.{IsIn};
 ghost use Rattle.hive_shape.specs.Keys.{Parts, Keys, none, names, all_cells};
@@ -17,6 +18,7 @@ ghost use Rattle.hive_shape.specs.Cells.{IsLocal, IsThere};
 ghost use Rattle.hive_shape.specs.Faults.{IsTrail, IsLentTrail};
 ghost use Rattle.hive_shape.specs.Loads.{with_last};
 ghost use Rattle.hive_records.specs.Nodes.{IsNodeOf, AreNodesOf};
+ghost use Rattle.hive_records.specs.Bytes.{AreBytes, HoldBytes};
 ghost use Rattle.hive_records.specs.KeyNodes.{keys_in, trail_in, lends_in};
 ghost use Rattle.hive_records.specs.Images.{StandsFor, FaultFor};
 ghost use Rattle.hive_cells.specs.Bins.{Cells, Shows};
@@ -63,4 +65,19 @@ pub fn nodes()
     ensures tree { (parts : Parts Row) (keys : Keys Row) (entries : Entries) →
         T (is_sorted path_order entries) → Named keys →
         IsNodeOf entries parts keys → finite.from_sorted entries ≡ tree_of parts keys }
+{}
+
+/// What was read of a file is what a tree may hold.
+///
+/// - `row`: a record that was read has a name of at most 65,535 bytes as it is stored, without a backslash, a class of at
+///   most as many, flags of 16 bits without 0x0020 and 0x0040, and each value under the fold of its name.
+/// - `cells`: the cells of data that are bytes hold bytes.
+/// - `tree`: so is each row of the tree that such data stand for.
+pub fn rows_are_spellable()
+    ensures row { (cells : Cells) → HoldBytes cells → (split : Bool) (at : ℕ) (parts : Parts Row) →
+        keys_in split cells at ≡ Ok parts → IsSpellableRow parts.row }
+    ensures cells { (bytes : List ℕ) (cells : Cells) → AreBytes bytes → Shows bytes cells → HoldBytes cells }
+    ensures tree { (bytes : List ℕ) (root minor : ℕ) (tree : TreeMap) → AreBytes bytes →
+        StandsFor bytes root minor tree → (path : List (List ℕ)) (key : Row) → row tree path ≡ Some key →
+        IsSpellableRow key }
 {}

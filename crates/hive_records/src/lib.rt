@@ -8,7 +8,7 @@ mod reading_laws;
 mod text_laws;
 
 pub use example_laws::{example, spelled_by_hand};
-pub use image_laws::{keys_are_local, nodes, one_tree, stays};
+pub use image_laws::{keys_are_local, nodes, one_tree, rows_are_spellable, stays};
 pub use reading_laws::{follows, loops};
 pub use text_laws::{
     big_again, cells_again, keys_again, lists_again, many_again, names_again, values_again,
