@@ -1,0 +1,27 @@
+-- Which tree hive bins data stand for.
+use Rattle.std.specs.Prelude.{◌≡◌, ◌⊎◌, ℕ, nat_le, Bool, false, List}
+use Rattle.refusals.specs.declared.refusal.Refusal.{Refusal}
+use Rattle.refusals.specs.declared.refusal.Refusal.TheVariants as refusal
+use Rattle.refusals.specs.declared.refusal.Cause.TheVariants as cause
+use Rattle.reg_tree.specs.Maps.{TreeMap}
+use Rattle.hive_cells.specs.Tiles.{Tiles}
+use Rattle.hive_cells.specs.Bins.{Cells, Shows}
+use Rattle.hive_shape.specs.Stands.{Stands}
+use Rattle.hive_shape.specs.Faults.{Lends}
+use Rattle.hive_shape.specs.Loads.{Told}
+use Rattle.hive_records.specs.KeyNodes.{keys_in, trail_in, lends_in}
+
+-- from minor version 4 on, big data lie in segments
+abbrev pub splits : ℕ → Bool
+splits minor = nat_le 4 minor
+
+-- the data stand, from the root's offset on, for the tree
+abbrev pub StandsFor : List ℕ → ℕ → ℕ → TreeMap → Type 0
+StandsFor bytes root minor tree = Tiles bytes × (cells : Cells) × Shows bytes cells × Stands (keys_in (splits minor) cells) root tree
+
+-- a rule is broken in the data, and the refusal tells it. (A key deeper than the limit, or a tree over the weight, is no
+-- such fault: a tree stands there, but none within the limits.)
+abbrev pub FaultFor : List ℕ → ℕ → ℕ → Refusal → Type 0
+FaultFor bytes root minor r = (cells : Cells) × Shows bytes cells ×
+    (Told (trail_in (splits minor) cells) (keys_in (splits minor) cells) (refusal.HiveDamaged 0 cause.BadName) (refusal.HiveDamaged 0 cause.Shared) (λ cell. false) root r
+    ⊎ ((r ≡ refusal.HiveDamaged 0 cause.Shared) × Lends (trail_in (splits minor) cells) (lends_in (splits minor) cells) (keys_in (splits minor) cells) root))

@@ -1,0 +1,68 @@
+-- Key nodes with all that is theirs alone: names, class, descriptor, values, and the offsets of subkeys (regf format:
+-- nk, sk).
+use Rattle.std.specs.Prelude.{ℕ, ◌+◌, ◌-◌, ◌==◌, nat_le, Bool, not, if◌then◌else◌, List, [], length, slice_range, Result, Ok, Err}
+use Rattle.std.specs.List.{list_any}
+use Rattle.reg_names.specs.Names.{folded}
+use Rattle.refusals.specs.declared.refusal.Refusal.{Refusal}
+use Rattle.refusals.specs.declared.refusal.Refusal.TheVariants as refusal
+use Rattle.refusals.specs.declared.refusal.Cause.TheVariants as cause
+use Rattle.reg_tree_parts.specs.Rows.{Row}
+use Rattle.hive_cells.specs.Tiles.{word_at}
+use Rattle.hive_shape.specs.Keys.{Parts, Reads}
+use Rattle.hive_records.specs.Readers.{Read, Reader, done, barred, rule, choice, look, look_lent, ◌⟫◌}
+use Rattle.hive_cells.specs.Bins.{Cells}
+use Rattle.hive_records.specs.Numbers.{nowhere, half_at, long_at, begins_with}
+use Rattle.hive_records.specs.Names.{has_flag, name_in}
+use Rattle.hive_records.specs.Values.{piece, values_at}
+use Rattle.hive_records.specs.Lists.{kids_at}
+
+-- the descriptor that a security cell holds; none for no cell. Links and the count are not read.
+abbrev pub descriptor_at : ℕ → Reader (List ℕ)
+descriptor_at at =
+    choice (at == nowhere) (done [])
+    (look_lent at ⟫ λ bytes.
+    rule (begins_with bytes 0x6b73 20) cause.BadRecord ⟫ λ _.
+    rule (nat_le (20 + word_at bytes 16) (length bytes)) cause.BadRecord ⟫ λ _.
+    done (slice_range bytes 20 (20 + word_at bytes 16)))
+
+-- the class of a length
+abbrev pub class_at : ℕ → ℕ → Reader (List ℕ)
+class_at size at = choice (size == 0) (done []) (piece size at)
+
+-- the flags of a row are those stored but for the one that says how the name is spelled
+abbrev pub flags_of : ℕ → ℕ
+flags_of stored = if has_flag 0x20 stored then stored - 0x20 else stored
+
+-- what a key's own cells say: its row, and its subkeys' offsets
+abbrev pub key_at : Bool → ℕ → Reader (Row × List ℕ)
+key_at split at =
+    look at ⟫ λ bytes.
+    rule (begins_with bytes 0x6b6e 76) cause.BadRecord ⟫ λ _.
+    rule (nat_le (76 + half_at bytes 72) (length bytes)) cause.BadRecord ⟫ λ _.
+    barred (has_flag 0x40 (half_at bytes 2)) refusal.Unsupported ⟫ λ _.
+    name_in (has_flag 0x20 (half_at bytes 2)) (slice_range bytes 76 (76 + half_at bytes 72)) ⟫ λ name.
+    rule (not (list_any (λ u. u == 0x5c) name)) cause.BadName ⟫ λ _.
+    class_at (half_at bytes 74) (word_at bytes 48) ⟫ λ class.
+    descriptor_at (word_at bytes 44) ⟫ λ descriptor.
+    values_at split (word_at bytes 36) (word_at bytes 40) ⟫ λ values.
+    kids_at (word_at bytes 20) (word_at bytes 28) ⟫ λ kids.
+    done (record { name = name; class = class; flags = flags_of (half_at bytes 2); descriptor = descriptor; time = long_at bytes 4; values = values }, kids)
+
+-- the same as the law of shapes asks for it
+abbrev pub parts_if : List ℕ → List ℕ → Result (Row × List ℕ) Refusal → Result (Parts Row) Refusal
+parts_if own lent (Ok x) = let row = x.0 in Ok (record { name = folded row.name; row = row; kids = x.1; own = own; lent = lent })
+parts_if own lent (Err r) = Err r
+
+abbrev pub parts_of : Read (Row × List ℕ) → Result (Parts Row) Refusal
+parts_of r = parts_if r.own r.lent r.says
+
+abbrev pub keys_in : Bool → Cells → Reads Row Refusal
+keys_in split cells at = parts_of (key_at split at cells)
+
+-- the cells that are looked at while a key is read
+abbrev pub trail_in : Bool → Cells → ℕ → List ℕ
+trail_in split cells at = (key_at split at cells).own
+
+-- the security cells that are looked at
+abbrev pub lends_in : Bool → Cells → ℕ → List ℕ
+lends_in split cells at = (key_at split at cells).lent
