@@ -38,7 +38,7 @@ fn write_name(text: &mut Vec<u16>, name: &Name) -> Result<(), AllocError>
 }
 
 /// A copy of a text.
-pub(crate) fn copied(alloc: Global, text: &[u16]) -> Result<Vec<u16>, AllocError>
+pub(crate) fn copy(alloc: Global, text: &[u16]) -> Result<Vec<u16>, AllocError>
     ensures { IfOk result (λ made. made.items ≡ text.now) }
 {
     text.to_vec(alloc)
@@ -110,7 +110,7 @@ fn write_path(text: &mut Vec<u16>, names: &[Name]) -> Result<(), AllocError>
 
 /// The numbers of all spots at which a claim may lie that conflicts with this one: those of each key on the way to
 /// its key, of its key, and for a Shape of all keys below it. Each number once, rising.
-pub(crate) fn near(
+pub(crate) fn numbers_near(
     alloc: Global,
     spots: &BTreeSet<Spot>,
     claim: &Claim,
@@ -120,7 +120,7 @@ pub(crate) fn near(
 {
     let mut text = Vec::new(alloc);
     text.push(u16::from(claim.hive))?;
-    let mut found = on_the_way(alloc, spots, claim.path.names(), &mut text)?;
+    let mut found = numbers_along(alloc, spots, claim.path.names(), &mut text)?;
     let more = gather(alloc, spots, &text, past_of(claim))?;
     found.extend_from_slice(&more)?;
     put_in_order(&mut found);
@@ -128,7 +128,7 @@ pub(crate) fn near(
 }
 
 // the numbers of the spots of each key on the way along a path, which is added to the text
-fn on_the_way(
+fn numbers_along(
     alloc: Global,
     spots: &BTreeSet<Spot>,
     names: &[Name],

@@ -8,7 +8,7 @@ ghost use Rattle.conflicts.specs.Filed.{TakesOwn, LeavesOthers};
 ghost use Rattle.conflicts.specs.Holders.{Held, same_held, with_claim, without_owner, stands_against, holds_claim, with_number, with_holder, is_some_same, holders_of};
 
 use crate::claim::{Claim, Kind, conflict, same_claim};
-use crate::spots::{Spot, copied, near, spot_of};
+use crate::spots::{Spot, copy, numbers_near, spot_of};
 use reg_names::Path;
 use std::alloc::{AllocError, Global};
 use std::collections::{BTreeMap, BTreeSet};
@@ -157,7 +157,7 @@ impl ClaimTable {
         let entry = Entry::new(owner, claim)?;
         let alloc = *self.added.allocator();
         let spot = spot_of(alloc, claim, number)?;
-        let copy = (copied(alloc, &spot.0)?, number);
+        let copy = (copy(alloc, &spot.0)?, number);
         self.added.push(())?;
         self.owned.insert((owner.0, number))?;
         self.kept.insert(number, Kept { entry, spot })?;
@@ -174,7 +174,7 @@ impl ClaimTable {
     fn has(&self, owner: Owner, claim: &Claim) -> Result<bool, AllocError>
         ensures { IfOk result (λ has. has ≡ holds_claim self.now (record { owner = owner.0; claim = claim.now })) }
     {
-        let numbers = near(*self.added.allocator(), &self.spots, claim)?;
+        let numbers = numbers_near(*self.added.allocator(), &self.spots, claim)?;
         let mut has = false;
         for number in &numbers {
             if is_kept(self.kept.get(number), owner, claim) {

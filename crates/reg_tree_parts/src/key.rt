@@ -133,7 +133,7 @@ impl Key {
     }
 
     /// The key, written at this moment.
-    pub fn touched(&self, time: u64) -> Result<Key, AllocError>
+    pub fn with_time(&self, time: u64) -> Result<Key, AllocError>
         ensures { IfOk result (λ made. made ≡ record self.now { time = time }) }
     {
         let values = self.values.clone()?;

@@ -1,5 +1,5 @@
 //! The node of the root after one operation: a new node along the operation's path, all else shared.
-ghost use Rattle.std.specs.Prelude.{◌≡◌, ◌<◌, true, List, [], ◌∷◌, ◌++◌, ℕ, cond, length, IsSome, Some, None, IfOk, MatchResult, ◌⊎◌, false};
+ghost use Rattle.std.specs.Prelude.{◌≡◌, ◌<◌, true, List, [], ◌∷◌, ◌++◌, ℕ, cond, length, IsSome, Some, None, IfOk, ◌⊎◌, false, IfErr};
 ghost use Rattle.std.specs.Result.{is_err};
 ghost use Rattle.std.specs.Ordering.{eq_by_cmp};
 ghost use Rattle.reg_names.specs.Names.{folded, folded_path, is_path, is_value_name};
@@ -25,7 +25,7 @@ use std::sync::Arc;
 
 impl Tree {
     // the key at this path with another row of the same name
-    fn edited(&self, alloc: Global, path: &[Name], key: Key) -> Result<Node, AllocError>
+    fn with_key(&self, alloc: Global, path: &[Name], key: Key) -> Result<Node, AllocError>
         requires { (old : Row) × (row self.now (folded_path path.now) ≡ Some old) × (folded key.name ≡ folded old.name) }
         ensures rows { IfOk result (λ made. (q : List (List ℕ)) → row_at made q ≡ cond (eq_by_cmp path_order q (folded_path path.now)) (Some key) (row self.now q)) }
         ensures node { IfOk result IsNode }
@@ -35,7 +35,7 @@ impl Tree {
         };
         let _ = node.key();
         let new = node.with_key(alloc, key)?;
-        let made = self.root.replaced(alloc, path, new)?;
+        let made = self.root.with_replaced(alloc, path, new)?;
         Ok(made)
     }
 
@@ -59,7 +59,7 @@ impl Tree {
         let key = node.key();
         let values = key.values().with(alloc, name.name(), kind, data)?;
         let new = key.with_values(values, moment)?;
-        let made = self.edited(alloc, path.names(), new)?;
+        let made = self.with_key(alloc, path.names(), new)?;
         Ok(made)
     }
 
@@ -81,7 +81,7 @@ impl Tree {
         let key = node.key();
         let values = key.values().without(alloc, name.name())?;
         let new = key.with_values(values, moment)?;
-        let made = self.edited(alloc, path.names(), new)?;
+        let made = self.with_key(alloc, path.names(), new)?;
         Ok(made)
     }
 
@@ -99,9 +99,9 @@ impl Tree {
         let Some(node) = self.node(parent) else {
             unreachable!();
         };
-        let key = node.key().touched(moment)?;
+        let key = node.key().with_time(moment)?;
         let new = node.without_child(alloc, key, last)?;
-        let made = self.root.replaced(alloc, parent, new)?;
+        let made = self.root.with_replaced(alloc, parent, new)?;
         Ok(made)
     }
 
@@ -119,8 +119,8 @@ impl Tree {
         };
         let key = node.key();
         let branch = Node::branch(alloc, name, further, key.descriptor(), moment)?;
-        let new = node.with_new_child(alloc, key.touched(moment)?, branch)?;
-        let made = self.root.replaced(alloc, front, new)?;
+        let new = node.with_new_child(alloc, key.with_time(moment)?, branch)?;
+        let made = self.root.with_replaced(alloc, front, new)?;
         Ok(made)
     }
 
@@ -146,7 +146,7 @@ impl Tree {
     }
 
     // the tree after an operation that may be carried out
-    fn carried_out(&self, alloc: Global, op: &Op, moment: u64) -> Result<Tree, AllocError>
+    fn apply_legal(&self, alloc: Global, op: &Op, moment: u64) -> Result<Tree, AllocError>
         requires { judged self.now op.now ≡ Ok Legality.Legal }
         ensures { IfOk result (λ made. made ≡ changed self.now op.now moment) }
     {
@@ -158,11 +158,11 @@ impl Tree {
 
     /// The tree after the operation at this moment. One that may not be carried out, or that opens a key,
     /// changes nothing; weights are not looked at.
-    pub fn changed(&self, alloc: Global, op: &Op, moment: u64) -> Result<Tree, AllocError>
+    pub fn apply(&self, alloc: Global, op: &Op, moment: u64) -> Result<Tree, AllocError>
         ensures { IfOk result (λ made. made ≡ changed self.now op.now moment) }
     {
-        match self.judged(op) {
-            Ok(Legality::Legal) => self.carried_out(alloc, op, moment),
+        match self.judge(op) {
+            Ok(Legality::Legal) => self.apply_legal(alloc, op, moment),
             _ => self.clone(),
         }
     }
@@ -170,12 +170,15 @@ impl Tree {
     /// The tree after the operation at this moment, or nothing where it opens a key. Refused exactly as
     /// [`Tree::legal`] says: the operation is judged and carried out in one go.
     pub fn write(&self, alloc: Global, op: &Op, moment: u64) -> Result<Option<Tree>, Refusal>
-        ensures { MatchResult result (IsWritten (legal_in self.now op.now) (changed self.now op.now moment)) (λ refusal. (legal_in self.now op.now ≡ Err refusal) ⊎ (refusal ≡ Refusal.NoMemory)) }
+        ensures ok { IfOk result
+            (IsWritten (legal_in self.now op.now) (changed self.now op.now moment)) }
+        ensures refused { IfErr result (λ refusal.
+            (legal_in self.now op.now ≡ Err refusal) ⊎ (refusal ≡ Refusal.NoMemory)) }
     {
-        match self.judged(op)? {
+        match self.judge(op)? {
             Legality::Opened => Ok(None),
             Legality::Legal => {
-                let made = self.carried_out(alloc, op, moment)?;
+                let made = self.apply_legal(alloc, op, moment)?;
                 if made.is_over(op) {
                     return Err(Refusal::TooLarge);
                 }
@@ -199,21 +202,21 @@ impl Tree {
     pub fn legal(&self, alloc: Global, op: &Op) -> Result<Legality, Refusal>
         ensures { IsOrNoMemory result (legal_in self.now op.now) }
     {
-        match self.judged(op) {
-            Ok(Legality::Legal) => self.weighed(alloc, op),
+        match self.judge(op) {
+            Ok(Legality::Legal) => self.weigh(alloc, op),
             other => other,
         }
     }
 
     // whether the operation, which may be carried out, leaves the tree within its weight
-    fn weighed(&self, alloc: Global, op: &Op) -> Result<Legality, Refusal>
+    fn weigh(&self, alloc: Global, op: &Op) -> Result<Legality, Refusal>
         requires { judged self.now op.now ≡ Ok Legality.Legal }
         ensures { IsOrNoMemory result (legal_after op.now (Ok Legality.Legal) (weight (changed self.now op.now 0))) }
     {
         match op {
             Op::DeleteKey { .. } | Op::DeleteValue { .. } => Ok(Legality::Legal),
             Op::CreateKey { .. } | Op::SetValue { .. } => {
-                let after = self.carried_out(alloc, op, 0)?;
+                let after = self.apply_legal(alloc, op, 0)?;
                 if after.is_over(op) {
                     Err(Refusal::TooLarge)
                 } else {

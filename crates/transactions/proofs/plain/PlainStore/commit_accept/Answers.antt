@@ -66,17 +66,17 @@ same c = same_ops c.self.inside.table c.commit-2.new.self c.args.session c.args.
 -- src/plain.rt:236:5
 pub invariant_of-self-2 : goal.invariant_of-self-2
 invariant_of-self-2 c =
-    tied_more c.self.inside.opened.value c.self.inside.accepted.items c.push_reserved.new.self.items c.self.inside.sessions c.self.inside.table c.moved.new.self c.self.inside.durable c.self.inside.room c.in_ok-room.room
+    tied_more c.self.inside.opened.value c.self.inside.accepted.items c.push_reserved.new.self.items c.self.inside.sessions c.self.inside.table c.accept.new.self c.self.inside.durable c.self.inside.room c.in_ok-room.room
     c.of.result (record { moment = c.args.moment; ops = c.in_ok-ops.ops.items }) c.self.invariant (below_most (old_store c) c.in_ok-pending.pending.text_len (roomy c)) (added c) (recorded_is c)
-    (ap (λ (t : Table). t.trees) c.moved.ensures ∙ c.in_ok-made.ensures.1 ∙ ap (λ x. applied x c.in_ok-pending.pending.ops.now c.args.moment) c.trees.ensures ∙ ap (λ x. applied c.self.inside.table.trees x c.args.moment) (same c))
-    (ap (λ (t : Table). t.number) c.moved.ensures ∙ ap (λ (t : Table). t.number + 1) c.in_ok-ops.ensures.next)
+    (ap (λ (t : Table). t.trees) c.accept.ensures ∙ c.in_ok-made.ensures.1 ∙ ap (λ x. applied x c.in_ok-pending.pending.ops.now c.args.moment) c.trees.ensures ∙ ap (λ x. applied c.self.inside.table.trees x c.args.moment) (same c))
+    (ap (λ (t : Table). t.number) c.accept.ensures ∙ ap (λ (t : Table). t.number + 1) c.in_ok-ops.ensures.next)
 
 -- src/plain.rt:236:5
 pub returns : goal.returns
 returns c =
     subst (λ m. Commits m c.args.session c.args.tx c.args.moment c.number.result
-    (store_of c.self.inside.opened.value c.push_reserved.new.self.items c.self.inside.sessions c.moved.new.self c.self.inside.durable c.in_ok-room.room)) c.self.view_is
-    (commits c.self.inside.opened.value c.self.inside.accepted.items c.push_reserved.new.self.items c.self.inside.sessions c.self.inside.table c.commit-2.new.self c.moved.new.self c.self.inside.durable c.self.inside.room c.in_ok-room.room
+    (store_of c.self.inside.opened.value c.push_reserved.new.self.items c.self.inside.sessions c.accept.new.self c.self.inside.durable c.in_ok-room.room)) c.self.view_is
+    (commits c.self.inside.opened.value c.self.inside.accepted.items c.push_reserved.new.self.items c.self.inside.sessions c.self.inside.table c.commit-2.new.self c.accept.new.self c.self.inside.durable c.self.inside.room c.in_ok-room.room
     c.of.result c.args.session c.args.moment c.number.result c.args.tx c.in_ok-made.made c.in_ok-pending.pending.ops.now c.in_ok-ops.ops.items c.in_ok-pending.pending.text_len c.self.invariant c.in_ok-open.ensures
     c.in_ok-pending.ensures c.in_ok-ops.ensures (sym c.is_empty.ensures ∙ c.if-is_empty.false) (ap (λ x. any_outweighs x c.in_ok-pending.pending.ops.now c.args.moment) (sym c.trees.ensures) ∙ c.in_ok-made.ensures.0)
-    (roomy c) c.number.ensures (added c) (recorded_is c) (c.in_ok-room.ensures.1 ∙ ap (λ m. m.room + (17 + c.in_ok-pending.pending.text_len)) (sym c.self.view_is)) c.moved.ensures)
+    (roomy c) c.number.ensures (added c) (recorded_is c) (c.in_ok-room.ensures.1 ∙ ap (λ m. m.room + (17 + c.in_ok-pending.pending.text_len)) (sym c.self.view_is)) c.accept.ensures)

@@ -62,8 +62,8 @@ pub invariant_of-self-2 : goal.invariant_of-self-2
 invariant_of-self-2 c =
     tied_more c.self.inside.opened.value c.self.inside.accepted.items c.push_reserved.new.self.items c.self.inside.sessions c.self.inside.table c.roll_back_all.new.self c.self.inside.durable c.self.inside.room c.in_ok-room.room
     c.of.result (change c.args.moment c.args.op) c.self.invariant (below_most (old_store c) c.saturating_add.result (roomy c)) (added c) (recorded_is c)
-    (ap (λ (t : Table). t.trees) c.roll_back_all.ensures.rest ∙ ap (λ (t : Table). t.trees) c.moved.ensures ∙ (written c).1 ∙ ap (λ x. applied_one x c.args.op c.args.moment) c.trees.ensures)
-    (ap (λ (t : Table). t.number) c.roll_back_all.ensures.rest ∙ ap (λ (t : Table). t.number) c.moved.ensures)
+    (ap (λ (t : Table). t.trees) c.roll_back_all.ensures.rest ∙ ap (λ (t : Table). t.trees) c.accept.ensures ∙ (written c).1 ∙ ap (λ x. applied_one x c.args.op c.args.moment) c.trees.ensures)
+    (ap (λ (t : Table). t.number) c.roll_back_all.ensures.rest ∙ ap (λ (t : Table). t.number) c.accept.ensures)
 
 -- src/plain.rt:166:5
 pub returns : goal.returns
@@ -71,9 +71,9 @@ returns c =
     let exact : c.saturating_add.result ≡ element_text_len (change c.args.moment c.args.op) = uncut (old_store c) (element_text_len (change c.args.moment c.args.op)) c.saturating_add.result (roomy c) (cut c) in
     subst (λ m. Accepts m c.args.session c.args.moment c.args.op c.levels_made-levels.result c.number.result
     (store_of c.self.inside.opened.value c.push_reserved.new.self.items c.self.inside.sessions c.roll_back_all.new.self c.self.inside.durable c.in_ok-room.room)) c.self.view_is
-    (accepts c.self.inside.opened.value c.self.inside.accepted.items c.push_reserved.new.self.items c.self.inside.sessions c.self.inside.table c.moved.new.self c.roll_back_all.new.self c.self.inside.durable c.self.inside.room c.in_ok-room.room
+    (accepts c.self.inside.opened.value c.self.inside.accepted.items c.push_reserved.new.self.items c.self.inside.sessions c.self.inside.table c.accept.new.self c.roll_back_all.new.self c.self.inside.durable c.self.inside.room c.in_ok-room.room
     c.of.result c.args.session c.args.moment c.number.result c.args.op c.levels_made-levels.result c.in-Some.made c.in_ok-holders.holders c.self.invariant c.in_ok-open.ensures
     (ap (λ x. legal x c.args.op) (sym c.trees.ensures) ∙ (written c).0) (ap (room_refusal (old_store c)) (sym exact) ∙ roomy c)
     (c.levels_made-levels.ensures ∙ ap (λ x. levels_made x c.args.op) c.trees-2.ensures) c.number.ensures (added c) (recorded_is c)
     (c.in_ok-room.ensures.1 ∙ ap (λ m. m.room + (17 + c.saturating_add.result)) (sym c.self.view_is) ∙ ap (λ x. c.self.inside.room + (17 + x)) exact)
-    c.moved.ensures c.roll_back_all.ensures.rest c.roll_back_all.ensures.rolled_back c.in_ok-holders.ensures)
+    c.accept.ensures c.roll_back_all.ensures.rest c.roll_back_all.ensures.rolled_back c.in_ok-holders.ensures)

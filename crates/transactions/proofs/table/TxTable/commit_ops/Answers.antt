@@ -1,7 +1,7 @@
 use Rattle.std.proofs.Common.{sym, subst}
 use Rattle.transactions.specs.Entries.{transaction_of}
 use Rattle.transactions.specs.Tables.{IsPending}
-use Rattle.transactions.proofs.Ways.{may_end}
+use Rattle.transactions.proofs.TableChanges.{may_end}
 use Rattle.transactions.proofs.table.TxTable.commit_ops.Goals as goal
 
 pub returns-in-Some : goal.returns-in-Some

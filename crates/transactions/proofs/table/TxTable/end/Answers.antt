@@ -8,7 +8,7 @@ use Rattle.slab.proofs.SlabLemmas.{Updates-with_value}
 use Rattle.transactions.specs.Tables.{Table, EndsWith}
 use Rattle.transactions.proofs.Kept.{kept_ended}
 use Rattle.transactions.proofs.Slots.{slot}
-use Rattle.transactions.proofs.Ways.{ends, ended_entry, shown}
+use Rattle.transactions.proofs.TableChanges.{ends, ended_entry, shown}
 use Rattle.transactions.proofs.table.TxTable.end.Goals as goal
 
 there : (c : goal.After-self-2-1) → slot c.self.inside.places.slots c.args.tx.place ≡ Some c.in-Some.entry.now

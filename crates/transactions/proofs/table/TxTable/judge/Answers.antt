@@ -9,7 +9,7 @@ use Rattle.transactions.specs.Entries.{transaction_of, places_of, IsJudged, IsJu
 use Rattle.transactions.specs.Tables.{Table}
 use Rattle.transactions.proofs.Kept.{kept_seen, seen_entry, same_places}
 use Rattle.transactions.proofs.Slots.{slot}
-use Rattle.transactions.proofs.Ways.{shown, own_found, judge_told}
+use Rattle.transactions.proofs.TableChanges.{shown, own_found, judge_told}
 use Rattle.transactions.proofs.table.TxTable.judge.Goals as goal
 
 there : (c : goal.After-self-2-1) → slot c.self.inside.places.slots c.args.tx.place ≡ Some c.in-Some.entry.now

@@ -1,6 +1,6 @@
 use Rattle.std.proofs.Common.{inl, inr}
 use Rattle.machine.specs.Transactions.{own}
-use Rattle.transactions.proofs.Ways.{judged_refused}
+use Rattle.transactions.proofs.TableChanges.{judged_refused}
 use Rattle.transactions.proofs.table.TxTable.write.Goals as goal
 
 pub returns-in-Err : goal.returns-in-Err
