@@ -204,7 +204,12 @@ impl Node {
     }
 
     /// The key with the one at this path, and all below that, replaced by another of the same name.
-    pub fn with_replaced(&self, alloc: Global, path: &[Name], with: Node) -> Result<Node, AllocError>
+    pub fn with_replaced(
+        &self,
+        alloc: Global,
+        path: &[Name],
+        with: Node,
+    ) -> Result<Node, AllocError>
         requires named { (row : Row) × (row_at self.now (folded_path path.now) ≡ Some row) × (folded row.name ≡ root_name with) }
         requires node { IsNode with }
         ensures within { IfOk result (λ made. (rest : List (List ℕ)) → row_at made (folded_path path.now ++ rest) ≡ row_at with rest) }
@@ -266,7 +271,11 @@ impl Node {
         ensures node { IsNode result }
     {
         let weight = key.weight().saturating_add(weight_of(&subkeys));
-        Node { key, subkeys, weight }
+        Node {
+            key,
+            subkeys,
+            weight,
+        }
     }
 }
 
@@ -282,7 +291,11 @@ fn weight_of(subkeys: &[Arc<Node>]) -> u64
 }
 
 // the subkeys with this one in the place of its name
-fn insert(alloc: Global, subkeys: &[Arc<Node>], child: Arc<Node>) -> Result<Vec<Arc<Node>>, AllocError>
+fn insert(
+    alloc: Global,
+    subkeys: &[Arc<Node>],
+    child: Arc<Node>,
+) -> Result<Vec<Arc<Node>>, AllocError>
     requires { T (is_sorted name_order (subkey_entries subkeys.now)) }
     ensures { IfOk result (λ made. subkey_entries made.items ≡ put name_order (root_name child.value) child.value (subkey_entries subkeys.now)) }
 {

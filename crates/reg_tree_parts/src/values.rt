@@ -180,11 +180,7 @@ fn insert(alloc: Global, items: &[Arc<Value>], new: Value) -> Result<Vec<Arc<Val
 }
 
 // the values without the one of this name
-fn remove(
-    alloc: Global,
-    items: &[Arc<Value>],
-    name: &Name,
-) -> Result<Vec<Arc<Value>>, AllocError>
+fn remove(alloc: Global, items: &[Arc<Value>], name: &Name) -> Result<Vec<Arc<Value>>, AllocError>
     requires { T (is_sorted name_order (value_entries items.now)) }
     ensures { IfOk result (λ made. value_entries made.items ≡ where_key name_order (λ key. not (eq_by_cmp name_order (folded name.now) key)) (value_entries items.now)) }
 {

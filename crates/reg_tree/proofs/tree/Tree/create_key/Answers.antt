@@ -12,8 +12,8 @@ use Rattle.reg_tree.proofs.Splices.{created}
 use Rattle.reg_tree.proofs.Changes.{created_is, one_more, longer_path}
 use Rattle.reg_tree.proofs.tree.Tree.create_key.Goals as goal
 
-pub replaced-requires-clause-named : goal.replaced-requires-clause-named
-replaced-requires-clause-named c =
+pub with_replaced-requires-clause-named : goal.with_replaced-requires-clause-named
+with_replaced-requires-clause-named c =
     let home : take c.nearest-depth.result.1 (folded_path c.names-names.result.now) ≡ folded_path c.split_at.result.0.now = take-map folded c.nearest-depth.result.1 c.names-names.result.now ∙ ap folded_path (sym c.split_at.ensures.front) in
     let there : row c.args.self.now (folded_path c.split_at.result.0.now) ≡ Some c.key-key.result.now =
     ap (row c.args.self.now) (sym (append-nil (folded_path c.split_at.result.0.now))) ∙ ap (λ h. row c.args.self.now (h ++ [])) (sym home) ∙ c.nearest-depth.ensures.below [] ∙ c.key-key.ensures.here in

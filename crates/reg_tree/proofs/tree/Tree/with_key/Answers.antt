@@ -7,8 +7,8 @@ use Rattle.reg_tree.proofs.Rows.{rows_of}
 use Rattle.reg_tree.proofs.Splices.{edited}
 use Rattle.reg_tree.proofs.tree.Tree.with_key.Goals as goal
 
-pub replaced-requires-clause-named : goal.replaced-requires-clause-named
-replaced-requires-clause-named c =
+pub with_replaced-requires-clause-named : goal.with_replaced-requires-clause-named
+with_replaced-requires-clause-named c =
     (c.key.result.now, rows_of (arc_value c.self.inside.root) c.deref.result.now c.args.self.now c.self.invariant.node c.self.view_is c.deref.ensures (folded_path c.args.path.now) ∙ c.in-Some.ensures.key ∙ c.key.ensures.here, sym (c.in_ok-new.ensures.named ∙ c.key.ensures.named))
 
 pub returns-clause-rows : goal.returns-clause-rows
