@@ -205,7 +205,7 @@ impl ClaimTable {
         ensures { IfOk result (λ found. map (λ o. o.0) found.items ≡ holders_of self.now (option_map (λ o. o.0) asker) claim.now) }
     {
         let alloc = *self.added.allocator();
-        let numbers = near(alloc, &self.spots, claim)?;
+        let numbers = numbers_near(alloc, &self.spots, claim)?;
         let mut found = Vec::new(alloc);
         for number in &numbers {
             list_holder(&mut found, self.kept.get(number), asker, claim)?;
