@@ -1,7 +1,7 @@
 -- What a table shows after each way in which it changes.
 use Rattle.std.proofs.Common.{◌⊎◌, inl, inr, Result, Ok, Err, ◌≡◌, ℕ, ◌+◌, ◌==◌, ◌&&◌, Bool, true, false, List, [], ◌∷◌, ◌-◌, ◌^◌, ◌<◌, ◌||◌, Option, Some, None, refl, sym, ◌∙◌, ap, subst, cond, arith, length, suc}
 use Rattle.std.proofs.lemmas.Option.{none-some}
-use Rattle.std.specs.Prelude.{MatchResult, IfSome, IsSome, ◌≤◌, nat_le, count_by, is_some}
+use Rattle.std.specs.Prelude.{IfOk, IfErr, IfSome, IsSome, ◌≤◌, nat_le, count_by, is_some}
 use Rattle.std.specs.Option.{option_map}
 use Rattle.slab.specs.Slab.{Slab, Updates, entries_from}
 use Rattle.slab.proofs.SlabLemmas.{length-entries_from}
@@ -150,15 +150,25 @@ rolled_back_put old new place e after there active u kept =
     subst (Puts (places_of old.slots) (places_of new.slots) place) (ap Some (kept ∙ sym (ap (λ b. cond b (ended RolledBack (transaction_of e)) (transaction_of e)) active)) ∙ sym (ap (rolled_back_if true) (at_slot old.slots place e there))) (puts old new place (Some after) u)
 
 -- what the view says of an operation is what the table says
-pub judge_told : (table : Table) (session : ℕ) (tx : Tx) (op : Op) (one : Transaction) → own table.places session tx ≡ Some one → is_active one ≡ true → (r : Result (Option Judged) Refusal) →
-    MatchResult r (IsJudged table.trees table.number one op) (λ why. (legal (view table.trees one) op ≡ Err why) ⊎ (why ≡ NoMemory)) →
-    MatchResult r (IsJudgedOf table session tx op) (λ why. (judge_refusal table.trees op (own table.places session tx) ≡ Some why) ⊎ (why ≡ NoMemory))
-judge_told table session tx op one its active (Ok judged) h =
+pub judge_ok : (table : Table) (session : ℕ) (tx : Tx) (op : Op) (one : Transaction) → own table.places session tx ≡ Some one → is_active one ≡ true → (r : Result (Option Judged) Refusal) →
+    IfOk r (IsJudged table.trees table.number one op) → IfOk r (IsJudgedOf table session tx op)
+judge_ok table session tx op one its active (Ok judged) h =
     (subst (λ o. IfSome o (IsJudgedBy table.trees table.number op judged)) (sym its) record { active = active; told = h }, subst IsSome (sym its) refl)
-judge_told table session tx op one its active (Err why) h = elim h [
+judge_ok table session tx op one its active (Err why) h = tt
+
+pub judge_refused : (table : Table) (session : ℕ) (tx : Tx) (op : Op) (one : Transaction) → own table.places session tx ≡ Some one → is_active one ≡ true → (r : Result (Option Judged) Refusal) →
+    IfErr r (λ why. (legal (view table.trees one) op ≡ Err why) ⊎ (why ≡ NoMemory)) →
+    IfErr r (λ why. (judge_refusal table.trees op (own table.places session tx) ≡ Some why) ⊎ (why ≡ NoMemory))
+judge_refused table session tx op one its active (Ok judged) h = tt
+judge_refused table session tx op one its active (Err why) h = elim h [
   | inl e ↦ inl (ap (judge_refusal table.trees op) its ∙ ap (λ first. first_of first (illegal table.trees op one)) (may_end one active) ∙ ap (λ l. refusal_by l None) e)
   | inr m ↦ inr m
 ]
+
+-- a handle that doesn't pass its test isn't judged
+pub unjudged : (trees : List TreeMap) (op : Op) (its : Option Transaction) (why : Refusal) → inactive_refusal its ≡ Some why → judge_refusal trees op its ≡ Some why
+unjudged trees op None why e = e
+unjudged trees op (Some one) why e = ap (λ first. first_of first (illegal trees op one)) e
 
 first_same : (first : Option Refusal) (l : Result Legality Refusal) (further : Option Refusal) (why : Refusal) → first_of first (refusal_by l None) ≡ Some why → first_of first (refusal_by l further) ≡ Some why
 first_same (Some x) l further why e = e

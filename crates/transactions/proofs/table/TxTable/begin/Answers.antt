@@ -30,8 +30,8 @@ kept : (c : goal.After-insert_reserved-place) → transaction_of c.begin-entry.r
 kept c = c.begin-entry.ensures.kept ∙ ap (fresh_transaction c.args.session c.args.id) (next c)
 
 -- src/table.rt:124:13
-pub returns-then-len-ge-MOST_TRANSACTIONS : goal.returns-then-len-ge-MOST_TRANSACTIONS
-returns-then-len-ge-MOST_TRANSACTIONS c =
+pub returns-then-len-ge-MOST_TRANSACTIONS-clause-refused : goal.returns-then-len-ge-MOST_TRANSACTIONS-clause-refused
+returns-then-len-ge-MOST_TRANSACTIONS-clause-refused c =
     (inl (subst (λ (t : Table). seat_refusal t.places t.begun ≡ Some NoSeat) c.self.view_is (no_seat c.self.inside.begun c.self.inside.places.slots c.len.result c.len.ensures c.if-len-ge-MOST_TRANSACTIONS.true)), refl)
 
 -- src/table.rt:120:5
@@ -43,8 +43,8 @@ invariant_of-self-2 c =
     (ap (λ (t : Transaction). t.ops) c.begin-entry.ensures.kept))
 
 -- src/table.rt:120:5
-pub returns : goal.returns
-returns c =
+pub returns-clause-ok : goal.returns-clause-ok
+returns-clause-ok c =
     subst (λ (t : Table). Begins t c.args.session c.args.id (record { place = c.insert_reserved-place.result; generation = c.in-Some.generation }) (shown c.self.inside.trees c.self.inside.number c.in-Some.generation c.insert_reserved-place.new.self.slots)) c.self.view_is
     (subst (λ generation. Begins (shown c.self.inside.trees c.self.inside.number c.self.inside.begun c.self.inside.places.slots) c.args.session c.args.id (record { place = c.insert_reserved-place.result; generation = generation })
     (shown c.self.inside.trees c.self.inside.number generation c.insert_reserved-place.new.self.slots)) (sym (next c))
