@@ -61,7 +61,8 @@ fn gather(
     past: u16,
 ) -> Result<Vec<u64>, AllocError>
     requires { 0 < past }
-    ensures { IfOk result (λ found. (spot : _) → Contains spots.now.keys spot → GoesOn text.now past spot.0.items → Contains found.items spot.1) }
+    ensures { IfOk result (λ found. (spot : _) → Contains spots.now.keys spot →
+        GoesOn text.now past spot.0.items → Contains found.items spot.1) }
 {
     let from = (with_unit(alloc, text, PATH_END)?, 0);
     let to = (with_unit(alloc, text, past)?, u64::MAX);
@@ -115,7 +116,8 @@ pub(crate) fn numbers_near(
     spots: &BTreeSet<Spot>,
     claim: &Claim,
 ) -> Result<Vec<u64>, AllocError>
-    ensures complete { IfOk result (λ found. (spot : _) (held : _) → Contains spots.now.keys spot → spot.0.items ≡ spot_text held → meets claim.now held ≡ true → Contains found.items spot.1) }
+    ensures complete { IfOk result (λ found. (spot : _) (held : _) → Contains spots.now.keys spot →
+        spot.0.items ≡ spot_text held → meets claim.now held ≡ true → Contains found.items spot.1) }
     ensures rises { IfOk result (λ found. IsStrictlySortedBy nat_cmp found.items) }
 {
     let mut text = Vec::new(alloc);
@@ -134,8 +136,12 @@ fn numbers_along(
     names: &[Name],
     text: &mut Vec<u16>,
 ) -> Result<Vec<u64>, AllocError>
-    ensures text { OnOk result (text.new.items ≡ text.old.items ++ path_text (folded_path names.now)) }
-    ensures found { IfOk result (λ found. (spot : _) (j : ℕ) → Contains spots.now.keys spot → j < length names.now → GoesOn (text.old.items ++ path_text (folded_path (take j names.now))) 1 spot.0.items → Contains found.items spot.1) }
+    ensures text { OnOk result (text.new.items
+        ≡ text.old.items ++ path_text (folded_path names.now)) }
+    ensures found { IfOk result (λ found. (spot : _) (j : ℕ) → Contains spots.now.keys spot →
+        j < length names.now →
+        GoesOn (text.old.items ++ path_text (folded_path (take j names.now))) 1 spot.0.items →
+        Contains found.items spot.1) }
 {
     let mut found = Vec::new(alloc);
     for name in names {
@@ -158,7 +164,8 @@ fn past_of(claim: &Claim) -> u16
 
 // sorts the numbers, and leaves each once
 fn put_in_order(found: &mut Vec<u64>)
-    ensures keeps { (number : ℕ) → Contains found.old.items number → Contains found.new.items number }
+    ensures keeps { (number : ℕ) → Contains found.old.items number →
+        Contains found.new.items number }
     ensures rises { IsStrictlySortedBy nat_cmp found.new.items }
 {
     found.sort_unstable();

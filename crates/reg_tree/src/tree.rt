@@ -246,10 +246,13 @@ impl Tree {
     fn nearest(&self, path: &[Name]) -> (&Node, usize)
         ensures within { result.1 ≤ length path.now }
         ensures depth { result.1 ≡ depth_there self.now (folded_path path.now) }
-        ensures missing { length (missing self.now (folded_path path.now)) ≡ length path.now - result.1 }
+        ensures missing { length (missing self.now (folded_path path.now))
+            ≡ length path.now - result.1 }
         ensures there { is_there self.now (folded_path path.now) ≡ (result.1 == length path.now) }
-        ensures below { (rest : List (List ℕ)) → row self.now (take result.1 (folded_path path.now) ++ rest) ≡ row_at result.0.now rest }
-        ensures gone { result.1 < length (folded_path path.now) → (rest : List (List ℕ)) → row self.now (take (result.1 + 1) (folded_path path.now) ++ rest) ≡ None }
+        ensures below { (rest : List (List ℕ)) →
+            row self.now (take result.1 (folded_path path.now) ++ rest) ≡ row_at result.0.now rest }
+        ensures gone { result.1 < length (folded_path path.now) → (rest : List (List ℕ)) →
+            row self.now (take (result.1 + 1) (folded_path path.now) ++ rest) ≡ None }
     {
         let (node, depth) = self.root.nearest(path);
         let _ = node.key();
@@ -258,10 +261,14 @@ impl Tree {
 
     // the node of the key at this path
     fn node(&self, path: &[Name]) -> Option<&Node>
-        ensures found { IfSome result (λ node. (rest : List (List ℕ)) → row self.now (folded_path path.now ++ rest) ≡ row_at node.now rest) }
-        ensures key { IfSome result (λ node. row self.now (folded_path path.now) ≡ row_at node.now []) }
-        ensures names { IfSome result (λ node. subkeys self.now (folded_path path.now) ≡ names_below [] node.now) }
-        ensures none { IfNone result ((rest : List (List ℕ)) → row self.now (folded_path path.now ++ rest) ≡ None) }
+        ensures found { IfSome result (λ node. (rest : List (List ℕ)) →
+            row self.now (folded_path path.now ++ rest) ≡ row_at node.now rest) }
+        ensures key { IfSome result (λ node. row self.now (folded_path path.now)
+            ≡ row_at node.now []) }
+        ensures names { IfSome result (λ node. subkeys self.now (folded_path path.now)
+            ≡ names_below [] node.now) }
+        ensures none { IfNone result ((rest : List (List ℕ)) →
+            row self.now (folded_path path.now ++ rest) ≡ None) }
         ensures missing { IfNone result (row self.now (folded_path path.now) ≡ None) }
     {
         match self.root.find(path) {

@@ -45,7 +45,15 @@ impl Key {
         time: u64,
         values: Values,
     ) -> Key
-        ensures { result ≡ record { name = name; class = class; flags = flags; descriptor = descriptor; time = time; values = values } }
+        ensures { result ≡ record {
+          name = name;
+          class = class;
+          flags = flags;
+          descriptor =
+              descriptor;
+          time = time;
+          values = values;
+        } }
     {
         Key {
             name,

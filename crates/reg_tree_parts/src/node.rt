@@ -89,10 +89,13 @@ impl Node {
 
     /// The subkey of this name.
     pub fn child(&self, name: &Name) -> Option<&Node>
-        ensures found { IfSome result (λ child. (path : List (List ℕ)) → row_at self.now (folded name.now ∷ path) ≡ row_at child.now path) }
-        ensures names { IfSome result (λ child. (path : List (List ℕ)) → names_below (folded name.now ∷ path) self.now ≡ names_below path child.now) }
+        ensures found { IfSome result (λ child. (path : List (List ℕ)) →
+            row_at self.now (folded name.now ∷ path) ≡ row_at child.now path) }
+        ensures names { IfSome result (λ child. (path : List (List ℕ)) →
+            names_below (folded name.now ∷ path) self.now ≡ names_below path child.now) }
         ensures named { IfSome result (λ child. root_name child.now ≡ folded name.now) }
-        ensures none { IfNone result ((path : List (List ℕ)) → row_at self.now (folded name.now ∷ path) ≡ None) }
+        ensures none { IfNone result ((path : List (List ℕ)) →
+            row_at self.now (folded name.now ∷ path) ≡ None) }
     {
         match search(&self.subkeys, name) {
             Ok(at) => Some(&*self.subkeys[at]),
@@ -102,9 +105,12 @@ impl Node {
 
     /// The key at this path from here on.
     pub fn find(&self, path: &[Name]) -> Option<&Node>
-        ensures found { IfSome result (λ node. (rest : List (List ℕ)) → row_at self.now (folded_path path.now ++ rest) ≡ row_at node.now rest) }
-        ensures names { IfSome result (λ node. names_below (folded_path path.now) self.now ≡ names_below [] node.now) }
-        ensures none { IfNone result ((rest : List (List ℕ)) → row_at self.now (folded_path path.now ++ rest) ≡ None) }
+        ensures found { IfSome result (λ node. (rest : List (List ℕ)) →
+            row_at self.now (folded_path path.now ++ rest) ≡ row_at node.now rest) }
+        ensures names { IfSome result (λ node. names_below (folded_path path.now) self.now
+            ≡ names_below [] node.now) }
+        ensures none { IfNone result ((rest : List (List ℕ)) →
+            row_at self.now (folded_path path.now ++ rest) ≡ None) }
     {
         match path.split_first() {
             None => Some(self),
@@ -118,8 +124,11 @@ impl Node {
     /// The deepest key that is there on the way along this path, and how many of its names lead to it.
     pub fn nearest(&self, path: &[Name]) -> (&Node, usize)
         ensures within { result.1 ≤ length path.now }
-        ensures there { (rest : List (List ℕ)) → row_at self.now (folded_path (take result.1 path.now) ++ rest) ≡ row_at result.0.now rest }
-        ensures missing { result.1 < length path.now → (rest : List (List ℕ)) → row_at self.now (folded_path (take (result.1 + 1) path.now) ++ rest) ≡ None }
+        ensures there { (rest : List (List ℕ)) →
+            row_at self.now (folded_path (take result.1 path.now) ++ rest)
+            ≡ row_at result.0.now rest }
+        ensures missing { result.1 < length path.now → (rest : List (List ℕ)) →
+            row_at self.now (folded_path (take (result.1 + 1) path.now) ++ rest) ≡ None }
     {
         match path.split_first() {
             None => (self, 0),
@@ -137,7 +146,8 @@ impl Node {
     pub fn with_key(&self, alloc: Global, key: Key) -> Result<Node, AllocError>
         requires { folded key.name ≡ root_name self.now }
         ensures here { IfOk result (λ made. row_at made [] ≡ Some key) }
-        ensures below { IfOk result (λ made. (name : List ℕ) (rest : List (List ℕ)) → row_at made (name ∷ rest) ≡ row_at self.now (name ∷ rest)) }
+        ensures below { IfOk result (λ made. (name : List ℕ) (rest : List (List ℕ)) →
+            row_at made (name ∷ rest) ≡ row_at self.now (name ∷ rest)) }
         ensures named { IfOk result (λ made. root_name made ≡ root_name self.now) }
         ensures node { IfOk result IsNode }
     {
@@ -152,8 +162,11 @@ impl Node {
         requires named { folded key.value.name ≡ root_name self.now }
         requires node { IsNode child.value }
         ensures here { IfOk result (λ made. row_at made [] ≡ Some key.value) }
-        ensures child { IfOk result (λ made. (rest : List (List ℕ)) → row_at made (root_name child.value ∷ rest) ≡ row_at child.value rest) }
-        ensures others { IfOk result (λ made. (name : List ℕ) (rest : List (List ℕ)) → eq_by_cmp name_order name (root_name child.value) ≡ false → row_at made (name ∷ rest) ≡ row_at self.now (name ∷ rest)) }
+        ensures child { IfOk result (λ made. (rest : List (List ℕ)) →
+            row_at made (root_name child.value ∷ rest) ≡ row_at child.value rest) }
+        ensures others { IfOk result (λ made. (name : List ℕ) (rest : List (List ℕ)) →
+            eq_by_cmp name_order name (root_name child.value) ≡ false → row_at made (name ∷ rest)
+            ≡ row_at self.now (name ∷ rest)) }
         ensures root { IfOk result (λ made. root_name made ≡ root_name self.now) }
         ensures node { IfOk result IsNode }
     {
@@ -167,8 +180,11 @@ impl Node {
         requires named { folded key.name ≡ root_name self.now }
         requires node { IsNode child }
         ensures here { IfOk result (λ made. row_at made [] ≡ Some key) }
-        ensures child { IfOk result (λ made. (rest : List (List ℕ)) → row_at made (root_name child ∷ rest) ≡ row_at child rest) }
-        ensures others { IfOk result (λ made. (name : List ℕ) (rest : List (List ℕ)) → eq_by_cmp name_order name (root_name child) ≡ false → row_at made (name ∷ rest) ≡ row_at self.now (name ∷ rest)) }
+        ensures child { IfOk result (λ made. (rest : List (List ℕ)) →
+            row_at made (root_name child ∷ rest) ≡ row_at child rest) }
+        ensures others { IfOk result (λ made. (name : List ℕ) (rest : List (List ℕ)) →
+            eq_by_cmp name_order name (root_name child) ≡ false → row_at made (name ∷ rest)
+            ≡ row_at self.now (name ∷ rest)) }
         ensures root { IfOk result (λ made. root_name made ≡ root_name self.now) }
         ensures node { IfOk result IsNode }
     {
@@ -181,8 +197,11 @@ impl Node {
     pub fn without_child(&self, alloc: Global, key: Key, name: &Name) -> Result<Node, AllocError>
         requires { folded key.name ≡ root_name self.now }
         ensures here { IfOk result (λ made. row_at made [] ≡ Some key) }
-        ensures gone { IfOk result (λ made. (rest : List (List ℕ)) → row_at made (folded name.now ∷ rest) ≡ None) }
-        ensures others { IfOk result (λ made. (other : List ℕ) (rest : List (List ℕ)) → eq_by_cmp name_order other (folded name.now) ≡ false → row_at made (other ∷ rest) ≡ row_at self.now (other ∷ rest)) }
+        ensures gone { IfOk result (λ made. (rest : List (List ℕ)) →
+            row_at made (folded name.now ∷ rest) ≡ None) }
+        ensures others { IfOk result (λ made. (other : List ℕ) (rest : List (List ℕ)) →
+            eq_by_cmp name_order other (folded name.now) ≡ false → row_at made (other ∷ rest)
+            ≡ row_at self.now (other ∷ rest)) }
         ensures root { IfOk result (λ made. root_name made ≡ root_name self.now) }
         ensures node { IfOk result IsNode }
     {
@@ -210,10 +229,14 @@ impl Node {
         path: &[Name],
         with: Node,
     ) -> Result<Node, AllocError>
-        requires named { (row : Row) × (row_at self.now (folded_path path.now) ≡ Some row) × (folded row.name ≡ root_name with) }
+        requires named { (row : Row) × (row_at self.now (folded_path path.now) ≡ Some row)
+            × (folded row.name ≡ root_name with) }
         requires node { IsNode with }
-        ensures within { IfOk result (λ made. (rest : List (List ℕ)) → row_at made (folded_path path.now ++ rest) ≡ row_at with rest) }
-        ensures others { IfOk result (λ made. (other : List (List ℕ)) → begins_path (folded_path path.now) other ≡ false → row_at made other ≡ row_at self.now other) }
+        ensures within { IfOk result (λ made. (rest : List (List ℕ)) →
+            row_at made (folded_path path.now ++ rest) ≡ row_at with rest) }
+        ensures others { IfOk result (λ made. (other : List (List ℕ)) →
+            begins_path (folded_path path.now) other ≡ false → row_at made other
+            ≡ row_at self.now other) }
         ensures root { IfOk result (λ made. root_name made ≡ root_name self.now) }
         ensures node { IfOk result IsNode }
     {
@@ -232,7 +255,8 @@ impl Node {
     /// A key without subkeys.
     pub fn leaf(alloc: Global, key: Key) -> Result<Node, AllocError>
         ensures here { IfOk result (λ made. row_at made [] ≡ Some key) }
-        ensures alone { IfOk result (λ made. (name : List ℕ) (rest : List (List ℕ)) → row_at made (name ∷ rest) ≡ None) }
+        ensures alone { IfOk result (λ made. (name : List ℕ) (rest : List (List ℕ)) →
+            row_at made (name ∷ rest) ≡ None) }
         ensures root { IfOk result (λ made. root_name made ≡ folded key.name) }
         ensures node { IfOk result IsNode }
     {
@@ -249,7 +273,8 @@ impl Node {
         descriptor: &Data,
         time: u64,
     ) -> Result<Node, AllocError>
-        ensures rows { IfOk result (λ made. (path : List (List ℕ)) → row_at made path ≡ branch_row name.now further.now descriptor.now time path) }
+        ensures rows { IfOk result (λ made. (path : List (List ℕ)) → row_at made path
+            ≡ branch_row name.now further.now descriptor.now time path) }
         ensures root { IfOk result (λ made. root_name made ≡ folded name.now) }
         ensures node { IfOk result IsNode }
     {
@@ -267,7 +292,8 @@ impl Node {
     fn from_parts(key: Arc<Key>, subkeys: ArcSlice<Arc<Node>>) -> Node
         requires nodes { AreNodes (subkey_entries (arc_slice_items subkeys)) }
         requires rises { T (is_sorted name_order (subkey_entries (arc_slice_items subkeys))) }
-        ensures is { result ≡ entries_of (arc_value key) (subkey_entries (arc_slice_items subkeys)) }
+        ensures is { result
+            ≡ entries_of (arc_value key) (subkey_entries (arc_slice_items subkeys)) }
         ensures node { IsNode result }
     {
         let weight = key.weight().saturating_add(weight_of(&subkeys));
@@ -297,7 +323,8 @@ fn insert(
     child: Arc<Node>,
 ) -> Result<Vec<Arc<Node>>, AllocError>
     requires { T (is_sorted name_order (subkey_entries subkeys.now)) }
-    ensures { IfOk result (λ made. subkey_entries made.items ≡ put name_order (root_name child.value) child.value (subkey_entries subkeys.now)) }
+    ensures { IfOk result (λ made. subkey_entries made.items
+        ≡ put name_order (root_name child.value) child.value (subkey_entries subkeys.now)) }
 {
     let mut made = copy(alloc, subkeys, 1)?;
     match search(&made, child.key().name()) {
@@ -315,7 +342,8 @@ fn insert(
 // the subkeys without the one of this name
 fn remove(alloc: Global, subkeys: &[Arc<Node>], name: &Name) -> Result<Vec<Arc<Node>>, AllocError>
     requires { T (is_sorted name_order (subkey_entries subkeys.now)) }
-    ensures { IfOk result (λ made. subkey_entries made.items ≡ where_key name_order (λ key. not (eq_by_cmp name_order (folded name.now) key)) (subkey_entries subkeys.now)) }
+    ensures { IfOk result (λ made. subkey_entries made.items ≡ where_key name_order (λ key. not
+        (eq_by_cmp name_order (folded name.now) key)) (subkey_entries subkeys.now)) }
 {
     let mut made = copy(alloc, subkeys, 0)?;
     match search(&made, name) {
@@ -330,7 +358,8 @@ fn remove(alloc: Global, subkeys: &[Arc<Node>], name: &Name) -> Result<Vec<Arc<N
 // where the subkey of this name stands, or where it would go
 fn search(subkeys: &[Arc<Node>], name: &Name) -> Result<usize, usize>
     requires { T (is_sorted name_order (subkey_entries subkeys.now)) }
-    ensures { MatchResult result (IsFound subkey_name subkeys.now (folded name.now)) (IsGap name_order subkey_name subkeys.now (folded name.now)) }
+    ensures { MatchResult result (IsFound subkey_name subkeys.now (folded name.now)) (IsGap
+        name_order subkey_name subkeys.now (folded name.now)) }
 {
     subkeys.binary_search_by(|subkey| compare(subkey, name))
 }

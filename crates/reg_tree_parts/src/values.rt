@@ -76,7 +76,8 @@ impl Values {
 
     // the name as the value that has it spells it, else as it is given
     fn spelling<'a>(&'a self, name: &'a Name) -> &'a Name
-        ensures spelled { result.now ≡ spelled_name (finite.get self.now (folded name.now)) name.now }
+        ensures spelled { result.now
+            ≡ spelled_name (finite.get self.now (folded name.now)) name.now }
         ensures named { folded result.now ≡ folded name.now }
     {
         match self.get(name) {
@@ -149,7 +150,8 @@ impl Clone for Values {
 // where the value of this name stands, or where it would go
 fn search(items: &[Arc<Value>], name: &Name) -> Result<usize, usize>
     requires { T (is_sorted name_order (value_entries items.now)) }
-    ensures { MatchResult result (IsFound shared_name items.now (folded name.now)) (IsGap name_order shared_name items.now (folded name.now)) }
+    ensures { MatchResult result (IsFound shared_name items.now (folded name.now)) (IsGap name_order
+        shared_name items.now (folded name.now)) }
 {
     items.binary_search_by(|item| compare(item, name))
 }
@@ -164,7 +166,8 @@ fn compare(item: &Arc<Value>, name: &Name) -> Ordering
 // the values with this one in its place
 fn insert(alloc: Global, items: &[Arc<Value>], new: Value) -> Result<Vec<Arc<Value>>, AllocError>
     requires { T (is_sorted name_order (value_entries items.now)) }
-    ensures { IfOk result (λ made. value_entries made.items ≡ put name_order (folded new.name) new (value_entries items.now)) }
+    ensures { IfOk result (λ made. value_entries made.items
+        ≡ put name_order (folded new.name) new (value_entries items.now)) }
 {
     let mut made = copy(alloc, items, 1)?;
     match search(&made, &new.name) {
@@ -182,7 +185,8 @@ fn insert(alloc: Global, items: &[Arc<Value>], new: Value) -> Result<Vec<Arc<Val
 // the values without the one of this name
 fn remove(alloc: Global, items: &[Arc<Value>], name: &Name) -> Result<Vec<Arc<Value>>, AllocError>
     requires { T (is_sorted name_order (value_entries items.now)) }
-    ensures { IfOk result (λ made. value_entries made.items ≡ where_key name_order (λ key. not (eq_by_cmp name_order (folded name.now) key)) (value_entries items.now)) }
+    ensures { IfOk result (λ made. value_entries made.items ≡ where_key name_order (λ key. not
+        (eq_by_cmp name_order (folded name.now) key)) (value_entries items.now)) }
 {
     let mut made = copy(alloc, items, 0)?;
     match search(&made, name) {

@@ -99,7 +99,8 @@ impl Entry {
         requires { IsViewed now.now number self.old.ops.items self.old.view }
         ensures rest { self.new ≡ record self.old { view = self.new.view } }
         ensures kept { IsViewed now.now number self.new.ops.items self.new.view }
-        ensures seen { OnOk result (HasViewAt now.now number self.new.ops.items self.new.moment self.new.view) }
+        ensures seen { OnOk result (HasViewAt now.now number self.new.ops.items self.new.moment
+            self.new.view) }
     {
         match &self.view {
             Some(view) if view.number == number && view.moment == self.moment => Ok(()),
@@ -119,7 +120,8 @@ impl Entry {
         requires { IsViewed now.now number self.old.ops.items self.old.view }
         ensures rest { self.new ≡ record self.old { view = self.new.view } }
         ensures kept { IsViewed now.now number self.new.ops.items self.new.view }
-        ensures seen { OnOk result (HasViewFor now.now number self.new.ops.items self.new.moment question.now self.new.view) }
+        ensures seen { OnOk result (HasViewFor now.now number self.new.ops.items self.new.moment
+            question.now self.new.view) }
     {
         match question {
             Question::InfoOf => self.see_exactly(alloc, now, number),
@@ -131,7 +133,8 @@ impl Entry {
         ensures rest { self.new ≡ record self.old { view = self.new.view } }
         ensures same { OnErr result (self.new ≡ self.old) }
         ensures kept { OnOk result (IsViewed now.now number self.new.ops.items self.new.view) }
-        ensures seen { OnOk result (HasViewAt now.now number self.new.ops.items self.new.moment self.new.view) }
+        ensures seen { OnOk result (HasViewAt now.now number self.new.ops.items self.new.moment
+            self.new.view) }
         ensures some { OnOk result (HasView now.now number self.new.ops.items self.new.view) }
     {
         let trees = now.apply_ops(alloc, &self.ops, self.moment)?;
@@ -210,7 +213,8 @@ impl Entry {
 
     /// Whether its change would be too long with this operation.
     pub(crate) fn is_too_long(&self, op: &Op) -> bool
-        requires { (self.now.length ≡ 16 + ops_text_len self.now.ops.items) × (self.now.length ≤ MOST_ELEMENT_BYTES) }
+        requires { (self.now.length ≡ 16 + ops_text_len self.now.ops.items)
+            × (self.now.length ≤ MOST_ELEMENT_BYTES) }
         ensures { result ≡ too_long (transaction_of self.now) op.now }
     {
         self.length.saturating_add(op.text_len()) > MOST_ELEMENT_BYTES

@@ -188,7 +188,8 @@ impl TxTable {
 
     // whether the change of the transaction at a place would be too long with an operation
     fn is_too_long(&self, place: usize, op: &Op) -> bool
-        ensures { (one : Transaction) → at self.now.places place ≡ Some one → result ≡ too_long one op.now }
+        ensures { (one : Transaction) → at self.now.places place ≡ Some one → result
+            ≡ too_long one op.now }
     {
         match self.places.get(place) {
             Some(entry) => entry.is_too_long(op),
@@ -198,7 +199,8 @@ impl TxTable {
 
     // whether another active transaction holds a claim which conflicts with that of an operation
     fn is_claimed(&self, place: usize, op: &Op) -> Result<bool, AllocError>
-        ensures { IfOk result (λ claimed. claimed ≡ is_claimed self.now.places place (claim_of op.now)) }
+        ensures { IfOk result (λ claimed. claimed
+            ≡ is_claimed self.now.places place (claim_of op.now)) }
     {
         let owner = Owner(place as u64);
         let holders = self.claims.holders(Some(owner), &claims(op))?;
@@ -251,8 +253,10 @@ impl TxTable {
 
     // the transaction of a handle, where it is the session's
     fn own(&self, session: u32, tx: Tx) -> Option<&Entry>
-        ensures found { option_map transaction_of (option_copied result) ≡ own self.now.places session tx }
-        ensures counted { IfSome result (λ entry. entry.now.length ≡ 16 + ops_text_len entry.now.ops.items) }
+        ensures found { option_map transaction_of (option_copied result)
+            ≡ own self.now.places session tx }
+        ensures counted { IfSome result (λ entry. entry.now.length
+            ≡ 16 + ops_text_len entry.now.ops.items) }
     {
         match self.places.get(tx.place) {
             Some(entry) if entry.is_own(session, tx.generation) => Some(entry),
@@ -386,7 +390,8 @@ impl TxTable {
 
     /// The active transactions that hold a claim which conflicts with that of the operation.
     pub fn holders(&self, op: &Op) -> Result<Holders, AllocError>
-        ensures { IfOk result (λ holders. (place : ℕ) → is_listed holders place ≡ holds_if (claim_of op.now) (at self.now.places place)) }
+        ensures { IfOk result (λ holders. (place : ℕ) → is_listed holders place
+            ≡ holds_if (claim_of op.now) (at self.now.places place)) }
     {
         Ok(Holders {
             owners: self.claims.holders(None, &claims(op))?,
@@ -396,7 +401,8 @@ impl TxTable {
     /// Rolls back those of these transactions that are active. Takes no memory.
     pub fn roll_back_all(&mut self, holders: &Holders)
         ensures rest { self.new ≡ record self.old { places = self.new.places } }
-        ensures rolled_back { (place : ℕ) → at self.new.places place ≡ rolled_back_if (is_listed holders.now place) (at self.old.places place) }
+        ensures rolled_back { (place : ℕ) → at self.new.places place
+            ≡ rolled_back_if (is_listed holders.now place) (at self.old.places place) }
     {
         for owner in &holders.owners {
             self.roll_back_at(owner.0);
@@ -406,7 +412,8 @@ impl TxTable {
     // rolls back the transaction at a place, where it is active
     fn roll_back_at(&mut self, owner: u64)
         ensures rest { self.new ≡ record self.old { places = self.new.places } }
-        ensures put { Puts self.old.places self.new.places owner (rolled_back_if true (at self.old.places owner)) }
+        ensures put { Puts self.old.places self.new.places owner (rolled_back_if true (at
+            self.old.places owner)) }
     {
         let alloc = self.alloc;
         let place = owner as usize;

@@ -26,8 +26,10 @@ use std::sync::Arc;
 impl Tree {
     // the key at this path with another row of the same name
     fn with_key(&self, alloc: Global, path: &[Name], key: Key) -> Result<Node, AllocError>
-        requires { (old : Row) × (row self.now (folded_path path.now) ≡ Some old) × (folded key.name ≡ folded old.name) }
-        ensures rows { IfOk result (λ made. (q : List (List ℕ)) → row_at made q ≡ cond (eq_by_cmp path_order q (folded_path path.now)) (Some key) (row self.now q)) }
+        requires { (old : Row) × (row self.now (folded_path path.now) ≡ Some old) × (folded key.name
+            ≡ folded old.name) }
+        ensures rows { IfOk result (λ made. (q : List (List ℕ)) → row_at made q
+            ≡ cond (eq_by_cmp path_order q (folded_path path.now)) (Some key) (row self.now q)) }
         ensures node { IfOk result IsNode }
     {
         let Some(node) = self.node(path) else {
@@ -49,7 +51,9 @@ impl Tree {
         moment: u64,
     ) -> Result<Node, AllocError>
         requires { IsSome (row self.now (folded_path path.now)) }
-        ensures rows { IfOk result (λ made. (q : List (List ℕ)) → row_at made q ≡ row_edited (λ key. record key { values = values_with key.values name.now kind data.now }) self.now (folded_path path.now) moment q) }
+        ensures rows { IfOk result (λ made. (q : List (List ℕ)) → row_at made q ≡ row_edited (λ key.
+            record key { values = values_with key.values name.now kind data.now }) self.now
+            (folded_path path.now) moment q) }
         ensures node { IfOk result IsNode }
         ensures named { (is_path path.now ≡ true) × (is_value_name name.now ≡ true) }
     {
@@ -71,7 +75,9 @@ impl Tree {
         moment: u64,
     ) -> Result<Node, AllocError>
         requires { IsSome (row self.now (folded_path path.now)) }
-        ensures rows { IfOk result (λ made. (q : List (List ℕ)) → row_at made q ≡ row_edited (λ key. record key { values = values_without key.values name.now }) self.now (folded_path path.now) moment q) }
+        ensures rows { IfOk result (λ made. (q : List (List ℕ)) → row_at made q ≡ row_edited (λ key.
+            record key { values = values_without key.values name.now }) self.now (folded_path
+            path.now) moment q) }
         ensures node { IfOk result IsNode }
         ensures named { (is_path path.now ≡ true) × (is_value_name name.now ≡ true) }
     {
@@ -89,7 +95,8 @@ impl Tree {
         requires there { IsSome (row self.now (folded_path path.now)) }
         requires below { 0 < length path.now }
         requires alone { length (subkeys self.now (folded_path path.now)) ≡ 0 }
-        ensures rows { IfOk result (λ made. (q : List (List ℕ)) → row_at made q ≡ row_deleted self.now (folded_path path.now) moment q) }
+        ensures rows { IfOk result (λ made. (q : List (List ℕ)) → row_at made q
+            ≡ row_deleted self.now (folded_path path.now) moment q) }
         ensures node { IfOk result IsNode }
         ensures named { is_path path.now ≡ true }
     {
@@ -107,7 +114,8 @@ impl Tree {
 
     fn create_key(&self, alloc: Global, path: &Path, moment: u64) -> Result<Node, AllocError>
         requires { is_there self.now (folded_path path.now) ≡ false }
-        ensures rows { IfOk result (λ made. (q : List (List ℕ)) → row_at made q ≡ row_created self.now path.now moment q) }
+        ensures rows { IfOk result (λ made. (q : List (List ℕ)) → row_at made q
+            ≡ row_created self.now path.now moment q) }
         ensures node { IfOk result IsNode }
         ensures named { is_path path.now ≡ true }
     {
@@ -127,7 +135,8 @@ impl Tree {
     // the root after an operation that may be carried out
     fn root_after(&self, alloc: Global, op: &Op, moment: u64) -> Result<Node, AllocError>
         requires { judged self.now op.now ≡ Ok Legality.Legal }
-        ensures rows { IfOk result (λ made. (q : List (List ℕ)) → row_at made q ≡ row_after self.now op.now moment q) }
+        ensures rows { IfOk result (λ made. (q : List (List ℕ)) → row_at made q
+            ≡ row_after self.now op.now moment q) }
         ensures node { IfOk result IsNode }
         ensures named { IsNamed op.now }
     {
@@ -211,7 +220,8 @@ impl Tree {
     // whether the operation, which may be carried out, leaves the tree within its weight
     fn weigh(&self, alloc: Global, op: &Op) -> Result<Legality, Refusal>
         requires { judged self.now op.now ≡ Ok Legality.Legal }
-        ensures { IsOrNoMemory result (legal_after op.now (Ok Legality.Legal) (weight (changed self.now op.now 0))) }
+        ensures { IsOrNoMemory result (legal_after op.now (Ok Legality.Legal) (weight (changed
+            self.now op.now 0))) }
     {
         match op {
             Op::DeleteKey { .. } | Op::DeleteValue { .. } => Ok(Legality::Legal),
