@@ -19,3 +19,4 @@ pub mod WholesAgain
 pub mod ChildAgain
 pub mod Spelled
 pub mod Units
+pub mod Puts

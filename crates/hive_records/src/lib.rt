@@ -11,6 +11,7 @@ mod big_data;
 mod example_laws;
 mod image_laws;
 mod key_node;
+mod names;
 mod hashes;
 mod numbers;
 mod reading_laws;
@@ -19,12 +20,14 @@ mod stored_name;
 mod subkey_list;
 mod text_laws;
 mod value_record;
+mod writing;
 
 pub use big_data::{BigData, SEGMENT_BYTES, segment_count};
 pub use example_laws::{example, spelled_by_hand};
 pub use image_laws::{keys_are_local, nodes, one_tree, rows_are_spellable, stays};
 pub use key_node::KeyNode;
 pub use hashes::name_hash;
+pub use names::is_latin;
 pub use reading_laws::{follows, loops};
 pub use security_cell::Security;
 pub use stored_name::StoredName;
@@ -34,3 +37,7 @@ pub use text_laws::{
     written_again,
 };
 pub use value_record::ValueRec;
+pub use writing::{
+    put_big_data, put_indirect, put_large_value, put_offsets, put_plain_leaf, put_security,
+    put_small_value,
+};
