@@ -18,3 +18,5 @@ pub mod BigAgain
 pub mod WholesAgain
 pub mod ChildAgain
 pub mod Spelled
+pub mod Units
+pub mod Puts

@@ -9,6 +9,7 @@ pub mod Images
 pub mod Nodes
 pub mod Example
 pub mod Follows
+pub mod Heads
 pub mod Fields
 pub mod Spellings
 pub mod ValueTexts

@@ -1,16 +1,43 @@
 //! Records of hives: what the cells of one key say, which tree hive bins data stand for, and the texts of records that
 //! read back (regf format: nk, vk, sk, li, lf, lh, ri, db).
+//!
+//! Each record is read from the data of its cell, of which it borrows what isn't a number: [`KeyNode`], [`ValueRec`],
+//! [`SubkeyList`], [`Security`], [`BigData`]. A reader gives the fields at the format's offsets, or the refusal of the
+//! first rule that the record breaks by itself. The laws are contracts of functions that do nothing: `specs/` has the
+//! definitions, of which `Images` says which tree hive bins data stand for and what stands in data that stand for none.
 #![tactic(auto)]
 
+mod big_data;
 mod example_laws;
 mod image_laws;
+mod key_node;
+mod names;
+mod hashes;
+mod numbers;
 mod reading_laws;
+mod security_cell;
+mod stored_name;
+mod subkey_list;
 mod text_laws;
+mod value_record;
+mod writing;
 
+pub use big_data::{BigData, SEGMENT_BYTES, segment_count};
 pub use example_laws::{example, spelled_by_hand};
 pub use image_laws::{keys_are_local, nodes, one_tree, rows_are_spellable, stays};
+pub use key_node::KeyNode;
+pub use hashes::name_hash;
+pub use names::is_latin;
 pub use reading_laws::{follows, loops};
+pub use security_cell::Security;
+pub use stored_name::StoredName;
+pub use subkey_list::SubkeyList;
 pub use text_laws::{
     big_again, cells_again, keys_again, lists_again, many_again, names_again, values_again,
     written_again,
+};
+pub use value_record::ValueRec;
+pub use writing::{
+    put_big_data, put_indirect, put_large_value, put_offsets, put_plain_leaf, put_security,
+    put_small_value,
 };

@@ -1,0 +1,7 @@
+use Rattle.std.proofs.Common.{◌<◌, length, sym, arith}
+use Rattle.hive_records.specs.Heads.{units_in}
+use Rattle.hive_records.proofs.Units.{any_none, any_some}
+use Rattle.hive_records.proofs.stored_name.StoredName.contains.Goals as goal
+
+pub returns : goal.returns
+returns c = sym (any_none _ _ (λ k below. c.loop-place.invariant k (omega (arith, c.len-place-end.ensures, below))))

@@ -1,0 +1,57 @@
+//! Big data, which lie in segments.
+ghost use Rattle.std.specs.Prelude.{◌≡◌, MatchResult, Some, None};
+ghost use Rattle.hive_records.specs.Values.{segments_of};
+
+use crate::numbers::{begins_with, half_at, word_at};
+use refusals::{Cause, Refusal};
+
+// `db`, as the number of these two bytes
+const LETTERS: u16 = 0x6264;
+
+// the bytes of the fields
+const FIELDS: usize = 8;
+
+/// The bytes of each segment but the last.
+pub const SEGMENT_BYTES: usize = 16_344;
+
+const _: () = prove!(LETTERS == 0x6264);
+const _: () = prove!(SEGMENT_BYTES == 16_344);
+
+/// How many segments data of a size lie in.
+pub fn segment_count(size: u32) -> usize
+    ensures { result ≡ segments_of size }
+{
+    (size as usize).div_ceil(SEGMENT_BYTES)
+}
+
+/// The record of big data.
+#[derive(Drop)]
+pub struct BigData {
+    /// The number of segments.
+    pub count: u16,
+    /// The cell with the segments' offsets.
+    pub segments: u32,
+}
+
+impl BigData {
+    ghost use Rattle.hive_records.specs.Heads.{big_fault, IsBigData};
+
+    /// Reads the data of a cell, for data of a size. Refused with `BadRecord` where it doesn't begin with `db`, the fields
+    /// don't fit, or the number of segments isn't the one that such data lie in.
+    pub fn read(cell: &[u8], size: u32) -> Result<BigData, Refusal>
+        ensures { MatchResult result (λ big. (big_fault cell.now size ≡ None) × IsBigData big cell.now)
+            (λ refusal. big_fault cell.now size ≡ Some refusal) }
+    {
+        if !begins_with(cell, LETTERS, FIELDS) {
+            return Err(Refusal::from(Cause::BadRecord));
+        }
+        let count = half_at(cell, 2);
+        if count as usize != segment_count(size) {
+            return Err(Refusal::from(Cause::BadRecord));
+        }
+        Ok(BigData {
+            count,
+            segments: word_at(cell, 4),
+        })
+    }
+}

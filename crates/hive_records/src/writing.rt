@@ -1,0 +1,191 @@
+//! The texts of records, each put behind some bytes. Where memory is refused, a beginning of the text may stand there.
+ghost use Rattle.std.specs.Prelude.{◌≡◌, ◌<◌, ◌≤◌, ◌^◌, ◌++◌, true, OnOk, length};
+ghost use Rattle.hive_records.specs.Fields.{half, word, long};
+ghost use Rattle.hive_records.specs.Spellings.{is_latin, name_text, wide};
+ghost use Rattle.hive_records.specs.ValueTexts.{value_record, small_value, large_value};
+ghost use Rattle.hive_records.specs.ListTexts.{offsets_text, plain_leaf, indirect};
+ghost use Rattle.hive_records.specs.KeyTexts.{security_text};
+
+use crate::names::{is_latin, stored_len};
+use byteorder::{ByteOrder, LittleEndian};
+use reg_tree_parts::Value;
+use std::alloc::AllocError;
+
+// the letters of records, as numbers of two bytes
+const VALUE: u16 = 0x6b76;
+const SECURITY: u16 = 0x6b73;
+const BIG_DATA: u16 = 0x6264;
+const PLAIN: u16 = 0x696c;
+const INDIRECT: u16 = 0x6972;
+
+// the top bit of a size field, set where the data lie in the record
+const IN_RECORD: u32 = 0x8000_0000;
+
+
+/// Puts a number of two bytes behind some bytes, the lowest byte first.
+fn put_half(bytes: &mut Vec<u8>, number: u16) -> Result<(), AllocError>
+    ensures { OnOk result (bytes.new.items ≡ bytes.old.items ++ half number) }
+{
+    let mut field = [0; 2];
+    LittleEndian::write_u16(&mut field, number);
+    bytes.extend_from_slice(&field)
+}
+
+/// Puts a number of four bytes.
+fn put_word(bytes: &mut Vec<u8>, number: u32) -> Result<(), AllocError>
+    ensures { OnOk result (bytes.new.items ≡ bytes.old.items ++ word number) }
+{
+    let mut field = [0; 4];
+    LittleEndian::write_u32(&mut field, number);
+    bytes.extend_from_slice(&field)
+}
+
+/// Puts a number of eight bytes.
+fn put_long(bytes: &mut Vec<u8>, number: u64) -> Result<(), AllocError>
+    ensures { OnOk result (bytes.new.items ≡ bytes.old.items ++ long number) }
+{
+    let mut field = [0; 8];
+    LittleEndian::write_u64(&mut field, number);
+    bytes.extend_from_slice(&field)
+}
+
+/// Puts a name, in Latin-1 where all its units are below 0x100, else in UTF-16.
+fn put_name(bytes: &mut Vec<u8>, name: &[u16]) -> Result<(), AllocError>
+    ensures { OnOk result (bytes.new.items ≡ bytes.old.items ++ name_text name.now) }
+{
+    if is_latin(name) {
+        put_latin(bytes, name)?;
+    } else {
+        put_wide(bytes, name)?;
+    }
+    Ok(())
+}
+
+// puts a byte for each unit
+fn put_latin(bytes: &mut Vec<u8>, name: &[u16]) -> Result<(), AllocError>
+    requires { is_latin name.now ≡ true }
+    ensures { OnOk result (bytes.new.items ≡ bytes.old.items ++ name.now) }
+{
+    for unit in name {
+        bytes.push(*unit as u8)?;
+    }
+    Ok(())
+}
+
+// puts two bytes for each unit
+fn put_wide(bytes: &mut Vec<u8>, name: &[u16]) -> Result<(), AllocError>
+    ensures { OnOk result (bytes.new.items ≡ bytes.old.items ++ wide name.now) }
+{
+    for unit in name {
+        put_half(bytes, *unit)?;
+    }
+    Ok(())
+}
+
+// puts a value's record with a size field and the bytes of the offset field
+fn put_value(
+    bytes: &mut Vec<u8>,
+    value: &Value,
+    size: u32,
+    field: &[u8],
+) -> Result<(), AllocError>
+    requires { length (name_text value.now.name) < 2 ^ 16 }
+    ensures { OnOk result (bytes.new.items ≡ bytes.old.items ++ value_record value.now size field.now) }
+{
+    let name = value.name.units();
+    put_half(bytes, VALUE)?;
+    put_half(bytes, stored_len(name))?;
+    put_word(bytes, size)?;
+    bytes.extend_from_slice(field)?;
+    put_word(bytes, value.kind)?;
+    put_half(bytes, u16::from(is_latin(name)))?;
+    put_half(bytes, 0)?;
+    put_name(bytes, name)?;
+    Ok(())
+}
+
+/// Puts the record of a value whose data of at most 4 bytes lie in it.
+pub fn put_small_value(bytes: &mut Vec<u8>, value: &Value) -> Result<(), AllocError>
+    requires name { length (name_text value.now.name) < 2 ^ 16 }
+    requires few { length value.now.data ≤ 4 }
+    ensures { OnOk result (bytes.new.items ≡ bytes.old.items ++ small_value value.now) }
+{
+    let data = value.data.bytes();
+    let mut field = [0; 4];
+    field[..data.len()].copy_from_slice(data);
+    put_value(bytes, value, IN_RECORD + data.len() as u32, &field)
+}
+
+/// Puts the record of a value whose data lie in the cell at an offset, or in the segments that it leads to.
+pub fn put_large_value(bytes: &mut Vec<u8>, value: &Value, at: u32) -> Result<(), AllocError>
+    requires name { length (name_text value.now.name) < 2 ^ 16 }
+    requires few { length value.now.data < 2 ^ 31 }
+    ensures { OnOk result (bytes.new.items ≡ bytes.old.items ++ large_value value.now at) }
+{
+    let mut field = [0; 4];
+    LittleEndian::write_u32(&mut field, at);
+    put_value(bytes, value, value.data.bytes().len() as u32, &field)
+}
+
+/// Puts the record of big data in so many segments, whose offsets are in a cell.
+pub fn put_big_data(bytes: &mut Vec<u8>, count: u16, segments: u32) -> Result<(), AllocError>
+    ensures { OnOk result (bytes.new.items ≡ bytes.old.items ++ (half 0x6264 ++ half count ++ word segments)) }
+{
+    put_half(bytes, BIG_DATA)?;
+    put_half(bytes, count)?;
+    put_word(bytes, segments)?;
+    Ok(())
+}
+
+/// Puts offsets one after the other, as the list of a key's values has them, and that of big data's segments.
+pub fn put_offsets(bytes: &mut Vec<u8>, offsets: &[u32]) -> Result<(), AllocError>
+    ensures { OnOk result (bytes.new.items ≡ bytes.old.items ++ offsets_text offsets.now) }
+{
+    for offset in offsets {
+        put_word(bytes, *offset)?;
+    }
+    Ok(())
+}
+
+/// Puts a list of subkeys that has offsets alone.
+pub fn put_plain_leaf(bytes: &mut Vec<u8>, offsets: &[u32]) -> Result<(), AllocError>
+    requires { length offsets.now < 2 ^ 16 }
+    ensures { OnOk result (bytes.new.items ≡ bytes.old.items ++ plain_leaf offsets.now) }
+{
+    put_half(bytes, PLAIN)?;
+    put_half(bytes, offsets.len() as u16)?;
+    put_offsets(bytes, offsets)?;
+    Ok(())
+}
+
+/// Puts a list of lists of subkeys.
+pub fn put_indirect(bytes: &mut Vec<u8>, offsets: &[u32]) -> Result<(), AllocError>
+    requires { length offsets.now < 2 ^ 16 }
+    ensures { OnOk result (bytes.new.items ≡ bytes.old.items ++ indirect offsets.now) }
+{
+    put_half(bytes, INDIRECT)?;
+    put_half(bytes, offsets.len() as u16)?;
+    put_offsets(bytes, offsets)?;
+    Ok(())
+}
+
+/// Puts a security cell: its links in the ring, the number of keys that name it, and the descriptor.
+pub fn put_security(
+    bytes: &mut Vec<u8>,
+    next: u32,
+    previous: u32,
+    count: u32,
+    descriptor: &[u8],
+) -> Result<(), AllocError>
+    requires { length descriptor.now < 2 ^ 32 }
+    ensures { OnOk result (bytes.new.items ≡ bytes.old.items ++ security_text next previous count descriptor.now) }
+{
+    put_half(bytes, SECURITY)?;
+    put_half(bytes, 0)?;
+    put_word(bytes, next)?;
+    put_word(bytes, previous)?;
+    put_word(bytes, count)?;
+    put_word(bytes, descriptor.len() as u32)?;
+    bytes.extend_from_slice(descriptor)?;
+    Ok(())
+}
