@@ -24,7 +24,7 @@ pub created_on : (store : Store) → length store.id ≡ 16 → (bytes : List �
 created_on store size bytes is old mid new wrote syncs s gate none first =
     let tail = drop (length bytes) old.seen in
     let same : 0 + length bytes ≡ length bytes = omega arith in
-    let front : put old.seen 0 bytes ≡ bytes ++ tail 
+    let front : put old.seen 0 bytes ≡ bytes ++ tail
     = put_within old.seen bytes 0 (omega arith) ∙ ap (λ (n : ℕ). bytes ++ drop n old.seen) same in
     let file : put old.seen 0 bytes ≡ header_text store ++ 0 ∷ tail = front ∙ ap (λ (l : List ℕ). l ++ tail) is ∙ append_assoc (header_text store) (0 ∷ []) tail in
     let there : new ≡ at_rest (header_text store ++ 0 ∷ tail) = syncs ∙ ap (λ (x : FileState). at_rest x.seen) wrote ∙ ap at_rest file in
