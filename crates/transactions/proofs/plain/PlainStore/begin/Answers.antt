@@ -3,7 +3,6 @@ use Rattle.machine.specs.Machine.{fault, is_open}
 use Rattle.transactions.proofs.Stored.{closed_begin}
 use Rattle.transactions.proofs.plain.PlainStore.begin.Goals as goal
 
--- src/plain.rt:206:9
 pub returns-in_err-open : goal.returns-in_err-open
 returns-in_err-open c =
     closed_begin c.args.self.now c.args.session c.in_err-open.field-0.0 c.from_residual.result

@@ -17,20 +17,17 @@ use Rattle.transactions.specs.Stores.{store_of}
 use Rattle.transactions.proofs.Stored.{not_ended, heavy_commit, crowded_commit, same_ops, below_most, tied_more, commits}
 use Rattle.transactions.proofs.plain.PlainStore.commit_accept.Goals as goal
 
--- src/plain.rt:239:9
 pub returns-in_err-open : goal.returns-in_err-open
 returns-in_err-open c =
     closed_commit c.args.self.now c.args.session c.in_err-open.field-0.0 c.from_residual.result
     (record { free = ap fault (sym c.self.view_is); shut = ap (λ m. is_open m c.args.session) (sym c.self.view_is) ∙ c.in_err-open.ensures.refused.0; named = c.in_err-open.ensures.refused.1 }) c.from_residual.ensures.1 c.args.tx c.args.moment
 
--- src/plain.rt:240:23
 pub returns-in_err-pending : goal.returns-in_err-pending
 returns-in_err-pending c =
     not_ended c.args.self.now c.args.session c.args.moment c.args.tx (refusal_of c.in_err-pending.field-0.0) c.from_residual-in_err-pending.result (ap fault (sym c.self.view_is))
     (ap (λ m. is_open m c.args.session) (sym c.self.view_is) ∙ c.in_ok-open.ensures.ok) c.from_residual-in_err-pending.ensures.1
     (ap (λ m. inactive_refusal (own m.places c.args.session c.args.tx)) (sym c.self.view_is) ∙ c.in_err-pending.ensures.refused)
 
--- src/plain.rt:245:20
 pub returns-in_err-made : goal.returns-in_err-made
 returns-in_err-made c =
     heavy_commit c.args.self.now c.args.session c.args.moment c.args.tx c.in_err-made.field-0.0 c.from_residual-in_err-made.result (ap fault (sym c.self.view_is))
@@ -39,7 +36,6 @@ returns-in_err-made c =
     (subst (λ m. IsPending (own m.places c.args.session c.args.tx) c.in_ok-pending.pending.ops.now c.in_ok-pending.pending.text_len) c.self.view_is c.in_ok-pending.ensures.ok)
     (sym c.is_empty.ensures ∙ c.if-is_empty.false) c.in_err-made.ensures.refused
 
--- src/plain.rt:246:20
 pub returns-in_err-room : goal.returns-in_err-room
 returns-in_err-room c =
     crowded_commit c.args.self.now c.args.session c.args.moment c.args.tx c.in_err-room.field-0.0 c.from_residual-in_err-room.result (ap fault (sym c.self.view_is))
@@ -63,7 +59,6 @@ recorded_is c = c.of.ensures ∙ ap (λ (x : List Op). let y : Element = record 
 same : (c : goal.After-drop-element) → c.in_ok-pending.pending.ops.now ≡ c.in_ok-ops.ops.items
 same c = same_ops c.self.inside.table c.commit-2.new.self c.args.session c.args.tx c.in_ok-pending.pending.ops.now c.in_ok-ops.ops.items c.in_ok-pending.pending.text_len c.in_ok-pending.ensures.ok c.in_ok-ops.ensures.ok
 
--- src/plain.rt:236:5
 pub invariant_of-self-2 : goal.invariant_of-self-2
 invariant_of-self-2 c =
     tied_more c.self.inside.opened.value c.self.inside.accepted.items c.push_reserved.new.self.items c.self.inside.sessions c.self.inside.table c.accept.new.self c.self.inside.durable c.self.inside.room c.in_ok-room.room
@@ -71,7 +66,6 @@ invariant_of-self-2 c =
     (ap (λ (t : Table). t.trees) c.accept.ensures ∙ c.in_ok-made.ensures.ok.1 ∙ ap (λ x. applied x c.in_ok-pending.pending.ops.now c.args.moment) c.trees.ensures ∙ ap (λ x. applied c.self.inside.table.trees x c.args.moment) (same c))
     (ap (λ (t : Table). t.number) c.accept.ensures ∙ ap (λ (t : Table). t.number + 1) c.in_ok-ops.ensures.ok.next)
 
--- src/plain.rt:236:5
 pub returns : goal.returns
 returns c =
     subst (λ m. Commits m c.args.session c.args.tx c.args.moment c.number.result

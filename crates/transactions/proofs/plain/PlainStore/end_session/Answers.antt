@@ -3,7 +3,6 @@ use Rattle.machine.specs.Machine.{fault, is_open}
 use Rattle.transactions.proofs.Stored.{closed_end}
 use Rattle.transactions.proofs.plain.PlainStore.end_session.Goals as goal
 
--- src/plain.rt:146:9
 pub returns-in_err-open : goal.returns-in_err-open
 returns-in_err-open c =
     closed_end c.args.self.now c.args.session c.in_err-open.field-0.0 c.from_residual.result

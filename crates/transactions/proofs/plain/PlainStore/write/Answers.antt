@@ -18,20 +18,17 @@ use Rattle.transactions.specs.Stores.{store_of}
 use Rattle.transactions.proofs.Stored.{illegal_write, crowded_write, uncut, cut_change, below_most, tied_more, accepts}
 use Rattle.transactions.proofs.plain.PlainStore.write.Goals as goal
 
--- src/plain.rt:169:9
 pub returns-in_err-open : goal.returns-in_err-open
 returns-in_err-open c =
     closed_write c.args.self.now c.args.session c.in_err-open.field-0.0 c.from_residual.result
     (record { free = ap fault (sym c.self.view_is); shut = ap (λ m. is_open m c.args.session) (sym c.self.view_is) ∙ c.in_err-open.ensures.refused.0; named = c.in_err-open.ensures.refused.1 }) c.from_residual.ensures.1 c.args.moment c.args.op
 
--- src/plain.rt:170:26
 pub returns-in_err-made : goal.returns-in_err-made
 returns-in_err-made c =
     illegal_write c.args.self.now c.args.session c.args.moment c.args.op c.trees.result.now c.from_residual-in_err-made.result c.in_err-made.field-0.0 (ap fault (sym c.self.view_is))
     (ap (λ m. is_open m c.args.session) (sym c.self.view_is) ∙ c.in_ok-open.ensures.ok) (c.trees.ensures ∙ c.self.invariant.trees ∙ ap trees_now c.self.view_is)
     c.in_err-made.ensures.refused c.from_residual-in_err-made.ensures.1
 
--- src/plain.rt:173:20
 pub returns-in_err-room : goal.returns-in_err-room
 returns-in_err-room c =
     let written = subst (IsWritten (legal c.trees.result.now c.args.op) (applied_one c.trees.result.now c.args.op c.args.moment)) c.in-Some.is c.in_ok-made.ensures.ok in
@@ -57,7 +54,6 @@ added c = c.push_reserved.ensures.items ∙ ap (λ (x : List (Snapshot Element))
 recorded_is : (c : goal.After-drop-holders-inside-2) → c.of.result.value ≡ change c.args.moment c.args.op
 recorded_is c = c.of.ensures ∙ ap (λ (x : List Op). let y : Element = record { moment = c.args.moment; ops = x } in y) c.in_ok-ops.ensures
 
--- src/plain.rt:166:5
 pub invariant_of-self-2 : goal.invariant_of-self-2
 invariant_of-self-2 c =
     tied_more c.self.inside.opened.value c.self.inside.accepted.items c.push_reserved.new.self.items c.self.inside.sessions c.self.inside.table c.roll_back_all.new.self c.self.inside.durable c.self.inside.room c.in_ok-room.room
@@ -65,7 +61,6 @@ invariant_of-self-2 c =
     (ap (λ (t : Table). t.trees) c.roll_back_all.ensures.rest ∙ ap (λ (t : Table). t.trees) c.accept.ensures ∙ (written c).1 ∙ ap (λ x. applied_one x c.args.op c.args.moment) c.trees.ensures)
     (ap (λ (t : Table). t.number) c.roll_back_all.ensures.rest ∙ ap (λ (t : Table). t.number) c.accept.ensures)
 
--- src/plain.rt:166:5
 pub returns : goal.returns
 returns c =
     let exact : c.saturating_add.result ≡ element_text_len (change c.args.moment c.args.op) = uncut (old_store c) (element_text_len (change c.args.moment c.args.op)) c.saturating_add.result (roomy c) (cut c) in

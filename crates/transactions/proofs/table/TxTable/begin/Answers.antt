@@ -29,12 +29,10 @@ vacant c = slot_of c.self.inside.places c.reserve.new.self c.insert_reserved-pla
 kept : (c : goal.After-insert_reserved-place) → transaction_of c.begin-entry.result ≡ fresh_transaction c.args.session c.args.id (c.self.inside.begun + 1)
 kept c = c.begin-entry.ensures.kept ∙ ap (fresh_transaction c.args.session c.args.id) (next c)
 
--- src/table.rt:124:13
 pub returns-then-len-ge-MOST_TRANSACTIONS-clause-refused : goal.returns-then-len-ge-MOST_TRANSACTIONS-clause-refused
 returns-then-len-ge-MOST_TRANSACTIONS-clause-refused c =
     (inl (subst (λ (t : Table). seat_refusal t.places t.begun ≡ Some NoSeat) c.self.view_is (no_seat c.self.inside.begun c.self.inside.places.slots c.len.result c.len.ensures c.if-len-ge-MOST_TRANSACTIONS.true)), refl)
 
--- src/table.rt:120:5
 pub invariant_of-self-2 : goal.invariant_of-self-2
 invariant_of-self-2 c =
     subst (λ generation. AreKept c.self.inside.trees c.self.inside.number generation c.insert_reserved-place.new.self.slots c.self.inside.claims) (sym (next c))
@@ -42,7 +40,6 @@ invariant_of-self-2 c =
     (changed c) (vacant c) (begun_entry c.self.inside.trees c.self.inside.number (c.self.inside.begun + 1) c.args.session c.args.id c.begin-entry.result (kept c) c.begin-entry.ensures.counted c.begin-entry.ensures.unseen)
     (ap (λ (t : Transaction). t.ops) c.begin-entry.ensures.kept))
 
--- src/table.rt:120:5
 pub returns-clause-ok : goal.returns-clause-ok
 returns-clause-ok c =
     subst (λ (t : Table). Begins t c.args.session c.args.id (record { place = c.insert_reserved-place.result; generation = c.in-Some.generation }) (shown c.self.inside.trees c.self.inside.number c.in-Some.generation c.insert_reserved-place.new.self.slots)) c.self.view_is
