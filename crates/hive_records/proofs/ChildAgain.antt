@@ -2,7 +2,7 @@
 use Rattle.std.proofs.Common.{◌≡◌, [], ◌∷◌, true, refl, Ok, arith}
 use Rattle.hive_records.specs.KeyNodes.{keys_in}
 use Rattle.hive_records.specs.Example.{full_cells, child_row}
-use Rattle.hive_records.specs.KeyTexts.{RowFits, PlacesFit}
+use Rattle.hive_records.specs.KeyTexts.{RowFits, KeyPlacesFit}
 use Rattle.hive_records.specs.Wholes.{child_places}
 use Rattle.hive_records.proofs.KeysAgain.{security_again, no_class}
 use Rattle.hive_records.proofs.WholesAgain.{no_values, no_kids}
@@ -11,7 +11,7 @@ use Rattle.hive_records.proofs.NodesAgain.{key_again}
 row_fits : RowFits child_row
 row_fits = record { units = (omega arith, tt); no_backslash = refl; name = omega arith; class = omega arith; flags = omega arith; not_spelling = refl; not_predefined = refl; time = omega arith }
 
-places_fit : PlacesFit child_places
+places_fit : KeyPlacesFit child_places
 places_fit = record { kid_count = omega arith; kids = omega arith; value_count = omega arith; values = omega arith; security = omega arith; class = omega arith }
 
 pub child_again : keys_in true full_cells 120 ≡ Ok (record { name = 0x41 ∷ []; row = child_row; kids = []; own = 120 ∷ []; lent = 280 ∷ [] })

@@ -12,13 +12,14 @@ use Rattle.hive_records.specs.Lists.{kids_at}
 use Rattle.hive_records.specs.KeyNodes.{descriptor_at, class_at, flags_of, key_at, keys_in, parts_of}
 use Rattle.hive_records.specs.Fields.{Gives, Holds}
 use Rattle.hive_records.specs.Spellings.{is_latin, name_text, latin_flag}
-use Rattle.hive_records.specs.KeyTexts.{Places, key_text, RowFits, PlacesFit}
+use Rattle.hive_records.specs.declared.key_places.KeyPlaces.{KeyPlaces}
+use Rattle.hive_records.specs.KeyTexts.{key_text, RowFits, KeyPlacesFit}
 use Rattle.hive_records.proofs.StepsAgain.{both, gives_on, gives_last, gives_same, gives_rule, gives_allowed, gives_look}
 use Rattle.hive_records.proofs.NumbersAgain.{half_back, word_back, long_back, cut}
 use Rattle.hive_records.proofs.ValuesAgain.{name_given}
 use Rattle.hive_records.proofs.KeysAgain.{spelling_back, not_barred, flags_small, flags_back}
 
-module _ (row : Row) (its : Places) (rest : List ℕ) (fits : RowFits row) (near : PlacesFit its) where
+module _ (row : Row) (its : KeyPlaces) (rest : List ℕ) (fits : RowFits row) (near : KeyPlacesFit its) where
   abbrev node : List ℕ
   node = key_text row its ++ rest
 
@@ -106,7 +107,7 @@ module _ (row : Row) (its : Places) (rest : List ℕ) (fits : RowFits row) (near
       kids_here : Gives (kids_at (word_at node 20) (word_at node 28)) cells k [] kids
       kids_here = subst (λ (n : ℕ). Gives (kids_at n (word_at node 28)) cells k [] kids) (sym kid_count_back) (subst (λ (n : ℕ). Gives (kids_at its.kid_count n) cells k [] kids) (sym kids_back) listed)
 
-pub key_again : (split : Bool) (cells : Cells) (at : ℕ) (row : Row) (its : Places) (c s v k kids : List ℕ) → RowFits row → PlacesFit its → Holds cells at (key_text row its) → Gives (class_at (length row.class) its.class) cells c [] row.class →
+pub key_again : (split : Bool) (cells : Cells) (at : ℕ) (row : Row) (its : KeyPlaces) (c s v k kids : List ℕ) → RowFits row → KeyPlacesFit its → Holds cells at (key_text row its) → Gives (class_at (length row.class) its.class) cells c [] row.class →
     Gives (descriptor_at its.security) cells [] s row.descriptor → Gives (values_at split its.value_count its.values) cells v [] row.values → Gives (kids_at its.kid_count its.kids) cells k [] kids →
     keys_in split cells at ≡ Ok (record { name = folded row.name; row = row; kids = kids; own = at ∷ (c ++ (v ++ k)); lent = s })
 key_again split cells at row its c s v k kids fits near h class descriptor values listed = ap parts_of (key_given row its h.0 fits near split cells at c s v k kids h.1 class descriptor values listed).reads

@@ -3,6 +3,7 @@ use Rattle.std.specs.Prelude.{◌≡◌, ℕ, ◌<◌, ◌+◌, ◌==◌, ◌^�
 use Rattle.std.specs.List.{list_any}
 use Rattle.reg_tree_parts.specs.declared.value.Value.{Value}
 use Rattle.reg_tree_parts.specs.Rows.{Row}
+use Rattle.hive_records.specs.declared.key_places.KeyPlaces.{KeyPlaces}
 use Rattle.hive_records.specs.Numbers.{nowhere}
 use Rattle.hive_records.specs.Names.{has_flag}
 use Rattle.hive_records.specs.Fields.{half, word, long}
@@ -12,28 +13,22 @@ use Rattle.hive_records.specs.Spellings.{name_text, latin_flag, AreUnits}
 abbrev pub security_text : ℕ → ℕ → ℕ → List ℕ → List ℕ
 security_text next previous count descriptor = half 0x6b73 ++ half 0 ++ word next ++ word previous ++ word count ++ word (length descriptor) ++ descriptor
 
--- what a key's record says beside its row: the parent, where the cells are that belong to it, how many they are, and
--- the upper bounds, which are not read
-pub record Places : Type 0 where
-  pub parent : ℕ
-  pub kid_count : ℕ
-  pub kids : ℕ
-  pub value_count : ℕ
-  pub values : ℕ
-  pub security : ℕ
-  pub class : ℕ
-  pub longest_kid : ℕ
-  pub longest_class : ℕ
-  pub longest_value : ℕ
-  pub largest_data : ℕ
-
--- a key's record
-abbrev pub key_text : Row → Places → List ℕ
-key_text row its =
-    half 0x6b6e ++ half (row.flags + latin_flag 0x20 row.name) ++ long row.time ++ word 0 ++ word its.parent ++ word its.kid_count ++ word 0 ++ word its.kids ++ word nowhere
+-- a key's record up to the offset of its class, and the upper bounds behind it
+abbrev pub node_head : ℕ → ℕ → KeyPlaces → List ℕ
+node_head flags time its =
+    half 0x6b6e ++ half flags ++ long time ++ word 0 ++ word its.parent ++ word its.kid_count ++ word 0 ++ word its.kids ++ word nowhere
     ++ word its.value_count ++ word its.values ++ word its.security ++ word its.class
-    ++ half its.longest_kid ++ half 0 ++ word its.longest_class ++ word its.longest_value ++ word its.largest_data ++ word 0
-    ++ half (length (name_text row.name)) ++ half (length row.class) ++ name_text row.name
+
+abbrev pub node_bounds : KeyPlaces → List ℕ
+node_bounds its = half its.longest_kid ++ half 0 ++ word its.longest_class ++ word its.longest_value ++ word its.largest_data ++ word 0
+
+-- a key's record: of its name, flags, last written time, the length of its class, and what the record says beside these
+abbrev pub node_text : List ℕ → ℕ → ℕ → ℕ → KeyPlaces → List ℕ
+node_text name flags time class_len its =
+    node_head (flags + latin_flag 0x20 name) time its ++ node_bounds its ++ half (length (name_text name)) ++ half class_len ++ name_text name
+
+abbrev pub key_text : Row → KeyPlaces → List ℕ
+key_text row its = node_text row.name row.flags row.time (length row.class) its
 
 -- what can be written: the row, and where its cells are
 pub record RowFits (row : Row) : Type 0 where
@@ -46,7 +41,7 @@ pub record RowFits (row : Row) : Type 0 where
   pub not_predefined : has_flag 0x40 row.flags ≡ false
   pub time : row.time < 2 ^ 64
 
-pub record PlacesFit (its : Places) : Type 0 where
+pub record KeyPlacesFit (its : KeyPlaces) : Type 0 where
   pub kid_count : its.kid_count < 2 ^ 32
   pub kids : its.kids < 2 ^ 32
   pub value_count : its.value_count < 2 ^ 32

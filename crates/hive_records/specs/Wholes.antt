@@ -7,7 +7,8 @@ use Rattle.hive_records.specs.Fields.{Holds}
 use Rattle.hive_records.specs.ListTexts.{offsets_text, AreOffsets}
 use Rattle.hive_records.specs.ValueTexts.{small_value, large_value, Fits}
 use Rattle.hive_records.specs.BigTexts.{Segment, big_text, segment_places, together, AreFull}
-use Rattle.hive_records.specs.KeyTexts.{Written, Places}
+use Rattle.hive_records.specs.declared.key_places.KeyPlaces.{KeyPlaces}
+use Rattle.hive_records.specs.KeyTexts.{Written}
 
 -- with data in the record
 pub record IsSmall (cells : Cells) (v : Written) : Type 0 where
@@ -49,8 +50,8 @@ pub record IsBig (split : Bool) (cells : Cells) (v : Written) : Type 0 where
 abbrev pub IsWritten : Bool → Cells → Written → Type 0
 IsWritten split cells v = Fits v.value × (IsSmall cells v ⊎ (IsLarge split cells v ⊎ IsBig split cells v))
 
-abbrev pub root_places : Places
+abbrev pub root_places : KeyPlaces
 root_places = record { parent = nowhere; kid_count = 1; kids = 200; value_count = 1; values = 240; security = 280; class = nowhere; longest_kid = 0; longest_class = 0; longest_value = 0; largest_data = 0 }
 
-abbrev pub child_places : Places
+abbrev pub child_places : KeyPlaces
 child_places = record { parent = 0; kid_count = 0; kids = nowhere; value_count = 0; values = nowhere; security = 280; class = nowhere; longest_kid = 0; longest_class = 0; longest_value = 0; largest_data = 0 }

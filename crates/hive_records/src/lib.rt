@@ -11,6 +11,7 @@ mod big_data;
 mod example_laws;
 mod image_laws;
 mod key_node;
+mod key_places;
 mod names;
 mod hashes;
 mod numbers;
@@ -26,6 +27,7 @@ pub use big_data::{BigData, SEGMENT_BYTES, segment_count};
 pub use example_laws::{example, spelled_by_hand};
 pub use image_laws::{keys_are_local, nodes, one_tree, rows_are_spellable, stays};
 pub use key_node::KeyNode;
+pub use key_places::KeyPlaces;
 pub use hashes::name_hash;
 pub use names::is_latin;
 pub use reading_laws::{follows, loops};
@@ -38,6 +40,6 @@ pub use text_laws::{
 };
 pub use value_record::ValueRec;
 pub use writing::{
-    put_big_data, put_indirect, put_large_value, put_offsets, put_plain_leaf, put_security,
-    put_small_value,
+    put_big_data, put_hashed, put_hashed_head, put_indirect, put_key_node, put_large_value,
+    put_offsets, put_plain_leaf, put_security, put_small_value,
 };

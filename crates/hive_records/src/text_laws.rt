@@ -16,7 +16,8 @@ ghost use Rattle.hive_records.specs.ValueTexts.{Fits, small_value, large_value};
 ghost use Rattle.hive_records.specs.ListTexts.{Kid, plain_leaf, hashed_leaf, offsets_text, indirect, AreOffsets, places};
 ghost use Rattle.hive_records.specs.BigTexts.{Segment, big_text, segment_places, together, AreFull};
 ghost use Rattle.hive_records.specs.Wholes.{IsWritten};
-ghost use Rattle.hive_records.specs.KeyTexts.{security_text, Places, key_text, RowFits, PlacesFit, Written, Leaf};
+ghost use Rattle.hive_records.specs.declared.key_places.KeyPlaces.{KeyPlaces};
+ghost use Rattle.hive_records.specs.KeyTexts.{security_text, key_text, RowFits, KeyPlacesFit, Written, Leaf};
 ghost use Rattle.hive_records.specs.Spellings.{is_latin, name_text, AreUnits};
 
 /// A name that is written reads back, in Latin-1 or in UTF-16.
@@ -120,7 +121,7 @@ pub fn many_again()
 /// A key whose class, descriptor, values and list of subkeys read back from where its record says, reads back whole, as
 /// the law of shapes asks for it.
 pub fn keys_again()
-    ensures { (split : Bool) (cells : Cells) (at : ℕ) (row : Row) (its : Places) (class lent values lists kids : List ℕ) → RowFits row → PlacesFit its → Holds cells at (key_text row its) →
+    ensures { (split : Bool) (cells : Cells) (at : ℕ) (row : Row) (its : KeyPlaces) (class lent values lists kids : List ℕ) → RowFits row → KeyPlacesFit its → Holds cells at (key_text row its) →
         Gives (class_at (length row.class) its.class) cells class [] row.class →
         Gives (descriptor_at its.security) cells [] lent row.descriptor →
         Gives (values_at split its.value_count its.values) cells values [] row.values →

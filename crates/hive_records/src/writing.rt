@@ -1,22 +1,34 @@
 //! The texts of records, each put behind some bytes. Where memory is refused, a beginning of the text may stand there.
-ghost use Rattle.std.specs.Prelude.{◌≡◌, ◌<◌, ◌≤◌, ◌^◌, ◌++◌, true, OnOk, length};
+ghost use Rattle.std.specs.Prelude.{◌≡◌, ◌<◌, ◌≤◌, ◌^◌, ◌+◌, ◌++◌, true, false, OnOk, length};
 ghost use Rattle.hive_records.specs.Fields.{half, word, long};
-ghost use Rattle.hive_records.specs.Spellings.{is_latin, name_text, wide};
+ghost use Rattle.hive_records.specs.Spellings.{is_latin, latin_flag, name_text, wide};
 ghost use Rattle.hive_records.specs.ValueTexts.{value_record, small_value, large_value};
-ghost use Rattle.hive_records.specs.ListTexts.{offsets_text, plain_leaf, indirect};
-ghost use Rattle.hive_records.specs.KeyTexts.{security_text};
+ghost use Rattle.reg_names.specs.Names.{folded};
+ghost use Rattle.hive_records.specs.Names.{has_flag};
+ghost use Rattle.hive_records.specs.ListTexts.{offsets_text, plain_leaf, indirect, hashed};
+ghost use Rattle.hive_records.specs.KeyTexts.{security_text, node_text, node_head, node_bounds};
 
+use crate::hashes::name_hash;
+use crate::key_places::KeyPlaces;
 use crate::names::{is_latin, stored_len};
 use byteorder::{ByteOrder, LittleEndian};
 use reg_tree_parts::Value;
 use std::alloc::AllocError;
 
 // the letters of records, as numbers of two bytes
+const KEY_NODE: u16 = 0x6b6e;
 const VALUE: u16 = 0x6b76;
 const SECURITY: u16 = 0x6b73;
 const BIG_DATA: u16 = 0x6264;
 const PLAIN: u16 = 0x696c;
+const HASHED: u16 = 0x686c;
 const INDIRECT: u16 = 0x6972;
+
+// the flag of a key's name in Latin-1
+const LATIN: u16 = 0x20;
+
+// the offset of none
+const NOWHERE: u32 = 0xffff_ffff;
 
 // the top bit of a size field, set where the data lie in the record
 const IN_RECORD: u32 = 0x8000_0000;
@@ -187,5 +199,91 @@ pub fn put_security(
     put_word(bytes, count)?;
     put_word(bytes, descriptor.len() as u32)?;
     bytes.extend_from_slice(descriptor)?;
+    Ok(())
+}
+
+/// Puts what a list of subkeys with hashes begins with, where it has so many elements.
+pub fn put_hashed_head(bytes: &mut Vec<u8>, count: u16) -> Result<(), AllocError>
+    ensures { OnOk result (bytes.new.items ≡ bytes.old.items ++ (half 0x686c ++ half count)) }
+{
+    put_half(bytes, HASHED)?;
+    put_half(bytes, count)?;
+    Ok(())
+}
+
+/// Puts an element of such a list: the cell of a subkey, and the hash of its name.
+pub fn put_hashed(bytes: &mut Vec<u8>, at: u32, name: &[u16]) -> Result<(), AllocError>
+    ensures { OnOk result (bytes.new.items ≡ bytes.old.items ++ hashed (record { at = at; name = folded name.now })) }
+{
+    put_word(bytes, at)?;
+    put_word(bytes, name_hash(name))?;
+    Ok(())
+}
+
+/// Puts a key's record: of its name, its flags, when it was written last, the length of its class, and what the record
+/// says beside these.
+pub fn put_key_node(
+    bytes: &mut Vec<u8>,
+    name: &[u16],
+    flags: u16,
+    time: u64,
+    class_len: u16,
+    its: &KeyPlaces,
+) -> Result<(), AllocError>
+    requires name { length (name_text name.now) < 2 ^ 16 }
+    requires flags { has_flag 0x20 flags ≡ false }
+    ensures { OnOk result (bytes.new.items ≡ bytes.old.items ++ node_text name.now flags time class_len its.now) }
+{
+    put_node_head(bytes, stored_flags(name, flags), time, its)?;
+    put_node_bounds(bytes, its)?;
+    put_half(bytes, stored_len(name))?;
+    put_half(bytes, class_len)?;
+    put_name(bytes, name)?;
+    Ok(())
+}
+
+// the flags with the one set that says Latin-1 where the name is so
+fn stored_flags(name: &[u16], flags: u16) -> u16
+    requires { has_flag 0x20 flags ≡ false }
+    ensures { result ≡ flags + latin_flag 0x20 name.now }
+{
+    if is_latin(name) { flags + LATIN } else { flags }
+}
+
+// puts a key's record up to the offset of its class
+fn put_node_head(
+    bytes: &mut Vec<u8>,
+    flags: u16,
+    time: u64,
+    its: &KeyPlaces,
+) -> Result<(), AllocError>
+    ensures { OnOk result (bytes.new.items ≡ bytes.old.items ++ node_head flags time its.now) }
+{
+    put_half(bytes, KEY_NODE)?;
+    put_half(bytes, flags)?;
+    put_long(bytes, time)?;
+    put_word(bytes, 0)?;
+    put_word(bytes, its.parent)?;
+    put_word(bytes, its.kid_count)?;
+    put_word(bytes, 0)?;
+    put_word(bytes, its.kids)?;
+    put_word(bytes, NOWHERE)?;
+    put_word(bytes, its.value_count)?;
+    put_word(bytes, its.values)?;
+    put_word(bytes, its.security)?;
+    put_word(bytes, its.class)?;
+    Ok(())
+}
+
+// puts the upper bounds behind it
+fn put_node_bounds(bytes: &mut Vec<u8>, its: &KeyPlaces) -> Result<(), AllocError>
+    ensures { OnOk result (bytes.new.items ≡ bytes.old.items ++ node_bounds its.now) }
+{
+    put_half(bytes, its.longest_kid)?;
+    put_half(bytes, 0)?;
+    put_word(bytes, its.longest_class)?;
+    put_word(bytes, its.longest_value)?;
+    put_word(bytes, its.largest_data)?;
+    put_word(bytes, 0)?;
     Ok(())
 }
