@@ -40,6 +40,10 @@ store_of j = record { id = j.id; hives = j.hives }
 abbrev pub texts_of : Journal → Texts TimedOp
 texts_of j = texts (store_of j)
 
+-- A trim is halfway: its first call was made.
+abbrev pub IsTrimming : Journal → Type 0
+IsTrimming j = (value_of j).phase ≡ phase.Phase.TrimWritten
+
 -- The device has failed in a call of this journal.
 abbrev pub IsBroken : Journal → Type 0
 IsBroken j = (value_of j).phase ≡ phase.Phase.Broken

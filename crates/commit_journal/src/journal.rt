@@ -66,7 +66,7 @@ pub struct Journal {
 }
 
 impl Journal {
-    ghost use Rattle.commit_journal.specs.Journals.{spelled_by, value_in, value_of, choice_of, store_of, texts_of, IsReady, BeginsLongest, IsBroken};
+    ghost use Rattle.commit_journal.specs.Journals.{spelled_by, value_in, value_of, choice_of, store_of, texts_of, IsReady, BeginsLongest, IsTrimming, IsBroken};
 
     /// Makes the journal of a store: an empty one, whatever the file held. It is on the disk then.
     ///
@@ -141,7 +141,8 @@ impl Journal {
 
     /// A trim is on its way.
     pub fn is_trimming(&self) -> bool
-        ensures { result ≡ true → (choice_of self.now).next ≡ Some nothing }
+        ensures trims { (result ≡ true) ↔ IsTrimming self.now }
+        ensures nothing { result ≡ true → (choice_of self.now).next ≡ Some nothing }
     {
         matches!(self.phase, Phase::TrimWritten)
     }
