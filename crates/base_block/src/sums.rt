@@ -22,7 +22,8 @@ pub fn sum(bytes: &[u8; 508]) -> u32
 /// A law: the sum is the XOR of the words that the first 508 bytes make, one after the other, as it is
 /// stored.
 pub fn sum_is_of_words()
-    ensures { (sector : List ℕ) → 508 ≤ length sector → sum_of sector ≡ stored_sum (fold bit_xor 0 (words (take 508 sector))) }
+    ensures { (sector : List ℕ) → 508 ≤ length sector →
+        sum_of sector ≡ stored_sum (fold bit_xor 0 (words (take 508 sector))) }
 {}
 
 /// The same of the first 508 bytes of a sector.

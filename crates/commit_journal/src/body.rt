@@ -50,7 +50,8 @@ pub(crate) fn encode(
 ) -> Result<Vec<u8>, AllocError>
     requires size { size ≡ body_len elements.now }
     requires most { size ≤ MOST_BODY_BYTES }
-    ensures text { IfOk result (λ body. body.items ≡ body_text first (length elements.now) (flat_map element_text elements.now)) }
+    ensures text { IfOk result (λ body. body.items
+        ≡ body_text first (length elements.now) (flat_map element_text elements.now)) }
     ensures fit { IfOk result (λ _. AllByRecursion FitsIfThere elements.now) }
 {
     let mut body = Vec::with_capacity(alloc, size as usize + 1)?;
@@ -64,7 +65,8 @@ pub(crate) fn encode(
 /// Puts the texts of elements behind some bytes.
 fn write_all(elements: &[Element], bytes: &mut Vec<u8>) -> Result<(), AllocError>
     requires { sum_by element_text_len elements.now < 2 ^ 32 }
-    ensures text { OnOk result (bytes.new.items ≡ bytes.old.items ++ flat_map element_text elements.now) }
+    ensures text { OnOk result (bytes.new.items
+        ≡ bytes.old.items ++ flat_map element_text elements.now) }
     ensures fit { OnOk result (AllByRecursion FitsIfThere elements.now) }
 {
     for element in elements {

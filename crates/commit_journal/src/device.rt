@@ -14,7 +14,8 @@ pub(crate) fn write<D: Disk>(disk: &mut D, offset: u64, bytes: &[u8]) -> Result<
         (D.state_at disk.old (D.clock disk.old) 0) (D.state_at disk.new (D.clock disk.new) 0)) }
     ensures failed { OnErr result (D.faithful disk.new → MayWrite offset bytes.now
         (D.state_at disk.old (D.clock disk.old) 0) (D.state_at disk.new (D.clock disk.new) 0)) }
-    ensures call { OneCall IsJournal (D.state_at disk.old) (D.state_at disk.new) (D.clock disk.old) (D.clock disk.new) }
+    ensures call { OneCall IsJournal (D.state_at disk.old) (D.state_at disk.new) (D.clock disk.old)
+        (D.clock disk.new) }
     ensures failures { MatchResult result (λ _. D.failures disk.new ≡ D.failures disk.old)
         (λ _. D.failures disk.new ≡ D.failures disk.old + 1) }
     ensures faithful { D.faithful disk.new → D.faithful disk.old }
@@ -28,7 +29,8 @@ pub(crate) fn sync<D: Disk>(disk: &mut D) -> Result<(), Failed>
         (D.state_at disk.old (D.clock disk.old) 0) (D.state_at disk.new (D.clock disk.new) 0)) }
     ensures failed { OnErr result (D.faithful disk.new →
         D.state_at disk.new (D.clock disk.new) 0 ≡ D.state_at disk.old (D.clock disk.old) 0) }
-    ensures call { OneCall IsJournal (D.state_at disk.old) (D.state_at disk.new) (D.clock disk.old) (D.clock disk.new) }
+    ensures call { OneCall IsJournal (D.state_at disk.old) (D.state_at disk.new) (D.clock disk.old)
+        (D.clock disk.new) }
     ensures failures { MatchResult result (λ _. D.failures disk.new ≡ D.failures disk.old)
         (λ _. D.failures disk.new ≡ D.failures disk.old + 1) }
     ensures faithful { D.faithful disk.new → D.faithful disk.old }

@@ -14,7 +14,8 @@ const ZEROS: [u8; 36] = [0; 36];
 
 /// The header of a store's journal. There is room for a gate behind it.
 pub(crate) fn encode(alloc: Global, id: Uuid, hives: u8) -> Result<Vec<u8>, AllocError>
-    ensures { IfOk result (λ header. header.items ≡ header_text (record { id = id; hives = hives })) }
+    ensures { IfOk result (λ header. header.items
+        ≡ header_text (record { id = id; hives = hives })) }
 {
     let mut header = Vec::with_capacity(alloc, 65)?;
     header.extend_from_slice(MAGIC)?;

@@ -81,14 +81,17 @@ impl Journal {
         requires size { length id ≡ 16 }
         requires hives { (1 ≤ hives) × (hives ≤ MOST_HIVES) }
         ensures empty { IfOk result (λ journal. choice_of journal ≡ settled nothing) }
-        ensures store { IfOk result (λ journal. store_of journal ≡ record { id = id; hives = hives }) }
+        ensures store { IfOk result (λ journal.
+            store_of journal ≡ record { id = id; hives = hives }) }
         ensures on { IfOk result (λ journal. D.faithful disk.new →
             is_on (texts_of journal) (value_of journal) (D.state_at disk.new (D.clock disk.new) 0)) }
-        ensures fails { IfErr result (λ why. ((why ≡ NoMemory) × (D.clock disk.new ≡ D.clock disk.old))
+        ensures fails { IfErr result (λ why. ((why ≡ NoMemory)
+            × (D.clock disk.new ≡ D.clock disk.old))
             ⊎ ((why ≡ DiskFault) × (D.failures disk.old < D.failures disk.new))) }
         ensures others { (f : ℕ) → ¬ (IsJournal f) →
             D.state_at disk.new (D.clock disk.new) f ≡ D.state_at disk.old (D.clock disk.old) f }
-        ensures time { Extends (D.state_at disk.old) (D.state_at disk.new) (D.clock disk.old) (D.clock disk.new) }
+        ensures time { Extends (D.state_at disk.old) (D.state_at disk.new) (D.clock disk.old)
+            (D.clock disk.new) }
         ensures faithful { D.faithful disk.new → D.faithful disk.old }
     {
         let mut text = header::encode(alloc, id, hives)?;
@@ -168,13 +171,17 @@ impl Journal {
     ) -> Result<Progress, Refusal>
         requires handed { (choice_of self.old).next ≡ None →
             IsHanded (store_of self.old).hives (65 + room_of (choice_of self.old).now.elements) first handed.now (choice_of self.old).now }
-        ensures says { Says (JournalSays first (timed_elements handed.now)) result (choice_of self.old) (choice_of self.new) }
-        ensures longest { (result ≡ Ok Progress.More) → (choice_of self.old).next ≡ None → BeginsLongest first handed.now (choice_of self.old) (choice_of self.new) }
+        ensures says { Says (JournalSays first (timed_elements handed.now)) result
+            (choice_of self.old) (choice_of self.new) }
+        ensures longest { (result ≡ Ok Progress.More) → (choice_of self.old).next ≡ None →
+            BeginsLongest first handed.now (choice_of self.old) (choice_of self.new) }
         ensures faulted { (result ≡ Err Faulted) ↔ IsBroken self.old }
-        ensures on { D.faithful disk.new → is_on (texts_of self.old) (value_of self.old) (D.state_at disk.old (D.clock disk.old) 0) →
+        ensures on { D.faithful disk.new → is_on (texts_of self.old) (value_of self.old)
+            (D.state_at disk.old (D.clock disk.old) 0) →
             is_on (texts_of self.old) (value_of self.new) (D.state_at disk.new (D.clock disk.new) 0) }
         ensures same { store_of self.new ≡ store_of self.old }
-        ensures call { OneCall IsJournal (D.state_at disk.old) (D.state_at disk.new) (D.clock disk.old) (D.clock disk.new) }
+        ensures call { OneCall IsJournal (D.state_at disk.old) (D.state_at disk.new)
+            (D.clock disk.old) (D.clock disk.new) }
         ensures failures { HasFailed result (D.failures disk.old) (D.failures disk.new) }
         ensures faithful { D.faithful disk.new → D.faithful disk.old }
     {
@@ -192,14 +199,18 @@ impl Journal {
     ///
     /// It takes no memory. Refused with `DiskFault` and `Faulted` as [`step`](Journal::step) is.
     pub fn trim_step<D: Disk>(&mut self, disk: &mut D) -> Result<Progress, Refusal>
-        requires some { (choice_of self.old).next ≡ None → 0 < length (choice_of self.old).now.elements }
-        requires trims { ((choice_of self.old).next ≡ None) ⊎ ((choice_of self.old).next ≡ Some nothing) }
+        requires some { (choice_of self.old).next ≡ None →
+            0 < length (choice_of self.old).now.elements }
+        requires trims { ((choice_of self.old).next ≡ None)
+            ⊎ ((choice_of self.old).next ≡ Some nothing) }
         ensures says { Says TrimSays result (choice_of self.old) (choice_of self.new) }
         ensures faulted { (result ≡ Err Faulted) ↔ IsBroken self.old }
-        ensures on { D.faithful disk.new → is_on (texts_of self.old) (value_of self.old) (D.state_at disk.old (D.clock disk.old) 0) →
+        ensures on { D.faithful disk.new → is_on (texts_of self.old) (value_of self.old)
+            (D.state_at disk.old (D.clock disk.old) 0) →
             is_on (texts_of self.old) (value_of self.new) (D.state_at disk.new (D.clock disk.new) 0) }
         ensures same { store_of self.new ≡ store_of self.old }
-        ensures call { OneCall IsJournal (D.state_at disk.old) (D.state_at disk.new) (D.clock disk.old) (D.clock disk.new) }
+        ensures call { OneCall IsJournal (D.state_at disk.old) (D.state_at disk.new)
+            (D.clock disk.old) (D.clock disk.new) }
         ensures failures { HasFailed result (D.failures disk.old) (D.failures disk.new) }
         ensures faithful { D.faithful disk.new → D.faithful disk.old }
     {
@@ -214,11 +225,14 @@ impl Journal {
     fn sync_body<D: Disk>(&mut self, disk: &mut D, batch: Batch) -> Result<Progress, Refusal>
         ensures says { (first : ℕ) (handed : List (law.Element TimedOp)) →
             Says (JournalSays first handed) result (value_in self.old.stands (Phase.BodyWritten batch)).choice (choice_of self.new) }
-        ensures on { D.faithful disk.new → is_on (texts_of self.old) (value_in self.old.stands (Phase.BodyWritten batch)) (D.state_at disk.old (D.clock disk.old) 0) →
+        ensures on { D.faithful disk.new → is_on (texts_of self.old)
+            (value_in self.old.stands (Phase.BodyWritten batch))
+            (D.state_at disk.old (D.clock disk.old) 0) →
             is_on (texts_of self.old) (value_of self.new) (D.state_at disk.new (D.clock disk.new) 0) }
         ensures same { store_of self.new ≡ store_of self.old }
         ensures unbroken { ¬ (result ≡ Err Faulted) }
-        ensures call { OneCall IsJournal (D.state_at disk.old) (D.state_at disk.new) (D.clock disk.old) (D.clock disk.new) }
+        ensures call { OneCall IsJournal (D.state_at disk.old) (D.state_at disk.new)
+            (D.clock disk.old) (D.clock disk.new) }
         ensures failures { HasFailed result (D.failures disk.old) (D.failures disk.new) }
         ensures faithful { D.faithful disk.new → D.faithful disk.old }
     {
@@ -238,11 +252,14 @@ impl Journal {
     fn open_gate<D: Disk>(&mut self, disk: &mut D, batch: Batch) -> Result<Progress, Refusal>
         ensures says { (first : ℕ) (handed : List (law.Element TimedOp)) →
             Says (JournalSays first handed) result (value_in self.old.stands (Phase.BodySynced batch)).choice (choice_of self.new) }
-        ensures on { D.faithful disk.new → is_on (texts_of self.old) (value_in self.old.stands (Phase.BodySynced batch)) (D.state_at disk.old (D.clock disk.old) 0) →
+        ensures on { D.faithful disk.new → is_on (texts_of self.old)
+            (value_in self.old.stands (Phase.BodySynced batch))
+            (D.state_at disk.old (D.clock disk.old) 0) →
             is_on (texts_of self.old) (value_of self.new) (D.state_at disk.new (D.clock disk.new) 0) }
         ensures same { store_of self.new ≡ store_of self.old }
         ensures unbroken { ¬ (result ≡ Err Faulted) }
-        ensures call { OneCall IsJournal (D.state_at disk.old) (D.state_at disk.new) (D.clock disk.old) (D.clock disk.new) }
+        ensures call { OneCall IsJournal (D.state_at disk.old) (D.state_at disk.new)
+            (D.clock disk.old) (D.clock disk.new) }
         ensures failures { HasFailed result (D.failures disk.old) (D.failures disk.new) }
         ensures faithful { D.faithful disk.new → D.faithful disk.old }
     {
@@ -262,11 +279,14 @@ impl Journal {
     fn sync_gate<D: Disk>(&mut self, disk: &mut D, batch: Batch) -> Result<Progress, Refusal>
         ensures says { (first : ℕ) (handed : List (law.Element TimedOp)) →
             Says (JournalSays first handed) result (value_in self.old.stands (Phase.GateWritten batch)).choice (choice_of self.new) }
-        ensures on { D.faithful disk.new → is_on (texts_of self.old) (value_in self.old.stands (Phase.GateWritten batch)) (D.state_at disk.old (D.clock disk.old) 0) →
+        ensures on { D.faithful disk.new → is_on (texts_of self.old)
+            (value_in self.old.stands (Phase.GateWritten batch))
+            (D.state_at disk.old (D.clock disk.old) 0) →
             is_on (texts_of self.old) (value_of self.new) (D.state_at disk.new (D.clock disk.new) 0) }
         ensures same { store_of self.new ≡ store_of self.old }
         ensures unbroken { ¬ (result ≡ Err Faulted) }
-        ensures call { OneCall IsJournal (D.state_at disk.old) (D.state_at disk.new) (D.clock disk.old) (D.clock disk.new) }
+        ensures call { OneCall IsJournal (D.state_at disk.old) (D.state_at disk.new)
+            (D.clock disk.old) (D.clock disk.new) }
         ensures failures { HasFailed result (D.failures disk.old) (D.failures disk.new) }
         ensures faithful { D.faithful disk.new → D.faithful disk.old }
     {
@@ -288,12 +308,16 @@ impl Journal {
     fn sync_trim<D: Disk>(&mut self, disk: &mut D) -> Result<Progress, Refusal>
         ensures says { (first : ℕ) (handed : List (law.Element TimedOp)) →
             Says (JournalSays first handed) result (value_in self.old.stands Phase.TrimWritten).choice (choice_of self.new) }
-        ensures trims { Says TrimSays result (value_in self.old.stands Phase.TrimWritten).choice (choice_of self.new) }
-        ensures on { D.faithful disk.new → is_on (texts_of self.old) (value_in self.old.stands Phase.TrimWritten) (D.state_at disk.old (D.clock disk.old) 0) →
+        ensures trims { Says TrimSays result (value_in self.old.stands Phase.TrimWritten).choice
+            (choice_of self.new) }
+        ensures on { D.faithful disk.new → is_on (texts_of self.old)
+            (value_in self.old.stands Phase.TrimWritten)
+            (D.state_at disk.old (D.clock disk.old) 0) →
             is_on (texts_of self.old) (value_of self.new) (D.state_at disk.new (D.clock disk.new) 0) }
         ensures same { store_of self.new ≡ store_of self.old }
         ensures unbroken { ¬ (result ≡ Err Faulted) }
-        ensures call { OneCall IsJournal (D.state_at disk.old) (D.state_at disk.new) (D.clock disk.old) (D.clock disk.new) }
+        ensures call { OneCall IsJournal (D.state_at disk.old) (D.state_at disk.new)
+            (D.clock disk.old) (D.clock disk.new) }
         ensures failures { HasFailed result (D.failures disk.old) (D.failures disk.new) }
         ensures faithful { D.faithful disk.new → D.faithful disk.old }
     {
@@ -316,11 +340,13 @@ impl Journal {
         requires quiet { self.old.phase ≡ Phase.Quiet }
         requires some { 0 < length (spelled_by self.old.stands).elements }
         ensures says { Says TrimSays result (choice_of self.old) (choice_of self.new) }
-        ensures on { D.faithful disk.new → is_on (texts_of self.old) (value_of self.old) (D.state_at disk.old (D.clock disk.old) 0) →
+        ensures on { D.faithful disk.new → is_on (texts_of self.old) (value_of self.old)
+            (D.state_at disk.old (D.clock disk.old) 0) →
             is_on (texts_of self.old) (value_of self.new) (D.state_at disk.new (D.clock disk.new) 0) }
         ensures same { store_of self.new ≡ store_of self.old }
         ensures unbroken { ¬ (result ≡ Err Faulted) }
-        ensures call { OneCall IsJournal (D.state_at disk.old) (D.state_at disk.new) (D.clock disk.old) (D.clock disk.new) }
+        ensures call { OneCall IsJournal (D.state_at disk.old) (D.state_at disk.new)
+            (D.clock disk.old) (D.clock disk.new) }
         ensures failures { HasFailed result (D.failures disk.old) (D.failures disk.new) }
         ensures faithful { D.faithful disk.new → D.faithful disk.old }
     {
@@ -340,8 +366,10 @@ impl Journal {
     /// The body of a batch of as many elements as fit, with the next gate behind it, and what will stand with it.
     fn prepare(&self, first: u64, handed: &[Element]) -> Result<(Vec<u8>, Batch), Refusal>
         requires some { 0 < length handed.now }
-        requires handed { IsHanded self.now.hives self.now.stands.used first handed.now (spelled_by self.now.stands) }
-        ensures ready { IfOk result (λ made. IsReady (texts_of self.now) self.now.stands first handed.now made.0.items made.1.ahead) }
+        requires handed { IsHanded self.now.hives self.now.stands.used first handed.now
+            (spelled_by self.now.stands) }
+        ensures ready { IfOk result (λ made. IsReady
+            (texts_of self.now) self.now.stands first handed.now made.0.items made.1.ahead) }
         ensures memory { IfErr result (λ why. why ≡ NoMemory) }
     {
         let front = body::longest_front(handed);
@@ -361,14 +389,19 @@ impl Journal {
     ) -> Result<Progress, Refusal>
         requires quiet { self.old.phase ≡ Phase.Quiet }
         requires some { 0 < length handed.now }
-        requires handed { IsHanded self.old.hives self.old.stands.used first handed.now (spelled_by self.old.stands) }
-        ensures says { Says (JournalSays first (timed_elements handed.now)) result (choice_of self.old) (choice_of self.new) }
-        ensures longest { (result ≡ Ok Progress.More) → BeginsLongest first handed.now (choice_of self.old) (choice_of self.new) }
-        ensures on { D.faithful disk.new → is_on (texts_of self.old) (value_of self.old) (D.state_at disk.old (D.clock disk.old) 0) →
+        requires handed { IsHanded self.old.hives self.old.stands.used first handed.now
+            (spelled_by self.old.stands) }
+        ensures says { Says (JournalSays first (timed_elements handed.now)) result
+            (choice_of self.old) (choice_of self.new) }
+        ensures longest { (result ≡ Ok Progress.More) →
+            BeginsLongest first handed.now (choice_of self.old) (choice_of self.new) }
+        ensures on { D.faithful disk.new → is_on (texts_of self.old) (value_of self.old)
+            (D.state_at disk.old (D.clock disk.old) 0) →
             is_on (texts_of self.old) (value_of self.new) (D.state_at disk.new (D.clock disk.new) 0) }
         ensures same { store_of self.new ≡ store_of self.old }
         ensures unbroken { ¬ (result ≡ Err Faulted) }
-        ensures call { OneCall IsJournal (D.state_at disk.old) (D.state_at disk.new) (D.clock disk.old) (D.clock disk.new) }
+        ensures call { OneCall IsJournal (D.state_at disk.old) (D.state_at disk.new)
+            (D.clock disk.old) (D.clock disk.new) }
         ensures failures { HasFailed result (D.failures disk.old) (D.failures disk.new) }
         ensures faithful { D.faithful disk.new → D.faithful disk.old }
     {
@@ -390,12 +423,15 @@ impl Journal {
         requires halfway { ¬ (self.old.phase ≡ Phase.Quiet) }
         ensures says { (first : ℕ) (handed : List (law.Element TimedOp)) →
             Says (JournalSays first handed) result (choice_of self.old) (choice_of self.new) }
-        ensures trims { (choice_of self.old).next ≡ Some nothing → Says TrimSays result (choice_of self.old) (choice_of self.new) }
+        ensures trims { (choice_of self.old).next ≡ Some nothing →
+            Says TrimSays result (choice_of self.old) (choice_of self.new) }
         ensures faulted { (result ≡ Err Faulted) ↔ IsBroken self.old }
-        ensures on { D.faithful disk.new → is_on (texts_of self.old) (value_of self.old) (D.state_at disk.old (D.clock disk.old) 0) →
+        ensures on { D.faithful disk.new → is_on (texts_of self.old) (value_of self.old)
+            (D.state_at disk.old (D.clock disk.old) 0) →
             is_on (texts_of self.old) (value_of self.new) (D.state_at disk.new (D.clock disk.new) 0) }
         ensures same { store_of self.new ≡ store_of self.old }
-        ensures call { OneCall IsJournal (D.state_at disk.old) (D.state_at disk.new) (D.clock disk.old) (D.clock disk.new) }
+        ensures call { OneCall IsJournal (D.state_at disk.old) (D.state_at disk.new)
+            (D.clock disk.old) (D.clock disk.new) }
         ensures failures { HasFailed result (D.failures disk.old) (D.failures disk.new) }
         ensures faithful { D.faithful disk.new → D.faithful disk.old }
     {

@@ -49,9 +49,11 @@ impl Standing {
         requires number { 1 ≤ first }
         requires ends { top (first - 1) (spelled_by self.now) ≡ first - 1 }
         requires size { size ≡ 16 + sum_by element_text_len elements.now }
-        requires room { self.now.used + sum_by (λ e. 17 + element_text_len e) elements.now < 2 ^ 63 }
+        requires room { self.now.used + sum_by
+            (λ e. 17 + element_text_len e) elements.now < 2 ^ 63 }
         requires numbers { first + length elements.now < 2 ^ 64 }
-        ensures spells { spelled_by result ≡ longer (spelled_by self.now) (first - 1) (timed_elements elements.now) }
+        ensures spells { spelled_by result ≡ longer (spelled_by self.now) (first - 1)
+            (timed_elements elements.now) }
         ensures gate { result.gate ≡ self.now.gate + 1 + size }
     {
         let count = elements.len() as u64;

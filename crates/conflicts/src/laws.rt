@@ -19,7 +19,8 @@ ghost use Rattle.conflicts.specs.Holders.{Held, with_claim, without_owner, holde
 /// Operations that may be carried out one after another may be so after any others none of whose claims conflicts
 /// with theirs, at whatever moments. The others need not be legal.
 pub fn stay_legal()
-    ensures { (trees : List TreeMap) (first ops : List Op) (m n k : ℕ) → AreTrees trees → AreApart first ops →
+    ensures { (trees : List TreeMap) (first ops : List Op) (m n k : ℕ) → AreTrees trees →
+        AreApart first ops →
         AreCarriedOut trees ops m → AreCarriedOut (applied trees first n) ops k }
 {
     claims_law::stays_legal();
@@ -27,7 +28,8 @@ pub fn stay_legal()
 
 /// One operation more, which may be carried out on the trees after those before it; at whatever moments.
 pub fn one_more()
-    ensures { (trees : List TreeMap) (ops : List Op) (op : Op) (m k : ℕ) → AreTrees trees → AreCarriedOut trees ops m →
+    ensures { (trees : List TreeMap) (ops : List Op) (op : Op) (m k : ℕ) → AreTrees trees →
+        AreCarriedOut trees ops m →
         judged_in (applied trees ops m) op ≡ Ok Legal → AreCarriedOut trees (ops ++ op ∷ []) k }
 {}
 
@@ -42,7 +44,8 @@ pub fn but_for_weight()
 /// - `follows`: an operation that may be carried out does to the skeleton of the trees what its outline does.
 /// - `judged`: it may be carried out exactly where its outline is legal and its data are not too large.
 pub fn outlines()
-    ensures follows { (trees : List TreeMap) (op : Op) (m : ℕ) → AreTrees trees → judged_in trees op ≡ Ok Legal →
+    ensures follows { (trees : List TreeMap) (op : Op) (m : ℕ) → AreTrees trees →
+        judged_in trees op ≡ Ok Legal →
         skeleton (applied_one trees op m) ≡ apply (outline op) (skeleton trees) }
     ensures judged { (trees : List TreeMap) (op : Op) → AreTrees trees →
         (judged_in trees op ≡ Ok Legal) ↔ (law.Legal (skeleton trees) (outline op) × FitsData op) }

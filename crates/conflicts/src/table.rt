@@ -34,7 +34,11 @@ impl Model for Entry {
 
     ghost use Rattle.conflicts.specs.Claims.{kind_of, key_at};
 
-    ghost view = { λ inside. record { owner = inside.owner.0; claim = record { kind = kind_of inside.kind; key = key_at inside.hive inside.path } } };
+    ghost view = { λ inside. record {
+      owner = inside.owner.0;
+      claim = record
+          { kind = kind_of inside.kind; key = key_at inside.hive inside.path };
+    } };
 }
 
 impl Entry {
@@ -120,7 +124,8 @@ impl Model for ClaimTable {
 
     ghost view = { λ inside. claims_of inside.kept.entries };
 
-    ghost invariant = { λ inside. AreFiled (vec_len inside.added) inside.spots.keys inside.owned.keys inside.kept.entries };
+    ghost invariant = { λ inside. AreFiled (vec_len inside.added) inside.spots.keys
+        inside.owned.keys inside.kept.entries };
 }
 
 impl ClaimTable {
@@ -235,7 +240,8 @@ fn first_of(owned: &BTreeSet<(u64, u64)>, owner: Owner) -> Option<(u64, u64)>
 
 // takes the claim of a number out, where it is the owner's
 fn take_own(kept: &mut BTreeMap<u64, Kept>, owner: Owner, number: u64) -> Option<Kept>
-    ensures some { IfSome result (λ one. TakesOwn kept.old.entries kept.new.entries owner.0 number one) }
+    ensures some { IfSome result (λ one. TakesOwn kept.old.entries kept.new.entries owner.0 number
+        one) }
     ensures none { IfNone result (LeavesOthers kept.old.entries kept.new.entries owner.0 number) }
 {
     let own = match kept.get(&number) {

@@ -10,16 +10,22 @@ ghost use Rattle.dirty_vector.specs.Pages.{Pages, dirty_count};
 /// that it marks.
 pub fn front_is_read()
     ensures block { (log : List ℕ) (n : ℕ) → 512 ≤ n → block_of (take n log) ≡ block_of log }
-    ensures marked { (log : List ℕ) (n : ℕ) → bitmap_end (block_of log).bins_size ≤ n → pages_in (take n log) ≡ pages_in log }
-    ensures bitmap { (log : List ℕ) (n : ℕ) → bitmap_end (block_of log).bins_size ≤ n → HasBitmap (take n log) (block_of log).bins_size ↔ HasBitmap log (block_of log).bins_size }
+    ensures marked { (log : List ℕ) (n : ℕ) → bitmap_end (block_of log).bins_size ≤ n →
+        pages_in (take n log) ≡ pages_in log }
+    ensures bitmap { (log : List ℕ) (n : ℕ) → bitmap_end (block_of log).bins_size ≤ n →
+        HasBitmap (take n log) (block_of log).bins_size ↔ HasBitmap log (block_of log).bins_size }
     ensures whole { (log : List ℕ) (n : ℕ) → log_end log ≤ n → IsWhole (take n log) ↔ IsWhole log }
-    ensures pages { (log : List ℕ) (n : ℕ) → log_end log ≤ n → page_bytes_in (take n log) ≡ page_bytes_in log }
+    ensures pages { (log : List ℕ) (n : ℕ) → log_end log ≤ n →
+        page_bytes_in (take n log) ≡ page_bytes_in log }
 {}
 
 /// A law: bins data are repaired by as many bytes of the primary file as the repaired data have, and by the bytes of
 /// the marked pages, whatever is behind either.
 pub fn front_is_repaired()
-    ensures covered { (primary : List ℕ) (v : Pages) (n : ℕ) → v.bins_size ≤ n → IsCovered (length (take n primary)) v ↔ IsCovered (length primary) v }
-    ensures primary { (primary pages : List ℕ) (v : Pages) (n : ℕ) → v.bins_size ≤ n → repaired (take n primary) v pages ≡ repaired primary v pages }
-    ensures pages { (primary pages : List ℕ) (v : Pages) (n : ℕ) → v.bins_size % 512 ≡ 0 → 512 * dirty_count v ≤ n → repaired primary v (take n pages) ≡ repaired primary v pages }
+    ensures covered { (primary : List ℕ) (v : Pages) (n : ℕ) → v.bins_size ≤ n →
+        IsCovered (length (take n primary)) v ↔ IsCovered (length primary) v }
+    ensures primary { (primary pages : List ℕ) (v : Pages) (n : ℕ) → v.bins_size ≤ n →
+        repaired (take n primary) v pages ≡ repaired primary v pages }
+    ensures pages { (primary pages : List ℕ) (v : Pages) (n : ℕ) → v.bins_size % 512 ≡ 0 →
+        512 * dirty_count v ≤ n → repaired primary v (take n pages) ≡ repaired primary v pages }
 {}

@@ -10,12 +10,17 @@ ghost use Rattle.dirty_vector.specs.Pages.{Pages};
 /// A law: beside a clean primary file any log, a whole one too, is left unread. What is in use is the
 /// primary file's own, whatever the log.
 pub fn clean_primary_stands()
-    ensures own { (primary log : List ℕ) (block : BaseBlock) (bins : List ℕ) → is_clean_file primary ≡ true → IsInUse primary log block bins → IsOwn primary block bins }
-    ensures any { (primary log other : List ℕ) (block : BaseBlock) (bins : List ℕ) → is_clean_file primary ≡ true → IsInUse primary log block bins → IsInUse primary other block bins }
+    ensures own { (primary log : List ℕ) (block : BaseBlock) (bins : List ℕ) →
+        is_clean_file primary ≡ true → IsInUse primary log block bins → IsOwn primary block bins }
+    ensures any { (primary log other : List ℕ) (block : BaseBlock) (bins : List ℕ) →
+        is_clean_file primary ≡ true → IsInUse primary log block bins →
+        IsInUse primary other block bins }
 {}
 
 /// A law: bins data that have the bytes of an image wherever its page isn't dirty are repaired to that
 /// image by the log of the image and its dirty pages.
 pub fn log_repairs()
-    ensures { (image primary : List ℕ) (v : Pages) → length image ≡ v.bins_size → v.bins_size % 512 ≡ 0 → SameWhereClean image primary v → repaired primary v (pages_from image v 0) ≡ image }
+    ensures { (image primary : List ℕ) (v : Pages) → length image ≡ v.bins_size →
+        v.bins_size % 512 ≡ 0 → SameWhereClean image primary v →
+        repaired primary v (pages_from image v 0) ≡ image }
 {}

@@ -52,8 +52,10 @@ pub fn read(alloc: Global, bytes: &[u8]) -> Result<DirtLog<'_>, Refusal>
 
 // the block of the first sector, judged as that of a log
 fn read_block(bytes: &[u8]) -> Result<BaseBlock, Refusal>
-    ensures ok { IfOk result (λ base. (base ≡ block_of bytes.now) × IsLog base × (512 ≤ length bytes.now)) }
-    ensures refused { IfErr result (λ e. (e ≡ not_whole) × ¬ (IsLog (block_of bytes.now) × (512 ≤ length bytes.now))) }
+    ensures ok { IfOk result (λ base. (base ≡ block_of bytes.now) × IsLog base
+        × (512 ≤ length bytes.now)) }
+    ensures refused { IfErr result (λ e. (e ≡ not_whole)
+        × ¬ (IsLog (block_of bytes.now) × (512 ≤ length bytes.now))) }
 {
     if bytes.len() < LETTERS_AT {
         return Err(Refusal::from(Cause::BadLog));
@@ -70,7 +72,8 @@ fn read_block(bytes: &[u8]) -> Result<BaseBlock, Refusal>
 // the bitmap behind the letters
 fn read_bitmap(bytes: &[u8], bins_size: usize) -> Result<&[u8], Refusal>
     requires { bins_size ≤ MOST_BINS_BYTES }
-    ensures ok { IfOk result (λ bitmap. HasBitmap bytes.now bins_size × (bitmap.now ≡ take (bins_size / 4096) (drop 516 bytes.now))) }
+    ensures ok { IfOk result (λ bitmap. HasBitmap bytes.now bins_size
+        × (bitmap.now ≡ take (bins_size / 4096) (drop 516 bytes.now))) }
     ensures refused { IfErr result (λ e. (e ≡ not_whole) × ¬ HasBitmap bytes.now bins_size) }
 {
     let end = BITMAP_AT + bins_size / BYTES_PER_BITMAP_BYTE;
@@ -82,7 +85,8 @@ fn read_bitmap(bytes: &[u8], bins_size: usize) -> Result<&[u8], Refusal>
 
 // the bytes of the pages, where there are any
 fn read_pages(bytes: &[u8], start: usize, len: usize) -> Result<&[u8], Refusal>
-    ensures ok { IfOk result (λ pages. HasPages bytes.now start len × (pages.now ≡ take len (drop start bytes.now))) }
+    ensures ok { IfOk result (λ pages. HasPages bytes.now start len
+        × (pages.now ≡ take len (drop start bytes.now))) }
     ensures refused { IfErr result (λ e. (e ≡ not_whole) × ¬ HasPages bytes.now start len) }
 {
     if len == 0 {

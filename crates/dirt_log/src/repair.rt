@@ -17,8 +17,10 @@ impl DirtLog<'_> {
     /// for want of memory; then the bins data are as before.
     pub fn apply_to(&self, image: &mut Vec<u8>) -> Result<(), Refusal>
         ensures covered { OnOk result (IsCovered (length image.old.items) self.now.vector) }
-        ensures ok { OnOk result (image.new.items ≡ repaired image.old.items self.now.vector self.now.pages.now) }
-        ensures refused { IfErr result (RefusedFor not_whole (¬ IsCovered (length image.old.items) self.now.vector)) }
+        ensures ok { OnOk result (image.new.items
+            ≡ repaired image.old.items self.now.vector self.now.pages.now) }
+        ensures refused { IfErr result (RefusedFor not_whole
+            (¬ IsCovered (length image.old.items) self.now.vector)) }
         ensures err { OnErr result (image.new.items ≡ image.old.items) }
     {
         if !covers(&self.vector, image.len()) {
@@ -69,7 +71,8 @@ fn put_logged(vector: &DirtyVector, pages: &[u8], image: &mut [u8])
 fn put_page(image: &mut [u8], page: usize, bytes: &[u8])
     requires whole { length bytes.now ≡ 512 }
     requires inside { 512 * (page + 1) ≤ length image.old }
-    ensures { (i : ℕ) → slice_index image.new i ≡ (if i / 512 == page then slice_index bytes.now (i % 512) else slice_index image.old i) }
+    ensures { (i : ℕ) → slice_index image.new i
+        ≡ (if i / 512 == page then slice_index bytes.now (i % 512) else slice_index image.old i) }
 {
     image[PAGE_BYTES * page..PAGE_BYTES * (page + 1)].copy_from_slice(bytes);
 }

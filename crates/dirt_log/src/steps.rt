@@ -39,7 +39,8 @@ impl<'a> Model for LogSteps<'a> {
 
     ghost view = { λ a. text_behind a.image.now a.vector.now a.sector };
 
-    ghost invariant = { λ a. (length a.image.now ≡ a.vector.now.bins_size) × (length a.sector ≡ 512) };
+    ghost invariant = { λ a. (length a.image.now ≡ a.vector.now.bins_size)
+        × (length a.sector ≡ 512) };
 }
 
 /// The log of a flush: of the image of the bins data as it will be, its dirty pages, and the base block
@@ -49,7 +50,8 @@ pub fn write_steps<'a>(image: &'a [u8], vector: &'a DirtyVector, base: &BaseBloc
     requires { length image.now ≡ vector.now.bins_size }
     ensures text { result ≡ log_text image.now vector.now base.now }
     // What is written is read again.
-    ensures again { IsLoggable base.now vector.now → ReadsAs result (block_as_read base.now) vector.now (pages_from image.now vector.now 0) }
+    ensures again { IsLoggable base.now vector.now →
+        ReadsAs result (block_as_read base.now) vector.now (pages_from image.now vector.now 0) }
 {
     // a law: it does nothing
     vector.bitmap_reads_again();
@@ -100,7 +102,8 @@ fn put_pages(image: &[u8], vector: &DirtyVector, from: usize, at: usize, buffer:
     requires inside { at ≤ 65536 }
     requires whole { at % 512 ≡ 0 }
     ensures within { result ≤ 65536 }
-    ensures bytes { take result buffer.new ≡ take 65536 (take at buffer.old ++ pages_from image.now vector.now from) }
+    ensures bytes { take result buffer.new ≡ take 65536
+        (take at buffer.old ++ pages_from image.now vector.now from) }
 {
     let mut end = at;
     let mut page = from;
@@ -137,7 +140,8 @@ fn put_head(vector: &DirtyVector, sector: &[u8], buffer: &mut [u8])
 // Lays the bitmap at its place.
 fn put_bitmap(vector: &DirtyVector, buffer: &mut [u8])
     requires { length buffer.old ≡ 65536 }
-    ensures { take (bitmap_end vector.now.bins_size) buffer.new ≡ take 516 buffer.old ++ bitmap_of (is_dirty vector.now) (vector.now.bins_size / 4096) }
+    ensures { take (bitmap_end vector.now.bins_size) buffer.new
+        ≡ take 516 buffer.old ++ bitmap_of (is_dirty vector.now) (vector.now.bins_size / 4096) }
 {
     let end = BITMAP_AT + vector.bins_size() / BYTES_PER_BITMAP_BYTE;
     vector.write(&mut buffer[BITMAP_AT..end]);

@@ -18,7 +18,8 @@ pub(crate) fn is_page_marked(words: &[u64], page: usize) -> bool
 pub(crate) fn mark_pages(words: &mut [u64], first: usize, last: usize)
     requires some { first ≤ last }
     requires inside { last < 64 * length words.old }
-    ensures { (page : ℕ) → is_marked words.new page ≡ (is_marked words.old page || (nat_le first page && nat_le page last)) }
+    ensures { (page : ℕ) → is_marked words.new page
+        ≡ (is_marked words.old page || (nat_le first page && nat_le page last)) }
 {
     for index in first / WORD_BITS..last / WORD_BITS + 1 {
         let low = first.saturating_sub(WORD_BITS * index);
@@ -56,7 +57,8 @@ pub(crate) fn first_page(words: &[u64], marked: bool, from: usize, end: usize) -
     requires few { length words.now < 2 ^ 32 }
     ensures after { from ≤ result }
     ensures within { result ≤ end }
-    ensures before { (page : ℕ) → from ≤ page → page < result → is_marked words.now page ≡ not marked }
+    ensures before { (page : ℕ) → from ≤ page → page < result →
+        is_marked words.now page ≡ not marked }
     ensures here { result < end → is_marked words.now result ≡ marked }
 {
     let mut page = from;
@@ -74,7 +76,8 @@ pub(crate) fn first_page(words: &[u64], marked: bool, from: usize, end: usize) -
 /// The marked page with `index` marked pages before it, or none. Words are passed whole.
 pub(crate) fn nth_mark(words: &[u64], index: usize) -> Option<usize>
     requires { length words.now < 2 ^ 32 }
-    ensures { MatchOption result (marked_count (is_marked words.now) (64 * length words.now) ≤ index) (IsNthMark words.now index) }
+    ensures { MatchOption result (marked_count (is_marked words.now)
+        (64 * length words.now) ≤ index) (IsNthMark words.now index) }
 {
     let (start, mut left) = pass_words(words, index);
     for page in start..WORD_BITS * words.len() {

@@ -88,7 +88,8 @@ impl DirtyVector {
     pub fn mark(&mut self, range: Range<usize>)
         requires { range.end ≤ self.old.bins_size }
         ensures size { self.new.bins_size ≡ self.old.bins_size }
-        ensures pages { (page : ℕ) → IsTrue (is_dirty self.new page) ↔ (IsTrue (is_dirty self.old page) ⊎ Touches range.start range.end page) }
+        ensures pages { (page : ℕ) → IsTrue (is_dirty self.new page) ↔
+            (IsTrue (is_dirty self.old page) ⊎ Touches range.start range.end page) }
     {
         if range.start < range.end {
             mark_pages(
@@ -112,7 +113,8 @@ impl DirtyVector {
         requires size { is_bins_size bins_size ≡ true }
         requires larger { self.old.bins_size ≤ bins_size }
         ensures size { self.new.bins_size ≡ bins_size }
-        ensures pages { (page : ℕ) → IsTrue (is_dirty self.new page) ↔ (IsTrue (is_dirty self.old page) ⊎ Touches self.old.bins_size bins_size page) }
+        ensures pages { (page : ℕ) → IsTrue (is_dirty self.new page) ↔
+            (IsTrue (is_dirty self.old page) ⊎ Touches self.old.bins_size bins_size page) }
     {
         let old_size = self.bins_size;
         self.bins_size = bins_size;
@@ -152,7 +154,8 @@ impl DirtyVector {
     /// The first run of adjacent dirty pages from a page on, as long as it goes; none where no page from
     /// there on is dirty.
     pub fn next_run(&self, from: usize) -> Option<Range<usize>>
-        ensures { MatchOption result (NoneFrom self.now from) (λ run. IsFirstRun self.now from run.start run.end) }
+        ensures { MatchOption result (NoneFrom self.now from)
+            (λ run. IsFirstRun self.now from run.start run.end) }
     {
         let pages = self.bins_size / PAGE_BYTES;
         if from >= pages {
@@ -188,7 +191,8 @@ impl DirtyVector {
 
     /// A law: the bitmap of a vector reads as the vector.
     pub fn bitmap_reads_again(&self)
-        ensures { read_pages self.now.bins_size (bitmap_of (is_dirty self.now) (self.now.bins_size / 4096)) ≡ Ok self.now }
+        ensures { read_pages self.now.bins_size
+            (bitmap_of (is_dirty self.now) (self.now.bins_size / 4096)) ≡ Ok self.now }
     {
         // the law follows from what every vector keeps
         let _size = self.bins_size;

@@ -54,8 +54,10 @@ pub trait Disk {
     fn len(&mut self, file: u32) -> Result<u64, Failed>
         ensures len { IfOk result (λ n. faithful self.new →
             n ≡ length (state_at self.old (clock self.old) file).seen) }
-        ensures same { (f : ℕ) → state_at self.new (clock self.new) f ≡ state_at self.old (clock self.old) f }
-        ensures time { Passes (state_at self.old) (state_at self.new) (clock self.old) (clock self.new) }
+        ensures same { (f : ℕ) → state_at self.new (clock self.new) f
+            ≡ state_at self.old (clock self.old) f }
+        ensures time { Passes (state_at self.old) (state_at self.new) (clock self.old)
+            (clock self.new) }
         ensures failures { CountsFailure result (failures self.old) (failures self.new) }
         ensures faithful { faithful self.new → faithful self.old };
 
@@ -64,8 +66,10 @@ pub trait Disk {
         ensures count { IfOk result (λ n. n ≤ length buffer.old) }
         ensures read { IfOk result (λ n. faithful self.new →
             Reads offset (state_at self.old (clock self.old) file).seen buffer.old buffer.new n) }
-        ensures same { (f : ℕ) → state_at self.new (clock self.new) f ≡ state_at self.old (clock self.old) f }
-        ensures time { Passes (state_at self.old) (state_at self.new) (clock self.old) (clock self.new) }
+        ensures same { (f : ℕ) → state_at self.new (clock self.new) f
+            ≡ state_at self.old (clock self.old) f }
+        ensures time { Passes (state_at self.old) (state_at self.new) (clock self.old)
+            (clock self.new) }
         ensures failures { CountsFailure result (failures self.old) (failures self.new) }
         ensures faithful { faithful self.new → faithful self.old };
 
@@ -78,7 +82,8 @@ pub trait Disk {
             (state_at self.old (clock self.old) file) (state_at self.new (clock self.new) file)) }
         ensures others { KeepsOthers file
             (state_at self.old (clock self.old)) (state_at self.new (clock self.new)) }
-        ensures time { Passes (state_at self.old) (state_at self.new) (clock self.old) (clock self.new) }
+        ensures time { Passes (state_at self.old) (state_at self.new) (clock self.old)
+            (clock self.new) }
         ensures failures { CountsFailure result (failures self.old) (failures self.new) }
         ensures faithful { faithful self.new → faithful self.old };
 
@@ -90,7 +95,8 @@ pub trait Disk {
             (state_at self.old (clock self.old) file) (state_at self.new (clock self.new) file)) }
         ensures others { KeepsOthers file
             (state_at self.old (clock self.old)) (state_at self.new (clock self.new)) }
-        ensures time { Passes (state_at self.old) (state_at self.new) (clock self.old) (clock self.new) }
+        ensures time { Passes (state_at self.old) (state_at self.new) (clock self.old)
+            (clock self.new) }
         ensures failures { CountsFailure result (failures self.old) (failures self.new) }
         ensures faithful { faithful self.new → faithful self.old };
 
@@ -102,7 +108,8 @@ pub trait Disk {
             state_at self.new (clock self.new) file ≡ state_at self.old (clock self.old) file) }
         ensures others { KeepsOthers file
             (state_at self.old (clock self.old)) (state_at self.new (clock self.new)) }
-        ensures time { Passes (state_at self.old) (state_at self.new) (clock self.old) (clock self.new) }
+        ensures time { Passes (state_at self.old) (state_at self.new) (clock self.old)
+            (clock self.new) }
         ensures failures { CountsFailure result (failures self.old) (failures self.new) }
         ensures faithful { faithful self.new → faithful self.old };
 

@@ -8,7 +8,8 @@ ghost use Rattle.disk_model.specs.StoreFiles.{IsPrimary};
 /// A law: what a read gives of a store's files is what a crash might have left of them with honest first sectors. So a life
 /// that ends in a fault, and is followed by another without a crash, ends like one that a crash ended.
 pub fn shown_files_are_left()
-    ensures { (state : ℕ → FileState) → ((f : ℕ) → IsSound (state f)) → ShowsHonest IsPrimary state →
+    ensures { (state : ℕ → FileState) → ((f : ℕ) → IsSound (state f)) →
+        ShowsHonest IsPrimary state →
         LeavesHonest IsPrimary state (λ f. (state f).seen) }
 {}
 
@@ -20,7 +21,8 @@ pub fn shown_files_are_left()
 pub fn one_call()
     ensures none { (states : ℕ → ℕ → FileState) (clock file : ℕ) →
         OneCall (λ f. f ≡ file) states states clock clock }
-    ensures call { (file : ℕ) (old new : ℕ → ℕ → FileState) (before now : ℕ) → Passes old new before now →
+    ensures call { (file : ℕ) (old new : ℕ → ℕ → FileState) (before now : ℕ) →
+        Passes old new before now →
         KeepsOthers file (old before) (new now) → OneCall (λ f. f ≡ file) old new before now }
     ensures extends { (file : ℕ) (old new : ℕ → ℕ → FileState) (before now : ℕ) →
         OneCall (λ f. f ≡ file) old new before now → Extends old new before now }

@@ -51,7 +51,8 @@ impl MemDisk {
         ensures files { (k f : ℕ) →
             ⟦<MemDisk as Disk>⟧.state_at self.new k f ≡ ⟦<MemDisk as Disk>⟧.state_at self.old k f }
         ensures clock { ⟦<MemDisk as Disk>⟧.clock self.new ≡ ⟦<MemDisk as Disk>⟧.clock self.old }
-        ensures failures { ⟦<MemDisk as Disk>⟧.failures self.new ≡ ⟦<MemDisk as Disk>⟧.failures self.old }
+        ensures failures { ⟦<MemDisk as Disk>⟧.failures self.new
+            ≡ ⟦<MemDisk as Disk>⟧.failures self.old }
     {
         make_up_to(&mut self.files, files as usize)?;
         reserve(&mut self.files, files as usize, bytes, calls)
@@ -63,7 +64,8 @@ impl MemDisk {
             (⟦<MemDisk as Disk>⟧.state_at self.now (⟦<MemDisk as Disk>⟧.clock self.now) f)
             (⟦<MemDisk as Disk>⟧.state_at disk 0 f)) }
         ensures honest { IfOk result (λ disk. (f : ℕ) →
-            WritesWholeSectors (⟦<MemDisk as Disk>⟧.state_at self.now (⟦<MemDisk as Disk>⟧.clock self.now) f) →
+            WritesWholeSectors (⟦<MemDisk as Disk>⟧.state_at self.now
+            (⟦<MemDisk as Disk>⟧.clock self.now) f) →
             IsHonest (⟦<MemDisk as Disk>⟧.state_at self.now (⟦<MemDisk as Disk>⟧.clock self.now) f)
             (⟦<MemDisk as Disk>⟧.state_at disk 0 f).seen) }
         ensures allowed { IfOk result (λ disk. (f : ℕ) → Leaves
@@ -183,7 +185,8 @@ fn cut_and_fail(files: &mut Vec<MemFile>, file: u32, len: u64) -> Result<(), Fai
 
 #[tactic(auto, using(crate::proofs::Files::one_changed))]
 fn sync(files: &mut Vec<MemFile>, file: u32) -> Result<(), Failed>
-    ensures done { OnOk result (Syncs (state_of files.old.items file) (state_of files.new.items file)) }
+    ensures done { OnOk result (Syncs (state_of files.old.items file)
+        (state_of files.new.items file)) }
     ensures failed { OnErr result (state_of files.new.items file ≡ state_of files.old.items file) }
     ensures others { KeepsOthers file (state_of files.old.items) (state_of files.new.items) }
 {

@@ -78,7 +78,8 @@ impl MemFile {
     }
 
     pub fn write(&mut self, offset: u64, bytes: &[u8]) -> Result<(), AllocError>
-        ensures done { OnOk result (Writes offset bytes.now (file_state self.old) (file_state self.new)) }
+        ensures done { OnOk result (Writes offset bytes.now (file_state self.old)
+            (file_state self.new)) }
         ensures failed { OnErr result (file_state self.new ≡ file_state self.old) }
     {
         let offset = offset as usize;
@@ -126,7 +127,8 @@ fn lengthen(bytes: &mut Vec<u8>, len: usize) -> Result<(), AllocError>
 
 /// Makes the file long enough to reach an offset, with zeros behind it.
 fn reach(file: &mut Vec<u8>, end: usize) -> Result<(), AllocError>
-    ensures done { OnOk result (file.new.items ≡ resized file.old.items (max (length file.old.items) end)) }
+    ensures done { OnOk result (file.new.items
+        ≡ resized file.old.items (max (length file.old.items) end)) }
     ensures failed { OnErr result (file.new.items ≡ file.old.items) }
 {
     if file.len() < end {
@@ -151,7 +153,8 @@ fn overwrite(file: &mut Vec<u8>, offset: usize, bytes: &[u8]) -> Result<(), Allo
 
 fn paste(file: &mut Vec<u8>, offset: usize, bytes: &[u8])
     requires { offset + length bytes.now ≤ length file.old.items }
-    ensures { file.new.items ≡ take offset file.old.items ++ bytes.now ++ drop (offset + length bytes.now) file.old.items }
+    ensures { file.new.items ≡ take offset file.old.items ++ bytes.now ++ drop
+        (offset + length bytes.now) file.old.items }
 {
     file[offset..offset + bytes.len()].copy_from_slice(bytes);
 }

@@ -17,7 +17,8 @@ impl Past {
     /// One moment more, in which the files were these.
     pub fn then(&mut self, files: Snapshot<Vec<MemFile>>, has_failed: bool)
         ensures moments { earlier self.new ≡ files.value.items ∷ earlier self.old }
-        ensures failures { failed_calls self.new ≡ cond has_failed (failed_calls self.old + 1) (failed_calls self.old) }
+        ensures failures { failed_calls self.new
+            ≡ cond has_failed (failed_calls self.old + 1) (failed_calls self.old) }
     {
         *self = Past::Then(Snapshot::of(self), files, has_failed);
     }

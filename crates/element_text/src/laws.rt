@@ -25,17 +25,24 @@ pub fn operation()
 /// An accepted change on so many hives.
 pub fn element()
     // Each that fits is read again from its text, whatever follows.
-    ensures again { (hives : ℕ) → hives ≤ 256 → (e : Element) (rest : List ℕ) → Fits hives e → element_at hives (element_text e ++ rest) ≡ Some (e, rest) }
+    ensures again { (hives : ℕ) → hives ≤ 256 → (e : Element) (rest : List ℕ) → Fits hives e →
+        element_at hives (element_text e ++ rest) ≡ Some (e, rest) }
     // What was read is the text of a change that fits, and the bytes behind it.
-    ensures back { (hives : ℕ) → hives ≤ 256 → (bytes : List ℕ) (e : Element) (rest : List ℕ) → element_at hives bytes ≡ Some (e, rest) → (bytes ≡ element_text e ++ rest) × Fits hives e }
+    ensures back { (hives : ℕ) → hives ≤ 256 → (bytes : List ℕ) (e : Element) (rest : List ℕ) →
+        element_at hives bytes ≡ Some (e, rest) → (bytes ≡ element_text e ++ rest) × Fits hives e }
     // What was read is read so whatever follows.
-    ensures exact { (hives : ℕ) → hives ≤ 256 → (bytes : List ℕ) (e : Element) (rest : List ℕ) → element_at hives bytes ≡ Some (e, rest) →
-        (chunk : List ℕ) × (bytes ≡ chunk ++ rest) × ((r : List ℕ) → element_at hives (chunk ++ r) ≡ Some (e, r)) }
+    ensures exact { (hives : ℕ) → hives ≤ 256 → (bytes : List ℕ) (e : Element) (rest : List ℕ) →
+        element_at hives bytes ≡ Some (e, rest) →
+        (chunk : List ℕ) × (bytes ≡ chunk ++ rest)
+        × ((r : List ℕ) → element_at hives (chunk ++ r) ≡ Some (e, r)) }
     // Texts of two changes differ, and none is a beginning of the other.
-    ensures apart { (hives : ℕ) → hives ≤ 256 → (e f : Element) (rest more : List ℕ) → Fits hives e → Fits hives f → element_text e ++ rest ≡ element_text f ++ more → (e ≡ f) × (rest ≡ more) }
+    ensures apart { (hives : ℕ) → hives ≤ 256 → (e f : Element) (rest more : List ℕ) →
+        Fits hives e → Fits hives f → element_text e ++ rest ≡ element_text f ++ more → (e ≡ f)
+        × (rest ≡ more) }
     // It fits, if its operations may be written at all, and its text isn't too long.
     ensures fits { (hives : ℕ) (e : Element) → 1 ≤ length e.ops →
-        AllByRecursion HasText e.ops → AllByRecursion (λ op. hive_of op < hives) e.ops → e.moment < 256 ^ 8 → element_text_len e < 256 ^ 4 → Fits hives e }
+        AllByRecursion HasText e.ops → AllByRecursion (λ op. hive_of op < hives) e.ops →
+        e.moment < 256 ^ 8 → element_text_len e < 256 ^ 4 → Fits hives e }
     // The text is as long as is counted elsewhere.
     ensures size { (e : Element) → length (element_text e) ≡ element_text_len e }
 {}
@@ -49,7 +56,8 @@ pub fn examples()
     // Refused: a byte that the length counts and no field takes, no operation at all, a kind that isn't one, and a hive that
     // the store hasn't.
     ensures padded { element_at 1 (23 ∷ drop 1 first_bytes ++ 0 ∷ []) ≡ None }
-    ensures without_operations { element_at 1 (16 ∷ 0 ∷ 0 ∷ 0 ∷ 5 ∷ 0 ∷ 0 ∷ 0 ∷ 0 ∷ 0 ∷ 0 ∷ 0 ∷ 0 ∷ 0 ∷ 0 ∷ 0 ∷ []) ≡ None }
+    ensures without_operations { element_at 1 (16 ∷ 0 ∷ 0 ∷ 0 ∷ 5 ∷ 0 ∷ 0 ∷ 0 ∷ 0 ∷ 0 ∷ 0 ∷ 0 ∷ 0 ∷
+        0 ∷ 0 ∷ 0 ∷ []) ≡ None }
     ensures other_kind { element_at 1 (take 16 first_bytes ++ 5 ∷ drop 17 first_bytes) ≡ None }
     ensures no_such_hive { element_at 1 second_bytes ≡ None }
 {}

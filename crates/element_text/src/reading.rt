@@ -46,7 +46,10 @@ struct Fields {
 
 fn take_fields(alloc: Global, hives: u8, bytes: &[u8]) -> Result<(Fields, &[u8]), Refusal>
     ensures { MatchResult result
-        (λ got. fields_at hives bytes.now ≡ Some ((got.0.len, (got.0.moment, got.0.ops.items)), got.1.now))
+        (λ got. fields_at hives bytes.now ≡ Some (
+          (got.0.len, (got.0.moment, got.0.ops.items)),
+          got.1.now,
+        ))
         (RefusedFor JournalDamaged (fields_at hives bytes.now ≡ None)) }
 {
     let (len, rest) = take_u32(bytes)?;
@@ -58,7 +61,10 @@ fn take_fields(alloc: Global, hives: u8, bytes: &[u8]) -> Result<(Fields, &[u8])
 
 /// So many operations, one after another, and the bytes behind them.
 fn take_ops(alloc: Global, hives: u8, count: u32, bytes: &[u8]) -> Result<(Vec<Op>, &[u8]), Refusal>
-    ensures { MatchResult result (λ got. repeat count (op_at hives) bytes.now ≡ Some (got.0.items, got.1.now))
+    ensures { MatchResult result (λ got. repeat count (op_at hives) bytes.now ≡ Some (
+      got.0.items,
+      got.1.now,
+    ))
         (RefusedFor JournalDamaged (repeat count (op_at hives) bytes.now ≡ None)) }
 {
     let mut ops = Vec::new(alloc);
@@ -173,7 +179,8 @@ fn take_name_count(bytes: &[u8]) -> Result<(u16, &[u8]), Refusal>
 
 /// So many key names, one after another, and the bytes behind them.
 fn take_names(alloc: Global, count: u16, bytes: &[u8]) -> Result<(Vec<Name>, &[u8]), Refusal>
-    ensures names { MatchResult result (λ got. repeat count key_name_at bytes.now ≡ Some (got.0.items, got.1.now))
+    ensures names { MatchResult result (λ got.
+        repeat count key_name_at bytes.now ≡ Some (got.0.items, got.1.now))
         (RefusedFor JournalDamaged (repeat count key_name_at bytes.now ≡ None)) }
     ensures keys { IfOk result (λ got. list_all is_key_name got.0.items ≡ true) }
     ensures count { IfOk result (λ got. length got.0.items ≡ count) }

@@ -84,7 +84,8 @@ impl FreeBounds {
     /// The first page from one up to another that has a bound of at least a size.
     pub(crate) fn next_page(&self, from: usize, upto: usize, size: usize) -> Option<usize>
         requires { upto ≤ length self.now }
-        ensures { MatchOption result (AllBelow self.now from upto size) (IsNextPage self.now from upto size) }
+        ensures { MatchOption result (AllBelow self.now from upto size)
+            (IsNextPage self.now from upto size) }
     {
         let mut page = from;
         while page < upto {

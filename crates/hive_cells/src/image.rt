@@ -45,7 +45,8 @@ impl Model for Image {
 
     ghost view = { λ image. record { bytes = image.bytes.items; spare = image.spare } };
 
-    ghost invariant = { λ image. IsImage image.bytes.items image.starts.items image.free image.spare (vec_capacity image.bytes) (vec_capacity image.starts) };
+    ghost invariant = { λ image. IsImage image.bytes.items image.starts.items image.free
+        image.spare (vec_capacity image.bytes) (vec_capacity image.starts) };
 }
 
 /// Bytes that are not opened as an image, given back with the reason.
@@ -76,7 +77,8 @@ impl Image {
     pub fn open(alloc: Global, bytes: Vec<u8>) -> Result<Image, Unopened>
         ensures { MatchResult result
             (λ image. (image ≡ record { bytes = bytes.items; spare = 0 }) × Tiles bytes.items)
-            (λ unopened. (unopened.bytes.items ≡ bytes.items) × DataRefused bytes.items unopened.refusal) }
+            (λ unopened. (unopened.bytes.items ≡ bytes.items)
+            × DataRefused bytes.items unopened.refusal) }
     {
         match index_of(alloc, &bytes) {
             Ok((starts, free)) => Ok(Image {
@@ -147,11 +149,14 @@ impl Image {
     /// Refused with `HiveDamaged` of hive 0 and `BadOffset` exactly where no allocated cell begins there.
     pub fn cell(&self, offset: u32, looks: &mut Looks) -> Result<&[u8], Refusal>
         ensures found { MatchResult result
-            (λ lent. IsAllocatedCell self.now.bytes offset × (lent.now ≡ cell_data self.now.bytes offset))
-            (λ refusal. (refusal ≡ Refusal.HiveDamaged 0 Cause.BadOffset) × (¬ IsAllocatedCell self.now.bytes offset)) }
+            (λ lent. IsAllocatedCell self.now.bytes offset
+            × (lent.now ≡ cell_data self.now.bytes offset))
+            (λ refusal. (refusal ≡ Refusal.HiveDamaged 0 Cause.BadOffset)
+            × (¬ IsAllocatedCell self.now.bytes offset)) }
         ensures size { IfOk result (λ lent. length lent.now + 4 ≡ cell_size self.now.bytes offset) }
         ensures eights { IfOk result (λ lent. offset % 8 ≡ 0) }
-        ensures within { IfOk result (λ lent. offset + cell_size self.now.bytes offset ≤ length self.now.bytes) }
+        ensures within { IfOk result (λ lent. offset + cell_size self.now.bytes offset ≤ length
+            self.now.bytes) }
         ensures look { looks.new ≡ min (looks.old + 1) (2 ^ 64 - 1) }
     {
         looks.raise();
@@ -168,11 +173,15 @@ impl Image {
     ///
     /// Refused with `HiveDamaged` of hive 0 and `BadOffset` exactly where no allocated cell begins there.
     pub fn write(&mut self, offset: u32, at: usize, source: &[u8]) -> Result<(), Refusal>
-        requires { IsAllocatedCell self.old.bytes offset → 4 + at + length source.now ≤ cell_size self.old.bytes offset }
+        requires { IsAllocatedCell self.old.bytes offset →
+            4 + at + length source.now ≤ cell_size self.old.bytes offset }
         ensures written { MatchResult result
-            (λ _. Writes self.old.bytes self.new.bytes offset (offset + 4 + at) (offset + 4 + at + length source.now)
-            × (slice_range self.new.bytes (offset + 4 + at) (offset + 4 + at + length source.now) ≡ source.now))
-            (λ refusal. (self.new ≡ self.old) × (refusal ≡ Refusal.HiveDamaged 0 Cause.BadOffset) × (¬ IsAllocatedCell self.old.bytes offset)) }
+            (λ _. Writes self.old.bytes self.new.bytes offset (offset + 4 + at)
+            (offset + 4 + at + length source.now)
+            × (slice_range self.new.bytes (offset + 4 + at) (offset + 4 + at + length source.now)
+            ≡ source.now))
+            (λ refusal. (self.new ≡ self.old) × (refusal ≡ Refusal.HiveDamaged 0 Cause.BadOffset)
+            × (¬ IsAllocatedCell self.old.bytes offset)) }
         ensures spare { self.new.spare ≡ self.old.spare }
     {
         let cell = offset as usize;
@@ -215,7 +224,8 @@ impl Image {
     /// data with a new bin for the cell would be longer than the limit; and else with `NoMemory`, where no free cell is
     /// as long and fewer bytes are spare than the bin has.
     pub fn alloc(&mut self, len: usize) -> Result<u32, Refusal>
-        ensures allocated { MatchResult result (λ offset. Allocates self.old.bytes self.new.bytes len offset)
+        ensures allocated { MatchResult result
+            (λ offset. Allocates self.old.bytes self.new.bytes len offset)
             (λ refusal. (self.new ≡ self.old) × PlaceRefused self.old (least_size len) refusal) }
         ensures spare { UsesSpare self.old self.new }
     {
@@ -233,7 +243,8 @@ impl Image {
         requires limit { length self.old.bytes ≤ MOST_BINS_BYTES }
         requires some { 0 < size }
         requires fits { size ≤ MOST_BINS_BYTES + 16 }
-        ensures { MatchResult result (λ at. HasRoom self.old.bytes self.new.bytes at size × UsesSpare self.old self.new)
+        ensures { MatchResult result (λ at. HasRoom self.old.bytes self.new.bytes at size
+            × UsesSpare self.old self.new)
             (λ refusal. (self.new ≡ self.old) × PlaceRefused self.old size refusal) }
     {
         let _ = &self.bytes;

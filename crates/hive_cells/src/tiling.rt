@@ -64,7 +64,8 @@ pub(crate) fn cell_size(bytes: &[u8], at: usize) -> usize
 // where the bin at an offset ends
 fn bin_end(bytes: &[u8], at: usize) -> Result<usize, Refusal>
     requires { at + 32 ≤ length bytes.now }
-    ensures { MatchResult result (λ end. IsBin bytes.now at × (end ≡ at + bin_size bytes.now at)) (λ refusal. (refusal ≡ Refusal.HiveDamaged 0 Cause.BadBin) × (¬ IsBin bytes.now at)) }
+    ensures { MatchResult result (λ end. IsBin bytes.now at × (end ≡ at + bin_size bytes.now at))
+        (λ refusal. (refusal ≡ Refusal.HiveDamaged 0 Cause.BadBin) × (¬ IsBin bytes.now at)) }
 {
     let size = word_at(bytes, at + 8) as usize;
     if word_at(bytes, at) == BIN_SIGNATURE
@@ -83,7 +84,9 @@ fn bin_end(bytes: &[u8], at: usize) -> Result<usize, Refusal>
 fn cell_end(bytes: &[u8], at: usize, end: usize) -> Result<usize, Refusal>
     requires here { at + 4 ≤ length bytes.now }
     requires before { at ≤ end }
-    ensures { MatchResult result (λ behind. IsCell bytes.now end at × (behind ≡ at + cell_size bytes.now at)) (λ refusal. (refusal ≡ Refusal.HiveDamaged 0 Cause.BadCell) × (¬ IsCell bytes.now end at)) }
+    ensures { MatchResult result (λ behind. IsCell bytes.now end at
+        × (behind ≡ at + cell_size bytes.now at))
+        (λ refusal. (refusal ≡ Refusal.HiveDamaged 0 Cause.BadCell) × (¬ IsCell bytes.now end at)) }
 {
     let size = cell_size(bytes, at);
     if size % MARKED_BYTES == 0 && size >= MARKED_BYTES && size <= end - at {
@@ -103,7 +106,8 @@ fn walk_cell(
 ) -> Result<usize, Refusal>
     requires walk { StandsIn bytes.now starts.old free.old end at }
     requires before { at < end }
-    ensures { MatchResult result (λ behind. (at < behind) × StandsIn bytes.now starts.new free.new end behind) (DataRefused bytes.now) }
+    ensures { MatchResult result (λ behind. (at < behind)
+        × StandsIn bytes.now starts.new free.new end behind) (DataRefused bytes.now) }
 {
     let behind = cell_end(bytes, at, end)?;
     put_start(starts, at / MARKED_BYTES, true);
@@ -122,7 +126,8 @@ fn walk_bin(
 ) -> Result<usize, Refusal>
     requires walk { StandsBetween bytes.now starts.old free.old at }
     requires before { at < length bytes.now }
-    ensures { MatchResult result (λ end. (at < end) × StandsBetween bytes.now starts.new free.new end) (DataRefused bytes.now) }
+    ensures { MatchResult result (λ end. (at < end)
+        × StandsBetween bytes.now starts.new free.new end) (DataRefused bytes.now) }
 {
     let end = bin_end(bytes, at)?;
     let mut cell = at + BIN_HEADER_BYTES;
@@ -137,7 +142,8 @@ fn walk_bin(
 /// data are not whole pages, with `BadBin` and `BadCell` where a bin or a cell begins that is none, and with
 /// `NoMemory`.
 pub(crate) fn index_of(alloc: Global, bytes: &[u8]) -> Result<(Vec<u64>, FreeBounds), Refusal>
-    ensures { MatchResult result (λ index. IsIndexed bytes.now index.0.items index.1) (DataRefused bytes.now) }
+    ensures { MatchResult result (λ index. IsIndexed bytes.now index.0.items index.1)
+        (DataRefused bytes.now) }
 {
     if bytes.len() % PAGE_BYTES != 0 {
         return Err(Refusal::from(Cause::Truncated));

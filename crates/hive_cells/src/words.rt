@@ -20,7 +20,8 @@ pub(crate) fn word_at(bytes: &[u8], at: usize) -> u32
 pub(crate) fn put_word(bytes: &mut [u8], at: usize, word: u32)
     requires { at + 4 ≤ length bytes.old }
     ensures put { word_at bytes.new at ≡ word }
-    ensures others { (i : ℕ) → ((i < at) ⊎ (at + 4 ≤ i)) → slice_index bytes.new i ≡ slice_index bytes.old i }
+    ensures others { (i : ℕ) → ((i < at) ⊎ (at + 4 ≤ i)) →
+        slice_index bytes.new i ≡ slice_index bytes.old i }
 {
     LittleEndian::write_u32(&mut bytes[at..at + 4], word);
 }

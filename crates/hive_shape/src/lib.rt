@@ -68,7 +68,8 @@ pub fn edits<D, R, C>()
         (n : List ℕ) (path : List (List ℕ)) (parts : Parts R) (below : Keys R) →
         Whole (read old) root above kids → Edits read old new above kids n path parts below →
         (q : List (List ℕ)) →
-        finite.get (tree_of above (with_key kids (n ∷ path) parts below)) q ≡ row_or (rest_of (n ∷ path) q) parts.row below (finite.get (tree_of above kids) q) }
+        finite.get (tree_of above (with_key kids (n ∷ path) parts below)) q
+        ≡ row_or (rest_of (n ∷ path) q) parts.row below (finite.get (tree_of above kids) q) }
     ensures own { (read : (ℕ → Option D) → Reads R C) → IsLocal read → (old new : ℕ →
         Option D) (root : ℕ) (above : Parts R) (kids : Keys R)
         (n : List ℕ) (path : List (List ℕ)) (parts : Parts R) (below : Keys R) →
@@ -81,7 +82,8 @@ pub fn edits<D, R, C>()
         Whole (read old) root above kids → Edits read old new above kids n path parts below →
         below_in kids (n ∷ path) ≡ Some below →
         (q : List (List ℕ)) → q ≢ n ∷ path →
-        finite.get (tree_of above (with_key kids (n ∷ path) parts below)) q ≡ finite.get (tree_of above kids) q }
+        finite.get (tree_of above (with_key kids (n ∷ path) parts below)) q
+        ≡ finite.get (tree_of above kids) q }
 {}
 
 /// An image in which a fault stands stands for no tree; and one that has a key deeper than a number of levels stands
@@ -117,14 +119,17 @@ pub fn faults<R, C>()
 /// - `told`: a cause that is told for a subkey, the first ones being read, may be told for the key.
 pub fn loads<R, C>()
     ensures begins { (reads : Reads R C) (marks : Marks) → Loading reads marks marks none }
-    ensures goes_on { (reads : Reads R C) (old mid new : Marks) (first : Keys R) (at : ℕ) (parts : Parts R) (below : Keys R) →
+    ensures goes_on { (reads : Reads R C) (old mid new : Marks) (first : Keys R) (at : ℕ)
+        (parts : Parts R) (below : Keys R) →
         Loading reads old mid first → Loaded reads mid new at parts below →
         Loading reads old new (with_last first at parts below) }
-    ensures ends { (reads : Reads R C) (old mid new : Marks) (at : ℕ) (parts : Parts R) (kids : Keys R) → reads at ≡ Ok parts →
+    ensures ends { (reads : Reads R C) (old mid new : Marks) (at : ℕ) (parts : Parts R)
+        (kids : Keys R) → reads at ≡ Ok parts →
         Marked old mid parts.own → Loading reads mid new kids → offsets kids ≡ parts.kids →
         Once (names kids) → (IsIn [] (names kids) → ⊥) →
         Loaded reads old new at parts kids }
-    ensures settled { (reads : Reads R C) (now : Marks) (root : ℕ) (parts : Parts R) (below : Keys R) → Loaded reads (λ cell. false) now root parts below →
+    ensures settled { (reads : Reads R C) (now : Marks) (root : ℕ) (parts : Parts R)
+        (below : Keys R) → Loaded reads (λ cell. false) now root parts below →
         ((cell : ℕ) → IsIn cell (parts.lent ++ lent_cells below) → now cell ≡ false) →
         LentApart parts below }
     ensures lent { (reads : Reads R C) (trail lends : ℕ → List ℕ) → IsTrail trail reads →

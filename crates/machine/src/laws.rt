@@ -34,14 +34,18 @@ ghost use Rattle.machine.specs.declared.event.Reply.TheVariants as reply;
 /// - `room`, `room_run`: the journal's room stays within its limit, where it was at the opening.
 pub fn states_are_kept()
     ensures begins { (trees : List TreeMap) (number : ℕ) (journaled : List Element) (failures : ℕ) →
-        AreTrees trees → number ≤ GREATEST_NUMBER → IsKept (opened_machine trees number journaled failures) }
-    ensures step { (old new : Machine) (event : Event) (reply : Reply) → IsKept old → Step old event reply new →
+        AreTrees trees → number ≤ GREATEST_NUMBER →
+        IsKept (opened_machine trees number journaled failures) }
+    ensures step { (old new : Machine) (event : Event) (reply : Reply) → IsKept old →
+        Step old event reply new →
         IsKept new }
     ensures run { (old new : Machine) (events : List Event) (replies : List Reply) → IsKept old →
         Run old events replies new → IsKept new }
-    ensures room { (old new : Machine) (event : Event) (reply : Reply) → IsKept old → Step old event reply new →
+    ensures room { (old new : Machine) (event : Event) (reply : Reply) → IsKept old →
+        Step old event reply new →
         old.room ≤ MOST_JOURNAL_BYTES → new.room ≤ MOST_JOURNAL_BYTES }
-    ensures room_run { (old new : Machine) (events : List Event) (replies : List Reply) → IsKept old →
+    ensures room_run { (old new : Machine) (events : List Event) (replies : List Reply) →
+        IsKept old →
         Run old events replies new → old.room ≤ MOST_JOURNAL_BYTES → new.room ≤ MOST_JOURNAL_BYTES }
 {
     reg_tree::laws::trees_stay();
@@ -65,12 +69,17 @@ pub fn steps_alone_fail()
 /// - `within`, `in_order`: where none takes a tree over the limit of weight, each is legal, and so is the change that a
 ///   commit makes of them.
 pub fn commits_stay_legal()
-    ensures but_for_weight { (machine : Machine) (place : ℕ) (one : Transaction) → IsKept machine → IsActiveAt machine.places place one →
+    ensures but_for_weight { (machine : Machine) (place : ℕ) (one : Transaction) → IsKept machine →
+        IsActiveAt machine.places place one →
         (moment : ℕ) → AreLegalButForWeight (trees_now machine) one.ops moment }
-    ensures within { (machine : Machine) (place : ℕ) (one : Transaction) (moment : ℕ) → IsKept machine → IsActiveAt machine.places place one →
-        any_outweighs (trees_now machine) one.ops moment ≡ false → AreLegalChanges (trees_now machine) one.ops moment }
-    ensures in_order { (machine : Machine) (place : ℕ) (one : Transaction) (moment : ℕ) → IsKept machine → IsActiveAt machine.places place one →
-        any_outweighs (trees_now machine) one.ops moment ≡ false → AreLegal (trees_now machine) one.ops moment }
+    ensures within { (machine : Machine) (place : ℕ) (one : Transaction) (moment : ℕ) →
+        IsKept machine → IsActiveAt machine.places place one →
+        any_outweighs (trees_now machine) one.ops moment ≡ false →
+        AreLegalChanges (trees_now machine) one.ops moment }
+    ensures in_order { (machine : Machine) (place : ℕ) (one : Transaction) (moment : ℕ) →
+        IsKept machine → IsActiveAt machine.places place one →
+        any_outweighs (trees_now machine) one.ops moment ≡ false →
+        AreLegal (trees_now machine) one.ops moment }
 {
     conflicts::laws::but_for_weight();
     reg_tree::laws::weight_alone_refuses();
@@ -88,15 +97,20 @@ pub fn commits_stay_legal()
 pub fn handles_are_given_once()
     ensures step { (old new : Machine) (event : Event) (reply : Reply) → Step old event reply new →
         IsCounted old (handle_in reply) new }
-    ensures run { (old new : Machine) (events : List Event) (replies : List Reply) → Run old events replies new →
+    ensures run { (old new : Machine) (events : List Event) (replies : List Reply) →
+        Run old events replies new →
         IsStrictlySortedBy nat_cmp (numbers_given replies) }
-    ensures closed { (old new : Machine) (session : ℕ) (tx : Tx) → IsKept old → Step old (event.Close session tx) reply.Done new →
+    ensures closed { (old new : Machine) (session : ℕ) (tx : Tx) → IsKept old →
+        Step old (event.Close session tx) reply.Done new →
         IsGone new tx }
-    ensures ended { (old new : Machine) (session : ℕ) (tx : Tx) (one : Transaction) → IsKept old → own old.places session tx ≡ Some one →
+    ensures ended { (old new : Machine) (session : ℕ) (tx : Tx) (one : Transaction) → IsKept old →
+        own old.places session tx ≡ Some one →
         Step old (event.EndSession session) reply.Done new → IsGone new tx }
-    ensures gone { (old new : Machine) (event : Event) (reply : Reply) (tx : Tx) → IsGone old tx → Step old event reply new →
+    ensures gone { (old new : Machine) (event : Event) (reply : Reply) (tx : Tx) → IsGone old tx →
+        Step old event reply new →
         IsGone new tx }
-    ensures for_good { (old new : Machine) (events : List Event) (replies : List Reply) (tx : Tx) → IsGone old tx →
+    ensures for_good { (old new : Machine) (events : List Event) (replies : List Reply) (tx : Tx) →
+        IsGone old tx →
         Run old events replies new → IsGone new tx }
     ensures answered { (machine : Machine) (session : ℕ) (tx : Tx) → IsGone machine tx →
         own machine.places session tx ≡ None }

@@ -77,7 +77,8 @@ pub fn kept<T, Op>()
     ensures reopens { (r : Rules T Op) (most hives : ℕ) (old new : State T Op) →
         IsKept r most hives old → Reopens r most hives old new →
         IsKept r most hives new × GoesOn r hives old new }
-    ensures quiet { (r : Rules T Op) (most hives : ℕ) (old new : State T Op) → IsKept r most hives old →
+    ensures quiet { (r : Rules T Op) (most hives : ℕ) (old new : State T Op) →
+        IsKept r most hives old →
         old.durable ≡ last_number old.life → Reopens r most hives old new → (new.durable ≡ old.durable)
         × ((i : ℕ) → i < hives → new.life.trees i ≡ tree_at r old.life (last_number old.life) i) }
     ensures begins { (r : Rules T Op) (most hives : ℕ) (spelled : Spelled Op)
@@ -133,7 +134,8 @@ pub fn clauses_suffice<T, Op>()
     ensures flusher { (r : Rules T Op) (most hives : ℕ) (answer : Answer) (hive : ℕ)
         (memory : T × ℕ) (old new : State T Op) → IsKept r most hives old →
         FlusherStep r hives answer hive memory old new → IsKept r most hives new }
-    ensures may_follow { (r : Rules T Op) (most hives : ℕ) (s : State T Op) → IsKept r most hives s →
+    ensures may_follow { (r : Rules T Op) (most hives : ℕ) (s : State T Op) →
+        IsKept r most hives s →
         MayFollow most s.durable (pending_elements s) s.journal.now }
     ensures trim_test { (r : Rules T Op) (most hives : ℕ) (s : State T Op) → IsKept r most hives s →
         MayTrim hives s ↔ ((i : ℕ) → i < hives → ops_in s.life i (s.files i).now.1 s.durable ≡ []) }
@@ -216,7 +218,8 @@ pub fn each_moment<T, Op>()
     ensures some { (r : Rules T Op) (spelled : List ℕ → Option (Spelled Op))
         (held : List ℕ → List ℕ → Option (T × ℕ)) (most hives : ℕ) (test : ℕ → ℕ → List ℕ → Bool)
         (b : Boundary T Op) (bs : List (Boundary T Op)) → Trace b bs →
-        AllByRecursion (InOrder r (SpellsBy spelled) (HoldsBy held) most hives (LeavesBy test)) (b ∷ bs) →
+        AllByRecursion (InOrder r (SpellsBy spelled) (HoldsBy held) most hives (LeavesBy test))
+        (b ∷ bs) →
         (files : ℕ → List ℕ) (k : ℕ) → b.clock ≤ k → k ≤ end_of b bs →
         LeftAt (LeavesBy test) k files →
         AtSome (λ c. (c.clock ≡ k)

@@ -47,9 +47,11 @@ pub fn others_stay()
 
 /// No legal operation takes a tree over the limit of weight, at whatever moment it is applied.
 pub fn weights_stay()
-    ensures one { (tree : TreeMap) → IsTree tree → (op : Op) (moment : ℕ) → weight tree ≤ MOST_WEIGHT →
+    ensures one { (tree : TreeMap) → IsTree tree → (op : Op) (moment : ℕ) →
+        weight tree ≤ MOST_WEIGHT →
         IsOk (legal_in tree op) → weight (changed tree op moment) ≤ MOST_WEIGHT }
-    ensures all { (trees : List TreeMap) (elements : List Element) → AreTrees trees → AreWithin trees →
+    ensures all { (trees : List TreeMap) (elements : List Element) → AreTrees trees →
+        AreWithin trees →
         AreLegalElements trees elements → AreWithin (after_elements trees elements) }
 {}
 
@@ -63,19 +65,25 @@ pub fn weights_stay()
 /// - `levels`: how many keys are missing on the way to a path.
 /// - `values`, `value_names`, `subkeys`: what is read of a key, but for its time.
 pub fn times_decide_nothing()
-    ensures kept { (trees others : List TreeMap) → SameButTimes trees others → (ops : List Op) (m n : ℕ) →
+    ensures kept { (trees others : List TreeMap) → SameButTimes trees others →
+        (ops : List Op) (m n : ℕ) →
         SameButTimes (applied trees ops m) (applied others ops n) }
     ensures legal { (trees others : List TreeMap) → SameButTimes trees others → (op : Op) →
         legal trees op ≡ legal others op }
-    ensures outweighs { (trees others : List TreeMap) → SameButTimes trees others → (ops : List Op) (m n : ℕ) →
+    ensures outweighs { (trees others : List TreeMap) → SameButTimes trees others →
+        (ops : List Op) (m n : ℕ) →
         any_outweighs trees ops m ≡ any_outweighs others ops n }
-    ensures levels { (trees others : List TreeMap) → SameButTimes trees others → (hive : ℕ) (path : List (List ℕ)) →
+    ensures levels { (trees others : List TreeMap) → SameButTimes trees others →
+        (hive : ℕ) (path : List (List ℕ)) →
         levels_in trees hive path ≡ levels_in others hive path }
-    ensures values { (trees others : List TreeMap) → SameButTimes trees others → (hive : ℕ) (path : List (List ℕ)) (name : List ℕ) →
+    ensures values { (trees others : List TreeMap) → SameButTimes trees others →
+        (hive : ℕ) (path : List (List ℕ)) (name : List ℕ) →
         value_in trees hive path name ≡ value_in others hive path name }
-    ensures value_names { (trees others : List TreeMap) → SameButTimes trees others → (hive : ℕ) (path : List (List ℕ)) →
+    ensures value_names { (trees others : List TreeMap) → SameButTimes trees others →
+        (hive : ℕ) (path : List (List ℕ)) →
         value_names_in trees hive path ≡ value_names_in others hive path }
-    ensures subkeys { (trees others : List TreeMap) → SameButTimes trees others → (hive : ℕ) (path : List (List ℕ)) →
+    ensures subkeys { (trees others : List TreeMap) → SameButTimes trees others →
+        (hive : ℕ) (path : List (List ℕ)) →
         subkeys_in trees hive path ≡ subkeys_in others hive path }
 {}
 
@@ -88,10 +96,13 @@ pub fn moments_set_times_alone()
         legal (applied trees ops m) op ≡ legal (applied trees ops n) op }
     ensures levels { (trees : List TreeMap) (ops : List Op) (m n hive : ℕ) (path : List (List ℕ)) →
         levels_in (applied trees ops m) hive path ≡ levels_in (applied trees ops n) hive path }
-    ensures values { (trees : List TreeMap) (ops : List Op) (m n hive : ℕ) (path : List (List ℕ)) (name : List ℕ) →
+    ensures values { (trees : List TreeMap) (ops : List Op) (m n hive : ℕ) (path : List (List ℕ))
+        (name : List ℕ) →
         value_in (applied trees ops m) hive path name ≡ value_in (applied trees ops n) hive path name }
-    ensures value_names { (trees : List TreeMap) (ops : List Op) (m n hive : ℕ) (path : List (List ℕ)) →
-        value_names_in (applied trees ops m) hive path ≡ value_names_in (applied trees ops n) hive path }
+    ensures value_names { (trees : List TreeMap) (ops : List Op) (m n hive : ℕ)
+        (path : List (List ℕ)) →
+        value_names_in (applied trees ops m) hive path
+        ≡ value_names_in (applied trees ops n) hive path }
     ensures subkeys { (trees : List TreeMap) (ops : List Op) (m n hive : ℕ) (path : List (List ℕ)) →
         subkeys_in (applied trees ops m) hive path ≡ subkeys_in (applied trees ops n) hive path }
 {}

@@ -40,7 +40,8 @@ impl Model for Trees {
     ghost use Rattle.std.specs.Prelude.{◌≤◌, length};
     ghost use Rattle.refusals.specs.declared.limits.TheConstants.{MOST_TREES};
 
-    ghost invariant = { λ inside. (1 ≤ length inside.hives.items) × (length inside.hives.items ≤ MOST_TREES) };
+    ghost invariant = { λ inside. (1 ≤ length inside.hives.items)
+        × (length inside.hives.items ≤ MOST_TREES) };
 }
 
 impl Trees {

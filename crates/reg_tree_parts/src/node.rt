@@ -38,9 +38,11 @@ impl Model for Node {
 
     ghost coded = { coded_list (coded× (coded_list (coded_list coded_ℕ)) row_code) };
 
-    ghost view = { λ inside. entries_of (arc_value inside.key) (subkey_entries (arc_slice_items inside.subkeys)) };
+    ghost view = { λ inside. entries_of (arc_value inside.key)
+        (subkey_entries (arc_slice_items inside.subkeys)) };
 
-    ghost invariant = { λ inside. NodeFits (arc_value inside.key) (subkey_entries (arc_slice_items inside.subkeys)) inside.weight };
+    ghost invariant = { λ inside. NodeFits (arc_value inside.key)
+        (subkey_entries (arc_slice_items inside.subkeys)) inside.weight };
 
     ghost size = { length };
 

@@ -44,7 +44,8 @@ impl Model for Values {
 
     ghost view = { λ inside. finite.from_sorted (value_entries (arc_slice_items inside.items)) };
 
-    ghost invariant = { λ inside. T (is_sorted name_order (value_entries (arc_slice_items inside.items))) };
+    ghost invariant = { λ inside. T (is_sorted name_order
+        (value_entries (arc_slice_items inside.items))) };
 }
 
 impl Values {

@@ -103,8 +103,9 @@ fn opened(alloc: Global) -> Result<Image, Refusal> {
 fn reopened(alloc: Global) -> Result<Outcome, Refusal> {
     match Image::open(alloc, one_bin(alloc)?) {
         Ok(image) => Ok(Outcome::right_if(is_one_bin(image))),
-        Err(unopened) => Ok(Outcome::of_refusal(unopened.refusal)
-            .and(Outcome::right_if(unopened.bytes.len() == BIN))),
+        Err(unopened) => Ok(Outcome::of_refusal(unopened.refusal).and(Outcome::right_if(
+            unopened.bytes.len() == BIN,
+        ))),
     }
 }
 
@@ -117,9 +118,11 @@ fn reserved(alloc: Global) -> Result<Outcome, Refusal> {
     };
     match image.reserve(2 * BIN) {
         Ok(()) => Ok(copied.and(Outcome::right_if(image.alloc(5000).ok() == Some(4128)))),
-        Err(refusal) => Ok(copied
-            .and(Outcome::of_refusal(refusal))
-            .and(Outcome::right_if(is_one_bin(image)))),
+        Err(refusal) => Ok(
+            copied
+                .and(Outcome::of_refusal(refusal))
+                .and(Outcome::right_if(is_one_bin(image))),
+        ),
     }
 }
 

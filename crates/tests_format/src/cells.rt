@@ -124,11 +124,7 @@ fn refused(alloc: Global, bytes: Vec<u8>) -> Option<(Refusal, usize)> {
 }
 
 // what opening one bin answers where four bytes of it are spoiled
-fn spoiled(
-    alloc: Global,
-    at: usize,
-    what: &[u8],
-) -> Result<Option<(Refusal, usize)>, AllocError> {
+fn spoiled(alloc: Global, at: usize, what: &[u8]) -> Result<Option<(Refusal, usize)>, AllocError> {
     let mut bytes = one_bin(alloc)?;
     put(&mut bytes, at, what);
     Ok(refused(alloc, bytes))
@@ -295,11 +291,7 @@ fn a_copy_is_changed_alone(rt: HostRuntime) -> Result<(), Fail> {
 }
 
 // what is reserved changes nothing that lies in the image
-const RESERVED: [Step; 3] = [
-    Step::Pages(1),
-    Step::Takes(4100, 4128),
-    Step::Pages(3),
-];
+const RESERVED: [Step; 3] = [Step::Pages(1), Step::Takes(4100, 4128), Step::Pages(3)];
 
 #[test]
 fn memory_is_reserved_for_bins(rt: HostRuntime) -> Result<(), Fail> {

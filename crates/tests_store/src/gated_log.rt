@@ -18,7 +18,8 @@ const CLOSED: u8 = 0;
 
 /// Makes an empty log, whatever the file held, and puts both files on the disk.
 pub fn create<D: Disk>(disk: &mut D) -> Result<(), Failed>
-    ensures settled { OnOk result (D.faithful disk.new → IsSettled (D.state_at disk.new (D.clock disk.new)) 0) }
+    ensures settled { OnOk result (D.faithful disk.new →
+        IsSettled (D.state_at disk.new (D.clock disk.new)) 0) }
     ensures failed { OnErr result (D.failures disk.old < D.failures disk.new) }
 {
     disk.cut(LOG, 0)?;
@@ -31,10 +32,13 @@ pub fn create<D: Disk>(disk: &mut D) -> Result<(), Failed>
 pub fn append<D: Disk>(disk: &mut D, count: u64, byte: u8) -> Result<(), Failed>
     requires settled { IsSettled (D.state_at disk.old (D.clock disk.old)) count }
     requires fits { count < 2 ^ 60 }
-    ensures added { OnOk result (D.faithful disk.new → HasOneMore (D.state_at disk.old (D.clock disk.old)) (D.state_at disk.new (D.clock disk.new)) count byte) }
+    ensures added { OnOk result (D.faithful disk.new →
+        HasOneMore (D.state_at disk.old (D.clock disk.old))
+        (D.state_at disk.new (D.clock disk.new)) count byte) }
 
     // A crash at any moment of the call leaves the entries from before it, with the new one or without, and the other file as it was.
-    ensures any_moment { D.faithful disk.new → LeavesOnly (D.state_at disk.new) (D.clock disk.new) (D.clock disk.old)
+    ensures any_moment { D.faithful disk.new →
+        LeavesOnly (D.state_at disk.new) (D.clock disk.new) (D.clock disk.old)
         (IsBeforeOrAfter (D.state_at disk.old (D.clock disk.old)) byte) }
 
     ensures failed { OnErr result (D.failures disk.old < D.failures disk.new) }

@@ -27,7 +27,8 @@ fn is_on_hives(element: &Element, hives: u8) -> bool
 
 /// Whether the journal may be handed these elements behind what stands.
 pub fn may_hand(journal: &Journal, handed: &[Element]) -> bool
-    ensures { result ≡ true → IsHanded (store_of journal.now).hives (65 + room_of (choice_of journal.now).now.elements)
+    ensures { result ≡ true → IsHanded (store_of journal.now).hives
+        (65 + room_of (choice_of journal.now).now.elements)
         (top 0 (choice_of journal.now).now + 1) handed.now (choice_of journal.now).now }
 {
     let last = journal.last_number();

@@ -10,7 +10,8 @@ use std::test::Fail;
 
 /// A log of the byte 5, beside a second file.
 fn prepared(alloc: Global, plan: Arc<Plan>) -> Result<MemDisk, Fail>
-    ensures { IfOk result (λ disk. IsSettled (⟦<MemDisk as Disk>⟧.state_at disk (⟦<MemDisk as Disk>⟧.clock disk)) 1) }
+    ensures { IfOk result (λ disk. IsSettled (⟦<MemDisk as Disk>⟧.state_at disk
+        (⟦<MemDisk as Disk>⟧.clock disk)) 1) }
 {
     let mut disk = MemDisk::new(alloc, plan);
     disk.write_at(1, 0, b"other")?;

@@ -43,9 +43,12 @@ impl Model for PlainStore {
 
     ghost coded = { machine_code };
 
-    ghost view = { λ inside. store_of inside.opened.value inside.accepted.items inside.sessions inside.table inside.durable inside.room };
+    ghost view = { λ inside. store_of inside.opened.value inside.accepted.items inside.sessions
+        inside.table inside.durable inside.room };
 
-    ghost invariant = { λ inside. IsTied inside.table (store_of inside.opened.value inside.accepted.items inside.sessions inside.table inside.durable inside.room) };
+    ghost invariant = { λ inside. IsTied inside.table
+        (store_of inside.opened.value inside.accepted.items inside.sessions inside.table
+        inside.durable inside.room) };
 }
 
 impl PlainStore {

@@ -48,9 +48,16 @@ impl Model for TxTable {
 
     ghost coded = { table_code };
 
-    ghost view = { λ inside. record { trees = inside.trees; number = inside.number; places = places_of inside.places.slots; begun = inside.begun } };
+    ghost view = { λ inside. record {
+      trees = inside.trees;
+      number = inside.number;
+      places =
+          places_of inside.places.slots;
+      begun = inside.begun;
+    } };
 
-    ghost invariant = { λ inside. AreKept inside.trees inside.number inside.begun inside.places.slots inside.claims };
+    ghost invariant = { λ inside. AreKept inside.trees inside.number inside.begun
+        inside.places.slots inside.claims };
 }
 
 /// What became of a write in a transaction that was not refused.
@@ -236,7 +243,8 @@ impl TxTable {
         ensures same { self.new ≡ self.old }
         ensures ok { IfOk result (λ found.
             (inactive_refusal (own self.old.places session tx) ≡ None)
-            × (seen self.old.trees hive path.now question (own self.old.places session tx) ≡ Some found)) }
+            × (seen self.old.trees hive path.now question (own self.old.places session tx)
+            ≡ Some found)) }
         ensures refused { IfErr result (λ refusal.
             (first_of (inactive_refusal (own self.old.places session tx))
             (read_refusal (seen self.old.trees hive path.now question (own self.old.places session tx)))

@@ -137,7 +137,8 @@ fn put_two_sizes(bytes: &mut [u8], at: usize, size: usize, rest: usize)
     requires least { 8 ≤ size }
     requires rest { 0 < rest }
     requires fits { size + rest < 2 ^ 31 }
-    ensures { (half : List ℕ) × PutsSize bytes.old half (at + size) rest false × PutsSize half bytes.new at size false }
+    ensures { (half : List ℕ) × PutsSize bytes.old half (at + size) rest false
+        × PutsSize half bytes.new at size false }
 {
     put_size(bytes, at + size, rest, false);
     put_size(bytes, at, size, false);

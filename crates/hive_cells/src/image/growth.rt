@@ -20,8 +20,10 @@ impl Image {
     /// Refused with `NoMemory` alone, and then everything is as before.
     pub fn reserve(&mut self, more: usize) -> Result<(), Refusal>
         requires { more ≤ MOST_BINS_BYTES }
-        ensures ok { OnOk result (self.new ≡ record { bytes = self.old.bytes; spare = max self.old.spare more }) }
-        ensures err { IfErr result (λ refusal. (refusal ≡ Refusal.NoMemory) × (self.old.spare < more) × (self.new ≡ self.old)) }
+        ensures ok { OnOk result (self.new ≡ record
+            { bytes = self.old.bytes; spare = max self.old.spare more }) }
+        ensures err { IfErr result (λ refusal. (refusal ≡ Refusal.NoMemory)
+            × (self.old.spare < more) × (self.new ≡ self.old)) }
     {
         if more <= self.spare {
             return Ok(());
@@ -37,7 +39,8 @@ impl Image {
         requires limit { length self.old.bytes ≤ MOST_BINS_BYTES }
         requires fits { size ≤ MOST_BINS_BYTES + 16 }
         requires none { ¬ HasFree self.old.bytes size }
-        ensures { MatchResult result (λ at. HasRoom self.old.bytes self.new.bytes at size × UsesSpare self.old self.new)
+        ensures { MatchResult result (λ at. HasRoom self.old.bytes self.new.bytes at size
+            × UsesSpare self.old self.new)
             (λ refusal. (self.new ≡ self.old) × PlaceRefused self.old size refusal) }
     {
         let bin = (size + BIN_HEADER_BYTES).div_ceil(PAGE_BYTES) * PAGE_BYTES;
@@ -76,8 +79,10 @@ fn grow(bytes: &mut Vec<u8>, starts: &mut Vec<u64>, more: usize) -> Result<(), A
     requires starts_fit { length starts.old.items ≤ MOST_BINS_BYTES }
     ensures bytes { OnOk result (bytes.new.items ≡ bytes.old.items ++ replicate more 0) }
     ensures starts { OnOk result (starts.new.items ≡ starts.old.items ++ replicate (more / 512) 0) }
-    ensures same { OnErr result ((bytes.new.items ≡ bytes.old.items) × (starts.new.items ≡ starts.old.items)) }
-    ensures full { OnErr result ((vec_capacity bytes.old < length bytes.old.items + more) ⊎ (vec_capacity starts.old < length starts.old.items + more / 512)) }
+    ensures same { OnErr result ((bytes.new.items ≡ bytes.old.items)
+        × (starts.new.items ≡ starts.old.items)) }
+    ensures full { OnErr result ((vec_capacity bytes.old < length bytes.old.items + more)
+        ⊎ (vec_capacity starts.old < length starts.old.items + more / 512)) }
     ensures room { vec_capacity bytes.old ≤ vec_capacity bytes.new }
     ensures starts_room { vec_capacity starts.old ≤ vec_capacity starts.new }
 {

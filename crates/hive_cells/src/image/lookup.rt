@@ -72,7 +72,8 @@ impl Image {
         ensures { MatchOption result
             ((from : ℕ) → IsFreeCell self.now.bytes from → from + cell_size self.now.bytes from ≢ at)
             (λ from. IsFreeCell self.now.bytes from × (from + cell_size self.now.bytes from ≡ at)
-            × ((other : ℕ) → IsFreeCell self.now.bytes other → other + cell_size self.now.bytes other ≡ at → from ≡ other)) }
+            × ((other : ℕ) → IsFreeCell self.now.bytes other →
+            other + cell_size self.now.bytes other ≡ at → from ≡ other)) }
     {
         let slot = last_start(&self.starts, 0, at / MARKED_BYTES)?;
         let from = MARKED_BYTES * slot;
@@ -110,7 +111,8 @@ fn free_in_page(bytes: &[u8], starts: &[u64], page: usize, size: usize) -> Resul
     requires some { 0 < size }
     ensures { MatchResult result
         (λ at. IsFreeCell bytes.now at × (size ≤ cell_size bytes.now at))
-        (λ most. (most < size) × ((at : ℕ) → IsFreeCell bytes.now at → at / 4096 ≡ page → cell_size bytes.now at ≤ most)) }
+        (λ most. (most < size) × ((at : ℕ) → IsFreeCell bytes.now at → at / 4096 ≡ page →
+        cell_size bytes.now at ≤ most)) }
 {
     let first = PAGE_SLOTS * page;
     let mut most = 0u32;

@@ -58,7 +58,8 @@ impl Trees {
     // one operation more, where it leaves its hive's tree within the limit of weight
     fn apply_one_within(&mut self, alloc: Global, op: &Op, moment: u64) -> Result<(), Refusal>
         ensures ok { OnOk result
-            ((outweighs self.old op.now moment ≡ false) × (self.new ≡ applied_one self.old op.now moment)) }
+            ((outweighs self.old op.now moment ≡ false)
+            × (self.new ≡ applied_one self.old op.now moment)) }
         ensures refused { IfErr result (λ refusal.
             ((outweighs self.old op.now moment ≡ true) × (refusal ≡ Refusal.TooLarge))
             ⊎ (refusal ≡ Refusal.NoMemory)) }
