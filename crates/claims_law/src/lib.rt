@@ -29,13 +29,15 @@ ghost use Rattle.claims_law.specs.Machine.{Machine, Kept, Step, Runs};
 /// either order leads to one skeleton. Whether the first is legal does not matter.
 pub fn either_order()
     ensures legal { (a b : Op) (s : Skeleton) → Apart a b → Legal s b → Legal (apply a s) b }
-    ensures same { (a b : Op) (s : Skeleton) → Apart a b → apply a (apply b s) ≡ apply b (apply a s) }
+    ensures same { (a b : Op) (s : Skeleton) → Apart a b → apply a (apply b s)
+        ≡ apply b (apply a s) }
 {}
 
 /// Operations that are legal one after another stay so after any others none of whose claims conflicts with
 /// theirs.
 pub fn stays_legal()
-    ensures { (element ops : List Op) (s : Skeleton) → AllApart element ops → LegalInOrder ops s → LegalInOrder ops (applied element s) }
+    ensures { (element ops : List Op) (s : Skeleton) → AllApart element ops → LegalInOrder ops s →
+        LegalInOrder ops (applied element s) }
 {}
 
 /// At any time the operations of each active transaction are legal one after another on the trees of now, and
@@ -46,7 +48,8 @@ pub fn stays_legal()
 pub fn at_any_time()
     ensures begins { (s : Skeleton) → Kept (record { now = s; held = λ i. [] }) }
     ensures step { (old new : Machine) → Kept old → Step old new → Kept new }
-    ensures always { (m : Machine) (ns : List Machine) → Kept m → Runs m ns → AllByRecursion Kept ns }
+    ensures always { (m : Machine) (ns : List Machine) → Kept m → Runs m ns →
+        AllByRecursion Kept ns }
 {}
 
 /// Legal operations keep what every skeleton of trees keeps; and the tests of keys say what they are named for.
@@ -58,12 +61,15 @@ pub fn trees_stay_closed()
 
 /// No legal operation removes the root of a hive.
 pub fn root_stays()
-    ensures one { (s : Skeleton) (o : Op) (hive : ℕ) → Legal s o → s.there (root_key hive) ≡ true → (apply o s).there (root_key hive) ≡ true }
-    ensures all { (s : Skeleton) (os : List Op) (hive : ℕ) → LegalInOrder os s → s.there (root_key hive) ≡ true → (applied os s).there (root_key hive) ≡ true }
+    ensures one { (s : Skeleton) (o : Op) (hive : ℕ) → Legal s o → s.there (root_key hive) ≡ true →
+        (apply o s).there (root_key hive) ≡ true }
+    ensures all { (s : Skeleton) (os : List Op) (hive : ℕ) → LegalInOrder os s →
+        s.there (root_key hive) ≡ true → (applied os s).there (root_key hive) ≡ true }
 {}
 
 /// Where the root is there and the skeleton is that of trees, a key is near exactly where at most 32 levels of
 /// its path are missing.
 pub fn levels_missing()
-    ensures { (s : Skeleton) (k : Key) → Closed s → s.there (root_key k.hive) ≡ true → Near s k ↔ (missing_levels s k ≤ 32) }
+    ensures { (s : Skeleton) (k : Key) → Closed s → s.there (root_key k.hive) ≡ true → Near s k
+        ↔ (missing_levels s k ≤ 32) }
 {}

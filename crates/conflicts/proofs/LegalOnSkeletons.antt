@@ -29,7 +29,7 @@ use Rattle.claims_law.specs.Legal as legal
 use Rattle.claims_law.proofs.Tests.{never}
 use Rattle.conflicts.specs.Claims.{key_at}
 use Rattle.conflicts.specs.Skeletons.{row_if, row_of, is_protected, has_value, skeleton, outline, judged_if, judged_in, FitsData}
-use Rattle.conflicts.proofs.OnTheWay.{home_is_there, past_home, few_missing}
+use Rattle.conflicts.proofs.KeyDepths.{home_is_there, past_home, few_missing}
 use Rattle.conflicts.proofs.OnSkeletons.{Found, found}
 
 -- What each kind of operation asks for

@@ -1,13 +1,13 @@
 pub mod Meets
 pub mod Once
 pub mod KeyTests
-pub mod OnTheWay
+pub mod KeyDepths
 pub mod RowsAfter
 pub mod OnSkeletons
 pub mod LegalOnSkeletons
 pub mod StaysLegal
 pub mod Members
 pub mod SpotRanges
-pub mod OnWays
+pub mod PathSpots
 pub mod Looks
 pub mod Filing

@@ -17,14 +17,6 @@ begins_is k l b e h = by_case b (begins_key k l) refl h
     by_case true false t h = never (sym t ∙ begins_is_true k l (e, h.0 refl))
     by_case false true t h = h.1 (key_begins k l t).1
 
--- keys of two hives do not begin one another
-pub other_hives : (k l : Key) → (k.hive ≡ l.hive → ⊥) → begins_key k l ≡ false
-other_hives k l ne = by_case (begins_key k l) refl
-  where
-    by_case : (c : Bool) → begins_key k l ≡ c → begins_key k l ≡ false
-    by_case false t = t
-    by_case true t = absurd (ne (key_begins k l t).0)
-
 both_of : (a b : Bool) → (a && b) ≡ true → (a ≡ true) × (b ≡ true)
 both_of true b h = (refl, h)
 both_of false b h = never h

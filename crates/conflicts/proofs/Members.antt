@@ -163,10 +163,6 @@ kind_is Shape Hold e = never e
 kind_is Hold Shape e = never e
 kind_is Hold Hold e = refl
 
-is_kind : (c d : Kind) → c ≡ d → same_kind c d ≡ true
-is_kind Shape d e = subst (λ k. same_kind Shape k ≡ true) e refl
-is_kind Hold d e = subst (λ k. same_kind Hold k ≡ true) e refl
-
 pub held_is : (a b : Held) → same_held a b ≡ true → a ≡ b
 held_is a b t =
     let first = parts (b.owner == a.owner) (same_claim a.claim b.claim) t in
@@ -175,9 +171,6 @@ held_is a b t =
     let owners : b.owner ≡ a.owner = eqb-true b.owner a.owner first.0 in
     let kinds : a.claim.kind ≡ b.claim.kind = kind_is a.claim.kind b.claim.kind second.0 in
     λ i. record { owner = sym owners i; claim = record { kind = kinds i; key = record { hive = key.0 i; path = key.1 i } } }
-
-pub is_held : (a : Held) → same_held a a ≡ true
-is_held a = joined (a.owner == a.owner) (same_claim a.claim a.claim) (eq-eqb a.owner a.owner refl) (joined (same_kind a.claim.kind a.claim.kind) (same_key a.claim.key a.claim.key) (is_kind a.claim.kind a.claim.kind refl) (same_is a.claim.key a.claim.key (refl, refl)))
 
 any_has : (one : Held) (held : List Held) → list_any (same_held one) held ≡ true → Contains held one
 any_has one [] t = never t

@@ -19,8 +19,8 @@ use Rattle.reg_tree.specs.declared.op.Op.{Op}
 use Rattle.reg_tree.specs.declared.op.Op.TheVariants.{CreateKey, DeleteKey, SetValue, DeleteValue}
 use Rattle.reg_tree.specs.declared.op.Legality.{Legality}
 use Rattle.reg_tree.specs.declared.op.Legality.TheVariants.{Legal}
-use Rattle.reg_tree.proofs.Made.{row-tree_after}
-use Rattle.reg_tree.proofs.Stays.{hives_stay}
+use Rattle.reg_tree.proofs.TreesAfter.{row-tree_after}
+use Rattle.reg_tree.proofs.OthersStay.{hives_stay}
 use Rattle.claims_law.specs.Skeleton as law
 use Rattle.conflicts.specs.Claims.{key_at}
 use Rattle.conflicts.specs.Skeletons.{row_if, row_of, is_protected, has_value, skeleton, outline, judged_if, judged_in}

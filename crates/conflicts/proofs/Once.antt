@@ -92,12 +92,6 @@ holders_step : (items : List Held) (i : ℕ) (one : Held) (asker : Option ℕ) (
 holders_step items i one asker claim lt is =
     ap (λ hs. holders_of hs asker claim) (take_more items i one lt ∙ ap (λ h. take i items ++ h ∷ []) (sym is)) ∙ holders-more (take i items) one asker claim
 
-pub found_more : (items : List Held) (i : ℕ) (one : Held) (asker : Option ℕ) (claim : Claim) (old new : List ℕ) (owner : ℕ) (b : Bool) → i < length items → one ≡ get_or items i one
-    → b ≡ stands_against asker claim one → b ≡ true → old ≡ holders_of (take i items) asker claim → owner ≡ one.owner → new ≡ with_number old owner → new ≡ holders_of (take (i + 1) items) asker claim
-found_more items i one asker claim old new owner b lt is e t was own more =
-    more ∙ ap (λ xs. with_number xs owner) was ∙ ap (with_number (holders_of (take i items) asker claim)) own
-    ∙ ap (λ s. cond s (with_number (holders_of (take i items) asker claim) one.owner) (holders_of (take i items) asker claim)) (sym t ∙ e) ∙ sym (holders_step items i one asker claim lt is)
-
 pub found_same : (items : List Held) (i : ℕ) (one : Held) (asker : Option ℕ) (claim : Claim) (old : List ℕ) (b : Bool) → i < length items → one ≡ get_or items i one
     → b ≡ stands_against asker claim one → b ≡ false → old ≡ holders_of (take i items) asker claim → old ≡ holders_of (take (i + 1) items) asker claim
 found_same items i one asker claim old b lt is e f was =

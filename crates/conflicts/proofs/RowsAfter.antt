@@ -18,7 +18,7 @@ use Rattle.reg_tree.specs.Maps.{TreeMap, row, IsTree}
 use Rattle.reg_tree.specs.Operations.{touched, depth_there, descriptor_of, row_created, row_deleted, row_edited}
 use Rattle.reg_tree.proofs.Paths.{eq_is, split_begins}
 use Rattle.conflicts.specs.Skeletons.{is_protected, has_value}
-use Rattle.conflicts.proofs.OnTheWay.{gone_past, there_up_to, home_is_there}
+use Rattle.conflicts.proofs.KeyDepths.{gone_past, there_up_to, home_is_there}
 
 pub touched_there : (m : ℕ) (o : Option Row) → is_some (option_map (touched m) o) ≡ is_some o
 touched_there m None = refl

@@ -13,7 +13,7 @@ use Rattle.reg_tree.specs.declared.op.Op.{Op}
 use Rattle.reg_tree.specs.declared.op.Op.TheVariants.{CreateKey, DeleteKey, SetValue, DeleteValue}
 use Rattle.reg_tree.specs.declared.op.Legality.{Legality}
 use Rattle.reg_tree.specs.declared.op.Legality.TheVariants.{Legal, Opened}
-use Rattle.reg_tree.proofs.Stays.{trees_stay_one}
+use Rattle.reg_tree.proofs.OthersStay.{trees_stay_one}
 use Rattle.claims_law.specs.Skeleton as law
 use Rattle.claims_law.specs.Legal as legal
 use Rattle.conflicts.specs.Claims.{claim_of}

@@ -53,7 +53,8 @@ pub fn outlines()
 pub fn holders_are_exact()
     ensures who { (held : List Held) (asker : Option ℕ) (claim : Claim) (owner : ℕ) →
         Contains (holders_of held asker claim) owner ↔ IsHolder held asker claim owner }
-    ensures once { (held : List Held) (asker : Option ℕ) (claim : Claim) → IsDistinct nat_eq (holders_of held asker claim) }
+    ensures once { (held : List Held) (asker : Option ℕ) (claim : Claim) →
+        IsDistinct nat_eq (holders_of held asker claim) }
 {}
 
 /// Which claims a table has: after one more was added those before and this one, and after those of a transaction

@@ -38,7 +38,7 @@ fn write_name(text: &mut Vec<u16>, name: &Name) -> Result<(), AllocError>
 }
 
 /// A copy of a text.
-pub(crate) fn copied(alloc: Global, text: &[u16]) -> Result<Vec<u16>, AllocError>
+pub(crate) fn copy(alloc: Global, text: &[u16]) -> Result<Vec<u16>, AllocError>
     ensures { IfOk result (λ made. made.items ≡ text.now) }
 {
     text.to_vec(alloc)
@@ -61,7 +61,8 @@ fn gather(
     past: u16,
 ) -> Result<Vec<u64>, AllocError>
     requires { 0 < past }
-    ensures { IfOk result (λ found. (spot : _) → Contains spots.now.keys spot → GoesOn text.now past spot.0.items → Contains found.items spot.1) }
+    ensures { IfOk result (λ found. (spot : _) → Contains spots.now.keys spot →
+        GoesOn text.now past spot.0.items → Contains found.items spot.1) }
 {
     let from = (with_unit(alloc, text, PATH_END)?, 0);
     let to = (with_unit(alloc, text, past)?, u64::MAX);
@@ -110,17 +111,18 @@ fn write_path(text: &mut Vec<u16>, names: &[Name]) -> Result<(), AllocError>
 
 /// The numbers of all spots at which a claim may lie that conflicts with this one: those of each key on the way to
 /// its key, of its key, and for a Shape of all keys below it. Each number once, rising.
-pub(crate) fn near(
+pub(crate) fn numbers_near(
     alloc: Global,
     spots: &BTreeSet<Spot>,
     claim: &Claim,
 ) -> Result<Vec<u64>, AllocError>
-    ensures complete { IfOk result (λ found. (spot : _) (held : _) → Contains spots.now.keys spot → spot.0.items ≡ spot_text held → meets claim.now held ≡ true → Contains found.items spot.1) }
+    ensures complete { IfOk result (λ found. (spot : _) (held : _) → Contains spots.now.keys spot →
+        spot.0.items ≡ spot_text held → meets claim.now held ≡ true → Contains found.items spot.1) }
     ensures rises { IfOk result (λ found. IsStrictlySortedBy nat_cmp found.items) }
 {
     let mut text = Vec::new(alloc);
     text.push(u16::from(claim.hive))?;
-    let mut found = on_the_way(alloc, spots, claim.path.names(), &mut text)?;
+    let mut found = numbers_along(alloc, spots, claim.path.names(), &mut text)?;
     let more = gather(alloc, spots, &text, past_of(claim))?;
     found.extend_from_slice(&more)?;
     put_in_order(&mut found);
@@ -128,14 +130,18 @@ pub(crate) fn near(
 }
 
 // the numbers of the spots of each key on the way along a path, which is added to the text
-fn on_the_way(
+fn numbers_along(
     alloc: Global,
     spots: &BTreeSet<Spot>,
     names: &[Name],
     text: &mut Vec<u16>,
 ) -> Result<Vec<u64>, AllocError>
-    ensures text { OnOk result (text.new.items ≡ text.old.items ++ path_text (folded_path names.now)) }
-    ensures found { IfOk result (λ found. (spot : _) (j : ℕ) → Contains spots.now.keys spot → j < length names.now → GoesOn (text.old.items ++ path_text (folded_path (take j names.now))) 1 spot.0.items → Contains found.items spot.1) }
+    ensures text { OnOk result (text.new.items
+        ≡ text.old.items ++ path_text (folded_path names.now)) }
+    ensures found { IfOk result (λ found. (spot : _) (j : ℕ) → Contains spots.now.keys spot →
+        j < length names.now →
+        GoesOn (text.old.items ++ path_text (folded_path (take j names.now))) 1 spot.0.items →
+        Contains found.items spot.1) }
 {
     let mut found = Vec::new(alloc);
     for name in names {
@@ -158,7 +164,8 @@ fn past_of(claim: &Claim) -> u16
 
 // sorts the numbers, and leaves each once
 fn put_in_order(found: &mut Vec<u64>)
-    ensures keeps { (number : ℕ) → Contains found.old.items number → Contains found.new.items number }
+    ensures keeps { (number : ℕ) → Contains found.old.items number →
+        Contains found.new.items number }
     ensures rises { IsStrictlySortedBy nat_cmp found.new.items }
 {
     found.sort_unstable();

@@ -8,7 +8,7 @@ ghost use Rattle.conflicts.specs.Filed.{TakesOwn, LeavesOthers};
 ghost use Rattle.conflicts.specs.Holders.{Held, same_held, with_claim, without_owner, stands_against, holds_claim, with_number, with_holder, is_some_same, holders_of};
 
 use crate::claim::{Claim, Kind, conflict, same_claim};
-use crate::spots::{Spot, copied, near, spot_of};
+use crate::spots::{Spot, copy, numbers_near, spot_of};
 use reg_names::Path;
 use std::alloc::{AllocError, Global};
 use std::collections::{BTreeMap, BTreeSet};
@@ -139,7 +139,8 @@ impl ClaimTable {
     /// Adds a claim of a transaction, at the end; a claim that it has already is not added again. It is refused for
     /// want of memory alone, and the table is then unchanged.
     pub fn add(&mut self, owner: Owner, claim: &Claim) -> Result<(), AllocError>
-        ensures ok { OnOk result (self.new ≡ with_claim self.old (record { owner = owner.0; claim = claim.now })) }
+        ensures ok { OnOk result (self.new
+            ≡ with_claim self.old (record { owner = owner.0; claim = claim.now })) }
         ensures err { OnErr result (self.new ≡ self.old) }
     {
         if self.has(owner, claim)? {
@@ -150,14 +151,15 @@ impl ClaimTable {
 
     // adds a claim that the transaction does not have
     fn put(&mut self, owner: Owner, claim: &Claim) -> Result<(), AllocError>
-        ensures ok { OnOk result (self.new ≡ self.old ++ record { owner = owner.0; claim = claim.now } ∷ []) }
+        ensures ok { OnOk result (self.new
+            ≡ self.old ++ record { owner = owner.0; claim = claim.now } ∷ []) }
         ensures err { OnErr result (self.new ≡ self.old) }
     {
         let number = self.added.len() as u64;
         let entry = Entry::new(owner, claim)?;
         let alloc = *self.added.allocator();
         let spot = spot_of(alloc, claim, number)?;
-        let copy = (copied(alloc, &spot.0)?, number);
+        let copy = (copy(alloc, &spot.0)?, number);
         self.added.push(())?;
         self.owned.insert((owner.0, number))?;
         self.kept.insert(number, Kept { entry, spot })?;
@@ -172,9 +174,10 @@ impl ClaimTable {
 
     // whether the transaction has the claim
     fn has(&self, owner: Owner, claim: &Claim) -> Result<bool, AllocError>
-        ensures { IfOk result (λ has. has ≡ holds_claim self.now (record { owner = owner.0; claim = claim.now })) }
+        ensures { IfOk result (λ has. has
+            ≡ holds_claim self.now (record { owner = owner.0; claim = claim.now })) }
     {
-        let numbers = near(*self.added.allocator(), &self.spots, claim)?;
+        let numbers = numbers_near(*self.added.allocator(), &self.spots, claim)?;
         let mut has = false;
         for number in &numbers {
             if is_kept(self.kept.get(number), owner, claim) {
@@ -202,10 +205,11 @@ impl ClaimTable {
     /// The transactions that hold a claim which conflicts with this one: each once, in the order of its first such
     /// claim. Claims of the asker are left out. Takes memory for the list.
     pub fn holders(&self, asker: Option<Owner>, claim: &Claim) -> Result<Vec<Owner>, AllocError>
-        ensures { IfOk result (λ found. map (λ o. o.0) found.items ≡ holders_of self.now (option_map (λ o. o.0) asker) claim.now) }
+        ensures { IfOk result (λ found. map (λ o. o.0) found.items
+            ≡ holders_of self.now (option_map (λ o. o.0) asker) claim.now) }
     {
         let alloc = *self.added.allocator();
-        let numbers = near(alloc, &self.spots, claim)?;
+        let numbers = numbers_near(alloc, &self.spots, claim)?;
         let mut found = Vec::new(alloc);
         for number in &numbers {
             list_holder(&mut found, self.kept.get(number), asker, claim)?;
@@ -216,8 +220,10 @@ impl ClaimTable {
 
 // the first number that is listed under an owner
 fn first_of(owned: &BTreeSet<(u64, u64)>, owner: Owner) -> Option<(u64, u64)>
-    ensures some { IfSome result (λ listed. (listed.0 ≡ owner.0) × (contains_by (pair_order listed) owned.now ≡ true)) }
-    ensures none { IfNone result ((number : ℕ) → number < 2 ^ 64 → Contains owned.now.keys (owner.0, number) → ⊥) }
+    ensures some { IfSome result (λ listed. (listed.0 ≡ owner.0)
+        × (contains_by (pair_order listed) owned.now ≡ true)) }
+    ensures none { IfNone result ((number : ℕ) → number < 2 ^ 64 →
+        Contains owned.now.keys (owner.0, number) → ⊥) }
 {
     let from = (owner.0, 0);
     let to = (owner.0, u64::MAX);
@@ -241,7 +247,8 @@ fn take_own(kept: &mut BTreeMap<u64, Kept>, owner: Owner, number: u64) -> Option
 
 // whether it is this claim of this transaction
 fn is_kept(kept: Option<&Kept>, owner: Owner, claim: &Claim) -> bool
-    ensures { result ≡ is_some_same (record { owner = owner.0; claim = claim.now }) (option_map (λ k. k.now.entry) kept.entry) }
+    ensures { result ≡ is_some_same (record { owner = owner.0; claim = claim.now }) (option_map (λ
+        k. k.now.entry) kept.entry) }
 {
     match kept {
         Some(kept) => kept.entry.is(owner, claim),
@@ -256,7 +263,9 @@ fn list_holder(
     asker: Option<Owner>,
     claim: &Claim,
 ) -> Result<(), AllocError>
-    ensures { OnOk result (map (λ o. o.0) found.new.items ≡ with_holder (map (λ o. o.0) found.old.items) (option_map (λ k. k.now.entry) kept.entry) (option_map (λ o. o.0) asker) claim.now) }
+    ensures { OnOk result (map (λ o. o.0) found.new.items ≡ with_holder (map (λ o. o.0)
+        found.old.items) (option_map (λ k. k.now.entry) kept.entry) (option_map (λ o. o.0) asker)
+        claim.now) }
 {
     match kept {
         Some(kept) if kept.entry.stands_against(asker, claim) => list_once(
@@ -269,7 +278,8 @@ fn list_holder(
 
 // lists a transaction at the end, where it is not in the list
 fn list_once(found: &mut Vec<Owner>, owner: Owner) -> Result<(), AllocError>
-    ensures { OnOk result (map (λ o. o.0) found.new.items ≡ with_number (map (λ o. o.0) found.old.items) owner.0) }
+    ensures { OnOk result (map (λ o. o.0) found.new.items
+        ≡ with_number (map (λ o. o.0) found.old.items) owner.0) }
 {
     if !is_listed(found, owner) {
         found.push(owner)?;

@@ -26,7 +26,7 @@ pub legal_but_for_weight : ButForWeight → (trees : List TreeMap) (ops : List O
 legal_but_for_weight law trees [] moment c = tt
 legal_but_for_weight law trees (op ∷ ops) moment c = (law trees op c.0, legal_but_for_weight law (applied_one trees op moment) ops moment c.1)
 
-neither : (a b : Bool) → (a || b) ≡ false → (a ≡ false) × (b ≡ false)
+pub neither : (a b : Bool) → (a || b) ≡ false → (a ≡ false) × (b ≡ false)
 neither true b e = absurd cc
 neither false b e = (refl, e)
 

@@ -15,7 +15,7 @@ use Rattle.machine.specs.Kept.{IsKept, IsCounted, IsGone, handle_in, given, numb
 use Rattle.machine.specs.declared.handle.Tx.{Tx}
 use Rattle.machine.specs.declared.event.Event.{Event}
 use Rattle.machine.specs.declared.event.Reply.{Reply}
-use Rattle.machine.proofs.Ways.{found_at, own_at, Descends, Way, Fewer, Wrote, Longer, Accepted, Began, way, put_or_not, put_descends}
+use Rattle.machine.proofs.TransactionChanges.{found_at, own_at, Descends, Way, Fewer, Wrote, Longer, Accepted, Began, way, put_or_not, put_descends}
 
 pub counted : (old new : Machine) (handle : Option Tx) → Way old new handle → IsCounted old handle new
 counted old new _ (Fewer b t d r) = b

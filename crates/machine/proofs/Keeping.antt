@@ -27,7 +27,7 @@ use Rattle.machine.specs.declared.event.Event.{Event}
 use Rattle.machine.specs.declared.event.Reply.{Reply}
 use Rattle.machine.proofs.AtCommit.{WeightAlone}
 use Rattle.machine.proofs.Limits.{within_after, history_after, fits_after, within_at_first}
-use Rattle.machine.proofs.Ways.{Descends, RemainsIf, Way, Fewer, Wrote, Longer, Accepted, Began, way, put_or_not, put_descends}
+use Rattle.machine.proofs.TransactionChanges.{Descends, RemainsIf, Way, Fewer, Wrote, Longer, Accepted, Began, way, put_or_not, put_descends}
 
 -- the laws of trees and of claims, as they are handed in
 pub record Laws : Type 0 where

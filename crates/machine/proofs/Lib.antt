@@ -1,5 +1,5 @@
 pub mod Replies
-pub mod Ways
+pub mod TransactionChanges
 pub mod Handles
 pub mod AtCommit
 pub mod Limits

@@ -26,9 +26,9 @@ use Rattle.machine.specs.declared.event.Event.{Event}
 use Rattle.machine.specs.declared.event.Event.TheVariants as event
 use Rattle.machine.specs.declared.event.Reply.{Reply}
 use Rattle.machine.specs.declared.event.Reply.TheVariants as reply
-use Rattle.machine.proofs.AtCommit.{WeightAlone, legal_within}
+use Rattle.machine.proofs.AtCommit.{WeightAlone, neither, legal_within}
 use Rattle.machine.proofs.Replies.{done_or, read_or, accepted_or, added_or, begun_or, awaits_or, stands_or, receipt_or, stepped_or}
-use Rattle.machine.proofs.Ways.{Descends, Way, Fewer, Wrote, Longer, Accepted, Began, way, none_first, not_refused, found_at, active_of, put_or_not, put_descends}
+use Rattle.machine.proofs.TransactionChanges.{Descends, Way, Fewer, Wrote, Longer, Accepted, Began, way, none_first, not_refused, found_at, active_of, put_or_not, put_descends}
 
 -- Room
 
@@ -113,10 +113,6 @@ history_more trees [] element h some l = (some, l, tt)
 history_more trees (first ∷ elements) element h some l = (h.0, h.1, history_more (applied trees first.ops first.moment) elements element h.2 some l)
 
 -- What no refusal says
-
-neither : (a b : Bool) → (a || b) ≡ false → (a ≡ false) × (b ≡ false)
-neither true b e = absurd cc
-neither false b e = (refl, e)
 
 below : (n m : ℕ) → nat_le n m ≡ false → m < n
 below n m e = grind (arith, nat_tests)

@@ -31,6 +31,7 @@ ghost use Rattle.machine.specs.declared.event.Reply.TheVariants as reply;
 ///
 /// - `begins`: it is so as a store is opened on trees, whatever its journal spells.
 /// - `step`, `run`: each step keeps it, and so does every run.
+/// - `room`, `room_run`: the journal's room stays within its limit, where it was at the opening.
 pub fn states_are_kept()
     ensures begins { (trees : List TreeMap) (number : ℕ) (journaled : List Element) (failures : ℕ) →
         AreTrees trees → number ≤ GREATEST_NUMBER → IsKept (opened_machine trees number journaled failures) }
@@ -38,19 +39,9 @@ pub fn states_are_kept()
         IsKept new }
     ensures run { (old new : Machine) (events : List Event) (replies : List Reply) → IsKept old →
         Run old events replies new → IsKept new }
-{
-    reg_tree::laws::trees_stay();
-    reg_tree::laws::weight_alone_refuses();
-    conflicts::laws::stay_legal();
-    conflicts::laws::one_more();
-    conflicts::laws::holders_are_exact();
-}
-
-/// The journal's room stays within its limit, where it was at the opening.
-pub fn room_stays_within()
-    ensures step { (old new : Machine) (event : Event) (reply : Reply) → IsKept old → Step old event reply new →
+    ensures room { (old new : Machine) (event : Event) (reply : Reply) → IsKept old → Step old event reply new →
         old.room ≤ MOST_JOURNAL_BYTES → new.room ≤ MOST_JOURNAL_BYTES }
-    ensures run { (old new : Machine) (events : List Event) (replies : List Reply) → IsKept old →
+    ensures room_run { (old new : Machine) (events : List Event) (replies : List Reply) → IsKept old →
         Run old events replies new → old.room ≤ MOST_JOURNAL_BYTES → new.room ≤ MOST_JOURNAL_BYTES }
 {
     reg_tree::laws::trees_stay();
@@ -95,7 +86,8 @@ pub fn commits_stay_legal()
 /// - `answered`, `not_found`: no session has a transaction by a handle that is gone, so each event with it is
 ///   refused as the order of refusals says.
 pub fn handles_are_given_once()
-    ensures step { (old new : Machine) (event : Event) (reply : Reply) → Step old event reply new → IsCounted old (handle_in reply) new }
+    ensures step { (old new : Machine) (event : Event) (reply : Reply) → Step old event reply new →
+        IsCounted old (handle_in reply) new }
     ensures run { (old new : Machine) (events : List Event) (replies : List Reply) → Run old events replies new →
         IsStrictlySortedBy nat_cmp (numbers_given replies) }
     ensures closed { (old new : Machine) (session : ℕ) (tx : Tx) → IsKept old → Step old (event.Close session tx) reply.Done new →
@@ -106,6 +98,8 @@ pub fn handles_are_given_once()
         IsGone new tx }
     ensures for_good { (old new : Machine) (events : List Event) (replies : List Reply) (tx : Tx) → IsGone old tx →
         Run old events replies new → IsGone new tx }
-    ensures answered { (machine : Machine) (session : ℕ) (tx : Tx) → IsGone machine tx → own machine.places session tx ≡ None }
-    ensures not_found { (machine : Machine) (session : ℕ) (tx : Tx) → IsGone machine tx → found_in machine session tx ≡ None }
+    ensures answered { (machine : Machine) (session : ℕ) (tx : Tx) → IsGone machine tx →
+        own machine.places session tx ≡ None }
+    ensures not_found { (machine : Machine) (session : ℕ) (tx : Tx) → IsGone machine tx →
+        found_in machine session tx ≡ None }
 {}

@@ -17,5 +17,5 @@ mod sessions;
 
 pub use event::{Event, Found, Progress, Question, Reply};
 pub use handle::{NoSuchTransaction, NotEnded, Outcome, Tx};
-pub use reading::{levels_made, looked_up};
+pub use reading::{levels_made, look_up};
 pub use sessions::{NoSeat, Sessions};

@@ -1,5 +1,5 @@
 //! What is read of trees, and how many keys an operation makes in them.
-ghost use Rattle.std.specs.Prelude.{◌≡◌, ◌⊎◌, Some, None, MatchResult};
+ghost use Rattle.std.specs.Prelude.{◌≡◌, ◌⊎◌, Some, None, IfOk, IfErr};
 ghost use Rattle.refusals.specs.declared.refusal.Refusal.TheVariants.{NoMemory};
 ghost use Rattle.machine.specs.Machine.{looked_up, levels_made, read_refusal};
 
@@ -11,14 +11,17 @@ use std::alloc::Global;
 
 /// What the question asks of a key. Refused with `NotFound` exactly where there is no such hive, key or value, and
 /// with `NoMemory`.
-pub fn looked_up(
+pub fn look_up(
     alloc: Global,
     trees: &Trees,
     hive: u8,
     path: &Path,
     question: Question,
 ) -> Result<Found, Refusal>
-    ensures { MatchResult result (λ found. looked_up trees.now hive path.now question ≡ Some found) (λ refusal. (read_refusal (looked_up trees.now hive path.now question) ≡ Some refusal) ⊎ (refusal ≡ NoMemory)) }
+    ensures ok { IfOk result (λ found. looked_up trees.now hive path.now question ≡ Some found) }
+    ensures refused { IfErr result (λ refusal.
+        (read_refusal (looked_up trees.now hive path.now question) ≡ Some refusal)
+        ⊎ (refusal ≡ NoMemory)) }
 {
     Ok(match question {
         Question::ValueOf { name } => Found::Value {

@@ -1,5 +1,5 @@
 //! The sessions that are open.
-ghost use Rattle.std.specs.Prelude.{◌≡◌, ◌==◌, ◌++◌, ◌∷◌, ◌<◌, ◌≤◌, [], not, filter, length, IfOk, MatchResult};
+ghost use Rattle.std.specs.Prelude.{◌≡◌, ◌==◌, ◌++◌, ◌∷◌, ◌<◌, ◌≤◌, [], not, filter, length, IfOk, OnOk, OnErr};
 ghost use Rattle.std.specs.List.{list_any};
 
 use refusals::limits::MOST_SESSIONS;
@@ -49,7 +49,9 @@ impl Sessions {
 
     /// Opens a session that isn't open. Refused exactly where 32 are, and then nothing changes.
     pub fn start(&mut self, session: u32) -> Result<(), NoSeat>
-        ensures { MatchResult result (λ _. (length self.old < MOST_SESSIONS) × (self.new ≡ self.old ++ session ∷ [])) (λ _. (MOST_SESSIONS ≤ length self.old) × (self.new ≡ self.old)) }
+        ensures ok { OnOk result
+            ((length self.old < MOST_SESSIONS) × (self.new ≡ self.old ++ session ∷ [])) }
+        ensures refused { OnErr result ((MOST_SESSIONS ≤ length self.old) × (self.new ≡ self.old)) }
     {
         if self.open.len() >= MOST_SESSIONS {
             return Err(NoSeat);

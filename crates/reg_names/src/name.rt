@@ -112,7 +112,8 @@ impl Eq for Name {
 impl PartialOrd for Name {
     ghost partial_cmp = { as_partial_cmp name_cmp };
 
-    ghost laws = { partial_order_from_agreeing_total name_cmp (on_texts folded) (λ _ _. refl) (λ _ _. refl) };
+    ghost laws = { partial_order_from_agreeing_total name_cmp (on_texts folded) (λ _ _. refl)
+        (λ _ _. refl) };
 
     fn partial_cmp(&self, other: &Name) -> Option<Ordering> {
         Some(self.cmp(other))

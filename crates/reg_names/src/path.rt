@@ -50,7 +50,8 @@ impl Path {
     /// The path of these key names. Refused with `TooDeep` exactly where there are more than 512.
     pub fn from_names(names: Vec<Name>) -> Result<Path, Refusal>
         requires { list_all is_key_name names.items ≡ true }
-        ensures { IsOrNoMemory result (path_if true (nat_le (length names.items) MOST_PATH_NAMES) names.items) }
+        ensures { IsOrNoMemory result (path_if true
+            (nat_le (length names.items) MOST_PATH_NAMES) names.items) }
     {
         if names.len() > MOST_PATH_NAMES {
             return Err(Refusal::TooDeep);
@@ -115,7 +116,8 @@ impl Eq for Path {
 impl PartialOrd for Path {
     ghost partial_cmp = { as_partial_cmp path_cmp };
 
-    ghost laws = { partial_order_from_agreeing_total path_cmp (lists_total (on_texts folded)) (λ _ _. refl) (λ _ _. refl) };
+    ghost laws = { partial_order_from_agreeing_total path_cmp (lists_total (on_texts folded))
+        (λ _ _. refl) (λ _ _. refl) };
 
     fn partial_cmp(&self, other: &Path) -> Option<Ordering> {
         Some(self.cmp(other))
@@ -145,9 +147,12 @@ fn same_names(mine: &[Name], theirs: &[Name]) -> bool
 
 // what stands before the first separator of the text and what stands after it, where it has one
 fn split_first(text: &[u16]) -> Option<(&[u16], &[u16])>
-    ensures parts { IfSome result (λ parts. slice_split (λ unit. unit == SEPARATOR) text.now ≡ parts.0.now ∷ slice_split (λ unit. unit == SEPARATOR) parts.1.now) }
+    ensures parts { IfSome result (λ parts. slice_split
+        (λ unit. unit == SEPARATOR) text.now ≡ parts.0.now ∷ slice_split
+        (λ unit. unit == SEPARATOR) parts.1.now) }
     ensures shorter { IfSome result (λ parts. length parts.1.now < length text.now) }
-    ensures whole { IfNone result (slice_split (λ unit. unit == SEPARATOR) text.now ≡ text.now ∷ []) }
+    ensures whole { IfNone result (slice_split
+        (λ unit. unit == SEPARATOR) text.now ≡ text.now ∷ []) }
 {
     match separator_in(text) {
         Some(at) => Some((&text[..at], &text[at + 1..])),
@@ -164,7 +169,9 @@ fn separator_in(text: &[u16]) -> Option<usize>
 
 // the names that the text spells, each a key name
 fn path_parts(alloc: Global, text: &[u16]) -> Result<Vec<Name>, Refusal>
-    ensures { MatchResult result (λ names. (names.items ≡ path_names text.now) × (list_all is_key_name names.items ≡ true)) (RefusedFor Refusal.BadName (list_all is_key_name (path_names text.now) ≡ false)) }
+    ensures { MatchResult result (λ names. (names.items ≡ path_names text.now)
+        × (list_all is_key_name names.items ≡ true))
+        (RefusedFor Refusal.BadName (list_all is_key_name (path_names text.now) ≡ false)) }
 {
     if text.is_empty() {
         Ok(Vec::new(alloc))
@@ -175,7 +182,10 @@ fn path_parts(alloc: Global, text: &[u16]) -> Result<Vec<Name>, Refusal>
 
 // the parts of the text between its separators, each a key name
 fn key_names(alloc: Global, text: &[u16]) -> Result<Vec<Name>, Refusal>
-    ensures { MatchResult result (λ names. (names.items ≡ slice_split (λ unit. unit == SEPARATOR) text.now) × (list_all is_key_name names.items ≡ true)) (RefusedFor Refusal.BadName (list_all is_key_name (slice_split (λ unit. unit == SEPARATOR) text.now) ≡ false)) }
+    ensures { MatchResult result (λ names. (names.items ≡ slice_split
+        (λ unit. unit == SEPARATOR) text.now) × (list_all is_key_name names.items ≡ true))
+        (RefusedFor Refusal.BadName (list_all is_key_name (slice_split
+        (λ unit. unit == SEPARATOR) text.now) ≡ false)) }
 {
     let mut names = Vec::new(alloc);
     let mut rest = text;
@@ -189,7 +199,9 @@ fn key_names(alloc: Global, text: &[u16]) -> Result<Vec<Name>, Refusal>
 
 // adds the key name that the units are
 fn push_key(alloc: Global, names: &mut Vec<Name>, units: &[u16]) -> Result<(), Refusal>
-    ensures { MatchResult result (λ _. (names.new.items ≡ names.old.items ++ units.now ∷ []) × (is_key_name units.now ≡ true)) (RefusedFor Refusal.BadName (is_key_name units.now ≡ false)) }
+    ensures { MatchResult result (λ _. (names.new.items ≡ names.old.items ++ units.now ∷ [])
+        × (is_key_name units.now ≡ true)) (RefusedFor Refusal.BadName
+        (is_key_name units.now ≡ false)) }
 {
     let name = Name::key(alloc, units)?;
     names.push(name)?;

@@ -91,7 +91,8 @@ pub enum ReplyLine {
 impl ReplyLine {
     /// Writes the reply's text and the byte that ends its line. It takes no memory of its own.
     pub fn write<W: Write>(&self, writer: &mut W) -> io::Result<()>
-        ensures { OnOk result (Appends (W.contents writer.old) (W.contents writer.new) (reply_line self.now)) }
+        ensures { OnOk result (Appends (W.contents writer.old) (W.contents writer.new)
+            (reply_line self.now)) }
     {
         match self {
             ReplyLine::Done => writeln!(writer, "ok"),
@@ -120,7 +121,8 @@ impl ReplyLine {
 }
 
 fn write_value<W: Write>(writer: &mut W, kind: u32, data: &Data) -> io::Result<()>
-    ensures { OnOk result (Appends (W.contents writer.old) (W.contents writer.new) (reply_line (ReplyLine.Value kind «data».now))) }
+    ensures { OnOk result (Appends (W.contents writer.old) (W.contents writer.new)
+        (reply_line (ReplyLine.Value kind «data».now))) }
 {
     write!(writer, "value {kind} ")?;
     write_data(writer, data.bytes())?;
@@ -128,7 +130,8 @@ fn write_value<W: Write>(writer: &mut W, kind: u32, data: &Data) -> io::Result<(
 }
 
 fn write_keys<W: Write>(writer: &mut W, names: &Names) -> io::Result<()>
-    ensures { OnOk result (Appends (W.contents writer.old) (W.contents writer.new) (reply_line (ReplyLine.Keys names.now))) }
+    ensures { OnOk result (Appends (W.contents writer.old) (W.contents writer.new)
+        (reply_line (ReplyLine.Keys names.now))) }
 {
     write!(writer, "keys {}", names.list().len())?;
     write_names(writer, names.list())?;
@@ -136,7 +139,8 @@ fn write_keys<W: Write>(writer: &mut W, names: &Names) -> io::Result<()>
 }
 
 fn write_values<W: Write>(writer: &mut W, names: &Names) -> io::Result<()>
-    ensures { OnOk result (Appends (W.contents writer.old) (W.contents writer.new) (reply_line (ReplyLine.Values names.now))) }
+    ensures { OnOk result (Appends (W.contents writer.old) (W.contents writer.new)
+        (reply_line (ReplyLine.Values names.now))) }
 {
     write!(writer, "values {}", names.list().len())?;
     write_names(writer, names.list())?;
@@ -145,7 +149,8 @@ fn write_values<W: Write>(writer: &mut W, names: &Names) -> io::Result<()>
 
 // each name behind a blank
 fn write_names<W: Write>(writer: &mut W, names: &[Name]) -> io::Result<()>
-    ensures { OnOk result (Appends (W.contents writer.old) (W.contents writer.new) (names_text names.now)) }
+    ensures { OnOk result (Appends (W.contents writer.old) (W.contents writer.new)
+        (names_text names.now)) }
 {
     for name in names {
         writer.write_all(b" ")?;
@@ -155,7 +160,8 @@ fn write_names<W: Write>(writer: &mut W, names: &[Name]) -> io::Result<()>
 }
 
 fn write_name<W: Write>(writer: &mut W, name: &[u16]) -> io::Result<()>
-    ensures { OnOk result (Appends (W.contents writer.old) (W.contents writer.new) (name_text name.now)) }
+    ensures { OnOk result (Appends (W.contents writer.old) (W.contents writer.new)
+        (name_text name.now)) }
 {
     match name {
         [] => writer.write_all(b"@"),
@@ -165,7 +171,8 @@ fn write_name<W: Write>(writer: &mut W, name: &[u16]) -> io::Result<()>
 }
 
 fn write_units<W: Write>(writer: &mut W, units: &[u16]) -> io::Result<()>
-    ensures { OnOk result (Appends (W.contents writer.old) (W.contents writer.new) (flat_map unit_text units.now)) }
+    ensures { OnOk result (Appends (W.contents writer.old) (W.contents writer.new)
+        (flat_map unit_text units.now)) }
 {
     for unit in units {
         write_unit(writer, *unit)?;
@@ -174,7 +181,8 @@ fn write_units<W: Write>(writer: &mut W, units: &[u16]) -> io::Result<()>
 }
 
 fn write_unit<W: Write>(writer: &mut W, unit: u16) -> io::Result<()>
-    ensures { OnOk result (Appends (W.contents writer.old) (W.contents writer.new) (unit_text unit)) }
+    ensures { OnOk result (Appends (W.contents writer.old) (W.contents writer.new)
+        (unit_text unit)) }
 {
     match unit {
         0x21..=0x24 | 0x26..=0x7e => writer.write_all(&[unit as u8]),
@@ -184,14 +192,16 @@ fn write_unit<W: Write>(writer: &mut W, unit: u16) -> io::Result<()>
 
 // the unit by its number
 fn write_escape<W: Write>(writer: &mut W, unit: u16) -> io::Result<()>
-    ensures { OnOk result (Appends (W.contents writer.old) (W.contents writer.new) (37 ∷ encode_lower (to_be_bytes w16 unit))) }
+    ensures { OnOk result (Appends (W.contents writer.old) (W.contents writer.new)
+        (37 ∷ encode_lower (to_be_bytes w16 unit))) }
 {
     writer.write_all(b"%")?;
     write_hex(writer, &unit.to_be_bytes())
 }
 
 fn write_data<W: Write>(writer: &mut W, bytes: &[u8]) -> io::Result<()>
-    ensures { OnOk result (Appends (W.contents writer.old) (W.contents writer.new) (data_text bytes.now)) }
+    ensures { OnOk result (Appends (W.contents writer.old) (W.contents writer.new)
+        (data_text bytes.now)) }
 {
     if bytes.is_empty() {
         writer.write_all(b"-")
@@ -202,7 +212,8 @@ fn write_data<W: Write>(writer: &mut W, bytes: &[u8]) -> io::Result<()>
 
 // the bytes as pairs of hex digits, a piece at a time
 fn write_hex<W: Write>(writer: &mut W, bytes: &[u8]) -> io::Result<()>
-    ensures { OnOk result (Appends (W.contents writer.old) (W.contents writer.new) (encode_lower bytes.now)) }
+    ensures { OnOk result (Appends (W.contents writer.old) (W.contents writer.new)
+        (encode_lower bytes.now)) }
 {
     let mut rest = bytes;
     while !rest.is_empty() {
@@ -216,7 +227,8 @@ fn write_hex<W: Write>(writer: &mut W, bytes: &[u8]) -> io::Result<()>
 // at most a piece of bytes as pairs of hex digits
 fn write_piece<W: Write>(writer: &mut W, piece: &[u8]) -> io::Result<()>
     requires { length piece.now ≤ PIECE }
-    ensures { OnOk result (Appends (W.contents writer.old) (W.contents writer.new) (encode_lower piece.now)) }
+    ensures { OnOk result (Appends (W.contents writer.old) (W.contents writer.new)
+        (encode_lower piece.now)) }
 {
     let mut digits = [0u8; 2 * PIECE];
     let digits = &mut digits[..2 * piece.len()];

@@ -71,7 +71,12 @@ fn place_and_name(alloc: Global, rest: Option<&[u8]>) -> Result<(Place, Text), U
 }
 
 fn set(alloc: Global, words: (&[u8], &[u8], &[u8], &[u8])) -> Result<Request, Unread>
-    ensures { Reads result (set_request (words.entry.0.now, words.entry.1.now, words.entry.2.now, words.entry.3.now)) }
+    ensures { Reads result (set_request (
+      words.entry.0.now,
+      words.entry.1.now,
+      words.entry.2.now,
+      words.entry.3.now,
+    )) }
 {
     let place = place(alloc, words.0)?;
     let name = name(alloc, words.1)?;

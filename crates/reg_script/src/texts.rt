@@ -118,7 +118,8 @@ pub(crate) fn text(alloc: Global, word: &[u8]) -> Result<Text, Unread>
 
 // the unit that a part begins with in four hex digits, and the units of what follows
 fn push_escaped(units: &mut Vec<u16>, part: &[u8]) -> Result<(), Unread>
-    ensures { MatchResult result (λ _. AddsEscaped part.now units.old.items units.new.items) (λ unread. RefusedAs unread (escaped part.now)) }
+    ensures { MatchResult result (λ _. AddsEscaped part.now units.old.items units.new.items)
+        (λ unread. RefusedAs unread (escaped part.now)) }
 {
     if part.len() < 4 {
         return Err(Unread::NotUnderstood);

@@ -15,7 +15,8 @@ const BLANK: u8 = b' ';
 pub(crate) fn first_part(bytes: &[u8], separator: u8) -> (&[u8], Option<&[u8]>)
     ensures before { result.0.now ≡ before separator bytes.now }
     ensures behind { option_copied result.1 ≡ behind separator bytes.now }
-    ensures parts { slice_split (λ byte. byte == separator) bytes.now ≡ result.0.now ∷ parts_of separator (option_copied result.1) }
+    ensures parts { slice_split (λ byte. byte == separator) bytes.now
+        ≡ result.0.now ∷ parts_of separator (option_copied result.1) }
     ensures shorter { IfSome result.1 (λ rest. length rest.now < length bytes.now) }
 {
     match separator_in(bytes, separator) {
@@ -26,7 +27,8 @@ pub(crate) fn first_part(bytes: &[u8], separator: u8) -> (&[u8], Option<&[u8]>)
 
 /// The first word of a line, and what stands behind its blank where there is one.
 pub(crate) fn first_word(line: &[u8]) -> (&[u8], Option<&[u8]>)
-    ensures { slice_split (λ byte. byte == 32) line.now ≡ result.0.now ∷ parts_of 32 (option_copied result.1) }
+    ensures { slice_split (λ byte. byte == 32) line.now
+        ≡ result.0.now ∷ parts_of 32 (option_copied result.1) }
 {
     first_part(line, BLANK)
 }
@@ -43,7 +45,8 @@ pub(crate) fn one_word(rest: Option<&[u8]>) -> Result<&[u8], Unread>
 
 /// The two words that stand behind a blank.
 pub(crate) fn two_words(rest: Option<&[u8]>) -> Result<(&[u8], &[u8]), Unread>
-    ensures { ReadsAs (λ found. (found.0.now, found.1.now)) result (two_of (parts_of 32 (option_copied rest.entry))) }
+    ensures { ReadsAs (λ found. (found.0.now, found.1.now)) result
+        (two_of (parts_of 32 (option_copied rest.entry))) }
 {
     let (first, rest) = next_word(rest)?;
     let second = one_word(rest)?;
@@ -52,7 +55,8 @@ pub(crate) fn two_words(rest: Option<&[u8]>) -> Result<(&[u8], &[u8]), Unread>
 
 /// The four words that stand behind a blank.
 pub(crate) fn four_words(rest: Option<&[u8]>) -> Result<(&[u8], &[u8], &[u8], &[u8]), Unread>
-    ensures { ReadsAs (λ found. (found.0.now, found.1.now, found.2.now, found.3.now)) result (four_of (parts_of 32 (option_copied rest.entry))) }
+    ensures { ReadsAs (λ found. (found.0.now, found.1.now, found.2.now, found.3.now)) result
+        (four_of (parts_of 32 (option_copied rest.entry))) }
 {
     let (first, rest) = next_word(rest)?;
     let (second, rest) = next_word(rest)?;
@@ -62,7 +66,10 @@ pub(crate) fn four_words(rest: Option<&[u8]>) -> Result<(&[u8], &[u8], &[u8], &[
 
 /// The first word behind a blank, and what stands behind its blank where there is one.
 pub(crate) fn next_word(rest: Option<&[u8]>) -> Result<(&[u8], Option<&[u8]>), Unread>
-    ensures { MatchResult result (λ found. parts_of 32 (option_copied rest.entry) ≡ found.0.now ∷ parts_of 32 (option_copied found.1)) (λ unread. (unread ≡ Unread.NotUnderstood) × (parts_of 32 (option_copied rest.entry) ≡ [])) }
+    ensures { MatchResult result (λ found. parts_of 32 (option_copied rest.entry)
+        ≡ found.0.now ∷ parts_of 32 (option_copied found.1))
+        (λ unread. (unread ≡ Unread.NotUnderstood)
+        × (parts_of 32 (option_copied rest.entry) ≡ [])) }
 {
     match rest {
         Some(rest) => Ok(first_word(rest)),

@@ -3,11 +3,11 @@ pub mod Depths
 pub mod Paths
 pub mod Splices
 pub mod Changes
-pub mod Made
-pub mod Keeps
+pub mod TreesAfter
+pub mod TreesStay
 pub mod FreshTrees
 pub mod Sums
-pub mod Stays
+pub mod OthersStay
 pub mod Listed
 pub mod Times
 pub mod Weighing

@@ -30,7 +30,7 @@ use Rattle.reg_tree.specs.declared.op.Legality.TheVariants.{Legal, Opened}
 use Rattle.refusals.specs.declared.refusal.Refusal.{Refusal}
 use Rattle.std.proofs.Common.{Result, Ok, Err}
 use Rattle.reg_tree.proofs.Paths.{split_begins}
-use Rattle.reg_tree.proofs.Made.{row-tree_after}
+use Rattle.reg_tree.proofs.TreesAfter.{row-tree_after}
 
 -- Names that a call may name
 
@@ -164,9 +164,6 @@ new_too path name descriptor moment shallow may =
   where
     nothing : (q : List ℕ) (value : Value) → finite.get {R = name_order} finite.empty q ≡ Some value → ⊥
     nothing q value e = let bad : None ≡ Some value = sym (get-empty name_order q) ∙ e in cc
-
-AreSpellable : (List (List ℕ) → Option Row) → Type 0
-AreSpellable rows = (path : List (List ℕ)) (key : Row) → rows path ≡ Some key → IsSpellableAt path key
 
 mapped_too : (path : List (List ℕ)) (edit : Row → Row) → ((key : Row) → IsSpellableAt path key → IsSpellableAt path (edit key)) → (o : Option Row) → ((key : Row) → o ≡ Some key → IsSpellableAt path key) → (key : Row) → option_map edit o ≡ Some key → IsSpellableAt path key
 mapped_too path edit keeps None was key e = cc

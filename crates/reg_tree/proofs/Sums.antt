@@ -7,7 +7,7 @@ use Rattle.std.specs.FinMap as finite
 use Rattle.std.specs.FinMap.{IsAntisymmetric, entries_sorted, get-entries}
 use Rattle.std.specs.FinMap.Entries.{find, where_key, is_sorted, below_all, is_sorted-where_key, find-where_key}
 use Rattle.std.proofs.lemmas.List.Sums.{sum_by-cons}
-use Rattle.reg_tree_parts.proofs.Places.{front_of, back_of, less_of}
+use Rattle.reg_tree_parts.proofs.SortedLists.{front_of, back_of, less_of}
 use Rattle.reg_tree_parts.proofs.Finds.{equal_of}
 use Rattle.reg_tree.proofs.Paths.{told}
 

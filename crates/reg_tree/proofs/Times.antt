@@ -30,7 +30,7 @@ use Rattle.reg_tree.specs.declared.op.Op.{Op}
 use Rattle.reg_tree.specs.declared.op.Op.TheVariants.{CreateKey, DeleteKey, SetValue, DeleteValue}
 use Rattle.reg_tree.specs.declared.op.Legality.{Legality}
 use Rattle.reg_tree.specs.declared.op.Legality.TheVariants.{Legal, Opened}
-use Rattle.reg_tree.proofs.Made.{row-tree_after}
+use Rattle.reg_tree.proofs.TreesAfter.{row-tree_after}
 
 -- Trees without times
 

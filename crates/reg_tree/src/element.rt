@@ -1,5 +1,5 @@
 //! Accepted changes: operations that are applied together at one moment.
-ghost use Rattle.std.specs.Prelude.{◌≡◌, ◌<◌, ◌++◌, ◌∷◌, [], List, length, IfOk, IfSome, IsNone, OnOk, OnErr, ◌↔◌, min, if◌then◌else◌, is_ok};
+ghost use Rattle.std.specs.Prelude.{◌≡◌, ◌<◌, ◌++◌, ◌∷◌, [], List, length, IfOk, IfSome, IsNone, ◌↔◌, min, if◌then◌else◌, is_ok};
 ghost use Rattle.reg_tree.specs.Texts.{ops_text_len, op_text_len, element_text_len};
 
 use crate::op::Op;

@@ -20,7 +20,8 @@ ghost use Rattle.reg_tree.specs.declared.element.Element.{Element};
 /// After any accepted changes each tree has its root, a key's parent is there, and a key stands under the
 /// fold of its name. It is so of an operation that may not be carried out as well: it changes nothing.
 pub fn trees_stay()
-    ensures one { (tree : TreeMap) → IsTree tree → (op : Op) (moment : ℕ) → IsTree (changed tree op moment) }
+    ensures one { (tree : TreeMap) → IsTree tree → (op : Op) (moment : ℕ) →
+        IsTree (changed tree op moment) }
     ensures all { (trees : List TreeMap) (elements : List Element) → AreTrees trees →
         AreTrees (after_elements trees elements) }
 {}

@@ -76,7 +76,7 @@ impl Op {
     pub fn text_len(&self) -> u64
         ensures { result ≡ min (op_text_len self.now) u64.MAX }
     {
-        let path = path_text_len(self.path());
+        let path = encoded_path_len(self.path());
         match self {
             Op::CreateKey { .. } | Op::DeleteKey { .. } => path.saturating_add(2),
             Op::SetValue { name, data, .. } => {
@@ -94,7 +94,7 @@ impl Op {
     }
 }
 
-fn path_text_len(path: &Path) -> u64
+fn encoded_path_len(path: &Path) -> u64
     ensures { result ≡ min (path_text_len path.now) u64.MAX }
 {
     let mut total = 2u64;

@@ -1,5 +1,5 @@
 //! One registry tree.
-ghost use Rattle.std.specs.Prelude.{◌≡◌, ◌+◌, ◌-◌, ◌<◌, ◌≤◌, ◌==◌, length, take, List, [], ℕ, ◌++◌, IfSome, IfNone, IfOk, MatchResult, min};
+ghost use Rattle.std.specs.Prelude.{◌≡◌, ◌+◌, ◌-◌, ◌<◌, ◌≤◌, ◌==◌, length, take, List, [], ℕ, ◌++◌, IfSome, IfNone, IfOk, min, IfErr};
 ghost use Rattle.reg_names.specs.Names.{folded_path};
 ghost use Rattle.reg_tree_parts.specs.Nodes.{row_at, names_below, IsNode};
 ghost use Rattle.std.specs.FinMap as finite;
@@ -102,7 +102,10 @@ impl Tree {
 
     /// The value of this name. Refused with `NotFound` exactly where there is no such key or value.
     pub fn get_value(&self, path: &Path, name: &Name) -> Result<&Value, Refusal>
-        ensures { MatchResult result (λ value. value_at self.now (folded_path path.now) name.now ≡ Some value.now) (IsMissing (value_at self.now (folded_path path.now) name.now)) }
+        ensures ok { IfOk result (λ value.
+            value_at self.now (folded_path path.now) name.now ≡ Some value.now) }
+        ensures refused { IfErr result
+            (IsMissing (value_at self.now (folded_path path.now) name.now)) }
     {
         let Some(node) = self.node(path.names()) else {
             return Err(Refusal::NotFound);
@@ -116,7 +119,10 @@ impl Tree {
     /// The value at this index, in the order of names. Refused with `NotFound` exactly where there is no such
     /// key or the index is past its last value.
     pub fn enum_value(&self, path: &Path, index: usize) -> Result<&Value, Refusal>
-        ensures { MatchResult result (λ value. value_index self.now (folded_path path.now) index ≡ Some value.now) (IsMissing (value_index self.now (folded_path path.now) index)) }
+        ensures ok { IfOk result (λ value.
+            value_index self.now (folded_path path.now) index ≡ Some value.now) }
+        ensures refused { IfErr result
+            (IsMissing (value_index self.now (folded_path path.now) index)) }
     {
         let Some(node) = self.node(path.names()) else {
             return Err(Refusal::NotFound);
@@ -130,7 +136,10 @@ impl Tree {
     /// The name of the subkey at this index, in the order of names. Refused with `NotFound` exactly where there
     /// is no such key or the index is past its last subkey.
     pub fn enum_key(&self, path: &Path, index: usize) -> Result<&Name, Refusal>
-        ensures { MatchResult result (λ name. subkey_index self.now (folded_path path.now) index ≡ Some name.now) (IsMissing (subkey_index self.now (folded_path path.now) index)) }
+        ensures ok { IfOk result (λ name.
+            subkey_index self.now (folded_path path.now) index ≡ Some name.now) }
+        ensures refused { IfErr result
+            (IsMissing (subkey_index self.now (folded_path path.now) index)) }
     {
         let Some(node) = self.node(path.names()) else {
             return Err(Refusal::NotFound);
@@ -145,11 +154,12 @@ impl Tree {
     /// How many subkeys and values the key has, and when it was last written. Refused with `NotFound` exactly
     /// where there is no such key.
     pub fn query_info(&self, path: &Path) -> Result<Info, Refusal>
-        ensures { MatchResult result (λ info. info_of self.now (folded_path path.now) ≡ Some info) (IsMissing (info_of self.now (folded_path path.now))) }
+        ensures ok { IfOk result (λ info. info_of self.now (folded_path path.now) ≡ Some info) }
+        ensures refused { IfErr result (IsMissing (info_of self.now (folded_path path.now))) }
     {
         match self.node(path.names()) {
             Some(node) => Ok(Info {
-                subkeys: node.subkeys(),
+                subkeys: node.subkey_count(),
                 values: node.key().values().len(),
                 time: node.key().time(),
             }),
@@ -163,18 +173,18 @@ impl Tree {
     /// deletion of the root is `Fixed`; of a missing key `NotFound`; of one marked as not deletable `Fixed`; of
     /// one with subkeys `HasSubkeys`. A value is written and deleted only where its key, and for a deletion the
     /// value, is there, else `NotFound`; and written only up to 1,048,576 bytes, else `TooLarge`.
-    pub fn judged(&self, op: &Op) -> Result<Legality, Refusal>
+    pub fn judge(&self, op: &Op) -> Result<Legality, Refusal>
         ensures { result ≡ judged self.now op.now }
     {
         match op {
-            Op::CreateKey { path, .. } => self.judged_create(path),
-            Op::DeleteKey { path, .. } => self.judged_delete(path),
-            Op::SetValue { path, data, .. } => self.judged_set(path, data),
-            Op::DeleteValue { path, name, .. } => self.judged_unset(path, name),
+            Op::CreateKey { path, .. } => self.judge_create(path),
+            Op::DeleteKey { path, .. } => self.judge_delete(path),
+            Op::SetValue { path, data, .. } => self.judge_set(path, data),
+            Op::DeleteValue { path, name, .. } => self.judge_unset(path, name),
         }
     }
 
-    fn judged_create(&self, path: &Path) -> Result<Legality, Refusal>
+    fn judge_create(&self, path: &Path) -> Result<Legality, Refusal>
         ensures { result ≡ judged_create self.now (folded_path path.now) }
     {
         let names = path.names();
@@ -188,7 +198,7 @@ impl Tree {
         Ok(Legality::Legal)
     }
 
-    fn judged_delete(&self, path: &Path) -> Result<Legality, Refusal>
+    fn judge_delete(&self, path: &Path) -> Result<Legality, Refusal>
         ensures { result ≡ judged_delete_at self.now path.now }
     {
         let names = path.names();
@@ -201,13 +211,13 @@ impl Tree {
         if node.key().flags() & NOT_DELETABLE != 0 {
             return Err(Refusal::Fixed);
         }
-        if node.subkeys() != 0 {
+        if node.subkey_count() != 0 {
             return Err(Refusal::HasSubkeys);
         }
         Ok(Legality::Legal)
     }
 
-    fn judged_set(&self, path: &Path, data: &Data) -> Result<Legality, Refusal>
+    fn judge_set(&self, path: &Path, data: &Data) -> Result<Legality, Refusal>
         ensures { result ≡ judged_set self.now (folded_path path.now) data.now }
     {
         let Some(node) = self.node(path.names()) else {
@@ -220,7 +230,7 @@ impl Tree {
         Ok(Legality::Legal)
     }
 
-    fn judged_unset(&self, path: &Path, name: &ValueName) -> Result<Legality, Refusal>
+    fn judge_unset(&self, path: &Path, name: &ValueName) -> Result<Legality, Refusal>
         ensures { result ≡ judged_unset self.now (folded_path path.now) name.now }
     {
         let Some(node) = self.node(path.names()) else {
@@ -236,10 +246,13 @@ impl Tree {
     fn nearest(&self, path: &[Name]) -> (&Node, usize)
         ensures within { result.1 ≤ length path.now }
         ensures depth { result.1 ≡ depth_there self.now (folded_path path.now) }
-        ensures missing { length (missing self.now (folded_path path.now)) ≡ length path.now - result.1 }
+        ensures missing { length (missing self.now (folded_path path.now))
+            ≡ length path.now - result.1 }
         ensures there { is_there self.now (folded_path path.now) ≡ (result.1 == length path.now) }
-        ensures below { (rest : List (List ℕ)) → row self.now (take result.1 (folded_path path.now) ++ rest) ≡ row_at result.0.now rest }
-        ensures gone { result.1 < length (folded_path path.now) → (rest : List (List ℕ)) → row self.now (take (result.1 + 1) (folded_path path.now) ++ rest) ≡ None }
+        ensures below { (rest : List (List ℕ)) →
+            row self.now (take result.1 (folded_path path.now) ++ rest) ≡ row_at result.0.now rest }
+        ensures gone { result.1 < length (folded_path path.now) → (rest : List (List ℕ)) →
+            row self.now (take (result.1 + 1) (folded_path path.now) ++ rest) ≡ None }
     {
         let (node, depth) = self.root.nearest(path);
         let _ = node.key();
@@ -248,10 +261,14 @@ impl Tree {
 
     // the node of the key at this path
     fn node(&self, path: &[Name]) -> Option<&Node>
-        ensures found { IfSome result (λ node. (rest : List (List ℕ)) → row self.now (folded_path path.now ++ rest) ≡ row_at node.now rest) }
-        ensures key { IfSome result (λ node. row self.now (folded_path path.now) ≡ row_at node.now []) }
-        ensures names { IfSome result (λ node. subkeys self.now (folded_path path.now) ≡ names_below [] node.now) }
-        ensures none { IfNone result ((rest : List (List ℕ)) → row self.now (folded_path path.now ++ rest) ≡ None) }
+        ensures found { IfSome result (λ node. (rest : List (List ℕ)) →
+            row self.now (folded_path path.now ++ rest) ≡ row_at node.now rest) }
+        ensures key { IfSome result (λ node. row self.now (folded_path path.now)
+            ≡ row_at node.now []) }
+        ensures names { IfSome result (λ node. subkeys self.now (folded_path path.now)
+            ≡ names_below [] node.now) }
+        ensures none { IfNone result ((rest : List (List ℕ)) →
+            row self.now (folded_path path.now ++ rest) ≡ None) }
         ensures missing { IfNone result (row self.now (folded_path path.now) ≡ None) }
     {
         match self.root.find(path) {

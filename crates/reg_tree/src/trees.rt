@@ -119,18 +119,18 @@ impl Trees {
     {
         let mut made = self.try_clone(alloc)?;
         for op in ops {
-            made.change(alloc, op, moment)?;
+            made.apply_one(alloc, op, moment)?;
         }
         Ok(made)
     }
 
     // one operation more
-    fn change(&mut self, alloc: Global, op: &Op, moment: u64) -> Result<(), AllocError>
+    fn apply_one(&mut self, alloc: Global, op: &Op, moment: u64) -> Result<(), AllocError>
         ensures { IfOk result (λ _. self.new ≡ applied_one self.old op.now moment) }
     {
         let hive = usize::from(op.hive());
         if hive < self.hives.len() {
-            let made = self.hives[hive].changed(alloc, op, moment)?;
+            let made = self.hives[hive].apply(alloc, op, moment)?;
             self.hives[hive] = made;
         }
         Ok(())

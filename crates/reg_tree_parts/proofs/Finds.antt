@@ -8,7 +8,7 @@ use Rattle.reg_tree_parts.specs.Orders.{name_order, path_order}
 use Rattle.reg_tree_parts.specs.Rows.{Row}
 use Rattle.reg_tree_parts.specs.Nodes.{Entries, below, all_below, row_at, row_in}
 use Rattle.reg_tree_parts.proofs.Keys.{names_total}
-use Rattle.reg_tree_parts.proofs.Places.{front_of, back_of, less_of}
+use Rattle.reg_tree_parts.proofs.SortedLists.{front_of, back_of, less_of}
 
 -- the first of two that is there
 abbrev or_else : {A : Type 0} → Option A → Option A → Option A
@@ -46,24 +46,24 @@ find-below_apart n a q (e ∷ es) apart =
     ∙ find-below_apart n a q es apart
 
 -- a name that ties with one below all is not among them
-pub find_below_all : (n a : List ℕ) (kids : List (List ℕ × Entries)) → name_order n a ≡ Equal → T (below_all name_order a kids) → find name_order n kids ≡ None
+pub find_below_all : (n a : List ℕ) (subkeys : List (List ℕ × Entries)) → name_order n a ≡ Equal → T (below_all name_order a subkeys) → find name_order n subkeys ≡ None
 find_below_all n a [] tied h = refl
-find_below_all n a (kid ∷ kids) tied h =
-    let less : name_order n kid.0 ≡ Less = names_total.congr n a kid.0 tied ∙ less_of (name_order a kid.0) (front_of (is_lt (name_order a kid.0)) (below_all name_order a kids) h) in
-    ap (λ o. cond (is_eq o) (Some kid.1) (find name_order n kids)) less ∙ find_below_all n a kids tied (back_of (is_lt (name_order a kid.0)) (below_all name_order a kids) h)
+find_below_all n a (subkey ∷ subkeys) tied h =
+    let less : name_order n subkey.0 ≡ Less = names_total.congr n a subkey.0 tied ∙ less_of (name_order a subkey.0) (front_of (is_lt (name_order a subkey.0)) (below_all name_order a subkeys) h) in
+    ap (λ o. cond (is_eq o) (Some subkey.1) (find name_order n subkeys)) less ∙ find_below_all n a subkeys tied (back_of (is_lt (name_order a subkey.0)) (below_all name_order a subkeys) h)
 
 -- what stands at a path below the subkeys is what stands at its rest in the subkey of its first name
-pub find-all_below : (n : List ℕ) (q : List (List ℕ)) (kids : List (List ℕ × Entries)) → T (is_sorted name_order kids) → row_at (all_below kids) (n ∷ q) ≡ row_in (find name_order n kids) q
+pub find-all_below : (n : List ℕ) (q : List (List ℕ)) (subkeys : List (List ℕ × Entries)) → T (is_sorted name_order subkeys) → row_at (all_below subkeys) (n ∷ q) ≡ row_in (find name_order n subkeys) q
 find-all_below n q [] h = refl
-find-all_below n q (kid ∷ kids) h =
-    find-append path_order (n ∷ q) (below kid.0 kid.1) (all_below kids)
-    ∙ ap (or_else (find path_order (n ∷ q) (below kid.0 kid.1))) (find-all_below n q kids (back_of _ _ h))
-    ∙ elim (eq_by_cmp name_order n kid.0) as (λ b. eq_by_cmp name_order n kid.0 ≡ b → or_else (find path_order (n ∷ q) (below kid.0 kid.1)) (row_in (find name_order n kids) q) ≡ row_in (cond b (Some kid.1) (find name_order n kids)) q) [
+find-all_below n q (subkey ∷ subkeys) h =
+    find-append path_order (n ∷ q) (below subkey.0 subkey.1) (all_below subkeys)
+    ∙ ap (or_else (find path_order (n ∷ q) (below subkey.0 subkey.1))) (find-all_below n q subkeys (back_of _ _ h))
+    ∙ elim (eq_by_cmp name_order n subkey.0) as (λ b. eq_by_cmp name_order n subkey.0 ≡ b → or_else (find path_order (n ∷ q) (below subkey.0 subkey.1)) (row_in (find name_order n subkeys) q) ≡ row_in (cond b (Some subkey.1) (find name_order n subkeys)) q) [
       | true ↦ λ e.
-          let tied : name_order n kid.0 ≡ Equal = equal_of _ e in
-          ap (λ o. or_else (find path_order (n ∷ q) (below kid.0 kid.1)) (row_in o q)) (find_below_all n kid.0 kids tied (front_of _ _ h))
-          ∙ or_else_none _ ∙ find-below_tied n kid.0 q kid.1 tied
-      | false ↦ λ e. ap (λ o. or_else o (row_in (find name_order n kids) q)) (find-below_apart n kid.0 q kid.1 e)
+          let tied : name_order n subkey.0 ≡ Equal = equal_of _ e in
+          ap (λ o. or_else (find path_order (n ∷ q) (below subkey.0 subkey.1)) (row_in o q)) (find_below_all n subkey.0 subkeys tied (front_of _ _ h))
+          ∙ or_else_none _ ∙ find-below_tied n subkey.0 q subkey.1 tied
+      | false ↦ λ e. ap (λ o. or_else o (row_in (find name_order n subkeys) q)) (find-below_apart n subkey.0 q subkey.1 e)
     ] refl
   where
     or_else_none : (o : Option Row) → or_else o None ≡ o

@@ -1,4 +1,4 @@
-pub mod Places
+pub mod SortedLists
 pub mod Keys
 pub mod ValueLists
 pub mod Finds

@@ -7,7 +7,7 @@ use Rattle.reg_tree_parts.specs.Orders.{name_order, path_order}
 use Rattle.reg_tree_parts.specs.Rows.{Row}
 use Rattle.reg_tree_parts.specs.Nodes.{Entries, below, all_below, entries_of, IsNode, AreNodes, one_below, names_below, spelled_root}
 use Rattle.std.proofs.Common.{append-nil}
-use Rattle.reg_tree_parts.proofs.Places.{front_of, back_of}
+use Rattle.reg_tree_parts.proofs.SortedLists.{front_of, back_of}
 use Rattle.reg_tree_parts.proofs.Finds.{find_below_all, equal_of}
 
 names_below-append : (p : List (List ℕ)) (xs ys : Entries) → names_below p (xs ++ ys) ≡ names_below p xs ++ names_below p ys
@@ -30,12 +30,12 @@ names-below_root n es node =
     deeper ((m ∷ q, row) ∷ xs) h = deeper xs h
 
 -- one level below the root of a key with subkeys are the names of the subkeys
-pub names-root : (row : Row) (kids : List (List ℕ × Entries)) → AreNodes kids → names_below [] (entries_of row kids) ≡ map (λ kid. spelled_root kid.1) kids
+pub names-root : (row : Row) (subkeys : List (List ℕ × Entries)) → AreNodes subkeys → names_below [] (entries_of row subkeys) ≡ map (λ subkey. spelled_root subkey.1) subkeys
 names-root row [] nodes = refl
-names-root row (kid ∷ kids) nodes =
-    names_below-append [] (below kid.0 kid.1) (all_below kids)
-    ∙ ap (λ ns. ns ++ names_below [] (all_below kids)) (names-below_root kid.0 kid.1 nodes.0)
-    ∙ ap (λ ns. spelled_root kid.1 ∷ ns) (names-root row kids nodes.1)
+names-root row (subkey ∷ subkeys) nodes =
+    names_below-append [] (below subkey.0 subkey.1) (all_below subkeys)
+    ∙ ap (λ ns. ns ++ names_below [] (all_below subkeys)) (names-below_root subkey.0 subkey.1 nodes.0)
+    ∙ ap (λ ns. spelled_root subkey.1 ∷ ns) (names-root row subkeys nodes.1)
 
 -- one level below a path that begins with a name that ties, the names are those below its rest
 names-below_tied : (n a : List ℕ) (p : List (List ℕ)) (es : Entries) → eq_by_cmp name_order n a ≡ true → names_below (n ∷ p) (below a es) ≡ names_below p es
@@ -60,14 +60,14 @@ names_in None path = []
 names_in (Some entries) path = names_below path entries
 
 -- one level below a path, the names are those below its rest in the subkey of its first name
-pub names-all_below : (n : List ℕ) (p : List (List ℕ)) (kids : List (List ℕ × Entries)) → T (is_sorted name_order kids) → names_below (n ∷ p) (all_below kids) ≡ names_in (find name_order n kids) p
+pub names-all_below : (n : List ℕ) (p : List (List ℕ)) (subkeys : List (List ℕ × Entries)) → T (is_sorted name_order subkeys) → names_below (n ∷ p) (all_below subkeys) ≡ names_in (find name_order n subkeys) p
 names-all_below n p [] h = refl
-names-all_below n p (kid ∷ kids) h =
-    names_below-append (n ∷ p) (below kid.0 kid.1) (all_below kids)
-    ∙ ap (λ ns. names_below (n ∷ p) (below kid.0 kid.1) ++ ns) (names-all_below n p kids (back_of (below_all name_order kid.0 kids) (is_sorted name_order kids) h))
-    ∙ elim (eq_by_cmp name_order n kid.0) as (λ b. eq_by_cmp name_order n kid.0 ≡ b → names_below (n ∷ p) (below kid.0 kid.1) ++ names_in (find name_order n kids) p ≡ names_in (cond b (Some kid.1) (find name_order n kids)) p) [
+names-all_below n p (subkey ∷ subkeys) h =
+    names_below-append (n ∷ p) (below subkey.0 subkey.1) (all_below subkeys)
+    ∙ ap (λ ns. names_below (n ∷ p) (below subkey.0 subkey.1) ++ ns) (names-all_below n p subkeys (back_of (below_all name_order subkey.0 subkeys) (is_sorted name_order subkeys) h))
+    ∙ elim (eq_by_cmp name_order n subkey.0) as (λ b. eq_by_cmp name_order n subkey.0 ≡ b → names_below (n ∷ p) (below subkey.0 subkey.1) ++ names_in (find name_order n subkeys) p ≡ names_in (cond b (Some subkey.1) (find name_order n subkeys)) p) [
       | true ↦ λ e.
-          ap (λ o. names_below (n ∷ p) (below kid.0 kid.1) ++ names_in o p) (find_below_all n kid.0 kids (equal_of (name_order n kid.0) e) (front_of (below_all name_order kid.0 kids) (is_sorted name_order kids) h))
-          ∙ append-nil (names_below (n ∷ p) (below kid.0 kid.1)) ∙ names-below_tied n kid.0 p kid.1 e
-      | false ↦ λ e. ap (λ ns. ns ++ names_in (find name_order n kids) p) (names-below_apart n kid.0 p kid.1 e)
+          ap (λ o. names_below (n ∷ p) (below subkey.0 subkey.1) ++ names_in o p) (find_below_all n subkey.0 subkeys (equal_of (name_order n subkey.0) e) (front_of (below_all name_order subkey.0 subkeys) (is_sorted name_order subkeys) h))
+          ∙ append-nil (names_below (n ∷ p) (below subkey.0 subkey.1)) ∙ names-below_tied n subkey.0 p subkey.1 e
+      | false ↦ λ e. ap (λ ns. ns ++ names_in (find name_order n subkeys) p) (names-below_apart n subkey.0 p subkey.1 e)
     ] refl

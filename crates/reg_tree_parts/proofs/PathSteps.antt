@@ -59,13 +59,6 @@ rows_branch made leaf child name next bytes rest time here root below others alo
           others m q (ap (eq_by_cmp name_order m) root ∙ apart) ∙ alone m q ∙ sym (ap (λ b. cond b (branch_row next rest bytes time q) None) apart)
     ])
 
--- where a subkey was replaced, what stands at a path through it
-pub within_step : (made child : Entries) (name : List ℕ) (rest : List (List ℕ)) (with : Entries) (path : List (List ℕ)) → path ≡ name ∷ rest → root_name child ≡ folded name
-    → ((r : List (List ℕ)) → row_at made (root_name child ∷ r) ≡ row_at child r) → ((r : List (List ℕ)) → row_at child (folded_path rest ++ r) ≡ row_at with r)
-    → (r : List (List ℕ)) → row_at made (folded_path path ++ r) ≡ row_at with r
-within_step made child name rest with path is root below inner r =
-    rw is (ap (λ n. row_at made (n ∷ (folded_path rest ++ r))) (sym root) ∙ below (folded_path rest ++ r) ∙ inner r)
-
 -- and at any other path
 pub others_step : (made self new old : Entries) (row : Row) (name : List ℕ) (rest : List (List ℕ)) (path : List (List ℕ)) → path ≡ name ∷ rest → row_at made [] ≡ Some row → row_at self [] ≡ Some row → root_name new ≡ folded name
     → ((r : List (List ℕ)) → row_at made (root_name new ∷ r) ≡ row_at new r) → ((m : List ℕ) (r : List (List ℕ)) → eq_by_cmp name_order m (root_name new) ≡ false → row_at made (m ∷ r) ≡ row_at self (m ∷ r))

@@ -9,7 +9,7 @@ use Rattle.reg_tree_parts.specs.Orders.{name_order, path_order}
 use Rattle.reg_tree_parts.specs.Rows.{Row}
 use Rattle.reg_tree_parts.specs.Nodes.{Entries, below, all_below, entries_of, AreNodes}
 use Rattle.reg_tree_parts.proofs.Keys.{names_total}
-use Rattle.reg_tree_parts.proofs.Places.{front_of, back_of, less_of}
+use Rattle.reg_tree_parts.proofs.SortedLists.{front_of, back_of, less_of}
 
 both_of : (a b : Bool) → T a → T b → T (a && b)
 both_of true b p q = q
@@ -26,9 +26,9 @@ root_below : (n : List ℕ) (es : Entries) → T (below_all path_order [] (below
 root_below n [] = tt
 root_below n (e ∷ es) = root_below n es
 
-root_below_all : (kids : List (List ℕ × Entries)) → T (below_all path_order [] (all_below kids))
+root_below_all : (subkeys : List (List ℕ × Entries)) → T (below_all path_order [] (all_below subkeys))
 root_below_all [] = tt
-root_below_all (kid ∷ kids) = below_all-append [] (below kid.0 kid.1) (all_below kids) (root_below kid.0 kid.1) (root_below_all kids)
+root_below_all (subkey ∷ subkeys) = below_all-append [] (below subkey.0 subkey.1) (all_below subkeys) (root_below subkey.0 subkey.1) (root_below_all subkeys)
 
 -- under one name, paths compare as their rests do
 same_first : (n : List ℕ) (o : Ordering) → ordering_then (name_order n n) o ≡ o
@@ -55,27 +55,27 @@ below_other n m p (e ∷ es) less =
     both_of (is_lt (ordering_then (name_order n m) (path_order p e.0))) (below_all path_order (n ∷ p) (below m es))
     (subst (λ o. T (is_lt (ordering_then o (path_order p e.0)))) (sym less) tt) (below_other n m p es less)
 
-below_others : (n : List ℕ) (p : List (List ℕ)) (kids : List (List ℕ × Entries)) → T (below_all name_order n kids) → T (below_all path_order (n ∷ p) (all_below kids))
+below_others : (n : List ℕ) (p : List (List ℕ)) (subkeys : List (List ℕ × Entries)) → T (below_all name_order n subkeys) → T (below_all path_order (n ∷ p) (all_below subkeys))
 below_others n p [] h = tt
-below_others n p (kid ∷ kids) h =
-    below_all-append (n ∷ p) (below kid.0 kid.1) (all_below kids)
-    (below_other n kid.0 p kid.1 (less_of (name_order n kid.0) (front_of (is_lt (name_order n kid.0)) (below_all name_order n kids) h)))
-    (below_others n p kids (back_of (is_lt (name_order n kid.0)) (below_all name_order n kids) h))
+below_others n p (subkey ∷ subkeys) h =
+    below_all-append (n ∷ p) (below subkey.0 subkey.1) (all_below subkeys)
+    (below_other n subkey.0 p subkey.1 (less_of (name_order n subkey.0) (front_of (is_lt (name_order n subkey.0)) (below_all name_order n subkeys) h)))
+    (below_others n p subkeys (back_of (is_lt (name_order n subkey.0)) (below_all name_order n subkeys) h))
 
 -- the entries of one subkey, and those of the subkeys after it
-sorted_joined : (n : List ℕ) (es : Entries) (kids : List (List ℕ × Entries)) → T (is_sorted path_order (below n es)) → T (below_all name_order n kids) → T (is_sorted path_order (all_below kids)) → T (is_sorted path_order (below n es ++ all_below kids))
-sorted_joined n [] kids h less rest = rest
-sorted_joined n (e ∷ es) kids h less rest =
-    both_of (below_all path_order (n ∷ e.0) (below n es ++ all_below kids)) (is_sorted path_order (below n es ++ all_below kids))
-    (below_all-append (n ∷ e.0) (below n es) (all_below kids) (front_of (below_all path_order (n ∷ e.0) (below n es)) (is_sorted path_order (below n es)) h) (below_others n e.0 kids less))
-    (sorted_joined n es kids (back_of (below_all path_order (n ∷ e.0) (below n es)) (is_sorted path_order (below n es)) h) less rest)
+sorted_joined : (n : List ℕ) (es : Entries) (subkeys : List (List ℕ × Entries)) → T (is_sorted path_order (below n es)) → T (below_all name_order n subkeys) → T (is_sorted path_order (all_below subkeys)) → T (is_sorted path_order (below n es ++ all_below subkeys))
+sorted_joined n [] subkeys h less rest = rest
+sorted_joined n (e ∷ es) subkeys h less rest =
+    both_of (below_all path_order (n ∷ e.0) (below n es ++ all_below subkeys)) (is_sorted path_order (below n es ++ all_below subkeys))
+    (below_all-append (n ∷ e.0) (below n es) (all_below subkeys) (front_of (below_all path_order (n ∷ e.0) (below n es)) (is_sorted path_order (below n es)) h) (below_others n e.0 subkeys less))
+    (sorted_joined n es subkeys (back_of (below_all path_order (n ∷ e.0) (below n es)) (is_sorted path_order (below n es)) h) less rest)
 
-sorted_all : (kids : List (List ℕ × Entries)) → AreNodes kids → T (is_sorted name_order kids) → T (is_sorted path_order (all_below kids))
+sorted_all : (subkeys : List (List ℕ × Entries)) → AreNodes subkeys → T (is_sorted name_order subkeys) → T (is_sorted path_order (all_below subkeys))
 sorted_all [] nodes h = tt
-sorted_all (kid ∷ kids) nodes h =
-    sorted_joined kid.0 kid.1 kids (sorted_same kid.0 kid.1 nodes.0.rises) (front_of (below_all name_order kid.0 kids) (is_sorted name_order kids) h)
-    (sorted_all kids nodes.1 (back_of (below_all name_order kid.0 kids) (is_sorted name_order kids) h))
+sorted_all (subkey ∷ subkeys) nodes h =
+    sorted_joined subkey.0 subkey.1 subkeys (sorted_same subkey.0 subkey.1 nodes.0.rises) (front_of (below_all name_order subkey.0 subkeys) (is_sorted name_order subkeys) h)
+    (sorted_all subkeys nodes.1 (back_of (below_all name_order subkey.0 subkeys) (is_sorted name_order subkeys) h))
 
 -- a key and its subkeys in order
-pub entries_rise : (row : Row) (kids : List (List ℕ × Entries)) → AreNodes kids → T (is_sorted name_order kids) → T (is_sorted path_order (entries_of row kids))
-entries_rise row kids nodes h = both_of (below_all path_order [] (all_below kids)) (is_sorted path_order (all_below kids)) (root_below_all kids) (sorted_all kids nodes h)
+pub entries_rise : (row : Row) (subkeys : List (List ℕ × Entries)) → AreNodes subkeys → T (is_sorted name_order subkeys) → T (is_sorted path_order (entries_of row subkeys))
+entries_rise row subkeys nodes h = both_of (below_all path_order [] (all_below subkeys)) (is_sorted path_order (all_below subkeys)) (root_below_all subkeys) (sorted_all subkeys nodes h)

@@ -18,7 +18,7 @@ use Rattle.reg_tree_parts.specs.Searches.{IsFound, IsGap}
 use Rattle.reg_tree_parts.specs.Rows.{ValueMap}
 use Rattle.reg_tree_parts.specs.ValueEdits.{spelled_name, values_with}
 use Rattle.reg_tree_parts.proofs.Keys.{names_total, names_apart}
-use Rattle.reg_tree_parts.proofs.Places.{find_at, find_gap, put_at, put_gap, without_at, without_gap}
+use Rattle.reg_tree_parts.proofs.SortedLists.{find_at, find_gap, put_at, put_gap, without_at, without_gap}
 use Rattle.reg_tree_parts.specs.declared.value.Value.{Value}
 use Rattle.reg_tree_parts.specs.Orders.{name_order}
 use Rattle.reg_tree_parts.specs.Held.{value_entry, value_entries, shared_name}

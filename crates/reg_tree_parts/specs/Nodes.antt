@@ -30,24 +30,24 @@ abbrev pub below : List ℕ → Entries → Entries
 below name entries = map (λ e. (name ∷ e.0, e.1)) entries
 
 -- the entries of a subkey under its own name
-abbrev pub kid_entry : Arc Entries Global → List ℕ × Entries
-kid_entry kid = (root_name (arc_value kid), arc_value kid)
+abbrev pub subkey_entry : Arc Entries Global → List ℕ × Entries
+subkey_entry subkey = (root_name (arc_value subkey), arc_value subkey)
 
 -- the folded name of a subkey
-abbrev pub kid_name : Arc Entries Global → List ℕ
-kid_name kid = root_name (arc_value kid)
+abbrev pub subkey_name : Arc Entries Global → List ℕ
+subkey_name subkey = root_name (arc_value subkey)
 
-abbrev pub kid_entries : List (Arc Entries Global) → List (List ℕ × Entries)
-kid_entries kids = map kid_entry kids
+abbrev pub subkey_entries : List (Arc Entries Global) → List (List ℕ × Entries)
+subkey_entries subkeys = map subkey_entry subkeys
 
 -- the entries of all subkeys, seen from their parent
 abbrev pub all_below : List (List ℕ × Entries) → Entries
 all_below [] = []
-all_below (kid ∷ kids) = below kid.0 kid.1 ++ all_below kids
+all_below (subkey ∷ subkeys) = below subkey.0 subkey.1 ++ all_below subkeys
 
 -- the entries of a key with these subkeys
 abbrev pub entries_of : Row → List (List ℕ × Entries) → Entries
-entries_of row kids = ([], row) ∷ all_below kids
+entries_of row subkeys = ([], row) ∷ all_below subkeys
 
 -- the weight of entries: that of their rows together
 abbrev pub entries_weight : Entries → ℕ
@@ -70,14 +70,14 @@ pub record IsNode (entries : Entries) : Type 0 where
 -- each of a list of subkeys is one
 abbrev pub AreNodes : List (List ℕ × Entries) → Type 0
 AreNodes [] = Unit {0}
-AreNodes (kid ∷ kids) = IsNode kid.1 × AreNodes kids
+AreNodes (subkey ∷ subkeys) = IsNode subkey.1 × AreNodes subkeys
 
 -- what holds of every node: its subkeys are nodes in the order of their names, and its weight is that of its
 -- entries, as far as 64 bits hold it
-pub record NodeFits (row : Row) (kids : List (List ℕ × Entries)) (weight : ℕ) : Type 0 where
-  pub nodes : AreNodes kids
-  pub rises : T (is_sorted name_order kids)
-  pub weighs : weight ≡ min (entries_weight (entries_of row kids)) MAX
+pub record NodeFits (row : Row) (subkeys : List (List ℕ × Entries)) (weight : ℕ) : Type 0 where
+  pub nodes : AreNodes subkeys
+  pub rises : T (is_sorted name_order subkeys)
+  pub weighs : weight ≡ min (entries_weight (entries_of row subkeys)) MAX
 
 -- the row that stands at a path of what was found, if anything was
 abbrev pub row_in : Option Entries → List (List ℕ) → Option Row

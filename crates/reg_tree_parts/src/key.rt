@@ -45,7 +45,15 @@ impl Key {
         time: u64,
         values: Values,
     ) -> Key
-        ensures { result ≡ record { name = name; class = class; flags = flags; descriptor = descriptor; time = time; values = values } }
+        ensures { result ≡ record {
+          name = name;
+          class = class;
+          flags = flags;
+          descriptor =
+              descriptor;
+          time = time;
+          values = values;
+        } }
     {
         Key {
             name,
@@ -133,7 +141,7 @@ impl Key {
     }
 
     /// The key, written at this moment.
-    pub fn touched(&self, time: u64) -> Result<Key, AllocError>
+    pub fn with_time(&self, time: u64) -> Result<Key, AllocError>
         ensures { IfOk result (λ made. made ≡ record self.now { time = time }) }
     {
         let values = self.values.clone()?;

@@ -8,11 +8,11 @@ ghost use Rattle.reg_names.specs.Names.{folded, folded_path};
 ghost use Rattle.reg_tree_parts.specs.Orders.{name_order};
 ghost use Rattle.reg_tree_parts.specs.Rows.{Row};
 ghost use Rattle.reg_tree_parts.specs.Searches.{IsFound, IsGap};
-ghost use Rattle.reg_tree_parts.specs.Nodes.{Entries, entries_of, entries_weight, all_below, kid_entries, kid_name, root_name, row_at, names_below, spelled_root, begins_path, branch_row, IsNode, AreNodes};
+ghost use Rattle.reg_tree_parts.specs.Nodes.{Entries, entries_of, entries_weight, all_below, subkey_entries, subkey_name, root_name, row_at, names_below, spelled_root, begins_path, branch_row, IsNode, AreNodes};
 
 use crate::data::Data;
 use crate::key::Key;
-use crate::shared::copied;
+use crate::shared::copy;
 use reg_names::Name;
 use std::alloc::{AllocError, Global};
 use std::cmp::Ordering;
@@ -23,7 +23,7 @@ use std::sync::{Arc, ArcSlice};
 #[derive(Drop)]
 pub struct Node {
     key: Arc<Key>,
-    kids: ArcSlice<Arc<Node>>,
+    subkeys: ArcSlice<Arc<Node>>,
     weight: u64,
 }
 
@@ -32,35 +32,35 @@ impl Model for Node {
     ghost use Rattle.std.specs.Coded.{coded×, coded_ℕ, coded_list};
     ghost use Rattle.std.specs.Arc.{arc_value, arc_slice_items};
     ghost use Rattle.reg_tree_parts.specs.Rows.{row_code};
-    ghost use Rattle.reg_tree_parts.specs.Nodes.{Entries, entries_of, kid_entries, NodeFits};
+    ghost use Rattle.reg_tree_parts.specs.Nodes.{Entries, entries_of, subkey_entries, NodeFits};
 
     ghost Value = { Entries };
 
     ghost coded = { coded_list (coded× (coded_list (coded_list coded_ℕ)) row_code) };
 
-    ghost view = { λ inside. entries_of (arc_value inside.key) (kid_entries (arc_slice_items inside.kids)) };
+    ghost view = { λ inside. entries_of (arc_value inside.key) (subkey_entries (arc_slice_items inside.subkeys)) };
 
-    ghost invariant = { λ inside. NodeFits (arc_value inside.key) (kid_entries (arc_slice_items inside.kids)) inside.weight };
+    ghost invariant = { λ inside. NodeFits (arc_value inside.key) (subkey_entries (arc_slice_items inside.subkeys)) inside.weight };
 
     ghost size = { length };
 
     ghost use Rattle.std.proofs.Common.{arith};
-    ghost use Rattle.reg_tree_parts.specs.NodeFalls.{most_kid};
+    ghost use Rattle.reg_tree_parts.specs.NodeFalls.{most_subkey};
 
-    ghost size_decreases = { λ a h. omega (arith, most_kid a.kids.items.value.items) };
+    ghost size_decreases = { λ a h. omega (arith, most_subkey a.subkeys.items.value.items) };
 }
 
 impl Node {
     /// A key with these subkeys, which are in the order of their folded names.
     pub fn new(alloc: Global, key: Key, subkeys: Vec<Arc<Node>>) -> Result<Node, AllocError>
-        requires nodes { AreNodes (kid_entries subkeys.items) }
-        requires rises { T (is_sorted name_order (kid_entries subkeys.items)) }
-        ensures is { IfOk result (λ made. made ≡ entries_of key (kid_entries subkeys.items)) }
+        requires nodes { AreNodes (subkey_entries subkeys.items) }
+        requires rises { T (is_sorted name_order (subkey_entries subkeys.items)) }
+        ensures is { IfOk result (λ made. made ≡ entries_of key (subkey_entries subkeys.items)) }
         ensures node { IfOk result IsNode }
     {
         let key = Arc::new(alloc, key)?;
         let subkeys = ArcSlice::from_vec(subkeys)?;
-        Ok(Node::made(key, subkeys))
+        Ok(Node::from_parts(key, subkeys))
     }
 
     /// The weight of the key and of all keys below it, or the greatest number of 64 bits where it is more.
@@ -81,30 +81,36 @@ impl Node {
     }
 
     /// How many subkeys the key has.
-    pub fn subkeys(&self) -> usize
+    pub fn subkey_count(&self) -> usize
         ensures { result ≡ length (names_below [] self.now) }
     {
-        self.kids.len()
+        self.subkeys.len()
     }
 
     /// The subkey of this name.
     pub fn child(&self, name: &Name) -> Option<&Node>
-        ensures found { IfSome result (λ child. (path : List (List ℕ)) → row_at self.now (folded name.now ∷ path) ≡ row_at child.now path) }
-        ensures names { IfSome result (λ child. (path : List (List ℕ)) → names_below (folded name.now ∷ path) self.now ≡ names_below path child.now) }
+        ensures found { IfSome result (λ child. (path : List (List ℕ)) →
+            row_at self.now (folded name.now ∷ path) ≡ row_at child.now path) }
+        ensures names { IfSome result (λ child. (path : List (List ℕ)) →
+            names_below (folded name.now ∷ path) self.now ≡ names_below path child.now) }
         ensures named { IfSome result (λ child. root_name child.now ≡ folded name.now) }
-        ensures none { IfNone result ((path : List (List ℕ)) → row_at self.now (folded name.now ∷ path) ≡ None) }
+        ensures none { IfNone result ((path : List (List ℕ)) →
+            row_at self.now (folded name.now ∷ path) ≡ None) }
     {
-        match place(&self.kids, name) {
-            Ok(at) => Some(&*self.kids[at]),
+        match search(&self.subkeys, name) {
+            Ok(at) => Some(&*self.subkeys[at]),
             Err(_) => None,
         }
     }
 
     /// The key at this path from here on.
     pub fn find(&self, path: &[Name]) -> Option<&Node>
-        ensures found { IfSome result (λ node. (rest : List (List ℕ)) → row_at self.now (folded_path path.now ++ rest) ≡ row_at node.now rest) }
-        ensures names { IfSome result (λ node. names_below (folded_path path.now) self.now ≡ names_below [] node.now) }
-        ensures none { IfNone result ((rest : List (List ℕ)) → row_at self.now (folded_path path.now ++ rest) ≡ None) }
+        ensures found { IfSome result (λ node. (rest : List (List ℕ)) →
+            row_at self.now (folded_path path.now ++ rest) ≡ row_at node.now rest) }
+        ensures names { IfSome result (λ node. names_below (folded_path path.now) self.now
+            ≡ names_below [] node.now) }
+        ensures none { IfNone result ((rest : List (List ℕ)) →
+            row_at self.now (folded_path path.now ++ rest) ≡ None) }
     {
         match path.split_first() {
             None => Some(self),
@@ -118,8 +124,11 @@ impl Node {
     /// The deepest key that is there on the way along this path, and how many of its names lead to it.
     pub fn nearest(&self, path: &[Name]) -> (&Node, usize)
         ensures within { result.1 ≤ length path.now }
-        ensures there { (rest : List (List ℕ)) → row_at self.now (folded_path (take result.1 path.now) ++ rest) ≡ row_at result.0.now rest }
-        ensures missing { result.1 < length path.now → (rest : List (List ℕ)) → row_at self.now (folded_path (take (result.1 + 1) path.now) ++ rest) ≡ None }
+        ensures there { (rest : List (List ℕ)) →
+            row_at self.now (folded_path (take result.1 path.now) ++ rest)
+            ≡ row_at result.0.now rest }
+        ensures missing { result.1 < length path.now → (rest : List (List ℕ)) →
+            row_at self.now (folded_path (take (result.1 + 1) path.now) ++ rest) ≡ None }
     {
         match path.split_first() {
             None => (self, 0),
@@ -137,14 +146,15 @@ impl Node {
     pub fn with_key(&self, alloc: Global, key: Key) -> Result<Node, AllocError>
         requires { folded key.name ≡ root_name self.now }
         ensures here { IfOk result (λ made. row_at made [] ≡ Some key) }
-        ensures below { IfOk result (λ made. (name : List ℕ) (rest : List (List ℕ)) → row_at made (name ∷ rest) ≡ row_at self.now (name ∷ rest)) }
+        ensures below { IfOk result (λ made. (name : List ℕ) (rest : List (List ℕ)) →
+            row_at made (name ∷ rest) ≡ row_at self.now (name ∷ rest)) }
         ensures named { IfOk result (λ made. root_name made ≡ root_name self.now) }
         ensures node { IfOk result IsNode }
     {
         let _ = &self.weight;
         let key = Arc::new(alloc, key)?;
-        let kids = self.kids.clone()?;
-        Ok(Node::made(key, kids))
+        let subkeys = self.subkeys.clone()?;
+        Ok(Node::from_parts(key, subkeys))
     }
 
     // the key with this subkey in the place of its name
@@ -152,14 +162,17 @@ impl Node {
         requires named { folded key.value.name ≡ root_name self.now }
         requires node { IsNode child.value }
         ensures here { IfOk result (λ made. row_at made [] ≡ Some key.value) }
-        ensures child { IfOk result (λ made. (rest : List (List ℕ)) → row_at made (root_name child.value ∷ rest) ≡ row_at child.value rest) }
-        ensures others { IfOk result (λ made. (name : List ℕ) (rest : List (List ℕ)) → eq_by_cmp name_order name (root_name child.value) ≡ false → row_at made (name ∷ rest) ≡ row_at self.now (name ∷ rest)) }
+        ensures child { IfOk result (λ made. (rest : List (List ℕ)) →
+            row_at made (root_name child.value ∷ rest) ≡ row_at child.value rest) }
+        ensures others { IfOk result (λ made. (name : List ℕ) (rest : List (List ℕ)) →
+            eq_by_cmp name_order name (root_name child.value) ≡ false → row_at made (name ∷ rest)
+            ≡ row_at self.now (name ∷ rest)) }
         ensures root { IfOk result (λ made. root_name made ≡ root_name self.now) }
         ensures node { IfOk result IsNode }
     {
-        let kids = placed(alloc, &self.kids, child)?;
-        let kids = ArcSlice::from_vec(kids)?;
-        Ok(Node::made(key, kids))
+        let subkeys = insert(alloc, &self.subkeys, child)?;
+        let subkeys = ArcSlice::from_vec(subkeys)?;
+        Ok(Node::from_parts(key, subkeys))
     }
 
     /// The key with another row of the same name, and with this subkey in the place of its name.
@@ -167,8 +180,11 @@ impl Node {
         requires named { folded key.name ≡ root_name self.now }
         requires node { IsNode child }
         ensures here { IfOk result (λ made. row_at made [] ≡ Some key) }
-        ensures child { IfOk result (λ made. (rest : List (List ℕ)) → row_at made (root_name child ∷ rest) ≡ row_at child rest) }
-        ensures others { IfOk result (λ made. (name : List ℕ) (rest : List (List ℕ)) → eq_by_cmp name_order name (root_name child) ≡ false → row_at made (name ∷ rest) ≡ row_at self.now (name ∷ rest)) }
+        ensures child { IfOk result (λ made. (rest : List (List ℕ)) →
+            row_at made (root_name child ∷ rest) ≡ row_at child rest) }
+        ensures others { IfOk result (λ made. (name : List ℕ) (rest : List (List ℕ)) →
+            eq_by_cmp name_order name (root_name child) ≡ false → row_at made (name ∷ rest)
+            ≡ row_at self.now (name ∷ rest)) }
         ensures root { IfOk result (λ made. root_name made ≡ root_name self.now) }
         ensures node { IfOk result IsNode }
     {
@@ -181,34 +197,46 @@ impl Node {
     pub fn without_child(&self, alloc: Global, key: Key, name: &Name) -> Result<Node, AllocError>
         requires { folded key.name ≡ root_name self.now }
         ensures here { IfOk result (λ made. row_at made [] ≡ Some key) }
-        ensures gone { IfOk result (λ made. (rest : List (List ℕ)) → row_at made (folded name.now ∷ rest) ≡ None) }
-        ensures others { IfOk result (λ made. (other : List ℕ) (rest : List (List ℕ)) → eq_by_cmp name_order other (folded name.now) ≡ false → row_at made (other ∷ rest) ≡ row_at self.now (other ∷ rest)) }
+        ensures gone { IfOk result (λ made. (rest : List (List ℕ)) →
+            row_at made (folded name.now ∷ rest) ≡ None) }
+        ensures others { IfOk result (λ made. (other : List ℕ) (rest : List (List ℕ)) →
+            eq_by_cmp name_order other (folded name.now) ≡ false → row_at made (other ∷ rest)
+            ≡ row_at self.now (other ∷ rest)) }
         ensures root { IfOk result (λ made. root_name made ≡ root_name self.now) }
         ensures node { IfOk result IsNode }
     {
         let key = Arc::new(alloc, key)?;
-        let kids = taken_out(alloc, &self.kids, name)?;
-        let kids = ArcSlice::from_vec(kids)?;
-        Ok(Node::made(key, kids))
+        let subkeys = remove(alloc, &self.subkeys, name)?;
+        let subkeys = ArcSlice::from_vec(subkeys)?;
+        Ok(Node::from_parts(key, subkeys))
     }
 
     /// The name of the subkey at this index, in the order of names.
     pub fn subkey(&self, index: usize) -> Option<&Name>
         ensures { option_copied result ≡ slice_get (names_below [] self.now) index }
     {
-        if index < self.kids.len() {
-            Some(self.kids[index].key().name())
+        if index < self.subkeys.len() {
+            Some(self.subkeys[index].key().name())
         } else {
             None
         }
     }
 
     /// The key with the one at this path, and all below that, replaced by another of the same name.
-    pub fn replaced(&self, alloc: Global, path: &[Name], with: Node) -> Result<Node, AllocError>
-        requires named { (row : Row) × (row_at self.now (folded_path path.now) ≡ Some row) × (folded row.name ≡ root_name with) }
+    pub fn with_replaced(
+        &self,
+        alloc: Global,
+        path: &[Name],
+        with: Node,
+    ) -> Result<Node, AllocError>
+        requires named { (row : Row) × (row_at self.now (folded_path path.now) ≡ Some row)
+            × (folded row.name ≡ root_name with) }
         requires node { IsNode with }
-        ensures within { IfOk result (λ made. (rest : List (List ℕ)) → row_at made (folded_path path.now ++ rest) ≡ row_at with rest) }
-        ensures others { IfOk result (λ made. (other : List (List ℕ)) → begins_path (folded_path path.now) other ≡ false → row_at made other ≡ row_at self.now other) }
+        ensures within { IfOk result (λ made. (rest : List (List ℕ)) →
+            row_at made (folded_path path.now ++ rest) ≡ row_at with rest) }
+        ensures others { IfOk result (λ made. (other : List (List ℕ)) →
+            begins_path (folded_path path.now) other ≡ false → row_at made other
+            ≡ row_at self.now other) }
         ensures root { IfOk result (λ made. root_name made ≡ root_name self.now) }
         ensures node { IfOk result IsNode }
     {
@@ -219,7 +247,7 @@ impl Node {
         let Some(child) = self.child(name) else {
             unreachable!();
         };
-        let new = child.replaced(alloc, rest, with)?;
+        let new = child.with_replaced(alloc, rest, with)?;
         let made = self.with_child(alloc, key, Arc::new(alloc, new)?)?;
         Ok(made)
     }
@@ -227,13 +255,14 @@ impl Node {
     /// A key without subkeys.
     pub fn leaf(alloc: Global, key: Key) -> Result<Node, AllocError>
         ensures here { IfOk result (λ made. row_at made [] ≡ Some key) }
-        ensures alone { IfOk result (λ made. (name : List ℕ) (rest : List (List ℕ)) → row_at made (name ∷ rest) ≡ None) }
+        ensures alone { IfOk result (λ made. (name : List ℕ) (rest : List (List ℕ)) →
+            row_at made (name ∷ rest) ≡ None) }
         ensures root { IfOk result (λ made. root_name made ≡ folded key.name) }
         ensures node { IfOk result IsNode }
     {
         let key = Arc::new(alloc, key)?;
-        let kids = ArcSlice::from_vec(Vec::new(alloc))?;
-        Ok(Node::made(key, kids))
+        let subkeys = ArcSlice::from_vec(Vec::new(alloc))?;
+        Ok(Node::from_parts(key, subkeys))
     }
 
     /// A new key of this name, and below it one new key of each further name, all with this descriptor.
@@ -244,7 +273,8 @@ impl Node {
         descriptor: &Data,
         time: u64,
     ) -> Result<Node, AllocError>
-        ensures rows { IfOk result (λ made. (path : List (List ℕ)) → row_at made path ≡ branch_row name.now further.now descriptor.now time path) }
+        ensures rows { IfOk result (λ made. (path : List (List ℕ)) → row_at made path
+            ≡ branch_row name.now further.now descriptor.now time path) }
         ensures root { IfOk result (λ made. root_name made ≡ folded name.now) }
         ensures node { IfOk result IsNode }
     {
@@ -259,35 +289,45 @@ impl Node {
     }
 
     // a key with these subkeys
-    fn made(key: Arc<Key>, kids: ArcSlice<Arc<Node>>) -> Node
-        requires nodes { AreNodes (kid_entries (arc_slice_items kids)) }
-        requires rises { T (is_sorted name_order (kid_entries (arc_slice_items kids))) }
-        ensures is { result ≡ entries_of (arc_value key) (kid_entries (arc_slice_items kids)) }
+    fn from_parts(key: Arc<Key>, subkeys: ArcSlice<Arc<Node>>) -> Node
+        requires nodes { AreNodes (subkey_entries (arc_slice_items subkeys)) }
+        requires rises { T (is_sorted name_order (subkey_entries (arc_slice_items subkeys))) }
+        ensures is { result
+            ≡ entries_of (arc_value key) (subkey_entries (arc_slice_items subkeys)) }
         ensures node { IsNode result }
     {
-        let weight = key.weight().saturating_add(weight_of(&kids));
-        Node { key, kids, weight }
+        let weight = key.weight().saturating_add(weight_of(&subkeys));
+        Node {
+            key,
+            subkeys,
+            weight,
+        }
     }
 }
 
 // the weight of these keys and of all keys below them
-fn weight_of(kids: &[Arc<Node>]) -> u64
-    ensures { result ≡ min (entries_weight (all_below (kid_entries kids.now))) u64.MAX }
+fn weight_of(subkeys: &[Arc<Node>]) -> u64
+    ensures { result ≡ min (entries_weight (all_below (subkey_entries subkeys.now))) u64.MAX }
 {
     let mut weight = 0u64;
-    for kid in kids {
-        weight = weight.saturating_add(kid.weight());
+    for subkey in subkeys {
+        weight = weight.saturating_add(subkey.weight());
     }
     weight
 }
 
 // the subkeys with this one in the place of its name
-fn placed(alloc: Global, kids: &[Arc<Node>], child: Arc<Node>) -> Result<Vec<Arc<Node>>, AllocError>
-    requires { T (is_sorted name_order (kid_entries kids.now)) }
-    ensures { IfOk result (λ made. kid_entries made.items ≡ put name_order (root_name child.value) child.value (kid_entries kids.now)) }
+fn insert(
+    alloc: Global,
+    subkeys: &[Arc<Node>],
+    child: Arc<Node>,
+) -> Result<Vec<Arc<Node>>, AllocError>
+    requires { T (is_sorted name_order (subkey_entries subkeys.now)) }
+    ensures { IfOk result (λ made. subkey_entries made.items
+        ≡ put name_order (root_name child.value) child.value (subkey_entries subkeys.now)) }
 {
-    let mut made = copied(alloc, kids, 1)?;
-    match place(&made, child.key().name()) {
+    let mut made = copy(alloc, subkeys, 1)?;
+    match search(&made, child.key().name()) {
         Ok(at) => {
             made[at] = child;
             Ok(made)
@@ -300,12 +340,13 @@ fn placed(alloc: Global, kids: &[Arc<Node>], child: Arc<Node>) -> Result<Vec<Arc
 }
 
 // the subkeys without the one of this name
-fn taken_out(alloc: Global, kids: &[Arc<Node>], name: &Name) -> Result<Vec<Arc<Node>>, AllocError>
-    requires { T (is_sorted name_order (kid_entries kids.now)) }
-    ensures { IfOk result (λ made. kid_entries made.items ≡ where_key name_order (λ key. not (eq_by_cmp name_order (folded name.now) key)) (kid_entries kids.now)) }
+fn remove(alloc: Global, subkeys: &[Arc<Node>], name: &Name) -> Result<Vec<Arc<Node>>, AllocError>
+    requires { T (is_sorted name_order (subkey_entries subkeys.now)) }
+    ensures { IfOk result (λ made. subkey_entries made.items ≡ where_key name_order (λ key. not
+        (eq_by_cmp name_order (folded name.now) key)) (subkey_entries subkeys.now)) }
 {
-    let mut made = copied(alloc, kids, 0)?;
-    match place(&made, name) {
+    let mut made = copy(alloc, subkeys, 0)?;
+    match search(&made, name) {
         Ok(at) => {
             let _ = made.remove(at);
             Ok(made)
@@ -315,16 +356,17 @@ fn taken_out(alloc: Global, kids: &[Arc<Node>], name: &Name) -> Result<Vec<Arc<N
 }
 
 // where the subkey of this name stands, or where it would go
-fn place(kids: &[Arc<Node>], name: &Name) -> Result<usize, usize>
-    requires { T (is_sorted name_order (kid_entries kids.now)) }
-    ensures { MatchResult result (IsFound kid_name kids.now (folded name.now)) (IsGap name_order kid_name kids.now (folded name.now)) }
+fn search(subkeys: &[Arc<Node>], name: &Name) -> Result<usize, usize>
+    requires { T (is_sorted name_order (subkey_entries subkeys.now)) }
+    ensures { MatchResult result (IsFound subkey_name subkeys.now (folded name.now)) (IsGap
+        name_order subkey_name subkeys.now (folded name.now)) }
 {
-    kids.binary_search_by(|kid| compared(kid, name))
+    subkeys.binary_search_by(|subkey| compare(subkey, name))
 }
 
 // how the key's name compares with this one
-fn compared(kid: &Arc<Node>, name: &Name) -> Ordering
-    ensures { result ≡ name_order (kid_name kid.now) (folded name.now) }
+fn compare(subkey: &Arc<Node>, name: &Name) -> Ordering
+    ensures { result ≡ name_order (subkey_name subkey.now) (folded name.now) }
 {
-    kid.key().name().cmp(name)
+    subkey.key().name().cmp(name)
 }

@@ -6,7 +6,7 @@ use std::alloc::{AllocError, Global};
 use std::sync::Arc;
 
 /// A vector of the same things in the same order, with room for some more.
-pub(crate) fn copied<T: Drop>(
+pub(crate) fn copy<T: Drop>(
     alloc: Global,
     items: &[Arc<T>],
     room: usize,

@@ -13,7 +13,7 @@ ghost use Rattle.reg_tree_parts.specs.Held.{shared_name, value_entries};
 ghost use Rattle.reg_tree_parts.specs.ValueEdits.{spelled_name, values_with, values_without};
 
 use crate::data::Data;
-use crate::shared::copied;
+use crate::shared::copy;
 use crate::value::Value;
 use reg_names::Name;
 use std::alloc::{AllocError, Global};
@@ -68,15 +68,16 @@ impl Values {
         ensures found { option_copied result ≡ finite.get self.now (folded name.now) }
         ensures named { IfSome result (λ value. folded value.now.name ≡ folded name.now) }
     {
-        match place(&self.items, name) {
+        match search(&self.items, name) {
             Ok(at) => Some(&*self.items[at]),
             Err(_) => None,
         }
     }
 
     // the name as the value that has it spells it, else as it is given
-    fn spelled<'a>(&'a self, name: &'a Name) -> &'a Name
-        ensures spelled { result.now ≡ spelled_name (finite.get self.now (folded name.now)) name.now }
+    fn spelling<'a>(&'a self, name: &'a Name) -> &'a Name
+        ensures spelled { result.now
+            ≡ spelled_name (finite.get self.now (folded name.now)) name.now }
         ensures named { folded result.now ≡ folded name.now }
     {
         match self.get(name) {
@@ -107,9 +108,9 @@ impl Values {
     ) -> Result<Values, AllocError>
         ensures { IfOk result (λ made. made ≡ values_with self.now name.now kind bytes.now) }
     {
-        let name = self.spelled(name).clone()?;
+        let name = self.spelling(name).clone()?;
         let data = bytes.clone()?;
-        let items = placed(alloc, &self.items, Value { name, kind, data })?;
+        let items = insert(alloc, &self.items, Value { name, kind, data })?;
         let items = ArcSlice::from_vec(items)?;
         Ok(Values { items })
     }
@@ -118,7 +119,7 @@ impl Values {
     pub fn without(&self, alloc: Global, name: &Name) -> Result<Values, AllocError>
         ensures { IfOk result (λ made. made ≡ values_without self.now name.now) }
     {
-        let items = taken_out(alloc, &self.items, name)?;
+        let items = remove(alloc, &self.items, name)?;
         let items = ArcSlice::from_vec(items)?;
         Ok(Values { items })
     }
@@ -147,27 +148,29 @@ impl Clone for Values {
 }
 
 // where the value of this name stands, or where it would go
-fn place(items: &[Arc<Value>], name: &Name) -> Result<usize, usize>
+fn search(items: &[Arc<Value>], name: &Name) -> Result<usize, usize>
     requires { T (is_sorted name_order (value_entries items.now)) }
-    ensures { MatchResult result (IsFound shared_name items.now (folded name.now)) (IsGap name_order shared_name items.now (folded name.now)) }
+    ensures { MatchResult result (IsFound shared_name items.now (folded name.now)) (IsGap name_order
+        shared_name items.now (folded name.now)) }
 {
-    items.binary_search_by(|item| compared(item, name))
+    items.binary_search_by(|item| compare(item, name))
 }
 
 // how the value's name compares with this one
-fn compared(item: &Arc<Value>, name: &Name) -> Ordering
+fn compare(item: &Arc<Value>, name: &Name) -> Ordering
     ensures { result ≡ name_order (shared_name item.now) (folded name.now) }
 {
     item.name.cmp(name)
 }
 
 // the values with this one in its place
-fn placed(alloc: Global, items: &[Arc<Value>], new: Value) -> Result<Vec<Arc<Value>>, AllocError>
+fn insert(alloc: Global, items: &[Arc<Value>], new: Value) -> Result<Vec<Arc<Value>>, AllocError>
     requires { T (is_sorted name_order (value_entries items.now)) }
-    ensures { IfOk result (λ made. value_entries made.items ≡ put name_order (folded new.name) new (value_entries items.now)) }
+    ensures { IfOk result (λ made. value_entries made.items
+        ≡ put name_order (folded new.name) new (value_entries items.now)) }
 {
-    let mut made = copied(alloc, items, 1)?;
-    match place(&made, &new.name) {
+    let mut made = copy(alloc, items, 1)?;
+    match search(&made, &new.name) {
         Ok(at) => {
             made[at] = Arc::new(alloc, new)?;
             Ok(made)
@@ -180,16 +183,13 @@ fn placed(alloc: Global, items: &[Arc<Value>], new: Value) -> Result<Vec<Arc<Val
 }
 
 // the values without the one of this name
-fn taken_out(
-    alloc: Global,
-    items: &[Arc<Value>],
-    name: &Name,
-) -> Result<Vec<Arc<Value>>, AllocError>
+fn remove(alloc: Global, items: &[Arc<Value>], name: &Name) -> Result<Vec<Arc<Value>>, AllocError>
     requires { T (is_sorted name_order (value_entries items.now)) }
-    ensures { IfOk result (λ made. value_entries made.items ≡ where_key name_order (λ key. not (eq_by_cmp name_order (folded name.now) key)) (value_entries items.now)) }
+    ensures { IfOk result (λ made. value_entries made.items ≡ where_key name_order (λ key. not
+        (eq_by_cmp name_order (folded name.now) key)) (value_entries items.now)) }
 {
-    let mut made = copied(alloc, items, 0)?;
-    match place(&made, name) {
+    let mut made = copy(alloc, items, 0)?;
+    match search(&made, name) {
         Ok(at) => {
             let _ = made.remove(at);
             Ok(made)

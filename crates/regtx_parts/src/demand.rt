@@ -1,5 +1,5 @@
 //! What a request of a script asks for, once its names are found right.
-ghost use Rattle.std.specs.Prelude.{◌≡◌, ◌⊎◌, Ok, Err, MatchResult};
+ghost use Rattle.std.specs.Prelude.{◌≡◌, ◌⊎◌, Ok, Err, IfOk, IfErr};
 ghost use Rattle.refusals.specs.declared.refusal.Refusal.TheVariants.{NoMemory};
 ghost use Rattle.regtx_parts.specs.Requests.{place_of, demand_of, demand_at};
 
@@ -31,7 +31,9 @@ pub(crate) enum Demand {
 
 /// What the request asks for. Its path is tested first, then a value's name: refused as they are, and with `NoMemory`.
 pub(crate) fn demand_of(alloc: Global, request: Request) -> Result<Demand, Refusal>
-    ensures { MatchResult result (λ asked. demand_of request ≡ Ok asked) (λ refusal. (demand_of request ≡ Err refusal) ⊎ (refusal ≡ NoMemory)) }
+    ensures ok { IfOk result (λ asked. demand_of request ≡ Ok asked) }
+    ensures refused { IfErr result (λ refusal. (demand_of request ≡ Err refusal)
+        ⊎ (refusal ≡ NoMemory)) }
 {
     let place = place_of(&request);
     let hive = place.hive;
@@ -56,7 +58,9 @@ fn place_of(request: &Request) -> &Place
 
 // what the request asks of the key at this path
 fn demand_at(alloc: Global, request: Request, hive: u8, path: Path) -> Result<Demand, Refusal>
-    ensures { MatchResult result (λ asked. demand_at request hive path ≡ Ok asked) (λ refusal. (demand_at request hive path ≡ Err refusal) ⊎ (refusal ≡ NoMemory)) }
+    ensures ok { IfOk result (λ asked. demand_at request hive path ≡ Ok asked) }
+    ensures refused { IfErr result (λ refusal. (demand_at request hive path ≡ Err refusal)
+        ⊎ (refusal ≡ NoMemory)) }
 {
     Ok(match request {
         Request::Create { place: _place } => write_demand(Op::CreateKey { hive, path }),

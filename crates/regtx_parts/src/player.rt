@@ -1,5 +1,5 @@
 //! A script's store, asked line by line.
-ghost use Rattle.std.specs.Prelude.{◌≡◌, ◌≤◌, ℕ, Some, None, MatchResult, MatchOption, IfOk, IfSome, IfNone};
+ghost use Rattle.std.specs.Prelude.{◌≡◌, ◌≤◌, ℕ, Some, None, MatchOption, IfOk, IfSome, IfNone, IfErr};
 ghost use Rattle.refusals.specs.declared.limits.TheConstants.{MOST_TREES};
 ghost use Rattle.reg_script.specs.declared.line.Line.{Line as AnyLine};
 ghost use Rattle.reg_script.specs.declared.reply.ReplyLine.{ReplyLine as AnyReplyLine};
@@ -30,13 +30,13 @@ impl Player {
     /// The store that a script's first line asks for, with session 0 open, or nothing where the bytes are no such line.
     pub(crate) fn begin(alloc: Global, bytes: &[u8]) -> Result<Option<Player>, AllocError>
         ensures none { IfOk result (λ made. IfNone made (hives_asked bytes.now ≡ None)) }
-        ensures some { IfOk result (λ made. IfSome made (λ player. (hives : ℕ) × (hives_asked bytes.now ≡ Some hives) × (script_of player ≡ fresh_script hives))) }
+        ensures some { IfOk result (λ made. IfSome made
+            (λ player. (hives : ℕ) × (hives_asked bytes.now ≡ Some hives)
+            × (script_of player ≡ fresh_script hives))) }
     {
+        reg_script::grammar::reads_what_is_spelled();
         match read_line(alloc, bytes) {
-            Ok(Line::Hives { count }) => {
-                reg_script::grammar::reads_what_is_spelled();
-                Ok(Some(Player::new(alloc, count)?))
-            }
+            Ok(Line::Hives { count }) => Ok(Some(Player::new(alloc, count)?)),
             Ok(_) | Err(Unread::NotUnderstood) => Ok(None),
             Err(Unread::NoMemory) => Err(AllocError),
         }
@@ -68,7 +68,9 @@ impl Player {
         bytes: &[u8],
     ) -> Result<Option<ReplyLine>, AllocError>
         ensures none { IfOk result (λ made. IfNone made (line_asked bytes.now ≡ None)) }
-        ensures some { IfOk result (λ made. IfSome made (λ told. (asked : AnyLine) × (line_asked bytes.now ≡ Some asked) × Answers (script_of self.old) asked told (script_of self.new))) }
+        ensures some { IfOk result (λ made. IfSome made
+            (λ told. (asked : AnyLine) × (line_asked bytes.now ≡ Some asked)
+            × Answers (script_of self.old) asked told (script_of self.new))) }
     {
         match read_line(alloc, bytes) {
             Ok(line) => Ok(self.answer(alloc, line)),
@@ -79,7 +81,9 @@ impl Player {
 
     // answers the line, or nothing where it is a script's first
     fn answer(&mut self, alloc: Global, line: Line) -> Option<ReplyLine>
-        ensures { MatchOption result (later_line (Some line) ≡ None) (λ told. (later_line (Some line) ≡ Some line) × Answers (script_of self.old) line told (script_of self.new)) }
+        ensures { MatchOption result (later_line (Some line) ≡ None)
+            (λ told. (later_line (Some line) ≡ Some line)
+            × Answers (script_of self.old) line told (script_of self.new)) }
     {
         let told = match line {
             Line::Hives { .. } => return None,
@@ -118,7 +122,11 @@ impl Player {
     }
 
     fn alone(&mut self, alloc: Global, request: Request) -> Result<ReplyLine, Refusal>
-        ensures { MatchResult result (λ told. Answers (script_of self.old) (Line.Plain request) told (script_of self.new)) (λ refusal. Answers (script_of self.old) (Line.Plain request) (ReplyLine.Refused refusal) (script_of self.new)) }
+        ensures ok { IfOk result (λ told. Answers (script_of self.old) (Line.Plain request) told
+            (script_of self.new)) }
+        ensures refused { IfErr result (λ refusal.
+            Answers (script_of self.old) (Line.Plain request) (ReplyLine.Refused refusal)
+            (script_of self.new)) }
     {
         let event = self.event_alone(demand_of(alloc, request)?);
         Ok(self.ask(event))
@@ -130,7 +138,11 @@ impl Player {
         label: Label,
         request: Request,
     ) -> Result<ReplyLine, Refusal>
-        ensures { MatchResult result (λ told. Answers (script_of self.old) (Line.Inside label request) told (script_of self.new)) (λ refusal. Answers (script_of self.old) (Line.Inside label request) (ReplyLine.Refused refusal) (script_of self.new)) }
+        ensures ok { IfOk result (λ told. Answers (script_of self.old)
+            (Line.Inside label request) told (script_of self.new)) }
+        ensures refused { IfErr result (λ refusal.
+            Answers (script_of self.old) (Line.Inside label request) (ReplyLine.Refused refusal)
+            (script_of self.new)) }
     {
         let asked = demand_of(alloc, request)?;
         let event = self.event_inside(self.tx(label)?, asked);
@@ -190,7 +202,11 @@ impl Player {
     // begins a transaction that the label names; room for the label is made first, so that no transaction is begun which
     // nothing names
     fn begin_as(&mut self, alloc: Global, label: Label, id: Uuid) -> Result<ReplyLine, Refusal>
-        ensures { MatchResult result (λ told. Answers (script_of self.old) (Line.Begin label id) told (script_of self.new)) (λ refusal. Answers (script_of self.old) (Line.Begin label id) (ReplyLine.Refused refusal) (script_of self.new)) }
+        ensures ok { IfOk result (λ told. Answers (script_of self.old) (Line.Begin label id) told
+            (script_of self.new)) }
+        ensures refused { IfErr result (λ refusal.
+            Answers (script_of self.old) (Line.Begin label id) (ReplyLine.Refused refusal)
+            (script_of self.new)) }
     {
         self.labels.make_room(label)?;
         let session = self.session;
@@ -204,7 +220,11 @@ impl Player {
     }
 
     fn commit(&mut self, label: Label) -> Result<ReplyLine, Refusal>
-        ensures { MatchResult result (λ told. Answers (script_of self.old) (Line.Commit label) told (script_of self.new)) (λ refusal. Answers (script_of self.old) (Line.Commit label) (ReplyLine.Refused refusal) (script_of self.new)) }
+        ensures ok { IfOk result (λ told. Answers (script_of self.old) (Line.Commit label) told
+            (script_of self.new)) }
+        ensures refused { IfErr result (λ refusal.
+            Answers (script_of self.old) (Line.Commit label) (ReplyLine.Refused refusal)
+            (script_of self.new)) }
     {
         let session = self.session;
         let moment = self.moment;
@@ -221,7 +241,11 @@ impl Player {
     }
 
     fn rollback(&mut self, label: Label) -> Result<ReplyLine, Refusal>
-        ensures { MatchResult result (λ told. Answers (script_of self.old) (Line.Rollback label) told (script_of self.new)) (λ refusal. Answers (script_of self.old) (Line.Rollback label) (ReplyLine.Refused refusal) (script_of self.new)) }
+        ensures ok { IfOk result (λ told. Answers (script_of self.old) (Line.Rollback label) told
+            (script_of self.new)) }
+        ensures refused { IfErr result (λ refusal.
+            Answers (script_of self.old) (Line.Rollback label) (ReplyLine.Refused refusal)
+            (script_of self.new)) }
     {
         let session = self.session;
         let tx = self.tx(label)?;
@@ -229,7 +253,11 @@ impl Player {
     }
 
     fn close(&mut self, label: Label) -> Result<ReplyLine, Refusal>
-        ensures { MatchResult result (λ told. Answers (script_of self.old) (Line.Close label) told (script_of self.new)) (λ refusal. Answers (script_of self.old) (Line.Close label) (ReplyLine.Refused refusal) (script_of self.new)) }
+        ensures ok { IfOk result (λ told. Answers (script_of self.old) (Line.Close label) told
+            (script_of self.new)) }
+        ensures refused { IfErr result (λ refusal.
+            Answers (script_of self.old) (Line.Close label) (ReplyLine.Refused refusal)
+            (script_of self.new)) }
     {
         let session = self.session;
         let tx = self.tx(label)?;
@@ -237,7 +265,11 @@ impl Player {
     }
 
     fn outcome(&mut self, label: Label) -> Result<ReplyLine, Refusal>
-        ensures { MatchResult result (λ told. Answers (script_of self.old) (Line.Outcome label) told (script_of self.new)) (λ refusal. Answers (script_of self.old) (Line.Outcome label) (ReplyLine.Refused refusal) (script_of self.new)) }
+        ensures ok { IfOk result (λ told. Answers (script_of self.old) (Line.Outcome label) told
+            (script_of self.new)) }
+        ensures refused { IfErr result (λ refusal.
+            Answers (script_of self.old) (Line.Outcome label) (ReplyLine.Refused refusal)
+            (script_of self.new)) }
     {
         let session = self.session;
         let tx = self.tx(label)?;
@@ -255,7 +287,9 @@ impl Player {
 
     // the transaction that the label names
     fn tx(&self, label: Label) -> Result<Tx, Refusal>
-        ensures { MatchResult result (λ tx. (script_of self.now).labels label ≡ Some tx) (λ refusal. ((script_of self.now).labels label ≡ None) × (refusal ≡ Refusal.NoSuchHandle)) }
+        ensures ok { IfOk result (λ tx. (script_of self.now).labels label ≡ Some tx) }
+        ensures refused { IfErr result (λ refusal. ((script_of self.now).labels label ≡ None)
+            × (refusal ≡ Refusal.NoSuchHandle)) }
     {
         match self.labels.tx(label) {
             Some(tx) => Ok(tx),
@@ -273,7 +307,8 @@ impl Player {
     // asks an event, and waits for the change whose number it answers; `Err` is the reply where it answers no number, or
     // the wait is refused
     fn ask_and_wait(&mut self, event: Event) -> Result<u64, ReplyLine>
-        ensures { (tell : ℕ → AnyReplyLine) → AsksAndWaits (script_of self.old) event tell (reply_by tell result) (script_of self.new) }
+        ensures { (tell : ℕ → AnyReplyLine) → AsksAndWaits (script_of self.old) event tell
+            (reply_by tell result) (script_of self.new) }
     {
         match self.store.event(event) {
             Reply::Awaits { number } => match wait(&mut self.store, number) {

@@ -40,7 +40,8 @@ pub fn play<R: BufRead, W: Write>(
     reader: &mut R,
     writer: &mut W,
 ) -> io::Result<Status>
-    ensures { IfOk result (λ status. IsPlayed (R.remaining reader.old) (W.contents writer.old) (W.contents writer.new) status) }
+    ensures { IfOk result (λ status. IsPlayed (R.remaining reader.old) (W.contents writer.old)
+        (W.contents writer.new) status) }
 {
     let status = run(alloc, reader, writer)?;
     writer.flush()?;
@@ -49,7 +50,8 @@ pub fn play<R: BufRead, W: Write>(
 
 /// Writes that a script can't be read at all. `Err` says that the write failed.
 pub fn refuse_script<W: Write>(writer: &mut W) -> io::Result<Status>
-    ensures { IfOk result (λ status. (status ≡ Status.Refused) × Appends (W.contents writer.old) (W.contents writer.new) (codes "cannot read script\n")) }
+    ensures { IfOk result (λ status. (status ≡ Status.Refused)
+        × Appends (W.contents writer.old) (W.contents writer.new) (codes "cannot read script\n")) }
 {
     writer.write_all(b"cannot read script\n")?;
     writer.flush()?;
@@ -57,7 +59,8 @@ pub fn refuse_script<W: Write>(writer: &mut W) -> io::Result<Status>
 }
 
 fn run<R: BufRead, W: Write>(alloc: Global, reader: &mut R, writer: &mut W) -> io::Result<Status>
-    ensures { IfOk result (λ status. IsPlayed (R.remaining reader.old) (W.contents writer.old) (W.contents writer.new) status) }
+    ensures { IfOk result (λ status. IsPlayed (R.remaining reader.old) (W.contents writer.old)
+        (W.contents writer.new) status) }
 {
     let mut line = Vec::new(alloc);
     match next_line(reader, &mut line) {
@@ -83,7 +86,8 @@ fn go_on<R: BufRead, W: Write>(
     line: &mut Vec<u8>,
     writer: &mut W,
 ) -> io::Result<Status>
-    ensures { IfOk result (λ status. IsPlayedOn (script_of player.old) 2 (R.remaining reader.old) (W.contents writer.old) (W.contents writer.new) status) }
+    ensures { IfOk result (λ status. IsPlayedOn (script_of player.old) 2 (R.remaining reader.old)
+        (W.contents writer.old) (W.contents writer.new) status) }
 {
     let mut has_refusal = false;
     for number in 2..u64::MAX {
@@ -106,7 +110,9 @@ fn take_turn<R: BufRead, W: Write>(
     writer: &mut W,
     number: u64,
 ) -> io::Result<Turn>
-    ensures { IfOk result (λ told. Turns (script_of player.old) number (R.remaining reader.old) (W.contents writer.old) told (script_of player.new) (R.remaining reader.new) (W.contents writer.new)) }
+    ensures { IfOk result (λ told. Turns (script_of player.old) number (R.remaining reader.old)
+        (W.contents writer.old) told (script_of player.new) (R.remaining reader.new)
+        (W.contents writer.new)) }
 {
     if let Err(ending) = next_line(reader, line) {
         let status = end(writer, ending)?;
@@ -140,7 +146,8 @@ fn is_refusal(told: &ReplyLine) -> bool
 
 // reads the next line into the buffer, without the byte that ends it
 fn next_line<R: BufRead>(reader: &mut R, line: &mut Vec<u8>) -> Result<(), Ending>
-    ensures line { OnOk result (TakesLine (R.remaining reader.old) (R.remaining reader.new) line.new.items) }
+    ensures line { OnOk result (TakesLine (R.remaining reader.old)
+        (R.remaining reader.new) line.new.items) }
     ensures none { IfErr result (λ ending. WereRead (R.remaining reader.old) [] (Some ending)) }
 {
     line.clear();
@@ -167,7 +174,8 @@ fn strip_end(line: &mut Vec<u8>)
 
 // writes why there is no further line
 fn end<W: Write>(writer: &mut W, ending: Ending) -> io::Result<Status>
-    ensures { IfOk result (λ status. (text : List ℕ) × Ends ending text status × Appends (W.contents writer.old) (W.contents writer.new) text) }
+    ensures { IfOk result (λ status. (text : List ℕ) × Ends ending text status
+        × Appends (W.contents writer.old) (W.contents writer.new) text) }
 {
     match ending {
         Ending::Ended => Ok(Status::Clean),
@@ -184,7 +192,8 @@ fn end<W: Write>(writer: &mut W, ending: Ending) -> io::Result<Status>
 
 // writes that the line of this number is none
 fn wrong<W: Write>(writer: &mut W, number: u64) -> io::Result<Status>
-    ensures { IfOk result (λ status. (status ≡ Status.Wrong) × Appends (W.contents writer.old) (W.contents writer.new) (wrong_text number)) }
+    ensures { IfOk result (λ status. (status ≡ Status.Wrong)
+        × Appends (W.contents writer.old) (W.contents writer.new) (wrong_text number)) }
 {
     writeln!(writer, "line {number}: not understood")?;
     Ok(Status::Wrong)

@@ -12,7 +12,8 @@ use transactions::PlainStore;
 /// the first question or step that is refused.
 pub(crate) fn wait(store: &mut PlainStore, number: u64) -> Result<(), Refusal>
     requires { number ≤ last_number store.old }
-    ensures { MatchResult result (λ _. IsWaited store.old number None store.new) (λ refusal. IsWaited store.old number (Some refusal) store.new) }
+    ensures { MatchResult result (λ _. IsWaited store.old number None store.new)
+        (λ refusal. IsWaited store.old number (Some refusal) store.new) }
 {
     while !has_receipt(store, number)? {
         step(store)?;
@@ -22,7 +23,8 @@ pub(crate) fn wait(store: &mut PlainStore, number: u64) -> Result<(), Refusal>
 
 // whether there is a receipt of the change
 fn has_receipt(store: &mut PlainStore, number: u64) -> Result<bool, Refusal>
-    ensures { MatchResult result (λ has. IsAsked store.old number has store.new) (λ refusal. Step store.old (Event.Acked number) (Reply.Refused refusal) store.new) }
+    ensures { MatchResult result (λ has. IsAsked store.old number has store.new)
+        (λ refusal. Step store.old (Event.Acked number) (Reply.Refused refusal) store.new) }
 {
     match store.event(Event::Acked { number }) {
         Reply::Receipt { .. } => Ok(true),
@@ -33,7 +35,8 @@ fn has_receipt(store: &mut PlainStore, number: u64) -> Result<bool, Refusal>
 
 // one step of the journal
 fn step(store: &mut PlainStore) -> Result<(), Refusal>
-    ensures made { MatchResult result (λ _. IsStepped store.old store.new) (λ refusal. Step store.old Event.JournalStep (Reply.Refused refusal) store.new) }
+    ensures made { MatchResult result (λ _. IsStepped store.old store.new)
+        (λ refusal. Step store.old Event.JournalStep (Reply.Refused refusal) store.new) }
     ensures durable { store.new.durable ≡ last_number store.new }
 {
     match store.event(Event::JournalStep) {

@@ -179,7 +179,7 @@ fn grown(alloc: Global, node: &Node, units: &[u16]) -> Result<Node, AllocError> 
     let name = Name::stored(alloc, units)?;
     let key = node.key();
     let child = Node::branch(alloc, &name, &[], key.descriptor(), 1)?;
-    let made = node.with_new_child(alloc, key.touched(1)?, child)?;
+    let made = node.with_new_child(alloc, key.with_time(1)?, child)?;
     Ok(made)
 }
 
@@ -232,7 +232,7 @@ fn has_subkeys(alloc: Global, node: &Node) -> Result<bool, Refusal> {
 
 // whether a key has so many subkeys, and no more are listed
 fn ends_at(node: &Node, count: usize) -> bool {
-    node.subkeys() == count && node.subkey(count).is_none()
+    node.subkey_count() == count && node.subkey(count).is_none()
 }
 
 fn weight_of(node: &Node) -> u64 {

@@ -1,7 +1,7 @@
 mod Slots
 mod Claimed
 mod Kept
-mod Ways
+mod TableChanges
 mod Holding
-mod Loops
+mod PlacesInTurn
 mod Stored

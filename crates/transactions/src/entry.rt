@@ -1,5 +1,5 @@
 //! One transaction as a table keeps it: its operations, and the trees that it sees.
-ghost use Rattle.std.specs.Prelude.{◌≡◌, ◌⊎◌, ◌+◌, ◌≤◌, ◌==◌, ◌&&◌, IfOk, OnErr, OnOk, MatchResult, Some, None, Err};
+ghost use Rattle.std.specs.Prelude.{◌≡◌, ◌⊎◌, ◌+◌, ◌≤◌, ◌==◌, ◌&&◌, IfOk, OnErr, OnOk, Some, None, Err, IfErr};
 ghost use Rattle.refusals.specs.declared.limits.TheConstants.{MOST_ELEMENT_BYTES};
 ghost use Rattle.refusals.specs.declared.refusal.Refusal.TheVariants.{NoMemory};
 ghost use Rattle.reg_tree.specs.Texts.{op_text_len, ops_text_len};
@@ -8,7 +8,7 @@ ghost use Rattle.transactions.specs.Entries.{transaction_of, IsViewed, HasView, 
 ghost use Rattle.machine.specs.Machine.{looked_up, read_refusal, too_long};
 ghost use Rattle.machine.specs.Transactions.{view, with_op, ended, is_active, fresh_transaction};
 
-use machine::{Found, Outcome, Question, levels_made, looked_up};
+use machine::{Found, Outcome, Question, levels_made, look_up};
 use refusals::Refusal;
 use refusals::limits::MOST_ELEMENT_BYTES;
 use reg_names::Path;
@@ -51,7 +51,7 @@ pub(crate) struct Judged {
 
 impl Entry {
     /// A transaction that is begun: it has no operations.
-    pub(crate) fn begun(alloc: Global, session: u32, id: Uuid, generation: u64) -> Entry
+    pub(crate) fn begin(alloc: Global, session: u32, id: Uuid, generation: u64) -> Entry
         ensures kept { transaction_of result ≡ fresh_transaction session id generation }
         ensures counted { result.length ≡ 16 }
         ensures unseen { result.view ≡ None }
@@ -99,7 +99,8 @@ impl Entry {
         requires { IsViewed now.now number self.old.ops.items self.old.view }
         ensures rest { self.new ≡ record self.old { view = self.new.view } }
         ensures kept { IsViewed now.now number self.new.ops.items self.new.view }
-        ensures seen { OnOk result (HasViewAt now.now number self.new.ops.items self.new.moment self.new.view) }
+        ensures seen { OnOk result (HasViewAt now.now number self.new.ops.items self.new.moment
+            self.new.view) }
     {
         match &self.view {
             Some(view) if view.number == number && view.moment == self.moment => Ok(()),
@@ -119,7 +120,8 @@ impl Entry {
         requires { IsViewed now.now number self.old.ops.items self.old.view }
         ensures rest { self.new ≡ record self.old { view = self.new.view } }
         ensures kept { IsViewed now.now number self.new.ops.items self.new.view }
-        ensures seen { OnOk result (HasViewFor now.now number self.new.ops.items self.new.moment question.now self.new.view) }
+        ensures seen { OnOk result (HasViewFor now.now number self.new.ops.items self.new.moment
+            question.now self.new.view) }
     {
         match question {
             Question::InfoOf => self.see_exactly(alloc, now, number),
@@ -131,7 +133,8 @@ impl Entry {
         ensures rest { self.new ≡ record self.old { view = self.new.view } }
         ensures same { OnErr result (self.new ≡ self.old) }
         ensures kept { OnOk result (IsViewed now.now number self.new.ops.items self.new.view) }
-        ensures seen { OnOk result (HasViewAt now.now number self.new.ops.items self.new.moment self.new.view) }
+        ensures seen { OnOk result (HasViewAt now.now number self.new.ops.items self.new.moment
+            self.new.view) }
         ensures some { OnOk result (HasView now.now number self.new.ops.items self.new.view) }
     {
         let trees = now.apply_ops(alloc, &self.ops, self.moment)?;
@@ -154,7 +157,10 @@ impl Entry {
         requires { IsViewed now.now number self.old.ops.items self.old.view }
         ensures rest { self.new ≡ record self.old { view = self.new.view } }
         ensures kept { IsViewed now.now number self.new.ops.items self.new.view }
-        ensures told { MatchResult result (IsJudged now.now number (transaction_of self.new) op.now) (λ refusal. (legal (view now.now (transaction_of self.new)) op.now ≡ Err refusal) ⊎ (refusal ≡ NoMemory)) }
+        ensures ok { IfOk result (IsJudged now.now number (transaction_of self.new) op.now) }
+        ensures refused { IfErr result (λ refusal.
+            (legal (view now.now (transaction_of self.new)) op.now ≡ Err refusal)
+            ⊎ (refusal ≡ NoMemory)) }
     {
         self.see(alloc, now, number)?;
         let Some(view) = &self.view else {
@@ -190,19 +196,25 @@ impl Entry {
         requires { IsViewed now.now number self.old.ops.items self.old.view }
         ensures rest { self.new ≡ record self.old { view = self.new.view } }
         ensures kept { IsViewed now.now number self.new.ops.items self.new.view }
-        ensures told { MatchResult result (λ found. looked_up (view now.now (transaction_of self.new)) hive path.now question ≡ Some found) (λ refusal. (read_refusal (looked_up (view now.now (transaction_of self.new)) hive path.now question) ≡ Some refusal) ⊎ (refusal ≡ NoMemory)) }
+        ensures ok { IfOk result (λ found.
+            looked_up (view now.now (transaction_of self.new)) hive path.now question ≡ Some found) }
+        ensures refused { IfErr result (λ refusal.
+            (read_refusal (looked_up (view now.now (transaction_of self.new)) hive path.now question)
+            ≡ Some refusal)
+            ⊎ (refusal ≡ NoMemory)) }
     {
         self.see_for(alloc, now, number, &question)?;
         let Some(view) = &self.view else {
             unreachable!();
         };
         reg_tree::laws::moments_set_times_alone();
-        looked_up(alloc, &view.trees, hive, path, question)
+        look_up(alloc, &view.trees, hive, path, question)
     }
 
     /// Whether its change would be too long with this operation.
     pub(crate) fn is_too_long(&self, op: &Op) -> bool
-        requires { (self.now.length ≡ 16 + ops_text_len self.now.ops.items) × (self.now.length ≤ MOST_ELEMENT_BYTES) }
+        requires { (self.now.length ≡ 16 + ops_text_len self.now.ops.items)
+            × (self.now.length ≤ MOST_ELEMENT_BYTES) }
         ensures { result ≡ too_long (transaction_of self.now) op.now }
     {
         self.length.saturating_add(op.text_len()) > MOST_ELEMENT_BYTES

@@ -1,5 +1,5 @@
 //! A store without a disk: one step makes all accepted changes durable.
-ghost use Rattle.std.specs.Prelude.{◌≡◌, ◌≤◌, ◌+◌, ◌⊎◌, ◌==◌, true, false, Some, None, IfOk, MatchResult};
+ghost use Rattle.std.specs.Prelude.{◌≡◌, ◌≤◌, ◌+◌, ◌⊎◌, ◌==◌, true, false, Some, None, IfOk, IfErr, OnOk};
 ghost use Rattle.std.specs.List.{list_any};
 ghost use Rattle.refusals.specs.declared.refusal.Refusal.TheVariants.{NoSuchHandle};
 ghost use Rattle.refusals.specs.declared.limits.TheConstants.{MOST_TREES};
@@ -9,7 +9,7 @@ ghost use Rattle.transactions.specs.Stores.{Answers};
 
 use crate::table::{TxTable, Written};
 use machine::room::{CHANGE_START, JOURNAL_START};
-use machine::{Event, Progress, Question, Reply, Sessions, Tx, levels_made, looked_up};
+use machine::{Event, Progress, Question, Reply, Sessions, Tx, levels_made, look_up};
 use refusals::Refusal;
 use refusals::limits::{MOST_HISTORY, MOST_JOURNAL_BYTES};
 use reg_names::Path;
@@ -160,7 +160,7 @@ impl PlainStore {
         ensures { Answers self.now (Event.Read session hive path.now question) result self.now }
     {
         open(&self.sessions, session)?;
-        let found = looked_up(self.alloc, self.table.trees(), hive, path, question)?;
+        let found = look_up(self.alloc, self.table.trees(), hive, path, question)?;
         Ok(Reply::Read { found })
     }
 
@@ -178,7 +178,7 @@ impl PlainStore {
         self.accepted.reserve(1)?;
         let element = Element { moment, ops };
         self.accepted.push_reserved(Snapshot::of(&element));
-        self.table.moved(made);
+        self.table.accept(made);
         self.table.roll_back_all(&holders);
         self.room = room;
         Ok(Reply::Accepted {
@@ -189,7 +189,9 @@ impl PlainStore {
 
     // the room that the journal has used with one change more, of so many bytes
     fn room_with(&self, length: u64) -> Result<u64, Refusal>
-        ensures { MatchResult result (λ room. (room_refusal self.now length ≡ None) × (room ≡ self.now.room + (17 + length))) (λ refusal. room_refusal self.now length ≡ Some refusal) }
+        ensures ok { IfOk result (λ room.
+            (room_refusal self.now length ≡ None) × (room ≡ self.now.room + (17 + length))) }
+        ensures refused { IfErr result (λ refusal. room_refusal self.now length ≡ Some refusal) }
     {
         if self.accepted.len() as u64 >= MOST_HISTORY {
             return Err(Refusal::HistoryFull);
@@ -258,7 +260,7 @@ impl PlainStore {
         };
         let element = Element { moment, ops };
         self.accepted.push_reserved(Snapshot::of(&element));
-        self.table.moved(made);
+        self.table.accept(made);
         self.room = room;
         Ok(Reply::Awaits {
             number: self.table.number(),
@@ -349,7 +351,9 @@ impl PlainStore {
 
 // refuses a session that isn't open
 fn open(sessions: &Sessions, session: u32) -> Result<(), Refusal>
-    ensures { MatchResult result (λ _. list_any (λ s. s == session) sessions.now ≡ true) (λ refusal. (list_any (λ s. s == session) sessions.now ≡ false) × (refusal ≡ NoSuchHandle)) }
+    ensures ok { OnOk result (list_any (λ s. s == session) sessions.now ≡ true) }
+    ensures refused { IfErr result (λ refusal.
+        (list_any (λ s. s == session) sessions.now ≡ false) × (refusal ≡ NoSuchHandle)) }
 {
     if sessions.is_open(session) {
         Ok(())

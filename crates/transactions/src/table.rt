@@ -1,5 +1,5 @@
 //! The transactions of a store.
-ghost use Rattle.std.specs.Prelude.{◌≡◌, ◌⊎◌, ◌+◌, ◌<◌, ◌≤◌, ◌^◌, ◌-◌, ◌||◌, ◌==◌, [], ℕ, nat_le, IfOk, IfSome, OnOk, OnErr, MatchResult, Some, None, true, false};
+ghost use Rattle.std.specs.Prelude.{◌≡◌, ◌⊎◌, ◌+◌, ◌<◌, ◌≤◌, ◌^◌, ◌-◌, ◌||◌, ◌==◌, [], ℕ, nat_le, IfOk, IfSome, OnOk, OnErr, Some, None, true, false, IfErr};
 ghost use Rattle.std.specs.Option.{option_map, option_copied};
 ghost use Rattle.refusals.specs.declared.limits.TheConstants.{MOST_TRANSACTIONS};
 ghost use Rattle.refusals.specs.declared.refusal.Refusal.TheVariants.{NoMemory, NoSeat};
@@ -120,7 +120,9 @@ impl TxTable {
     /// Begins a transaction for a unit of work, which may be any. Refused with `NoSeat` exactly where 1,024
     /// transactions are held or 18,446,744,073,709,551,615 were begun, and with `NoMemory`.
     pub fn begin(&mut self, session: u32, id: Uuid) -> Result<Tx, Refusal>
-        ensures { MatchResult result (λ tx. Begins self.old session id tx self.new) (λ refusal. Denies self.old (seat_refusal self.old.places self.old.begun) refusal self.new) }
+        ensures ok { IfOk result (λ tx. Begins self.old session id tx self.new) }
+        ensures refused { IfErr result (λ refusal.
+            Denies self.old (seat_refusal self.old.places self.old.begun) refusal self.new) }
     {
         if self.places.len() >= MOST_TRANSACTIONS {
             return Err(Refusal::NoSeat);
@@ -129,7 +131,7 @@ impl TxTable {
             return Err(Refusal::NoSeat);
         };
         self.places.reserve(1)?;
-        let entry = Entry::begun(self.alloc, session, id, generation);
+        let entry = Entry::begin(self.alloc, session, id, generation);
         self.begun = generation;
         let place = self.places.insert_reserved(entry);
         Ok(Tx { place, generation })
@@ -140,7 +142,12 @@ impl TxTable {
     /// would be longer than 4,194,304 bytes, with `Conflict` where another active transaction's claim conflicts; and
     /// with `NoMemory`. The transaction then stays as it is.
     pub fn write(&mut self, session: u32, tx: Tx, moment: u64, op: Op) -> Result<Written, Refusal>
-        ensures { MatchResult result (λ written. Writes self.old session tx moment op written self.new) (λ refusal. Denies self.old (added_refusal_if self.old.trees self.old.places tx.place op (own self.old.places session tx)) refusal self.new) }
+        ensures ok { IfOk result (λ written.
+            Writes self.old session tx moment op written self.new) }
+        ensures refused { IfErr result (λ refusal.
+            Denies self.old
+            (added_refusal_if self.old.trees self.old.places tx.place op (own self.old.places session tx))
+            refusal self.new) }
     {
         let judged = match self.judge(session, tx, &op) {
             Ok(Some(judged)) => judged,
@@ -166,24 +173,23 @@ impl TxTable {
     // judges an operation by what the transaction sees; nothing where it opens a key
     fn judge(&mut self, session: u32, tx: Tx, op: &Op) -> Result<Option<Judged>, Refusal>
         ensures same { self.new ≡ self.old }
-        ensures told { MatchResult result (IsJudgedOf self.old session tx op.now) (λ refusal. (judge_refusal self.old.trees op.now (own self.old.places session tx) ≡ Some refusal) ⊎ (refusal ≡ NoMemory)) }
+        ensures ok { IfOk result (IsJudgedOf self.old session tx op.now) }
+        ensures refused { IfErr result (λ refusal.
+            (judge_refusal self.old.trees op.now (own self.old.places session tx) ≡ Some refusal)
+            ⊎ (refusal ≡ NoMemory)) }
     {
         let alloc = self.alloc;
+        self.check_active(session, tx)?;
         let Some(entry) = self.places.get_mut(tx.place) else {
-            return Err(Refusal::NoSuchHandle);
+            unreachable!();
         };
-        if !entry.is_own(session, tx.generation) {
-            return Err(Refusal::NoSuchHandle);
-        }
-        if !entry.is_active() {
-            return Err(Refusal::NotActive);
-        }
         entry.judge(alloc, &self.trees, self.number, op)
     }
 
     // whether the change of the transaction at a place would be too long with an operation
     fn is_too_long(&self, place: usize, op: &Op) -> bool
-        ensures { (one : Transaction) → at self.now.places place ≡ Some one → result ≡ too_long one op.now }
+        ensures { (one : Transaction) → at self.now.places place ≡ Some one → result
+            ≡ too_long one op.now }
     {
         match self.places.get(place) {
             Some(entry) => entry.is_too_long(op),
@@ -193,7 +199,8 @@ impl TxTable {
 
     // whether another active transaction holds a claim which conflicts with that of an operation
     fn is_claimed(&self, place: usize, op: &Op) -> Result<bool, AllocError>
-        ensures { IfOk result (λ claimed. claimed ≡ is_claimed self.now.places place (claim_of op.now)) }
+        ensures { IfOk result (λ claimed. claimed
+            ≡ is_claimed self.now.places place (claim_of op.now)) }
     {
         let owner = Owner(place as u64);
         let holders = self.claims.holders(Some(owner), &claims(op))?;
@@ -227,25 +234,29 @@ impl TxTable {
         question: Question,
     ) -> Result<Found, Refusal>
         ensures same { self.new ≡ self.old }
-        ensures told { MatchResult result (λ found. (inactive_refusal (own self.old.places session tx) ≡ None) × (seen self.old.trees hive path.now question (own self.old.places session tx) ≡ Some found)) (λ refusal. (first_of (inactive_refusal (own self.old.places session tx)) (read_refusal (seen self.old.trees hive path.now question (own self.old.places session tx))) ≡ Some refusal) ⊎ (refusal ≡ NoMemory)) }
+        ensures ok { IfOk result (λ found.
+            (inactive_refusal (own self.old.places session tx) ≡ None)
+            × (seen self.old.trees hive path.now question (own self.old.places session tx) ≡ Some found)) }
+        ensures refused { IfErr result (λ refusal.
+            (first_of (inactive_refusal (own self.old.places session tx))
+            (read_refusal (seen self.old.trees hive path.now question (own self.old.places session tx)))
+            ≡ Some refusal)
+            ⊎ (refusal ≡ NoMemory)) }
     {
         let alloc = self.alloc;
+        self.check_active(session, tx)?;
         let Some(entry) = self.places.get_mut(tx.place) else {
-            return Err(Refusal::NoSuchHandle);
+            unreachable!();
         };
-        if !entry.is_own(session, tx.generation) {
-            return Err(Refusal::NoSuchHandle);
-        }
-        if !entry.is_active() {
-            return Err(Refusal::NotActive);
-        }
         entry.look_up(alloc, &self.trees, self.number, hive, path, question)
     }
 
     // the transaction of a handle, where it is the session's
     fn own(&self, session: u32, tx: Tx) -> Option<&Entry>
-        ensures found { option_map transaction_of (option_copied result) ≡ own self.now.places session tx }
-        ensures counted { IfSome result (λ entry. entry.now.length ≡ 16 + ops_text_len entry.now.ops.items) }
+        ensures found { option_map transaction_of (option_copied result)
+            ≡ own self.now.places session tx }
+        ensures counted { IfSome result (λ entry. entry.now.length
+            ≡ 16 + ops_text_len entry.now.ops.items) }
     {
         match self.places.get(tx.place) {
             Some(entry) if entry.is_own(session, tx.generation) => Some(entry),
@@ -253,9 +264,24 @@ impl TxTable {
         }
     }
 
+    // refuses a handle that is none of the session's, then one whose transaction isn't active
+    fn check_active(&self, session: u32, tx: Tx) -> Result<(), NotEnded>
+        ensures ok { OnOk result (inactive_refusal (own self.now.places session tx) ≡ None) }
+        ensures refused { IfErr result (λ why.
+            inactive_refusal (own self.now.places session tx) ≡ Some (refusal_of why)) }
+    {
+        match self.own(session, tx) {
+            Some(entry) if entry.is_active() => Ok(()),
+            Some(_) => Err(NotEnded::NotActive),
+            None => Err(NotEnded::NoSuchTransaction),
+        }
+    }
+
     /// Where a transaction stands. Takes no memory.
     pub fn outcome(&self, session: u32, tx: Tx) -> Result<Outcome, NoSuchTransaction>
-        ensures { MatchResult result (λ outcome. option_map (λ one. one.outcome) (own self.now.places session tx) ≡ Some outcome) (λ _. own self.now.places session tx ≡ None) }
+        ensures ok { IfOk result (λ outcome.
+            option_map (λ one. one.outcome) (own self.now.places session tx) ≡ Some outcome) }
+        ensures refused { OnErr result (own self.now.places session tx ≡ None) }
     {
         match self.own(session, tx) {
             Some(entry) => Ok(entry.outcome),
@@ -265,7 +291,10 @@ impl TxTable {
 
     /// The operations of an active transaction, for whoever accepts them as one change. Takes no memory.
     pub fn commit_ops(&self, session: u32, tx: Tx) -> Result<Pending<'_>, NotEnded>
-        ensures { MatchResult result (λ pending. IsPending (own self.now.places session tx) pending.ops.now pending.text_len) (λ why. inactive_refusal (own self.now.places session tx) ≡ Some (refusal_of why)) }
+        ensures ok { IfOk result (λ pending.
+            IsPending (own self.now.places session tx) pending.ops.now pending.text_len) }
+        ensures refused { IfErr result (λ why.
+            inactive_refusal (own self.now.places session tx) ≡ Some (refusal_of why)) }
     {
         match self.own(session, tx) {
             Some(entry) if entry.is_active() => Ok(Pending {
@@ -279,14 +308,20 @@ impl TxTable {
 
     /// Ends an active transaction as committed, and hands out its operations. Takes no memory.
     pub fn commit(&mut self, session: u32, tx: Tx) -> Result<Vec<Op>, NotEnded>
-        ensures { MatchResult result (λ ops. EndsWith self.old session tx Outcome.Committed ops.items self.new) (λ why. IsNotEnded self.old session tx why self.new) }
+        ensures ok { IfOk result (λ ops.
+            EndsWith self.old session tx Outcome.Committed ops.items self.new) }
+        ensures refused { IfErr result (λ why. IsNotEnded self.old session tx why self.new) }
     {
         self.end(session, tx, Outcome::Committed)
     }
 
     /// Rolls an active transaction back. Takes no memory.
     pub fn rollback(&mut self, session: u32, tx: Tx) -> Result<(), NotEnded>
-        ensures { MatchResult result (λ _. ChangesPlaces self.old (Finishes self.old.places (own self.old.places session tx) tx.place Outcome.RolledBack self.new.places) self.new) (λ why. IsNotEnded self.old session tx why self.new) }
+        ensures ok { OnOk result
+            (ChangesPlaces self.old
+            (Finishes self.old.places (own self.old.places session tx) tx.place Outcome.RolledBack
+            self.new.places) self.new) }
+        ensures refused { IfErr result (λ why. IsNotEnded self.old session tx why self.new) }
     {
         self.end(session, tx, Outcome::RolledBack)?;
         Ok(())
@@ -295,25 +330,25 @@ impl TxTable {
     // ends an active transaction: its claims and operations are dropped
     fn end(&mut self, session: u32, tx: Tx, outcome: Outcome) -> Result<Vec<Op>, NotEnded>
         requires { is_active_outcome outcome ≡ false }
-        ensures { MatchResult result (λ ops. EndsWith self.old session tx outcome ops.items self.new) (λ why. IsNotEnded self.old session tx why self.new) }
+        ensures ok { IfOk result (λ ops. EndsWith self.old session tx outcome ops.items self.new) }
+        ensures refused { IfErr result (λ why. IsNotEnded self.old session tx why self.new) }
     {
         let alloc = self.alloc;
+        self.check_active(session, tx)?;
         let Some(entry) = self.places.get_mut(tx.place) else {
-            return Err(NotEnded::NoSuchTransaction);
+            unreachable!();
         };
-        if !entry.is_own(session, tx.generation) {
-            return Err(NotEnded::NoSuchTransaction);
-        }
-        if !entry.is_active() {
-            return Err(NotEnded::NotActive);
-        }
         self.claims.drop_of(Owner(tx.place as u64));
         Ok(entry.end(alloc, outcome))
     }
 
     /// Lets a transaction go; one that is active is rolled back. Takes no memory.
     pub fn close(&mut self, session: u32, tx: Tx) -> Result<(), NoSuchTransaction>
-        ensures { MatchResult result (λ _. ChangesPlaces self.old (Closes self.old.places (own self.old.places session tx) tx.place self.new.places) self.new) (λ _. (own self.old.places session tx ≡ None) × (self.new ≡ self.old)) }
+        ensures ok { OnOk result
+            (ChangesPlaces self.old
+            (Closes self.old.places (own self.old.places session tx) tx.place self.new.places) self.new) }
+        ensures refused { OnErr result
+            ((own self.old.places session tx ≡ None) × (self.new ≡ self.old)) }
     {
         if self.own(session, tx).is_none() {
             return Err(NoSuchTransaction);
@@ -355,7 +390,8 @@ impl TxTable {
 
     /// The active transactions that hold a claim which conflicts with that of the operation.
     pub fn holders(&self, op: &Op) -> Result<Holders, AllocError>
-        ensures { IfOk result (λ holders. (place : ℕ) → is_listed holders place ≡ holds_if (claim_of op.now) (at self.now.places place)) }
+        ensures { IfOk result (λ holders. (place : ℕ) → is_listed holders place
+            ≡ holds_if (claim_of op.now) (at self.now.places place)) }
     {
         Ok(Holders {
             owners: self.claims.holders(None, &claims(op))?,
@@ -365,7 +401,8 @@ impl TxTable {
     /// Rolls back those of these transactions that are active. Takes no memory.
     pub fn roll_back_all(&mut self, holders: &Holders)
         ensures rest { self.new ≡ record self.old { places = self.new.places } }
-        ensures rolled_back { (place : ℕ) → at self.new.places place ≡ rolled_back_if (is_listed holders.now place) (at self.old.places place) }
+        ensures rolled_back { (place : ℕ) → at self.new.places place
+            ≡ rolled_back_if (is_listed holders.now place) (at self.old.places place) }
     {
         for owner in &holders.owners {
             self.roll_back_at(owner.0);
@@ -375,7 +412,8 @@ impl TxTable {
     // rolls back the transaction at a place, where it is active
     fn roll_back_at(&mut self, owner: u64)
         ensures rest { self.new ≡ record self.old { places = self.new.places } }
-        ensures put { Puts self.old.places self.new.places owner (rolled_back_if true (at self.old.places owner)) }
+        ensures put { Puts self.old.places self.new.places owner (rolled_back_if true (at
+            self.old.places owner)) }
     {
         let alloc = self.alloc;
         let place = owner as usize;
@@ -389,7 +427,7 @@ impl TxTable {
     }
 
     /// The next change was accepted, and left these trees.
-    pub fn moved(&mut self, trees: Trees)
+    pub fn accept(&mut self, trees: Trees)
         requires { self.old.number < 2 ^ 64 - 1 }
         ensures { self.new ≡ record self.old { trees = trees; number = self.old.number + 1 } }
     {

@@ -1,5 +1,5 @@
 //! The node of the root after one operation: a new node along the operation's path, all else shared.
-ghost use Rattle.std.specs.Prelude.{◌≡◌, ◌<◌, true, List, [], ◌∷◌, ◌++◌, ℕ, cond, length, IsSome, Some, None, IfOk, MatchResult, ◌⊎◌, false};
+ghost use Rattle.std.specs.Prelude.{◌≡◌, ◌<◌, true, List, [], ◌∷◌, ◌++◌, ℕ, cond, length, IsSome, Some, None, IfOk, ◌⊎◌, false, IfErr};
 ghost use Rattle.std.specs.Result.{is_err};
 ghost use Rattle.std.specs.Ordering.{eq_by_cmp};
 ghost use Rattle.reg_names.specs.Names.{folded, folded_path, is_path, is_value_name};
@@ -25,9 +25,11 @@ use std::sync::Arc;
 
 impl Tree {
     // the key at this path with another row of the same name
-    fn edited(&self, alloc: Global, path: &[Name], key: Key) -> Result<Node, AllocError>
-        requires { (old : Row) × (row self.now (folded_path path.now) ≡ Some old) × (folded key.name ≡ folded old.name) }
-        ensures rows { IfOk result (λ made. (q : List (List ℕ)) → row_at made q ≡ cond (eq_by_cmp path_order q (folded_path path.now)) (Some key) (row self.now q)) }
+    fn with_key(&self, alloc: Global, path: &[Name], key: Key) -> Result<Node, AllocError>
+        requires { (old : Row) × (row self.now (folded_path path.now) ≡ Some old) × (folded key.name
+            ≡ folded old.name) }
+        ensures rows { IfOk result (λ made. (q : List (List ℕ)) → row_at made q
+            ≡ cond (eq_by_cmp path_order q (folded_path path.now)) (Some key) (row self.now q)) }
         ensures node { IfOk result IsNode }
     {
         let Some(node) = self.node(path) else {
@@ -35,7 +37,7 @@ impl Tree {
         };
         let _ = node.key();
         let new = node.with_key(alloc, key)?;
-        let made = self.root.replaced(alloc, path, new)?;
+        let made = self.root.with_replaced(alloc, path, new)?;
         Ok(made)
     }
 
@@ -49,7 +51,9 @@ impl Tree {
         moment: u64,
     ) -> Result<Node, AllocError>
         requires { IsSome (row self.now (folded_path path.now)) }
-        ensures rows { IfOk result (λ made. (q : List (List ℕ)) → row_at made q ≡ row_edited (λ key. record key { values = values_with key.values name.now kind data.now }) self.now (folded_path path.now) moment q) }
+        ensures rows { IfOk result (λ made. (q : List (List ℕ)) → row_at made q ≡ row_edited (λ key.
+            record key { values = values_with key.values name.now kind data.now }) self.now
+            (folded_path path.now) moment q) }
         ensures node { IfOk result IsNode }
         ensures named { (is_path path.now ≡ true) × (is_value_name name.now ≡ true) }
     {
@@ -59,7 +63,7 @@ impl Tree {
         let key = node.key();
         let values = key.values().with(alloc, name.name(), kind, data)?;
         let new = key.with_values(values, moment)?;
-        let made = self.edited(alloc, path.names(), new)?;
+        let made = self.with_key(alloc, path.names(), new)?;
         Ok(made)
     }
 
@@ -71,7 +75,9 @@ impl Tree {
         moment: u64,
     ) -> Result<Node, AllocError>
         requires { IsSome (row self.now (folded_path path.now)) }
-        ensures rows { IfOk result (λ made. (q : List (List ℕ)) → row_at made q ≡ row_edited (λ key. record key { values = values_without key.values name.now }) self.now (folded_path path.now) moment q) }
+        ensures rows { IfOk result (λ made. (q : List (List ℕ)) → row_at made q ≡ row_edited (λ key.
+            record key { values = values_without key.values name.now }) self.now (folded_path
+            path.now) moment q) }
         ensures node { IfOk result IsNode }
         ensures named { (is_path path.now ≡ true) × (is_value_name name.now ≡ true) }
     {
@@ -81,7 +87,7 @@ impl Tree {
         let key = node.key();
         let values = key.values().without(alloc, name.name())?;
         let new = key.with_values(values, moment)?;
-        let made = self.edited(alloc, path.names(), new)?;
+        let made = self.with_key(alloc, path.names(), new)?;
         Ok(made)
     }
 
@@ -89,7 +95,8 @@ impl Tree {
         requires there { IsSome (row self.now (folded_path path.now)) }
         requires below { 0 < length path.now }
         requires alone { length (subkeys self.now (folded_path path.now)) ≡ 0 }
-        ensures rows { IfOk result (λ made. (q : List (List ℕ)) → row_at made q ≡ row_deleted self.now (folded_path path.now) moment q) }
+        ensures rows { IfOk result (λ made. (q : List (List ℕ)) → row_at made q
+            ≡ row_deleted self.now (folded_path path.now) moment q) }
         ensures node { IfOk result IsNode }
         ensures named { is_path path.now ≡ true }
     {
@@ -99,15 +106,16 @@ impl Tree {
         let Some(node) = self.node(parent) else {
             unreachable!();
         };
-        let key = node.key().touched(moment)?;
+        let key = node.key().with_time(moment)?;
         let new = node.without_child(alloc, key, last)?;
-        let made = self.root.replaced(alloc, parent, new)?;
+        let made = self.root.with_replaced(alloc, parent, new)?;
         Ok(made)
     }
 
     fn create_key(&self, alloc: Global, path: &Path, moment: u64) -> Result<Node, AllocError>
         requires { is_there self.now (folded_path path.now) ≡ false }
-        ensures rows { IfOk result (λ made. (q : List (List ℕ)) → row_at made q ≡ row_created self.now path.now moment q) }
+        ensures rows { IfOk result (λ made. (q : List (List ℕ)) → row_at made q
+            ≡ row_created self.now path.now moment q) }
         ensures node { IfOk result IsNode }
         ensures named { is_path path.now ≡ true }
     {
@@ -119,15 +127,16 @@ impl Tree {
         };
         let key = node.key();
         let branch = Node::branch(alloc, name, further, key.descriptor(), moment)?;
-        let new = node.with_new_child(alloc, key.touched(moment)?, branch)?;
-        let made = self.root.replaced(alloc, front, new)?;
+        let new = node.with_new_child(alloc, key.with_time(moment)?, branch)?;
+        let made = self.root.with_replaced(alloc, front, new)?;
         Ok(made)
     }
 
     // the root after an operation that may be carried out
     fn root_after(&self, alloc: Global, op: &Op, moment: u64) -> Result<Node, AllocError>
         requires { judged self.now op.now ≡ Ok Legality.Legal }
-        ensures rows { IfOk result (λ made. (q : List (List ℕ)) → row_at made q ≡ row_after self.now op.now moment q) }
+        ensures rows { IfOk result (λ made. (q : List (List ℕ)) → row_at made q
+            ≡ row_after self.now op.now moment q) }
         ensures node { IfOk result IsNode }
         ensures named { IsNamed op.now }
     {
@@ -146,7 +155,7 @@ impl Tree {
     }
 
     // the tree after an operation that may be carried out
-    fn carried_out(&self, alloc: Global, op: &Op, moment: u64) -> Result<Tree, AllocError>
+    fn apply_legal(&self, alloc: Global, op: &Op, moment: u64) -> Result<Tree, AllocError>
         requires { judged self.now op.now ≡ Ok Legality.Legal }
         ensures { IfOk result (λ made. made ≡ changed self.now op.now moment) }
     {
@@ -158,11 +167,11 @@ impl Tree {
 
     /// The tree after the operation at this moment. One that may not be carried out, or that opens a key,
     /// changes nothing; weights are not looked at.
-    pub fn changed(&self, alloc: Global, op: &Op, moment: u64) -> Result<Tree, AllocError>
+    pub fn apply(&self, alloc: Global, op: &Op, moment: u64) -> Result<Tree, AllocError>
         ensures { IfOk result (λ made. made ≡ changed self.now op.now moment) }
     {
-        match self.judged(op) {
-            Ok(Legality::Legal) => self.carried_out(alloc, op, moment),
+        match self.judge(op) {
+            Ok(Legality::Legal) => self.apply_legal(alloc, op, moment),
             _ => self.clone(),
         }
     }
@@ -170,12 +179,15 @@ impl Tree {
     /// The tree after the operation at this moment, or nothing where it opens a key. Refused exactly as
     /// [`Tree::legal`] says: the operation is judged and carried out in one go.
     pub fn write(&self, alloc: Global, op: &Op, moment: u64) -> Result<Option<Tree>, Refusal>
-        ensures { MatchResult result (IsWritten (legal_in self.now op.now) (changed self.now op.now moment)) (λ refusal. (legal_in self.now op.now ≡ Err refusal) ⊎ (refusal ≡ Refusal.NoMemory)) }
+        ensures ok { IfOk result
+            (IsWritten (legal_in self.now op.now) (changed self.now op.now moment)) }
+        ensures refused { IfErr result (λ refusal.
+            (legal_in self.now op.now ≡ Err refusal) ⊎ (refusal ≡ Refusal.NoMemory)) }
     {
-        match self.judged(op)? {
+        match self.judge(op)? {
             Legality::Opened => Ok(None),
             Legality::Legal => {
-                let made = self.carried_out(alloc, op, moment)?;
+                let made = self.apply_legal(alloc, op, moment)?;
                 if made.is_over(op) {
                     return Err(Refusal::TooLarge);
                 }
@@ -199,21 +211,22 @@ impl Tree {
     pub fn legal(&self, alloc: Global, op: &Op) -> Result<Legality, Refusal>
         ensures { IsOrNoMemory result (legal_in self.now op.now) }
     {
-        match self.judged(op) {
-            Ok(Legality::Legal) => self.weighed(alloc, op),
+        match self.judge(op) {
+            Ok(Legality::Legal) => self.weigh(alloc, op),
             other => other,
         }
     }
 
     // whether the operation, which may be carried out, leaves the tree within its weight
-    fn weighed(&self, alloc: Global, op: &Op) -> Result<Legality, Refusal>
+    fn weigh(&self, alloc: Global, op: &Op) -> Result<Legality, Refusal>
         requires { judged self.now op.now ≡ Ok Legality.Legal }
-        ensures { IsOrNoMemory result (legal_after op.now (Ok Legality.Legal) (weight (changed self.now op.now 0))) }
+        ensures { IsOrNoMemory result (legal_after op.now (Ok Legality.Legal) (weight (changed
+            self.now op.now 0))) }
     {
         match op {
             Op::DeleteKey { .. } | Op::DeleteValue { .. } => Ok(Legality::Legal),
             Op::CreateKey { .. } | Op::SetValue { .. } => {
-                let after = self.carried_out(alloc, op, 0)?;
+                let after = self.apply_legal(alloc, op, 0)?;
                 if after.is_over(op) {
                     Err(Refusal::TooLarge)
                 } else {

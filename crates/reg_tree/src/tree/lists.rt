@@ -1,5 +1,5 @@
 //! The names of a key's subkeys and of its values, in their order.
-ghost use Rattle.std.specs.Prelude.{◌≡◌, ℕ, List, [], length, map, slice_get, IfOk, MatchResult};
+ghost use Rattle.std.specs.Prelude.{◌≡◌, ℕ, List, [], length, map, slice_get, IfOk, IfErr};
 ghost use Rattle.std.specs.Option.{option_copied};
 ghost use Rattle.std.specs.FinMap as finite;
 ghost use Rattle.reg_names.specs.Names.{folded_path};
@@ -31,7 +31,7 @@ impl Named for Node {
     ghost names = { λ node. names_below [] node };
 
     fn count(&self) -> usize {
-        self.subkeys()
+        self.subkey_count()
     }
 
     fn name_at(&self, index: usize) -> Option<&Name> {
@@ -55,7 +55,7 @@ impl Named for Values {
 }
 
 // copies of all the names, which share their units
-fn listed<L: Named>(alloc: Global, from: &L) -> Result<Names, AllocError>
+fn copy_names<L: Named>(alloc: Global, from: &L) -> Result<Names, AllocError>
     ensures { IfOk result (λ names. names ≡ L.names from.now) }
 {
     let count = from.count();
@@ -73,24 +73,30 @@ impl Tree {
     /// The names of the key's subkeys, in their order. Refused with `NotFound` exactly where there is no such
     /// key, and with `NoMemory`.
     pub fn subkey_names(&self, alloc: Global, path: &Path) -> Result<Names, Refusal>
-        ensures { MatchResult result (λ names. subkeys_at self.now (folded_path path.now) ≡ Some names) (IsMissingOrNoMemory (subkeys_at self.now (folded_path path.now))) }
+        ensures ok { IfOk result (λ names.
+            subkeys_at self.now (folded_path path.now) ≡ Some names) }
+        ensures refused { IfErr result
+            (IsMissingOrNoMemory (subkeys_at self.now (folded_path path.now))) }
     {
         let Some(node) = self.node(path.names()) else {
             return Err(Refusal::NotFound);
         };
         // the row of the key, whose clause says that the key is there
         let _ = node.key();
-        Ok(listed(alloc, node)?)
+        Ok(copy_names(alloc, node)?)
     }
 
     /// The names of the key's values, in their order. Refused with `NotFound` exactly where there is no such
     /// key, and with `NoMemory`.
     pub fn value_names(&self, alloc: Global, path: &Path) -> Result<Names, Refusal>
-        ensures { MatchResult result (λ names. value_names_at self.now (folded_path path.now) ≡ Some names) (IsMissingOrNoMemory (value_names_at self.now (folded_path path.now))) }
+        ensures ok { IfOk result (λ names.
+            value_names_at self.now (folded_path path.now) ≡ Some names) }
+        ensures refused { IfErr result
+            (IsMissingOrNoMemory (value_names_at self.now (folded_path path.now))) }
     {
         let Some(node) = self.node(path.names()) else {
             return Err(Refusal::NotFound);
         };
-        Ok(listed(alloc, node.key().values())?)
+        Ok(copy_names(alloc, node.key().values())?)
     }
 }

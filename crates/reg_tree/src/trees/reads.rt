@@ -1,5 +1,5 @@
 //! What is read of the trees of all hives.
-ghost use Rattle.std.specs.Prelude.{◌≡◌, MatchResult};
+ghost use Rattle.std.specs.Prelude.{◌≡◌, IfOk, IfErr};
 ghost use Rattle.reg_names.specs.Names.{folded_path};
 ghost use Rattle.reg_tree.specs.Reads.{IsMissing, IsMissingOrNoMemory};
 ghost use Rattle.reg_tree.specs.TreeLists.{value_in, value_index_in, value_names_in, subkey_index_in, subkeys_in, levels_in, info_in, weight_in};
@@ -26,7 +26,10 @@ impl Trees {
 
     /// The value of this name. Refused with `NotFound` exactly where there is no such hive, key or value.
     pub fn get_value(&self, hive: u8, path: &Path, name: &Name) -> Result<&Value, Refusal>
-        ensures { MatchResult result (λ value. value_in self.now hive (folded_path path.now) name.now ≡ Some value.now) (IsMissing (value_in self.now hive (folded_path path.now) name.now)) }
+        ensures ok { IfOk result (λ value.
+            value_in self.now hive (folded_path path.now) name.now ≡ Some value.now) }
+        ensures refused { IfErr result
+            (IsMissing (value_in self.now hive (folded_path path.now) name.now)) }
     {
         match self.tree(hive) {
             Some(tree) => tree.get_value(path, name),
@@ -37,7 +40,10 @@ impl Trees {
     /// The value at this index, in the order of names. Refused with `NotFound` exactly where there is no such
     /// hive or key, or the index is past its last value.
     pub fn enum_value(&self, hive: u8, path: &Path, index: usize) -> Result<&Value, Refusal>
-        ensures { MatchResult result (λ value. value_index_in self.now hive (folded_path path.now) index ≡ Some value.now) (IsMissing (value_index_in self.now hive (folded_path path.now) index)) }
+        ensures ok { IfOk result (λ value.
+            value_index_in self.now hive (folded_path path.now) index ≡ Some value.now) }
+        ensures refused { IfErr result
+            (IsMissing (value_index_in self.now hive (folded_path path.now) index)) }
     {
         match self.tree(hive) {
             Some(tree) => tree.enum_value(path, index),
@@ -48,7 +54,10 @@ impl Trees {
     /// The name of the subkey at this index, in the order of names. Refused with `NotFound` exactly where there
     /// is no such hive or key, or the index is past its last subkey.
     pub fn enum_key(&self, hive: u8, path: &Path, index: usize) -> Result<&Name, Refusal>
-        ensures { MatchResult result (λ name. subkey_index_in self.now hive (folded_path path.now) index ≡ Some name.now) (IsMissing (subkey_index_in self.now hive (folded_path path.now) index)) }
+        ensures ok { IfOk result (λ name.
+            subkey_index_in self.now hive (folded_path path.now) index ≡ Some name.now) }
+        ensures refused { IfErr result
+            (IsMissing (subkey_index_in self.now hive (folded_path path.now) index)) }
     {
         match self.tree(hive) {
             Some(tree) => tree.enum_key(path, index),
@@ -59,7 +68,9 @@ impl Trees {
     /// How many subkeys and values the key has, and when it was last written. Refused with `NotFound` exactly
     /// where there is no such hive or key.
     pub fn query_info(&self, hive: u8, path: &Path) -> Result<Info, Refusal>
-        ensures { MatchResult result (λ info. info_in self.now hive (folded_path path.now) ≡ Some info) (IsMissing (info_in self.now hive (folded_path path.now))) }
+        ensures ok { IfOk result (λ info.
+            info_in self.now hive (folded_path path.now) ≡ Some info) }
+        ensures refused { IfErr result (IsMissing (info_in self.now hive (folded_path path.now))) }
     {
         match self.tree(hive) {
             Some(tree) => tree.query_info(path),
@@ -70,7 +81,10 @@ impl Trees {
     /// The names of the key's subkeys, in their order. Refused with `NotFound` exactly where there is no such
     /// hive or key, and with `NoMemory`.
     pub fn subkey_names(&self, alloc: Global, hive: u8, path: &Path) -> Result<Names, Refusal>
-        ensures { MatchResult result (λ names. subkeys_in self.now hive (folded_path path.now) ≡ Some names) (IsMissingOrNoMemory (subkeys_in self.now hive (folded_path path.now))) }
+        ensures ok { IfOk result (λ names.
+            subkeys_in self.now hive (folded_path path.now) ≡ Some names) }
+        ensures refused { IfErr result
+            (IsMissingOrNoMemory (subkeys_in self.now hive (folded_path path.now))) }
     {
         match self.tree(hive) {
             Some(tree) => tree.subkey_names(alloc, path),
@@ -81,7 +95,10 @@ impl Trees {
     /// The names of the key's values, in their order. Refused with `NotFound` exactly where there is no such
     /// hive or key, and with `NoMemory`.
     pub fn value_names(&self, alloc: Global, hive: u8, path: &Path) -> Result<Names, Refusal>
-        ensures { MatchResult result (λ names. value_names_in self.now hive (folded_path path.now) ≡ Some names) (IsMissingOrNoMemory (value_names_in self.now hive (folded_path path.now))) }
+        ensures ok { IfOk result (λ names.
+            value_names_in self.now hive (folded_path path.now) ≡ Some names) }
+        ensures refused { IfErr result
+            (IsMissingOrNoMemory (value_names_in self.now hive (folded_path path.now))) }
     {
         match self.tree(hive) {
             Some(tree) => tree.value_names(alloc, path),

@@ -1,5 +1,5 @@
 //! Writes: operations that are judged and carried out at once, and lists of them within the limit of weight.
-ghost use Rattle.std.specs.Prelude.{◌≡◌, ◌<◌, ◌⊎◌, length, slice_set, true, false, IfOk, MatchResult};
+ghost use Rattle.std.specs.Prelude.{◌≡◌, ◌<◌, ◌⊎◌, length, slice_set, true, false, IfOk, IfErr, OnOk};
 ghost use Rattle.reg_tree.specs.Judgement.{legal, applied, applied_one, outweighs, any_outweighs, IsWritten};
 
 use super::Trees;
@@ -13,7 +13,10 @@ impl Trees {
     /// [`Trees::legal`] says: the operation is judged and carried out in one go, which makes the nodes of its
     /// path once.
     pub fn write(&self, alloc: Global, op: &Op, moment: u64) -> Result<Option<Trees>, Refusal>
-        ensures { MatchResult result (IsWritten (legal self.now op.now) (applied_one self.now op.now moment)) (λ refusal. (legal self.now op.now ≡ Err refusal) ⊎ (refusal ≡ Refusal.NoMemory)) }
+        ensures ok { IfOk result
+            (IsWritten (legal self.now op.now) (applied_one self.now op.now moment)) }
+        ensures refused { IfErr result (λ refusal.
+            (legal self.now op.now ≡ Err refusal) ⊎ (refusal ≡ Refusal.NoMemory)) }
     {
         let Some(tree) = self.tree(op.hive()) else {
             return Err(Refusal::NotFound);
@@ -38,22 +41,31 @@ impl Trees {
     /// with `TooLarge` exactly where a creation or a value that is written leaves its hive's tree with a weight
     /// over 16,777,216, whatever the operations after it do; and with `NoMemory`.
     pub fn apply_within(&self, alloc: Global, ops: &[Op], moment: u64) -> Result<Trees, Refusal>
-        ensures { MatchResult result (λ made. (any_outweighs self.now ops.now moment ≡ false) × (made ≡ applied self.now ops.now moment)) (λ refusal. ((any_outweighs self.now ops.now moment ≡ true) × (refusal ≡ Refusal.TooLarge)) ⊎ (refusal ≡ Refusal.NoMemory)) }
+        ensures ok { IfOk result (λ made.
+            (any_outweighs self.now ops.now moment ≡ false)
+            × (made ≡ applied self.now ops.now moment)) }
+        ensures refused { IfErr result (λ refusal.
+            ((any_outweighs self.now ops.now moment ≡ true) × (refusal ≡ Refusal.TooLarge))
+            ⊎ (refusal ≡ Refusal.NoMemory)) }
     {
         let mut made = self.try_clone(alloc)?;
         for op in ops {
-            made.change_within(alloc, op, moment)?;
+            made.apply_one_within(alloc, op, moment)?;
         }
         Ok(made)
     }
 
     // one operation more, where it leaves its hive's tree within the limit of weight
-    fn change_within(&mut self, alloc: Global, op: &Op, moment: u64) -> Result<(), Refusal>
-        ensures { MatchResult result (λ _. (outweighs self.old op.now moment ≡ false) × (self.new ≡ applied_one self.old op.now moment)) (λ refusal. ((outweighs self.old op.now moment ≡ true) × (refusal ≡ Refusal.TooLarge)) ⊎ (refusal ≡ Refusal.NoMemory)) }
+    fn apply_one_within(&mut self, alloc: Global, op: &Op, moment: u64) -> Result<(), Refusal>
+        ensures ok { OnOk result
+            ((outweighs self.old op.now moment ≡ false) × (self.new ≡ applied_one self.old op.now moment)) }
+        ensures refused { IfErr result (λ refusal.
+            ((outweighs self.old op.now moment ≡ true) × (refusal ≡ Refusal.TooLarge))
+            ⊎ (refusal ≡ Refusal.NoMemory)) }
     {
         let hive = usize::from(op.hive());
         if hive < self.hives.len() {
-            let tree = self.hives[hive].changed(alloc, op, moment)?;
+            let tree = self.hives[hive].apply(alloc, op, moment)?;
             if tree.is_over(op) {
                 return Err(Refusal::TooLarge);
             }

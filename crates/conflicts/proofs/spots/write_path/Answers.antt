@@ -1,4 +1,4 @@
-use Rattle.conflicts.proofs.OnWays.{text_more}
+use Rattle.conflicts.proofs.PathSpots.{text_more}
 use Rattle.conflicts.proofs.spots.write_path.Goals as goal
 
 pub loop-name-preserved : goal.loop-name-preserved

@@ -1,5 +1,5 @@
 use Rattle.machine.specs.Kept.{handle_in}
-use Rattle.machine.proofs.Ways.{way}
+use Rattle.machine.proofs.TransactionChanges.{way}
 use Rattle.machine.proofs.Handles.{counted, numbers_rise, still_gone, gone_for_good, closed_gone, ended_gone, not_own, not_found}
 use Rattle.machine.proofs.laws.handles_are_given_once.Goals as goal
 

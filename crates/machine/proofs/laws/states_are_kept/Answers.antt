@@ -1,4 +1,5 @@
-use Rattle.machine.proofs.Keeping.{Laws, kept_at_first, kept_after, kept_along}
+use Rattle.machine.proofs.Keeping.{Laws, kept_at_first, kept_after, kept_along, fits_along}
+use Rattle.machine.proofs.Limits.{fits_after}
 use Rattle.machine.proofs.laws.states_are_kept.Goals as goal
 
 laws : goal.After-holders_are_exact → Laws
@@ -18,3 +19,9 @@ returns-clause-step c = kept_after (laws c)
 
 pub returns-clause-run : goal.returns-clause-run
 returns-clause-run c = kept_along (laws c)
+
+pub returns-clause-room : goal.returns-clause-room
+returns-clause-room c = fits_after c.weight_alone_refuses.ensures
+
+pub returns-clause-room_run : goal.returns-clause-room_run
+returns-clause-room_run c = fits_along (laws c)

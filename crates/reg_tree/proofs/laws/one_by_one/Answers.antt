@@ -1,4 +1,4 @@
-use Rattle.reg_tree.proofs.Stays.{one_by_one}
+use Rattle.reg_tree.proofs.OthersStay.{one_by_one}
 use Rattle.reg_tree.proofs.laws.one_by_one.Goals as goal
 
 pub returns : goal.returns

@@ -1,4 +1,4 @@
-use Rattle.reg_tree.proofs.Stays.{rows_stay, hives_stay}
+use Rattle.reg_tree.proofs.OthersStay.{rows_stay, hives_stay}
 use Rattle.reg_tree.proofs.laws.others_stay.Goals as goal
 
 pub returns-clause-rows : goal.returns-clause-rows

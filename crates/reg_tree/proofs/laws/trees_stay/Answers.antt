@@ -1,5 +1,5 @@
-use Rattle.reg_tree.proofs.Keeps.{changed_stays}
-use Rattle.reg_tree.proofs.Stays.{trees_stay_all}
+use Rattle.reg_tree.proofs.TreesStay.{changed_stays}
+use Rattle.reg_tree.proofs.OthersStay.{trees_stay_all}
 use Rattle.reg_tree.proofs.laws.trees_stay.Goals as goal
 
 pub returns-clause-one : goal.returns-clause-one

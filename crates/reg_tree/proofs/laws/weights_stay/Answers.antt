@@ -1,4 +1,4 @@
-use Rattle.reg_tree.proofs.Stays.{weight_stays_one, weights_stay_all}
+use Rattle.reg_tree.proofs.OthersStay.{weight_stays_one, weights_stay_all}
 use Rattle.reg_tree.proofs.laws.weights_stay.Goals as goal
 
 pub returns-clause-one : goal.returns-clause-one

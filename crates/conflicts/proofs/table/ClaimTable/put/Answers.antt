@@ -40,7 +40,7 @@ pub invariant_of-self-in-Ok : goal.invariant_of-self-in-Ok
 invariant_of-self-in-Ok c =
     let k : Kept = record { entry = c.in_ok-entry.entry; spot = c.in_ok-spot.spot } in
     let below = λ (m : ℕ) (h : Kept) (has : Contains c.self.inside.kept.entries (m, h)). subst (λ n. m < n) (sym c.len.ensures) ((c.self.invariant.filed m h has).below) in
-    let spot : Spot = (c.in_ok-copied.field-0, c.len.result) in
+    let spot : Spot = (c.in_ok-copy.field-0, c.len.result) in
     let brought = spot_brought c.self.inside.spots.keys spot in
     put_in (vec_len c.self.inside.added) (vec_len c.push.new.self) c.len.result c.self.inside.spots.keys c.insert-3.new.self.keys c.self.inside.owned.keys c.insert.new.self.keys c.self.inside.kept.entries c.insert-2.new.self.entries k c.self.invariant
     (omega (arith, c.in_ok-push.ensures.len)) (omega (arith, c.in_ok-push.ensures.len, c.len.ensures))
@@ -48,7 +48,7 @@ invariant_of-self-in-Ok c =
     (λ p h. subst (λ xs. Contains xs p) (sym c.in_ok-insert.ensures.keys) (insert_keeps pair_order c.self.inside.owned.keys (c.args.owner.0, c.len.result) p h))
     (c.in_ok-insert-2.ensures.entries ∙ put_last c.self.inside.kept.entries c.len.result k below)
     c.in_ok-insert-2.ensures.ordered
-    (brought.0, subst (λ xs. Contains xs brought.0) (sym c.in-Ok.ensures.keys) brought.1, brought.2 ∙ c.in_ok-copied.ensures ∙ c.deref.ensures.value ∙ c.in_ok-spot.ensures.text ∙ ap (λ (h : Held). spot_text h.claim) (sym c.in_ok-entry.ensures), brought.3)
+    (brought.0, subst (λ xs. Contains xs brought.0) (sym c.in-Ok.ensures.keys) brought.1, brought.2 ∙ c.in_ok-copy.ensures ∙ c.deref.ensures.value ∙ c.in_ok-spot.ensures.text ∙ ap (λ (h : Held). spot_text h.claim) (sym c.in_ok-entry.ensures), brought.3)
     (subst (λ xs. Contains xs (k.entry.owner, c.len.result)) (sym c.in_ok-insert.ensures.keys) (subst (λ o. Contains (insert_key pair_order c.self.inside.owned.keys (c.args.owner.0, c.len.result)) (o, c.len.result)) (ap (λ (h : Held). h.owner) (sym c.in_ok-entry.ensures)) (pair_brought c.self.inside.owned.keys (c.args.owner.0, c.len.result))))
     c.in_ok-spot.ensures.number
 

@@ -12,8 +12,8 @@ use Rattle.reg_tree.proofs.Splices.{created}
 use Rattle.reg_tree.proofs.Changes.{created_is, one_more, longer_path}
 use Rattle.reg_tree.proofs.tree.Tree.create_key.Goals as goal
 
-pub replaced-requires-clause-named : goal.replaced-requires-clause-named
-replaced-requires-clause-named c =
+pub with_replaced-requires-clause-named : goal.with_replaced-requires-clause-named
+with_replaced-requires-clause-named c =
     let home : take c.nearest-depth.result.1 (folded_path c.names-names.result.now) ≡ folded_path c.split_at.result.0.now = take-map folded c.nearest-depth.result.1 c.names-names.result.now ∙ ap folded_path (sym c.split_at.ensures.front) in
     let there : row c.args.self.now (folded_path c.split_at.result.0.now) ≡ Some c.key-key.result.now =
     ap (row c.args.self.now) (sym (append-nil (folded_path c.split_at.result.0.now))) ∙ ap (λ h. row c.args.self.now (h ++ [])) (sym home) ∙ c.nearest-depth.ensures.below [] ∙ c.key-key.ensures.here in
@@ -36,7 +36,7 @@ returns-clause-rows c q =
     ∙ c.nearest-depth.ensures.gone (subst (λ p. depth < length (folded_path p)) (sym names) (longer_path front further name depth c.split_at.ensures.front_len)) r in
     created (row_at c.in_ok-made.made) (row self) c.in_ok-new.new c.nearest-depth.result.0.now c.in_ok-branch.branch front further name key.descriptor c.args.moment key
     c.in_ok-made.ensures.within (λ q off. c.in_ok-made.ensures.others q off ∙ rows_of (arc_value c.self.inside.root) c.deref.result.now self c.self.invariant.node c.self.view_is c.deref.ensures q)
-    was there (c.in_ok-new.ensures.here ∙ ap Some c.in_ok-touched.ensures) (λ r. ap (λ n. row_at c.in_ok-new.new (n ∷ r)) (sym c.in_ok-branch.ensures.root) ∙ c.in_ok-new.ensures.child r)
+    was there (c.in_ok-new.ensures.here ∙ ap Some c.in_ok-with_time.ensures) (λ r. ap (λ n. row_at c.in_ok-new.new (n ∷ r)) (sym c.in_ok-branch.ensures.root) ∙ c.in_ok-new.ensures.child r)
     (λ m r apart. c.in_ok-new.ensures.others m r (ap (eq_by_cmp name_order m) c.in_ok-branch.ensures.root ∙ apart))
     (λ r. c.in_ok-branch.ensures.rows r ∙ ap (λ b. branch_row name further b c.args.moment r) c.descriptor.ensures) empty q
     ∙ created_is self c.args.path.now front further name depth key c.args.moment (sym c.names-names.ensures.names ∙ names) (c.nearest-depth.ensures.depth ∙ ap (λ p. depth_there self (folded_path p)) c.names-names.ensures.names) c.split_at.ensures.front_len there q

@@ -10,8 +10,8 @@ use Rattle.reg_tree.proofs.Splices.{deleted}
 use Rattle.reg_tree.proofs.Changes.{nothing_below}
 use Rattle.reg_tree.proofs.tree.Tree.delete_key.Goals as goal
 
-pub replaced-requires-clause-named : goal.replaced-requires-clause-named
-replaced-requires-clause-named c =
+pub with_replaced-requires-clause-named : goal.with_replaced-requires-clause-named
+with_replaced-requires-clause-named c =
     (c.key.result.now, rows_of (arc_value c.self.inside.root) c.deref.result.now c.args.self.now c.self.invariant.node c.self.view_is c.deref.ensures (folded_path c.in-Some.parent.now) ∙ c.in-Some-node.ensures.key ∙ c.key.ensures.here, sym (c.in_ok-new.ensures.root ∙ c.key.ensures.named))
 
 pub returns-clause-rows : goal.returns-clause-rows

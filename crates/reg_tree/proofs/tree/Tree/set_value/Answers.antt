@@ -7,8 +7,8 @@ use Rattle.reg_tree_parts.specs.ValueEdits.{values_with}
 use Rattle.reg_tree.proofs.Changes.{edited_is}
 use Rattle.reg_tree.proofs.tree.Tree.set_value.Goals as goal
 
-pub edited-requires : goal.edited-requires
-edited-requires c =
+pub with_key-requires : goal.with_key-requires
+with_key-requires c =
     let same : folded_path c.names-2.result.now ≡ folded_path c.names.result.now = ap folded_path (c.names-2.ensures.names ∙ sym c.names.ensures.names) in
     (c.key-key.result.now, ap (row c.args.self.now) same ∙ c.in-Some.ensures.key ∙ c.key-key.ensures.here, ap (λ r. folded r.name) c.in_ok-new.ensures)
 

@@ -1,7 +1,7 @@
 use Rattle.std.proofs.Common.{map, min, sum_by, ◌∙◌, ap}
 use Rattle.std.specs.Arc.{arc_value}
 use Rattle.reg_tree_parts.specs.Weights.{value_weight}
-use Rattle.reg_tree_parts.proofs.Places.{whole}
+use Rattle.reg_tree_parts.proofs.SortedLists.{whole}
 use Rattle.reg_tree_parts.proofs.ValueLists.{values_are}
 use Rattle.reg_tree_parts.proofs.values.Values.weight.Goals as goal
 

@@ -10,4 +10,4 @@ invariant_of-result c = rw c.in_ok-items-2.ensures (inserted_is (arc_slice_items
 pub returns : goal.returns
 returns c = rw (← c.self.view_is, c.in_ok-items-2.ensures)
     ((inserted_is (arc_slice_items c.self.inside.items) c.self.invariant (folded c.in_ok-name.name) (record { name = c.in_ok-name.name; kind = c.args.kind; «data» = c.in_ok-data.data }) c.in_ok-items.items.items (rw c.deref.ensures.value at c.in_ok-items.ensures)).1
-    ∙ with_is _ c.args.name.now _ c.args.kind _ _ (c.in_ok-name.ensures ∙ rw (← c.self.view_is) at c.spelled.ensures.spelled) (ap folded c.in_ok-name.ensures ∙ c.spelled.ensures.named) c.in_ok-data.ensures)
+    ∙ with_is _ c.args.name.now _ c.args.kind _ _ (c.in_ok-name.ensures ∙ rw (← c.self.view_is) at c.spelling.ensures.spelled) (ap folded c.in_ok-name.ensures ∙ c.spelling.ensures.named) c.in_ok-data.ensures)

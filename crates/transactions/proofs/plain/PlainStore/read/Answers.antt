@@ -5,14 +5,12 @@ use Rattle.machine.specs.Machine.{trees_now}
 use Rattle.transactions.proofs.Stored.{missed}
 use Rattle.transactions.proofs.plain.PlainStore.read.Goals as goal
 
--- src/plain.rt:161:9
 pub returns-in_err-open : goal.returns-in_err-open
 returns-in_err-open c =
     closed_read c.args.self.now c.args.session c.in_err-open.field-0.0 c.from_residual.result
-    (record { free = ap fault (sym c.self.view_is); shut = ap (λ m. is_open m c.args.session) (sym c.self.view_is) ∙ c.in_err-open.ensures.0; named = c.in_err-open.ensures.1 }) c.from_residual.ensures.1 c.args.hive c.args.path.now c.args.question
+    (record { free = ap fault (sym c.self.view_is); shut = ap (λ m. is_open m c.args.session) (sym c.self.view_is) ∙ c.in_err-open.ensures.refused.0; named = c.in_err-open.ensures.refused.1 }) c.from_residual.ensures.1 c.args.hive c.args.path.now c.args.question
 
--- src/plain.rt:162:21
 pub returns-in_err-found : goal.returns-in_err-found
 returns-in_err-found c =
     missed c.args.self.now c.args.session c.args.hive c.args.path.now c.args.question c.trees.result.now c.from_residual-in_err-found.result c.in_err-found.field-0.0
-    (ap (λ m. is_open m c.args.session) (sym c.self.view_is) ∙ c.in_ok-open.ensures) (c.trees.ensures ∙ c.self.invariant.trees ∙ ap trees_now c.self.view_is) c.in_err-found.ensures c.from_residual-in_err-found.ensures.1
+    (ap (λ m. is_open m c.args.session) (sym c.self.view_is) ∙ c.in_ok-open.ensures.ok) (c.trees.ensures ∙ c.self.invariant.trees ∙ ap trees_now c.self.view_is) c.in_err-found.ensures.refused c.from_residual-in_err-found.ensures.1

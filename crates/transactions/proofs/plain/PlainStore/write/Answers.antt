@@ -18,29 +18,26 @@ use Rattle.transactions.specs.Stores.{store_of}
 use Rattle.transactions.proofs.Stored.{illegal_write, crowded_write, uncut, cut_change, below_most, tied_more, accepts}
 use Rattle.transactions.proofs.plain.PlainStore.write.Goals as goal
 
--- src/plain.rt:169:9
 pub returns-in_err-open : goal.returns-in_err-open
 returns-in_err-open c =
     closed_write c.args.self.now c.args.session c.in_err-open.field-0.0 c.from_residual.result
-    (record { free = ap fault (sym c.self.view_is); shut = ap (λ m. is_open m c.args.session) (sym c.self.view_is) ∙ c.in_err-open.ensures.0; named = c.in_err-open.ensures.1 }) c.from_residual.ensures.1 c.args.moment c.args.op
+    (record { free = ap fault (sym c.self.view_is); shut = ap (λ m. is_open m c.args.session) (sym c.self.view_is) ∙ c.in_err-open.ensures.refused.0; named = c.in_err-open.ensures.refused.1 }) c.from_residual.ensures.1 c.args.moment c.args.op
 
--- src/plain.rt:170:26
 pub returns-in_err-made : goal.returns-in_err-made
 returns-in_err-made c =
     illegal_write c.args.self.now c.args.session c.args.moment c.args.op c.trees.result.now c.from_residual-in_err-made.result c.in_err-made.field-0.0 (ap fault (sym c.self.view_is))
-    (ap (λ m. is_open m c.args.session) (sym c.self.view_is) ∙ c.in_ok-open.ensures) (c.trees.ensures ∙ c.self.invariant.trees ∙ ap trees_now c.self.view_is)
-    c.in_err-made.ensures c.from_residual-in_err-made.ensures.1
+    (ap (λ m. is_open m c.args.session) (sym c.self.view_is) ∙ c.in_ok-open.ensures.ok) (c.trees.ensures ∙ c.self.invariant.trees ∙ ap trees_now c.self.view_is)
+    c.in_err-made.ensures.refused c.from_residual-in_err-made.ensures.1
 
--- src/plain.rt:173:20
 pub returns-in_err-room : goal.returns-in_err-room
 returns-in_err-room c =
-    let written = subst (IsWritten (legal c.trees.result.now c.args.op) (applied_one c.trees.result.now c.args.op c.args.moment)) c.in-Some.is c.in_ok-made.ensures in
+    let written = subst (IsWritten (legal c.trees.result.now c.args.op) (applied_one c.trees.result.now c.args.op c.args.moment)) c.in-Some.is c.in_ok-made.ensures.ok in
     crowded_write c.args.self.now c.args.session c.args.moment c.args.op c.trees.result.now c.from_residual-in_err-room.result c.in_err-room.field-0.0 c.saturating_add.result (ap fault (sym c.self.view_is))
-    (ap (λ m. is_open m c.args.session) (sym c.self.view_is) ∙ c.in_ok-open.ensures) (c.trees.ensures ∙ c.self.invariant.trees ∙ ap trees_now c.self.view_is)
-    written.0 (cut_change c.args.moment c.args.op c.text_len.result c.saturating_add.result c.text_len.ensures c.saturating_add.ensures) c.in_err-room.ensures c.from_residual-in_err-room.ensures.1
+    (ap (λ m. is_open m c.args.session) (sym c.self.view_is) ∙ c.in_ok-open.ensures.ok) (c.trees.ensures ∙ c.self.invariant.trees ∙ ap trees_now c.self.view_is)
+    written.0 (cut_change c.args.moment c.args.op c.text_len.result c.saturating_add.result c.text_len.ensures c.saturating_add.ensures) c.in_err-room.ensures.refused c.from_residual-in_err-room.ensures.1
 
 written : (c : goal.After-drop-holders-inside-2) → (legal c.trees.result.now c.args.op ≡ Ok Legal) × (c.in-Some.made ≡ applied_one c.trees.result.now c.args.op c.args.moment)
-written c = subst (IsWritten (legal c.trees.result.now c.args.op) (applied_one c.trees.result.now c.args.op c.args.moment)) c.in-Some.is c.in_ok-made.ensures
+written c = subst (IsWritten (legal c.trees.result.now c.args.op) (applied_one c.trees.result.now c.args.op c.args.moment)) c.in-Some.is c.in_ok-made.ensures.ok
 
 cut : (c : goal.After-drop-holders-inside-2) → c.saturating_add.result ≡ min (element_text_len (change c.args.moment c.args.op)) 18446744073709551615
 cut c = cut_change c.args.moment c.args.op c.text_len.result c.saturating_add.result c.text_len.ensures c.saturating_add.ensures
@@ -49,7 +46,7 @@ abbrev old_store : (c : goal.After-drop-holders-inside-2) → Machine
 old_store c = store_of c.self.inside.opened.value c.self.inside.accepted.items c.self.inside.sessions c.self.inside.table c.self.inside.durable c.self.inside.room
 
 roomy : (c : goal.After-drop-holders-inside-2) → room_refusal (old_store c) c.saturating_add.result ≡ None
-roomy c = ap (λ m. room_refusal m c.saturating_add.result) c.self.view_is ∙ c.in_ok-room.ensures.0
+roomy c = ap (λ m. room_refusal m c.saturating_add.result) c.self.view_is ∙ c.in_ok-room.ensures.ok.0
 
 added : (c : goal.After-drop-holders-inside-2) → c.push_reserved.new.self.items ≡ c.self.inside.accepted.items ++ c.of.result ∷ []
 added c = c.push_reserved.ensures.items ∙ ap (λ (x : List (Snapshot Element)). x ++ c.of.result ∷ []) c.reserve.ensures.items
@@ -57,23 +54,21 @@ added c = c.push_reserved.ensures.items ∙ ap (λ (x : List (Snapshot Element))
 recorded_is : (c : goal.After-drop-holders-inside-2) → c.of.result.value ≡ change c.args.moment c.args.op
 recorded_is c = c.of.ensures ∙ ap (λ (x : List Op). let y : Element = record { moment = c.args.moment; ops = x } in y) c.in_ok-ops.ensures
 
--- src/plain.rt:166:5
 pub invariant_of-self-2 : goal.invariant_of-self-2
 invariant_of-self-2 c =
     tied_more c.self.inside.opened.value c.self.inside.accepted.items c.push_reserved.new.self.items c.self.inside.sessions c.self.inside.table c.roll_back_all.new.self c.self.inside.durable c.self.inside.room c.in_ok-room.room
     c.of.result (change c.args.moment c.args.op) c.self.invariant (below_most (old_store c) c.saturating_add.result (roomy c)) (added c) (recorded_is c)
-    (ap (λ (t : Table). t.trees) c.roll_back_all.ensures.rest ∙ ap (λ (t : Table). t.trees) c.moved.ensures ∙ (written c).1 ∙ ap (λ x. applied_one x c.args.op c.args.moment) c.trees.ensures)
-    (ap (λ (t : Table). t.number) c.roll_back_all.ensures.rest ∙ ap (λ (t : Table). t.number) c.moved.ensures)
+    (ap (λ (t : Table). t.trees) c.roll_back_all.ensures.rest ∙ ap (λ (t : Table). t.trees) c.accept.ensures ∙ (written c).1 ∙ ap (λ x. applied_one x c.args.op c.args.moment) c.trees.ensures)
+    (ap (λ (t : Table). t.number) c.roll_back_all.ensures.rest ∙ ap (λ (t : Table). t.number) c.accept.ensures)
 
--- src/plain.rt:166:5
 pub returns : goal.returns
 returns c =
     let exact : c.saturating_add.result ≡ element_text_len (change c.args.moment c.args.op) = uncut (old_store c) (element_text_len (change c.args.moment c.args.op)) c.saturating_add.result (roomy c) (cut c) in
     subst (λ m. Accepts m c.args.session c.args.moment c.args.op c.levels_made-levels.result c.number.result
     (store_of c.self.inside.opened.value c.push_reserved.new.self.items c.self.inside.sessions c.roll_back_all.new.self c.self.inside.durable c.in_ok-room.room)) c.self.view_is
-    (accepts c.self.inside.opened.value c.self.inside.accepted.items c.push_reserved.new.self.items c.self.inside.sessions c.self.inside.table c.moved.new.self c.roll_back_all.new.self c.self.inside.durable c.self.inside.room c.in_ok-room.room
-    c.of.result c.args.session c.args.moment c.number.result c.args.op c.levels_made-levels.result c.in-Some.made c.in_ok-holders.holders c.self.invariant c.in_ok-open.ensures
+    (accepts c.self.inside.opened.value c.self.inside.accepted.items c.push_reserved.new.self.items c.self.inside.sessions c.self.inside.table c.accept.new.self c.roll_back_all.new.self c.self.inside.durable c.self.inside.room c.in_ok-room.room
+    c.of.result c.args.session c.args.moment c.number.result c.args.op c.levels_made-levels.result c.in-Some.made c.in_ok-holders.holders c.self.invariant c.in_ok-open.ensures.ok
     (ap (λ x. legal x c.args.op) (sym c.trees.ensures) ∙ (written c).0) (ap (room_refusal (old_store c)) (sym exact) ∙ roomy c)
     (c.levels_made-levels.ensures ∙ ap (λ x. levels_made x c.args.op) c.trees-2.ensures) c.number.ensures (added c) (recorded_is c)
-    (c.in_ok-room.ensures.1 ∙ ap (λ m. m.room + (17 + c.saturating_add.result)) (sym c.self.view_is) ∙ ap (λ x. c.self.inside.room + (17 + x)) exact)
-    c.moved.ensures c.roll_back_all.ensures.rest c.roll_back_all.ensures.rolled_back c.in_ok-holders.ensures)
+    (c.in_ok-room.ensures.ok.1 ∙ ap (λ m. m.room + (17 + c.saturating_add.result)) (sym c.self.view_is) ∙ ap (λ x. c.self.inside.room + (17 + x)) exact)
+    c.accept.ensures c.roll_back_all.ensures.rest c.roll_back_all.ensures.rolled_back c.in_ok-holders.ensures)

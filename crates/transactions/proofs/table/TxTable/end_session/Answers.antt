@@ -6,7 +6,7 @@ use Rattle.std.specs.Option.{option_map}
 use Rattle.std.proofs.lemmas.List.{length-map}
 use Rattle.transactions.specs.Entries.{transaction_of}
 use Rattle.transactions.specs.Tables.{Table}
-use Rattle.transactions.proofs.Loops.{GoneBelow, gone_start, gone_kept, gone_more, gone_all, rest_more}
+use Rattle.transactions.proofs.PlacesInTurn.{GoneBelow, gone_start, gone_kept, gone_more, gone_all, rest_more}
 use Rattle.transactions.proofs.table.TxTable.end_session.Goals as goal
 use Rattle.transactions.proofs.table.TxTable.end_session.Goals.{then-is_of, else-is_of}
 

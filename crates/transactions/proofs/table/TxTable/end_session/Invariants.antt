@@ -1,5 +1,5 @@
 use Rattle.std.proofs.Common.{◌≡◌}
-use Rattle.transactions.proofs.Loops.{GoneBelow}
+use Rattle.transactions.proofs.PlacesInTurn.{GoneBelow}
 use Rattle.transactions.proofs.table.TxTable.end_session.Given as goal
 
 abbrev pub invariant-loop-place : goal.invariant-loop-place

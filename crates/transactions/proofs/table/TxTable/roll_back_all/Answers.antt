@@ -2,7 +2,7 @@ use Rattle.transactions.specs.Tables.{is_listed, rolled_back_if}
 use Rattle.machine.specs.Transactions.{at}
 use Rattle.std.proofs.Common.{refl, ◌∙◌, ap}
 use Rattle.std.proofs.lemmas.List.{take_all}
-use Rattle.transactions.proofs.Loops.{rolled_start, rolled_more, rest_more, numbers}
+use Rattle.transactions.proofs.PlacesInTurn.{rolled_start, rolled_more, rest_more, numbers}
 use Rattle.transactions.proofs.table.TxTable.roll_back_all.Goals as goal
 
 pub loop-owner-init : goal.loop-owner-init

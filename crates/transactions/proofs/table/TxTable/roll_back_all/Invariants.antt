@@ -1,5 +1,5 @@
 use Rattle.std.proofs.Common.{◌≡◌}
-use Rattle.transactions.proofs.Loops.{RolledBelow}
+use Rattle.transactions.proofs.PlacesInTurn.{RolledBelow}
 use Rattle.transactions.proofs.table.TxTable.roll_back_all.Given as goal
 
 abbrev pub invariant-loop-owner : goal.invariant-loop-owner

@@ -8,7 +8,7 @@ use Rattle.transactions.specs.Tables.{Table, rolled_back_if}
 use Rattle.transactions.specs.Entries.{places_of}
 use Rattle.transactions.proofs.Kept.{kept_ended}
 use Rattle.transactions.proofs.Slots.{slot}
-use Rattle.transactions.proofs.Ways.{ended_entry, rolled_back_put}
+use Rattle.transactions.proofs.TableChanges.{ended_entry, rolled_back_put}
 use Rattle.transactions.proofs.table.TxTable.roll_back_at.Goals as goal
 
 there : (c : goal.After-drop-end) → slot c.self.inside.places.slots c.args.owner ≡ Some c.in-Some.entry.now

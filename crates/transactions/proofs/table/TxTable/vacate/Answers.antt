@@ -7,10 +7,8 @@ use Rattle.transactions.proofs.Kept.{kept_vacated}
 use Rattle.transactions.proofs.Slots.{puts}
 use Rattle.transactions.proofs.table.TxTable.vacate.Goals as goal
 
--- src/table.rt:281:5
 pub invariant_of-self : goal.invariant_of-self
 invariant_of-self c = kept_vacated _ _ _ _ c.self.inside.places c.try_remove.new.self c.args.place _ c.drop_of.ensures c.self.invariant c.try_remove.ensures.updates
 
--- src/table.rt:281:5
 pub returns-clause-put : goal.returns-clause-put
 returns-clause-put c = subst (λ (t : Table). Puts t.places (places_of c.try_remove.new.self.slots) c.args.place None) c.self.view_is (puts c.self.inside.places c.try_remove.new.self c.args.place None c.try_remove.ensures.updates)

@@ -14,8 +14,8 @@ there c = sym c.in-Some.ensures.value
 same : (c : goal.After-self-2-1) → places_of (with_value c.self.inside.places c.args.tx.place c.look_up.new.self).slots ≡ places_of c.self.inside.places.slots
 same c = same_places c.self.inside.places.slots c.args.tx.place c.in-Some.entry.now c.look_up.new.self (there c) (ap transaction_of c.look_up.ensures.rest)
 
-pub invariant_of-self-2 : goal.invariant_of-self-2
-invariant_of-self-2 c =
+pub invariant_of-self : goal.invariant_of-self
+invariant_of-self c =
     kept_seen c.self.inside.trees c.self.inside.number c.self.inside.begun c.self.inside.claims c.self.inside.places (with_value c.self.inside.places c.args.tx.place c.look_up.new.self) c.args.tx.place c.in-Some.entry.now c.look_up.new.self c.self.invariant
     (Updates-with_value c.self.inside.places c.args.tx.place c.look_up.new.self (subst IsSome (sym (there c)) refl)) (there c)
     (seen_entry c.self.inside.trees c.self.inside.number c.self.inside.begun c.in-Some.entry.now c.look_up.new.self (c.self.invariant.entries c.args.tx.place c.in-Some.entry.now (there c)) c.look_up.ensures.rest c.look_up.ensures.kept)

@@ -1,0 +1,98 @@
+-- A body more goes on from the last number, and what its text is.
+use Rattle.std.proofs.Common.{◌≡◌, ◌≢◌, ◌⊎◌, inl, inr, ⊎_elim, ℕ, zero, suc, ◌+◌, ◌-◌, ◌<◌, ◌≤◌, ◌*◌, Bool, true, false, List, [], ◌∷◌, ◌++◌, length, get_or, take, drop, refl, sym, ◌∙◌, ap, subst, arith, append_assoc, length-append, Some, None, Option}
+use Rattle.std.specs.Prelude.{if◌then◌else◌, ◌==◌, ◌&&◌, nat_le, ◌^◌}
+use Rattle.std.proofs.lemmas.List.{append-nil}
+use Rattle.std.proofs.lemmas.Option.{same_Some, none-some}
+use Rattle.std.proofs.lemmas.Bool.{and_from, and_parts, eq-eqb, le-leb, leb-true, eqb-true}
+use Rattle.prefix_law.specs.Changes.{Element}
+use Rattle.prefix_law.specs.Promises.{Spelled, nothing, floor_of, floor, top}
+use Rattle.commit_journal.specs.Text.{Texts, Body, follow, elements_of, are_numbered, spelled_of, IsBody, AreGated, Stands}
+use Rattle.commit_journal.proofs.Reading.{gated_push}
+
+-- what a test let through
+pub picked : {A : Type 0} (b : Bool) (x y : A) → (if b then Some x else None) ≡ Some y → (b ≡ true) × (x ≡ y)
+picked true x y e = (refl, same_Some x y e)
+picked false x y e = absurd (none-some y e)
+
+module _ {Op : Type 0} where
+  pub elements_push : (bs : List (Body Op)) (b : Body Op) → elements_of (bs ++ b ∷ []) ≡ elements_of bs ++ b.elements
+  elements_push [] b = append-nil b.elements
+  elements_push (c ∷ bs) b = ap (λ (l : List (Element Op)). c.elements ++ l) (elements_push bs b) ∙ sym (append_assoc c.elements (elements_of bs) b.elements)
+
+  pub follow_push : (next : ℕ) (bs : List (Body Op)) (b : Body Op) → follow next bs ≡ true → b.first ≡ next + length (elements_of bs) → 1 ≤ length b.elements → follow next (bs ++ b ∷ []) ≡ true
+  follow_push next [] b on is some = and_from (b.first == next) _ (eq-eqb b.first next (omega (arith, is))) (and_from (nat_le 1 (length b.elements)) true (le-leb 1 (length b.elements) some) refl)
+  follow_push next (c ∷ bs) b on is some =
+      let p = and_parts (c.first == next) _ on in
+      let q = and_parts (nat_le 1 (length c.elements)) _ p.1 in
+      and_from (c.first == next) _ p.0 (and_from (nat_le 1 (length c.elements)) _ q.0
+      (follow_push (next + length c.elements) bs b q.1 (omega (arith, is, length-append c.elements (elements_of bs))) some))
+
+  pub floor_some : (durable below : ℕ) (es : List (Element Op)) → 1 ≤ length es → floor_of durable below es ≡ below
+  floor_some durable below [] some = absurd (omega arith)
+  floor_some durable below (e ∷ es) some = refl
+
+  -- numbers of a body more
+  numbered_push : (most : ℕ) (c : Body Op) (bs : List (Body Op)) (b : Body Op) → are_numbered most c bs ≡ true → b.first ≡ c.first + length (elements_of (c ∷ bs)) → 1 ≤ length b.elements
+      → b.first + length b.elements ≤ most + 1 → are_numbered most c (bs ++ b ∷ []) ≡ true
+  numbered_push most c bs b numbered is some room =
+      let p = and_parts (nat_le 1 c.first) _ numbered in
+      let q = and_parts (follow c.first (c ∷ bs)) _ p.1 in
+      and_from (nat_le 1 c.first) _ p.0 (and_from (follow c.first (c ∷ bs ++ b ∷ [])) _ (follow_push c.first (c ∷ bs) b q.0 is some)
+      (le-leb _ (most + 1) (omega (arith, is, room, ap (λ (l : List (Element Op)). length l) (elements_push (c ∷ bs) b), length-append (elements_of (c ∷ bs)) b.elements))))
+
+  same_spelled : (a b : ℕ) (es fs : List (Element Op)) → a ≡ b → es ≡ fs → ◌≡◌ {A = Option (Spelled Op)} (Some (record { below = a; elements = es })) (Some (record { below = b; elements = fs }))
+  same_spelled a b es fs p q = ap (λ (n : ℕ). Some (record { below = n; elements = es })) p ∙ ap (λ (l : List (Element Op)). Some (record { below = b; elements = l })) q
+
+  pub spelled_push : (most durable : ℕ) (bs : List (Body Op)) (b : Body Op) (now : Spelled Op) → spelled_of most bs ≡ Some now → top durable now ≡ durable → b.first ≡ durable + 1
+      → 1 ≤ length b.elements → durable + length b.elements ≤ most
+      → spelled_of most (bs ++ b ∷ []) ≡ Some (record { below = floor durable now; elements = now.elements ++ b.elements })
+  spelled_push most durable [] b now is ends first some room =
+      let none : nothing ≡ now = same_Some nothing now is in
+      let numbered : are_numbered most b [] ≡ true
+      = and_from (nat_le 1 b.first) _ (le-leb 1 b.first (omega (arith, first))) (and_from (follow b.first (b ∷ [])) _ (follow_push b.first [] b refl (omega arith) some)
+      (le-leb _ (most + 1) (omega (arith, first, room, length-append b.elements [])))) in
+      ap (λ (x : Bool). if x then Some (record { below = b.first - 1; elements = b.elements ++ [] }) else None) numbered
+      ∙ same_spelled (b.first - 1) durable (b.elements ++ []) b.elements (omega (arith, first)) (append-nil b.elements)
+      ∙ ap (λ (s : Spelled Op). Some (record { below = floor durable s; elements = s.elements ++ b.elements })) none
+  spelled_push most durable (c ∷ bs) b now is ends first some room =
+      let p = picked (are_numbered most c bs) (record { below = c.first - 1; elements = elements_of (c ∷ bs) }) now is in
+      let q = and_parts (nat_le 1 c.first) _ p.0 in
+      let one : 1 ≤ c.first = leb-true 1 c.first q.0 in
+      let u = and_parts (follow c.first (c ∷ bs)) _ q.1 in
+      let v = and_parts (c.first == c.first) _ u.0 in
+      let w = and_parts (nat_le 1 (length c.elements)) _ v.1 in
+      let full : 1 ≤ length (elements_of (c ∷ bs)) = omega (arith, leb-true 1 (length c.elements) w.0, length-append c.elements (elements_of bs)) in
+      let low : floor_of durable (c.first - 1) (elements_of (c ∷ bs)) ≡ c.first - 1 = floor_some durable (c.first - 1) (elements_of (c ∷ bs)) full in
+      let tops : floor_of durable (c.first - 1) (elements_of (c ∷ bs)) + length (elements_of (c ∷ bs)) ≡ durable = ap (top durable) p.1 ∙ ends in
+      let numbered : are_numbered most c (bs ++ b ∷ []) ≡ true = numbered_push most c bs b p.0 (omega (arith, first, tops, low, one)) some (omega (arith, first, room)) in
+      ap (λ (x : Bool). if x then Some (record { below = c.first - 1; elements = elements_of (c ∷ bs ++ b ∷ []) }) else None) numbered
+      ∙ same_spelled (c.first - 1) (floor_of durable (c.first - 1) (elements_of (c ∷ bs))) (elements_of (c ∷ bs ++ b ∷ [])) (elements_of (c ∷ bs) ++ b.elements) (sym low) (elements_push (c ∷ bs) b)
+      ∙ ap (λ (s : Spelled Op). Some (record { below = floor durable s; elements = s.elements ++ b.elements })) p.1
+
+  -- what stands, with a body more
+  pub stands_push : (t : Texts Op) (now : Spelled Op) (used durable : ℕ) (front chunk : List ℕ) (b : Body Op) → Stands t now used front → IsBody t chunk b → top durable now ≡ durable → b.first ≡ durable + 1
+      → 1 ≤ length b.elements → durable + length b.elements ≤ t.most
+      → Stands t (record { below = floor durable now; elements = now.elements ++ b.elements }) (used + 1 + length chunk) (front ++ 0xc3 ∷ chunk)
+  stands_push t now used durable front chunk b stands body ends first some room = record {
+    head = stands.head;
+    bodies = stands.bodies ++ b ∷ [];
+    chain = stands.chain ++ 0xc3 ∷ chunk;
+    is = ap (λ (l : List ℕ). l ++ 0xc3 ∷ chunk) stands.is ∙ append_assoc t.header stands.chain (0xc3 ∷ chunk);
+    gated = gated_push t stands.chain chunk stands.bodies b stands.gated body;
+    numbered = spelled_push t.most durable stands.bodies b now stands.numbered ends first some room;
+    size = omega (arith, stands.size, length-append front (0xc3 ∷ chunk));
+  }
+
+  -- a header with no body spells nothing
+  pub stands_empty : (t : Texts Op) → length t.header ≡ 64 → Stands t nothing 64 t.header
+  stands_empty t head = record { head = head; bodies = []; chain = []; is = sym (append-nil t.header); gated = refl; numbered = refl; size = sym head }
+
+  -- what spells nothing is the header alone, and else its first gate is open
+  by_bodies : (t : Texts Op) (front chain : List ℕ) (bodies : List (Body Op)) (now : Spelled Op) → front ≡ t.header ++ chain → AreGated t chain bodies → spelled_of t.most bodies ≡ Some now
+      → ((now ≡ nothing) × (front ≡ t.header)) ⊎ ((rest : List ℕ) × (front ≡ t.header ++ 0xc3 ∷ rest))
+  by_bodies t front chain [] now is gated numbered = inl (sym (same_Some nothing now numbered), is ∙ ap (λ (l : List ℕ). t.header ++ l) gated ∙ append-nil t.header)
+  by_bodies t front chain (b ∷ bs) now is gated numbered = inr (gated.0 ++ gated.1, is ∙ ap (λ (l : List ℕ). t.header ++ l) gated.2)
+
+  pub first_gate : (t : Texts Op) (now : Spelled Op) (used : ℕ) (front : List ℕ) → Stands t now used front
+      → ((now ≡ nothing) × (front ≡ t.header)) ⊎ ((rest : List ℕ) × (front ≡ t.header ++ 0xc3 ∷ rest))
+  first_gate t now used front stands = by_bodies t front stands.chain stands.bodies now stands.is stands.gated stands.numbered

@@ -1,0 +1,34 @@
+use Rattle.std.proofs.Common.{◌≡◌, ◌∙◌, ap, subst}
+use Rattle.prefix_law.specs.Promises.{JournalSays}
+use Rattle.engine_words.specs.Steps.{Says}
+use Rattle.commit_journal.specs.Journals.{value_in, choice_of}
+use Rattle.commit_journal.specs.declared.journal.Phase.{Phase}
+use Rattle.commit_journal.proofs.journal.Journal.go_on.Goals as goal
+
+pub returns-in-BodyWritten-clause-says : goal.returns-in-BodyWritten-clause-says
+returns-in-BodyWritten-clause-says g c = λ first handed.
+    subst (λ (p : Phase). Says (JournalSays first handed) c.sync_body.result (value_in c.args.self.now.stands p).choice (choice_of c.sync_body.new.self)) c.in-BodyWritten.ensures.value (c.sync_body.ensures.says first handed)
+
+pub returns-in-BodyWritten-clause-faulted : goal.returns-in-BodyWritten-clause-faulted
+returns-in-BodyWritten-clause-faulted g c =
+    (λ e. absurd (c.sync_body.ensures.unbroken e), λ broken. absurd (let wrong = ap (λ (p : Phase). (value_in c.args.self.now.stands p).phase) c.in-BodyWritten.ensures.value ∙ broken in (cc)))
+
+pub returns-in-BodySynced-clause-says : goal.returns-in-BodySynced-clause-says
+returns-in-BodySynced-clause-says g c = λ first handed.
+    subst (λ (p : Phase). Says (JournalSays first handed) c.open_gate.result (value_in c.args.self.now.stands p).choice (choice_of c.open_gate.new.self)) c.in-BodySynced.ensures.value (c.open_gate.ensures.says first handed)
+
+pub returns-in-BodySynced-clause-faulted : goal.returns-in-BodySynced-clause-faulted
+returns-in-BodySynced-clause-faulted g c =
+    (λ e. absurd (c.open_gate.ensures.unbroken e), λ broken. absurd (let wrong = ap (λ (p : Phase). (value_in c.args.self.now.stands p).phase) c.in-BodySynced.ensures.value ∙ broken in (cc)))
+
+pub returns-in-GateWritten-clause-says : goal.returns-in-GateWritten-clause-says
+returns-in-GateWritten-clause-says g c = λ first handed.
+    subst (λ (p : Phase). Says (JournalSays first handed) c.sync_gate.result (value_in c.args.self.now.stands p).choice (choice_of c.sync_gate.new.self)) c.in-GateWritten.ensures.value (c.sync_gate.ensures.says first handed)
+
+pub returns-in-GateWritten-clause-faulted : goal.returns-in-GateWritten-clause-faulted
+returns-in-GateWritten-clause-faulted g c =
+    (λ e. absurd (c.sync_gate.ensures.unbroken e), λ broken. absurd (let wrong = ap (λ (p : Phase). (value_in c.args.self.now.stands p).phase) c.in-GateWritten.ensures.value ∙ broken in (cc)))
+
+pub returns-in-TrimWritten-clause-faulted : goal.returns-in-TrimWritten-clause-faulted
+returns-in-TrimWritten-clause-faulted g c =
+    (λ e. absurd (c.sync_trim.ensures.unbroken e), λ broken. absurd (let wrong = ap (λ (p : Phase). (value_in c.args.self.now.stands p).phase) c.in-TrimWritten.ensures.value ∙ broken in (cc)))

@@ -1,0 +1,13 @@
+-- What a journal keeps of what stands, or will stand.
+use Rattle.std.specs.Prelude.{◌≡◌, ℕ, ◌+◌, ◌≤◌, List}
+use Rattle.prefix_law.specs.Changes as law
+use Rattle.prefix_law.specs.Promises.{Spelled, top}
+use Rattle.engine_words.specs.Changes.{TimedOp}
+use Rattle.commit_journal.specs.Store.{room_of}
+
+-- The numbers are those of what is spelled: that of the last element (0 where there is none), and the used room, which is
+-- 65 and that of the elements; the gate that isn't open lies within that room.
+pub record IsStanding (gate last used : ℕ) (s : Spelled TimedOp) : Type 0 where
+  pub last_is : last ≡ top 0 s
+  pub used_is : used ≡ 65 + room_of s.elements
+  pub within : gate + 1 ≤ used

@@ -1,0 +1,34 @@
+-- The text of a store's journal: its header, and its elements as the law of one prefix sees them.
+use Rattle.std.specs.Prelude.{ℕ, ◌+◌, List, ◌++◌, replicate, codes, sum_by, Option, option_map}
+use Rattle.byteorder.specs.Endian.{little_bytes}
+use Rattle.refusals.specs.declared.limits.TheConstants.{GREATEST_NUMBER}
+use Rattle.reg_tree.specs.Texts.{op_text_len}
+use Rattle.prefix_law.specs.Changes as law
+use Rattle.element_text.specs.Text.{element_at}
+use Rattle.engine_words.specs.Changes.{TimedOp, timed_element}
+use Rattle.commit_journal.specs.Text.{Texts}
+
+-- what a store's header holds: the 16 bytes of its id, and its number of hives
+pub record Store : Type 0 where
+  pub id : List ℕ
+  pub hives : ℕ
+
+-- the header: `KTMJRNL1`, the id, the number of hives in four bytes, and zeros up to 64 bytes
+abbrev pub header_text : Store → List ℕ
+header_text store = codes "KTMJRNL1" ++ (store.id ++ (little_bytes 4 store.hives ++ replicate 36 0))
+
+-- the change on one of so many hives that bytes begin with, as the law sees it, and the bytes behind it
+abbrev pub timed_at : ℕ → List ℕ → Option (law.Element TimedOp × List ℕ)
+timed_at hives bytes = option_map (λ got. (timed_element got.0, got.1)) (element_at hives bytes)
+
+-- the text of a store's journal
+abbrev pub texts : Store → Texts TimedOp
+texts store = record { header = header_text store; read = timed_at store.hives; most = GREATEST_NUMBER }
+
+-- how long a change is as journal text
+abbrev pub timed_len : law.Element TimedOp → ℕ
+timed_len e = 16 + sum_by (λ o. op_text_len o.1.1) e
+
+-- the room of changes in a journal: 17 and its length for each
+abbrev pub room_of : List (law.Element TimedOp) → ℕ
+room_of es = sum_by (λ e. 17 + timed_len e) es

@@ -1,0 +1,14 @@
+-- The elements that a journal was told.
+use Rattle.std.specs.Prelude.{ℕ, List, [], ◌∷◌, ◌++◌}
+use Rattle.prefix_law.specs.Changes as law
+use Rattle.prefix_law.specs.Promises.{Spelled}
+use Rattle.engine_words.specs.Changes.{TimedOp, timed_element}
+use Rattle.commit_journal.specs.declared.told.Told.{Told, Nothing, Then', Same'}
+
+abbrev pub elements_told : Told → List (law.Element TimedOp)
+elements_told Nothing = []
+elements_told (Then' shape before element) = elements_told before ++ timed_element element.value ∷ []
+elements_told (Same' shape before) = elements_told before
+
+abbrev pub spelled_told : ℕ → Told → Spelled TimedOp
+spelled_told below told = record { below = below; elements = elements_told told }

@@ -1,0 +1,74 @@
+//! The body of a batch: which elements it takes, and its bytes.
+ghost use Rattle.std.specs.Prelude.{◌≡◌, ◌+◌, ◌<◌, ◌≤◌, ◌^◌, ◌++◌, ℕ, length, take, sum_by, IfOk, OnOk};
+ghost use Rattle.std.specs.List.{AllByRecursion, flat_map};
+ghost use Rattle.reg_tree.specs.Texts.{element_text_len};
+ghost use Rattle.element_text.specs.Text.{element_text};
+ghost use Rattle.commit_journal.specs.Text.{body_text};
+ghost use Rattle.commit_journal.specs.Handed.{IsShort, FitsIfThere, body_len, IsLongestFront};
+ghost use Rattle.commit_journal.specs.declared.layout.TheConstants.{MOST_BODY_BYTES};
+
+use crate::layout::MOST_BODY_BYTES;
+use element_text::{put_u32, put_u64};
+use reg_tree::Element;
+use std::alloc::{AllocError, Global};
+
+/// So many of the first elements, and the bytes of the body that they make.
+#[derive(Clone, Copy)]
+pub(crate) struct Front {
+    pub count: usize,
+    pub size: u64,
+}
+
+/// As many of the first elements as fit a body.
+pub(crate) fn longest_front(handed: &[Element]) -> Front
+    requires { AllByRecursion IsShort handed.now }
+    ensures front { IsLongestFront result.count handed.now }
+    ensures size { result.size ≡ body_len (take result.count handed.now) }
+    ensures some { 0 < length handed.now → 0 < result.count }
+{
+    let mut size = 16;
+    for (count, element) in handed.iter().enumerate() {
+        let more = element.text_len();
+        if more > MOST_BODY_BYTES - size {
+            return Front { count, size };
+        }
+        size += more;
+    }
+    Front {
+        count: handed.len(),
+        size,
+    }
+}
+
+/// The bytes of the body of these elements, the first of which has the number `first`: so many bytes. There is room behind
+/// them for one more.
+pub(crate) fn encode(
+    alloc: Global,
+    first: u64,
+    elements: &[Element],
+    size: u64,
+) -> Result<Vec<u8>, AllocError>
+    requires size { size ≡ body_len elements.now }
+    requires most { size ≤ MOST_BODY_BYTES }
+    ensures text { IfOk result (λ body. body.items ≡ body_text first (length elements.now) (flat_map element_text elements.now)) }
+    ensures fit { IfOk result (λ _. AllByRecursion FitsIfThere elements.now) }
+{
+    let mut body = Vec::with_capacity(alloc, size as usize + 1)?;
+    put_u32(&mut body, size as u32)?;
+    put_u64(&mut body, first)?;
+    put_u32(&mut body, elements.len() as u32)?;
+    write_all(elements, &mut body)?;
+    Ok(body)
+}
+
+/// Puts the texts of elements behind some bytes.
+fn write_all(elements: &[Element], bytes: &mut Vec<u8>) -> Result<(), AllocError>
+    requires { sum_by element_text_len elements.now < 2 ^ 32 }
+    ensures text { OnOk result (bytes.new.items ≡ bytes.old.items ++ flat_map element_text elements.now) }
+    ensures fit { OnOk result (AllByRecursion FitsIfThere elements.now) }
+{
+    for element in elements {
+        element_text::write(element, bytes)?;
+    }
+    Ok(())
+}

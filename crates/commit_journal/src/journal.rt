@@ -1,0 +1,413 @@
+//! A journal on file 0 of a disk, and the steps of its batches and trims.
+ghost use Rattle.std.specs.Prelude.{[], ◌≡◌, ◌⊎◌, ◌↔◌, ◌+◌, ◌-◌, ◌<◌, ◌≤◌, ℕ, List, length, take, false, true, Some, None, Ok, Err, IfOk, IfErr};
+ghost use Rattle.prefix_law.specs.Promises.{nothing, settled, top, JournalSays, TrimSays};
+ghost use Rattle.prefix_law.specs.Changes as law;
+ghost use Rattle.disk_model.specs.Call.{OneCall, HasFailed, Extends};
+ghost use Rattle.disk_model.specs.StoreFiles.{IsJournal};
+ghost use Rattle.refusals.specs.declared.refusal.Refusal.TheVariants.{Faulted, NoMemory, DiskFault};
+ghost use Rattle.refusals.specs.declared.limits.TheConstants.{MOST_HIVES};
+ghost use Rattle.engine_words.specs.Changes.{TimedOp, timed_elements};
+ghost use Rattle.engine_words.specs.Steps.{Says};
+ghost use Rattle.commit_journal.specs.OnDisk.{is_on, longer};
+ghost use Rattle.commit_journal.specs.Told.{elements_told};
+ghost use Rattle.commit_journal.specs.OnDisk as phase;
+ghost use Rattle.commit_journal.specs.Store.{texts, room_of};
+ghost use Rattle.commit_journal.specs.Handed.{IsHanded, IsLongestFront};
+
+use crate::layout::{CLOSED_GATE, FIRST_GATE, OPEN_GATE};
+use crate::standing::Standing;
+use crate::{body, device, header};
+use disk_model::Disk;
+use engine_words::Progress;
+use refusals::Refusal;
+use reg_tree::Element;
+use std::alloc::Global;
+use std::mem;
+use std::snapshot::Snapshot;
+use uuid::Uuid;
+
+/// What will stand once a batch is done: it has an element.
+#[derive(Drop)]
+struct Batch {
+    ahead: Standing,
+    ghost some: { 0 < length (elements_told ahead.told) },
+}
+
+/// How far a batch or a trim has come.
+#[derive(Drop)]
+enum Phase {
+    /// Nothing is on its way.
+    Quiet,
+    /// A batch's body and the next gate are written.
+    BodyWritten(Batch),
+    /// They are synced.
+    BodySynced(Batch),
+    /// The batch's gate is opened.
+    GateWritten(Batch),
+    /// The first gate is closed, by a trim.
+    TrimWritten,
+    /// The device has failed. What was on its way is known to contracts alone.
+    Broken(Snapshot<Standing>),
+}
+
+/// The journal of a store, on file 0 of a disk.
+///
+/// A step makes at most one device call. A batch takes four: its body with the next gate behind it, a sync, the gate before
+/// it, a sync; a trim takes two: the first gate, a sync. No batch begins while a trim is halfway, and no trim while a batch
+/// is. After a call of the device that failed each step is refused with `Faulted` and makes none.
+#[derive(Drop)]
+pub struct Journal {
+    alloc: Global,
+    id: Uuid,
+    hives: u8,
+    stands: Standing,
+    phase: Phase,
+    ghost few: { hives ≤ 256 },
+}
+
+impl Journal {
+    ghost use Rattle.commit_journal.specs.Journals.{spelled_by, value_in, value_of, choice_of, store_of, texts_of, IsReady, BeginsLongest, IsBroken};
+
+    /// Makes the journal of a store: an empty one, whatever the file held. It is on the disk then.
+    ///
+    /// Refused with `NoMemory` before any device call, and with `DiskFault` where the device failed; nothing is said of
+    /// the file's bytes then.
+    pub fn create<D: Disk>(
+        alloc: Global,
+        disk: &mut D,
+        id: Uuid,
+        hives: u8,
+    ) -> Result<Journal, Refusal>
+        requires size { length id ≡ 16 }
+        requires hives { (1 ≤ hives) × (hives ≤ MOST_HIVES) }
+        ensures empty { IfOk result (λ journal. choice_of journal ≡ settled nothing) }
+        ensures store { IfOk result (λ journal. store_of journal ≡ record { id = id; hives = hives }) }
+        ensures on { IfOk result (λ journal. D.faithful disk.new →
+            is_on (texts_of journal) (value_of journal) (D.state_at disk.new (D.clock disk.new) 0)) }
+        ensures fails { IfErr result (λ why. ((why ≡ NoMemory) × (D.clock disk.new ≡ D.clock disk.old))
+            ⊎ ((why ≡ DiskFault) × (D.failures disk.old < D.failures disk.new))) }
+        ensures others { (f : ℕ) → ¬ (IsJournal f) →
+            D.state_at disk.new (D.clock disk.new) f ≡ D.state_at disk.old (D.clock disk.old) f }
+        ensures time { Extends (D.state_at disk.old) (D.state_at disk.new) (D.clock disk.old) (D.clock disk.new) }
+        ensures faithful { D.faithful disk.new → D.faithful disk.old }
+    {
+        let mut text = header::encode(alloc, id, hives)?;
+        text.push(CLOSED_GATE)?;
+        device::write(disk, 0, &text)?;
+        device::sync(disk)?;
+        Ok(Journal {
+            alloc,
+            id,
+            hives,
+            stands: Standing::nothing(),
+            phase: Phase::Quiet,
+        })
+    }
+
+    /// The id of the store.
+    pub fn id(&self) -> Uuid
+        ensures { result ≡ (store_of self.now).id }
+    {
+        self.id
+    }
+
+    /// The number of hives of the store.
+    pub fn hives(&self) -> u8
+        ensures { result ≡ (store_of self.now).hives }
+    {
+        self.hives
+    }
+
+    /// The used room in bytes: 65, and 17 and its length for each element journaled since the last finished trim.
+    pub fn used(&self) -> u64
+        ensures { result ≡ 65 + room_of (choice_of self.now).now.elements }
+    {
+        self.stands.used
+    }
+
+    /// The number of the last element that stands, or 0 where none does.
+    pub fn last_number(&self) -> u64
+        ensures { result ≡ top 0 (choice_of self.now).now }
+    {
+        self.stands.last
+    }
+
+    /// A batch or a trim is on its way, or was as the device failed.
+    pub fn is_halfway(&self) -> bool
+        ensures { (result ≡ false) ↔ ((choice_of self.now).next ≡ None) }
+    {
+        !self.is_quiet()
+    }
+
+    /// A trim is on its way.
+    pub fn is_trimming(&self) -> bool
+        ensures { result ≡ true → (choice_of self.now).next ≡ Some nothing }
+    {
+        matches!(self.phase, Phase::TrimWritten)
+    }
+
+    fn is_quiet(&self) -> bool
+        ensures quiet { (result ≡ true) ↔ (self.now.phase ≡ Phase.Quiet) }
+        ensures none { (result ≡ true) ↔ ((choice_of self.now).next ≡ None) }
+    {
+        matches!(self.phase, Phase::Quiet)
+    }
+
+    /// One step: where nothing is on its way the first call of a batch of as many of the elements as fit, and else the next
+    /// call of the batch or the trim. `first` is the number of the first element handed in; elements are read only as a
+    /// batch begins.
+    ///
+    /// Refused with `NoMemory` before anything is begun, with `DiskFault` where the device failed in the call, and with
+    /// `Faulted` exactly where it had failed in an earlier one.
+    pub fn step<D: Disk>(
+        &mut self,
+        disk: &mut D,
+        first: u64,
+        handed: &[Element],
+    ) -> Result<Progress, Refusal>
+        requires handed { (choice_of self.old).next ≡ None →
+            IsHanded (store_of self.old).hives (65 + room_of (choice_of self.old).now.elements) first handed.now (choice_of self.old).now }
+        ensures says { Says (JournalSays first (timed_elements handed.now)) result (choice_of self.old) (choice_of self.new) }
+        ensures longest { (result ≡ Ok Progress.More) → (choice_of self.old).next ≡ None → BeginsLongest first handed.now (choice_of self.old) (choice_of self.new) }
+        ensures faulted { (result ≡ Err Faulted) ↔ IsBroken self.old }
+        ensures on { D.faithful disk.new → is_on (texts_of self.old) (value_of self.old) (D.state_at disk.old (D.clock disk.old) 0) →
+            is_on (texts_of self.old) (value_of self.new) (D.state_at disk.new (D.clock disk.new) 0) }
+        ensures same { store_of self.new ≡ store_of self.old }
+        ensures call { OneCall IsJournal (D.state_at disk.old) (D.state_at disk.new) (D.clock disk.old) (D.clock disk.new) }
+        ensures failures { HasFailed result (D.failures disk.old) (D.failures disk.new) }
+        ensures faithful { D.faithful disk.new → D.faithful disk.old }
+    {
+        if !self.is_quiet() {
+            return self.go_on(disk);
+        }
+        if handed.is_empty() {
+            return Ok(Progress::Idle);
+        }
+        self.begin(disk, first, handed)
+    }
+
+    /// One step of a trim: where nothing is on its way the first gate is closed, and else the trim's second call is made. Its
+    /// caller judges that the elements may go, and sees that one stands.
+    ///
+    /// It takes no memory. Refused with `DiskFault` and `Faulted` as [`step`](Journal::step) is.
+    pub fn trim_step<D: Disk>(&mut self, disk: &mut D) -> Result<Progress, Refusal>
+        requires some { (choice_of self.old).next ≡ None → 0 < length (choice_of self.old).now.elements }
+        requires trims { ((choice_of self.old).next ≡ None) ⊎ ((choice_of self.old).next ≡ Some nothing) }
+        ensures says { Says TrimSays result (choice_of self.old) (choice_of self.new) }
+        ensures faulted { (result ≡ Err Faulted) ↔ IsBroken self.old }
+        ensures on { D.faithful disk.new → is_on (texts_of self.old) (value_of self.old) (D.state_at disk.old (D.clock disk.old) 0) →
+            is_on (texts_of self.old) (value_of self.new) (D.state_at disk.new (D.clock disk.new) 0) }
+        ensures same { store_of self.new ≡ store_of self.old }
+        ensures call { OneCall IsJournal (D.state_at disk.old) (D.state_at disk.new) (D.clock disk.old) (D.clock disk.new) }
+        ensures failures { HasFailed result (D.failures disk.old) (D.failures disk.new) }
+        ensures faithful { D.faithful disk.new → D.faithful disk.old }
+    {
+        if self.is_quiet() {
+            self.begin_trim(disk)
+        } else {
+            self.go_on(disk)
+        }
+    }
+
+    /// The second call of a batch: its body is synced.
+    fn sync_body<D: Disk>(&mut self, disk: &mut D, batch: Batch) -> Result<Progress, Refusal>
+        ensures says { (first : ℕ) (handed : List (law.Element TimedOp)) →
+            Says (JournalSays first handed) result (value_in self.old.stands (Phase.BodyWritten batch)).choice (choice_of self.new) }
+        ensures on { D.faithful disk.new → is_on (texts_of self.old) (value_in self.old.stands (Phase.BodyWritten batch)) (D.state_at disk.old (D.clock disk.old) 0) →
+            is_on (texts_of self.old) (value_of self.new) (D.state_at disk.new (D.clock disk.new) 0) }
+        ensures same { store_of self.new ≡ store_of self.old }
+        ensures unbroken { ¬ (result ≡ Err Faulted) }
+        ensures call { OneCall IsJournal (D.state_at disk.old) (D.state_at disk.new) (D.clock disk.old) (D.clock disk.new) }
+        ensures failures { HasFailed result (D.failures disk.old) (D.failures disk.new) }
+        ensures faithful { D.faithful disk.new → D.faithful disk.old }
+    {
+        match device::sync(disk) {
+            Ok(()) => {
+                self.phase = Phase::BodySynced(batch);
+                Ok(Progress::More)
+            }
+            Err(_) => {
+                self.phase = Phase::Broken(Snapshot::of(&batch.ahead));
+                Err(Refusal::DiskFault)
+            }
+        }
+    }
+
+    /// The third call of a batch: the gate before its body is opened.
+    fn open_gate<D: Disk>(&mut self, disk: &mut D, batch: Batch) -> Result<Progress, Refusal>
+        ensures says { (first : ℕ) (handed : List (law.Element TimedOp)) →
+            Says (JournalSays first handed) result (value_in self.old.stands (Phase.BodySynced batch)).choice (choice_of self.new) }
+        ensures on { D.faithful disk.new → is_on (texts_of self.old) (value_in self.old.stands (Phase.BodySynced batch)) (D.state_at disk.old (D.clock disk.old) 0) →
+            is_on (texts_of self.old) (value_of self.new) (D.state_at disk.new (D.clock disk.new) 0) }
+        ensures same { store_of self.new ≡ store_of self.old }
+        ensures unbroken { ¬ (result ≡ Err Faulted) }
+        ensures call { OneCall IsJournal (D.state_at disk.old) (D.state_at disk.new) (D.clock disk.old) (D.clock disk.new) }
+        ensures failures { HasFailed result (D.failures disk.old) (D.failures disk.new) }
+        ensures faithful { D.faithful disk.new → D.faithful disk.old }
+    {
+        match device::write(disk, self.stands.gate, &[OPEN_GATE]) {
+            Ok(()) => {
+                self.phase = Phase::GateWritten(batch);
+                Ok(Progress::More)
+            }
+            Err(_) => {
+                self.phase = Phase::Broken(Snapshot::of(&batch.ahead));
+                Err(Refusal::DiskFault)
+            }
+        }
+    }
+
+    /// The last call of a batch: its gate is synced, and it stands.
+    fn sync_gate<D: Disk>(&mut self, disk: &mut D, batch: Batch) -> Result<Progress, Refusal>
+        ensures says { (first : ℕ) (handed : List (law.Element TimedOp)) →
+            Says (JournalSays first handed) result (value_in self.old.stands (Phase.GateWritten batch)).choice (choice_of self.new) }
+        ensures on { D.faithful disk.new → is_on (texts_of self.old) (value_in self.old.stands (Phase.GateWritten batch)) (D.state_at disk.old (D.clock disk.old) 0) →
+            is_on (texts_of self.old) (value_of self.new) (D.state_at disk.new (D.clock disk.new) 0) }
+        ensures same { store_of self.new ≡ store_of self.old }
+        ensures unbroken { ¬ (result ≡ Err Faulted) }
+        ensures call { OneCall IsJournal (D.state_at disk.old) (D.state_at disk.new) (D.clock disk.old) (D.clock disk.new) }
+        ensures failures { HasFailed result (D.failures disk.old) (D.failures disk.new) }
+        ensures faithful { D.faithful disk.new → D.faithful disk.old }
+    {
+        match device::sync(disk) {
+            Ok(()) => {
+                let Batch { ahead } = batch;
+                self.stands = ahead;
+                self.phase = Phase::Quiet;
+                Ok(Progress::Done)
+            }
+            Err(_) => {
+                self.phase = Phase::Broken(Snapshot::of(&batch.ahead));
+                Err(Refusal::DiskFault)
+            }
+        }
+    }
+
+    /// The last call of a trim: nothing is spelled.
+    fn sync_trim<D: Disk>(&mut self, disk: &mut D) -> Result<Progress, Refusal>
+        ensures says { (first : ℕ) (handed : List (law.Element TimedOp)) →
+            Says (JournalSays first handed) result (value_in self.old.stands Phase.TrimWritten).choice (choice_of self.new) }
+        ensures trims { Says TrimSays result (value_in self.old.stands Phase.TrimWritten).choice (choice_of self.new) }
+        ensures on { D.faithful disk.new → is_on (texts_of self.old) (value_in self.old.stands Phase.TrimWritten) (D.state_at disk.old (D.clock disk.old) 0) →
+            is_on (texts_of self.old) (value_of self.new) (D.state_at disk.new (D.clock disk.new) 0) }
+        ensures same { store_of self.new ≡ store_of self.old }
+        ensures unbroken { ¬ (result ≡ Err Faulted) }
+        ensures call { OneCall IsJournal (D.state_at disk.old) (D.state_at disk.new) (D.clock disk.old) (D.clock disk.new) }
+        ensures failures { HasFailed result (D.failures disk.old) (D.failures disk.new) }
+        ensures faithful { D.faithful disk.new → D.faithful disk.old }
+    {
+        let nothing = Standing::nothing();
+        match device::sync(disk) {
+            Ok(()) => {
+                self.stands = nothing;
+                self.phase = Phase::Quiet;
+                Ok(Progress::Done)
+            }
+            Err(_) => {
+                self.phase = Phase::Broken(Snapshot::of(&nothing));
+                Err(Refusal::DiskFault)
+            }
+        }
+    }
+
+    /// The first call of a trim: the first gate is closed.
+    fn begin_trim<D: Disk>(&mut self, disk: &mut D) -> Result<Progress, Refusal>
+        requires quiet { self.old.phase ≡ Phase.Quiet }
+        requires some { 0 < length (spelled_by self.old.stands).elements }
+        ensures says { Says TrimSays result (choice_of self.old) (choice_of self.new) }
+        ensures on { D.faithful disk.new → is_on (texts_of self.old) (value_of self.old) (D.state_at disk.old (D.clock disk.old) 0) →
+            is_on (texts_of self.old) (value_of self.new) (D.state_at disk.new (D.clock disk.new) 0) }
+        ensures same { store_of self.new ≡ store_of self.old }
+        ensures unbroken { ¬ (result ≡ Err Faulted) }
+        ensures call { OneCall IsJournal (D.state_at disk.old) (D.state_at disk.new) (D.clock disk.old) (D.clock disk.new) }
+        ensures failures { HasFailed result (D.failures disk.old) (D.failures disk.new) }
+        ensures faithful { D.faithful disk.new → D.faithful disk.old }
+    {
+        match device::write(disk, FIRST_GATE, &[CLOSED_GATE]) {
+            Ok(()) => {
+                self.phase = Phase::TrimWritten;
+                Ok(Progress::More)
+            }
+            Err(_) => {
+                let nothing = Standing::nothing();
+                self.phase = Phase::Broken(Snapshot::of(&nothing));
+                Err(Refusal::DiskFault)
+            }
+        }
+    }
+
+    /// The body of a batch of as many elements as fit, with the next gate behind it, and what will stand with it.
+    fn prepare(&self, first: u64, handed: &[Element]) -> Result<(Vec<u8>, Batch), Refusal>
+        requires some { 0 < length handed.now }
+        requires handed { IsHanded self.now.hives self.now.stands.used first handed.now (spelled_by self.now.stands) }
+        ensures ready { IfOk result (λ made. IsReady (texts_of self.now) self.now.stands first handed.now made.0.items made.1.ahead) }
+        ensures memory { IfErr result (λ why. why ≡ NoMemory) }
+    {
+        let front = body::longest_front(handed);
+        let chosen = &handed[..front.count];
+        let mut bytes = body::encode(self.alloc, first, chosen, front.size)?;
+        bytes.push(CLOSED_GATE)?;
+        let ahead = self.stands.longer(first, front.size, chosen);
+        Ok((bytes, Batch { ahead }))
+    }
+
+    /// The first call of a batch: its body and the next gate are written behind the gate that isn't open.
+    fn begin<D: Disk>(
+        &mut self,
+        disk: &mut D,
+        first: u64,
+        handed: &[Element],
+    ) -> Result<Progress, Refusal>
+        requires quiet { self.old.phase ≡ Phase.Quiet }
+        requires some { 0 < length handed.now }
+        requires handed { IsHanded self.old.hives self.old.stands.used first handed.now (spelled_by self.old.stands) }
+        ensures says { Says (JournalSays first (timed_elements handed.now)) result (choice_of self.old) (choice_of self.new) }
+        ensures longest { (result ≡ Ok Progress.More) → BeginsLongest first handed.now (choice_of self.old) (choice_of self.new) }
+        ensures on { D.faithful disk.new → is_on (texts_of self.old) (value_of self.old) (D.state_at disk.old (D.clock disk.old) 0) →
+            is_on (texts_of self.old) (value_of self.new) (D.state_at disk.new (D.clock disk.new) 0) }
+        ensures same { store_of self.new ≡ store_of self.old }
+        ensures unbroken { ¬ (result ≡ Err Faulted) }
+        ensures call { OneCall IsJournal (D.state_at disk.old) (D.state_at disk.new) (D.clock disk.old) (D.clock disk.new) }
+        ensures failures { HasFailed result (D.failures disk.old) (D.failures disk.new) }
+        ensures faithful { D.faithful disk.new → D.faithful disk.old }
+    {
+        let (bytes, batch) = self.prepare(first, handed)?;
+        match device::write(disk, self.stands.gate + 1, &bytes) {
+            Ok(()) => {
+                self.phase = Phase::BodyWritten(batch);
+                Ok(Progress::More)
+            }
+            Err(_) => {
+                self.phase = Phase::Broken(Snapshot::of(&batch.ahead));
+                Err(Refusal::DiskFault)
+            }
+        }
+    }
+
+    /// The next call of what is on its way. After a failure none is made.
+    fn go_on<D: Disk>(&mut self, disk: &mut D) -> Result<Progress, Refusal>
+        requires halfway { ¬ (self.old.phase ≡ Phase.Quiet) }
+        ensures says { (first : ℕ) (handed : List (law.Element TimedOp)) →
+            Says (JournalSays first handed) result (choice_of self.old) (choice_of self.new) }
+        ensures trims { (choice_of self.old).next ≡ Some nothing → Says TrimSays result (choice_of self.old) (choice_of self.new) }
+        ensures faulted { (result ≡ Err Faulted) ↔ IsBroken self.old }
+        ensures on { D.faithful disk.new → is_on (texts_of self.old) (value_of self.old) (D.state_at disk.old (D.clock disk.old) 0) →
+            is_on (texts_of self.old) (value_of self.new) (D.state_at disk.new (D.clock disk.new) 0) }
+        ensures same { store_of self.new ≡ store_of self.old }
+        ensures call { OneCall IsJournal (D.state_at disk.old) (D.state_at disk.new) (D.clock disk.old) (D.clock disk.new) }
+        ensures failures { HasFailed result (D.failures disk.old) (D.failures disk.new) }
+        ensures faithful { D.faithful disk.new → D.faithful disk.old }
+    {
+        match mem::replace(&mut self.phase, Phase::Quiet) {
+            Phase::Quiet => Ok(Progress::Idle),
+            Phase::BodyWritten(batch) => self.sync_body(disk, batch),
+            Phase::BodySynced(batch) => self.open_gate(disk, batch),
+            Phase::GateWritten(batch) => self.sync_gate(disk, batch),
+            Phase::TrimWritten => self.sync_trim(disk),
+            Phase::Broken(ahead) => {
+                self.phase = Phase::Broken(ahead);
+                Err(Refusal::Faulted)
+            }
+        }
+    }
+}

@@ -1,0 +1,46 @@
+//! What the definitions say, as contracts.
+ghost use Rattle.std.specs.Prelude.{◌≡◌, ◌≢◌, ℕ, ◌+◌, ◌<◌, ◌≤◌, List, [], ◌∷◌, ◌++◌, length, Some};
+ghost use Rattle.prefix_law.specs.Promises.{Spelled, nothing, JournalOn, top, floor};
+ghost use Rattle.prefix_law.specs.Files.{SpellsBy};
+ghost use Rattle.disk_model.specs.FileState.{FileState, Writes, MayWrite, Syncs};
+ghost use Rattle.disk_model.specs.FileState as file;
+ghost use Rattle.commit_journal.specs.declared.layout.TheConstants.{OPEN_GATE};
+ghost use Rattle.commit_journal.specs.Text.{Texts, Body, IsBody, Stands, spelled};
+ghost use Rattle.commit_journal.specs.OnDisk.{Value, is_on, MayBegin, longer, value_at, next_at};
+ghost use Rattle.commit_journal.specs.OnDisk.{Phase, Phase.Quiet, Phase.BodyWritten, Phase.BodySynced, Phase.GateWritten, Phase.TrimWritten, Phase.Broken};
+
+/// The text: what stands is spelled whatever is behind the gate that isn't open; and with that gate open and a body behind
+/// it, more stands.
+pub fn text<Op>()
+    ensures spells { (t : Texts Op) (now : Spelled Op) (used : ℕ) (front tail : List ℕ) (gate : ℕ) → Stands t now used front → gate ≢ OPEN_GATE → spelled t (front ++ gate ∷ tail) ≡ Some now }
+    ensures more { (t : Texts Op) (now : Spelled Op) (used durable : ℕ) (front chunk : List ℕ) (b : Body Op) → Stands t now used front → IsBody t chunk b → top durable now ≡ durable → b.first ≡ durable + 1 →
+        1 ≤ length b.elements → durable + length b.elements ≤ t.most → Stands t (longer now durable b.elements) (used + 1 + length chunk) (front ++ OPEN_GATE ∷ chunk) }
+{}
+
+/// An opening: a file at rest that spells something is that of a quiet journal,
+/// and a created one spells nothing.
+pub fn opening<Op>()
+    ensures found { (t : Texts Op) → length t.header ≡ 64 → (bytes : List ℕ) (s any : Spelled Op) → spelled t bytes ≡ Some s → (gate : ℕ) × ((ahead : ℕ) → is_on t (value_at s any gate ahead Quiet) (file.at_rest bytes)) }
+    ensures created { (t : Texts Op) → length t.header ≡ 64 → (closed ahead : ℕ) (tail : List ℕ) (any : Spelled Op) → closed ≢ OPEN_GATE → is_on t (value_at nothing any 64 ahead Quiet) (file.at_rest (t.header ++ closed ∷ tail)) }
+{}
+
+/// In each phase, whatever a crash leaves spells what stands or what is on its way.
+pub fn leaves<Op>()
+    ensures { (t : Texts Op) (v : Value Op) (state : FileState) → is_on t v state → JournalOn (SpellsBy (spelled t)) v.choice (file.Leaves state) }
+{}
+
+/// Each call of the device leads from one phase to the next, or at a failure to a value with the same choice.
+pub fn calls<Op>()
+    ensures body_ok { (t : Texts Op) (now then : Spelled Op) (gate ahead : ℕ) (old new : FileState) (durable : ℕ) (chunk : List ℕ) (b : Body Op) → is_on t (value_at now then gate ahead Quiet) old →
+        MayBegin t now durable chunk b → Writes (gate + 1) (chunk ++ 0 ∷ []) old new → is_on t (value_at now (longer now durable b.elements) gate (gate + 1 + length chunk) BodyWritten) new }
+    ensures body_failed { (t : Texts Op) (now then : Spelled Op) (gate ahead : ℕ) (old new : FileState) (durable : ℕ) (chunk : List ℕ) (b : Body Op) → is_on t (value_at now then gate ahead Quiet) old →
+        MayBegin t now durable chunk b → MayWrite (gate + 1) (chunk ++ 0 ∷ []) old new → is_on t (value_at now (longer now durable b.elements) gate (gate + 1 + length chunk) Broken) new }
+    ensures body_synced { (t : Texts Op) (now then : Spelled Op) (gate ahead : ℕ) (old new : FileState) → is_on t (value_at now then gate ahead BodyWritten) old → Syncs old new → is_on t (value_at now then gate ahead BodySynced) new }
+    ensures gate_ok { (t : Texts Op) (now then : Spelled Op) (gate ahead : ℕ) (old new : FileState) → is_on t (value_at now then gate ahead BodySynced) old → Writes gate (OPEN_GATE ∷ []) old new → is_on t (value_at now then gate ahead GateWritten) new }
+    ensures gate_failed { (t : Texts Op) (now then : Spelled Op) (gate ahead : ℕ) (old new : FileState) → is_on t (value_at now then gate ahead BodySynced) old → MayWrite gate (OPEN_GATE ∷ []) old new → is_on t (value_at now then gate ahead Broken) new }
+    ensures gate_synced { (t : Texts Op) (now then : Spelled Op) (gate ahead : ℕ) (old new : FileState) (any : Spelled Op) → is_on t (value_at now then gate ahead GateWritten) old → Syncs old new → is_on t (value_at then any ahead ahead Quiet) new }
+    ensures sync_failed { (t : Texts Op) (now then : Spelled Op) (gate ahead : ℕ) (old new : FileState) (phase : Phase) → next_at phase then ≡ Some then → is_on t (value_at now then gate ahead phase) old → new ≡ old → is_on t (value_at now then gate ahead Broken) new }
+    ensures trim_ok { (t : Texts Op) (now then : Spelled Op) (gate ahead : ℕ) (old new : FileState) → 0 < length now.elements → is_on t (value_at now then gate ahead Quiet) old → Writes 64 (0 ∷ []) old new → is_on t (value_at now nothing gate 64 TrimWritten) new }
+    ensures trim_failed { (t : Texts Op) (now then : Spelled Op) (gate ahead : ℕ) (old new : FileState) → 0 < length now.elements → is_on t (value_at now then gate ahead Quiet) old → MayWrite 64 (0 ∷ []) old new → is_on t (value_at now nothing gate 64 Broken) new }
+    ensures trim_synced { (t : Texts Op) (now : Spelled Op) (gate : ℕ) (old new : FileState) (any : Spelled Op) → is_on t (value_at now nothing gate 64 TrimWritten) old → Syncs old new → is_on t (value_at nothing any 64 64 Quiet) new }
+{}

@@ -1,0 +1,44 @@
+//! The elements that a journal was told. Only contracts read them, and they take no memory.
+ghost use Rattle.std.specs.Prelude.{◌≡◌, ◌++◌, ◌∷◌, []};
+
+use reg_tree::Element;
+use std::snapshot::Snapshot;
+
+/// The elements that a journal was told, the last one outermost.
+#[derive(Drop)]
+pub(crate) enum Told {
+    /// None.
+    Nothing,
+    /// One more.
+    Then(Snapshot<Told>, Snapshot<Element>),
+    /// The same.
+    Same(Snapshot<Told>),
+}
+
+impl Told {
+    ghost use Rattle.commit_journal.specs.Told.{elements_told};
+    ghost use Rattle.engine_words.specs.Changes.{timed_element, timed_elements};
+
+    /// One more.
+    fn then(&mut self, element: &Element)
+        ensures { elements_told self.new ≡ elements_told self.old ++ timed_element element.now ∷ [] }
+    {
+        *self = Told::Then(Snapshot::of(self), Snapshot::of(element));
+    }
+
+    /// The same elements.
+    pub fn same(&self) -> Told
+        ensures { elements_told result ≡ elements_told self.now }
+    {
+        Told::Same(Snapshot::of(self))
+    }
+
+    /// All of these, in their order.
+    pub fn then_all(&mut self, elements: &[Element])
+        ensures { elements_told self.new ≡ elements_told self.old ++ timed_elements elements.now }
+    {
+        for element in elements {
+            self.then(element);
+        }
+    }
+}

@@ -1,0 +1,63 @@
+//! Steps of a journal, after a look at whether they may be made: what the engine knows, a test has to ask.
+ghost use Rattle.std.specs.Prelude.{◌≡◌, ◌+◌, ◌≤◌, ℕ, true, IfSome, Some};
+ghost use Rattle.std.specs.List.{AllByRecursion};
+ghost use Rattle.prefix_law.specs.Promises.{top};
+ghost use Rattle.reg_tree.specs.Operations.{hive_of};
+ghost use Rattle.commit_journal.specs.Store.{room_of};
+ghost use Rattle.commit_journal.specs.Handed.{OnHives, IsHanded};
+ghost use Rattle.commit_journal.specs.Journals.{choice_of, store_of};
+
+use commit_journal::Journal;
+use disk_model::Disk;
+use engine_words::Progress;
+use refusals::Refusal;
+use refusals::limits::{GREATEST_NUMBER, MOST_ELEMENT_BYTES, MOST_JOURNAL_BYTES};
+use reg_tree::Element;
+
+fn is_on_hives(element: &Element, hives: u8) -> bool
+    ensures { result ≡ true → OnHives hives element.now }
+{
+    for op in element.ops.list() {
+        if op.hive() >= hives {
+            return false;
+        }
+    }
+    true
+}
+
+/// Whether the journal may be handed these elements behind what stands.
+pub fn may_hand(journal: &Journal, handed: &[Element]) -> bool
+    ensures { result ≡ true → IsHanded (store_of journal.now).hives (65 + room_of (choice_of journal.now).now.elements)
+        (top 0 (choice_of journal.now).now + 1) handed.now (choice_of journal.now).now }
+{
+    let last = journal.last_number();
+    if last > GREATEST_NUMBER || handed.len() as u64 > GREATEST_NUMBER - last {
+        return false;
+    }
+    let hives = journal.hives();
+    let mut room = journal.used();
+    for element in handed {
+        let len = element.text_len();
+        if len > MOST_ELEMENT_BYTES || !is_on_hives(element, hives) {
+            return false;
+        }
+        if room > MOST_JOURNAL_BYTES {
+            return false;
+        }
+        room += 17 + len;
+    }
+    room <= MOST_JOURNAL_BYTES || handed.is_empty()
+}
+
+/// One step with these elements behind what stands; nothing where the journal may not be handed them.
+pub fn step<D: Disk>(
+    journal: &mut Journal,
+    disk: &mut D,
+    handed: &[Element],
+) -> Option<Result<Progress, Refusal>> {
+    if !may_hand(journal, handed) {
+        return None;
+    }
+    let first = journal.last_number() + 1;
+    Some(journal.step(disk, first, handed))
+}

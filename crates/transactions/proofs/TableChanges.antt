@@ -1,0 +1,182 @@
+-- What a table shows after each way in which it changes.
+use Rattle.std.proofs.Common.{◌⊎◌, inl, inr, Result, Ok, Err, ◌≡◌, ℕ, ◌+◌, ◌==◌, ◌&&◌, Bool, true, false, List, [], ◌∷◌, ◌-◌, ◌^◌, ◌<◌, ◌||◌, Option, Some, None, refl, sym, ◌∙◌, ap, subst, cond, arith, length, suc}
+use Rattle.std.proofs.lemmas.Option.{none-some}
+use Rattle.std.specs.Prelude.{IfOk, IfErr, IfSome, IsSome, ◌≤◌, nat_le, count_by, is_some}
+use Rattle.std.specs.Option.{option_map}
+use Rattle.slab.specs.Slab.{Slab, Updates, entries_from}
+use Rattle.slab.proofs.SlabLemmas.{length-entries_from}
+use Rattle.std.proofs.lemmas.Bool.{le-leb, lt-leb}
+use Rattle.refusals.specs.declared.refusal.Refusal.{Refusal}
+use Rattle.refusals.specs.declared.refusal.Refusal.TheVariants.{NoSuchHandle, NotActive, NoSeat, NoMemory, TooLarge, Conflict}
+use Rattle.refusals.specs.declared.limits.TheConstants.{MOST_TRANSACTIONS}
+use Rattle.reg_tree.specs.Maps.{TreeMap}
+use Rattle.reg_tree.specs.Texts.{ops_text_len}
+use Rattle.reg_tree.specs.Judgement.{legal}
+use Rattle.reg_tree.specs.declared.op.Legality.{Legality}
+use Rattle.reg_tree.specs.declared.op.Legality.TheVariants.{Legal, Opened}
+use Rattle.conflicts.specs.Claims.{claim_of}
+use Rattle.reg_tree.specs.declared.op.Op.{Op}
+use Rattle.machine.specs.Transactions.{Transaction, Places, Puts, view, is_claimed, at, own, own_if, ended, is_active, inactive_refusal, fresh_transaction, count_held}
+use Rattle.machine.specs.Machine.{seat_refusal, refused_if, first_of, refusal_by, too_long, added_refusal_if}
+use Rattle.machine.specs.declared.handle.Tx.{Tx}
+use Rattle.machine.specs.declared.handle.Outcome.{Outcome}
+use Rattle.machine.specs.declared.handle.Outcome.TheVariants.{RolledBack}
+use Rattle.transactions.specs.Tables.{Table, EndsWith, Begins, rolled_back_if}
+use Rattle.transactions.specs.Entries.{transaction_of, places_of, IsEntry, IsViewed, IsJudged, IsJudgedBy, IsJudgedOf, judge_refusal, illegal}
+use Rattle.transactions.specs.declared.entry.Entry.{Entry}
+use Rattle.transactions.specs.declared.entry.Judged.{Judged}
+use Rattle.transactions.proofs.Slots.{slot, at_of, puts}
+use Rattle.transactions.proofs.Kept.{at_slot}
+
+-- what a table with these slots shows
+abbrev pub shown : List TreeMap → ℕ → ℕ → List (Option Entry) → Table
+shown trees number begun slots = record { trees = trees; number = number; places = places_of slots; begun = begun }
+
+-- the transaction of a handle
+pub own_found : (slots : List (Option Entry)) (session : ℕ) (tx : Tx) (e : Entry) → slot slots tx.place ≡ Some e → (e.session == session && e.generation == tx.generation) ≡ true → own (places_of slots) session tx ≡ Some (transaction_of e)
+own_found slots session tx e there its = ap (own_if session tx.generation) (at_slot slots tx.place e there) ∙ ap (λ b. cond b (Some (transaction_of e)) None) its
+
+pub own_none : (slots : List (Option Entry)) (session : ℕ) (tx : Tx) → slot slots tx.place ≡ None → own (places_of slots) session tx ≡ None
+own_none slots session tx none = ap (own_if session tx.generation) (at_of slots tx.place ∙ ap (option_map transaction_of) none)
+
+-- an active transaction may be ended, and no other
+pub may_end : (one : Transaction) → is_active one ≡ true → inactive_refusal (Some one) ≡ None
+may_end one active = ap (λ b. cond b None (Some NotActive)) active
+
+-- a handle that passes its test is that of the active transaction at its place
+module _ (slots : List (Option Entry)) (session : ℕ) (tx : Tx) (passes : inactive_refusal (own (places_of slots) session tx) ≡ None) where
+  pub never_missing : slot slots tx.place ≡ None → ⊥
+  never_missing none = none-some NoSuchHandle (sym passes ∙ ap inactive_refusal (own_none slots session tx none))
+
+  module _ (e : Entry) (there : slot slots tx.place ≡ Some e) where
+    pub its_own : ((e.session == session && e.generation == tx.generation) ≡ true) × (is_active (transaction_of e) ≡ true)
+    its_own = by_case (e.session == session && e.generation == tx.generation) refl (sym (ap inactive_refusal (ap (own_if session tx.generation) (at_slot slots tx.place e there))) ∙ passes)
+      where
+        active : (b : Bool) → cond b None (Some NotActive) ≡ None → b ≡ true
+        active true h = refl
+        active false h = absurd (none-some NotActive (sym h))
+
+        by_case : (b : Bool) → (e.session == session && e.generation == tx.generation) ≡ b → inactive_refusal (cond b (Some (transaction_of e)) None) ≡ None
+            → ((e.session == session && e.generation == tx.generation) ≡ true) × (is_active (transaction_of e) ≡ true)
+        by_case true t h = (t, active (is_active (transaction_of e)) h)
+        by_case false t h = absurd (none-some NoSuchHandle (sym h))
+
+    pub own_is : own (places_of slots) session tx ≡ Some (transaction_of e)
+    own_is = own_found slots session tx e there its_own.0
+
+-- an entry after its end
+pub ended_entry : (trees : List TreeMap) (number begun : ℕ) (e after : Entry) (outcome : Outcome) → IsEntry trees number begun e → transaction_of after ≡ ended outcome (transaction_of e) → after.length ≡ 16 → after.view ≡ None →
+    IsEntry trees number begun after
+ended_entry trees number begun e after outcome i kept length unseen = record {
+  known = omega (arith, i.known, ap (λ (t : Transaction). t.generation) kept);
+  counted = length ∙ ap (λ (ops : List Op). 16 + ops_text_len ops) (sym (ap (λ (t : Transaction). t.ops) kept));
+  short = omega (arith, length);
+  viewed = subst (IsViewed trees number after.ops.items) (sym unseen) tt;
+}
+
+-- a transaction ends
+pub ends : (trees : List TreeMap) (number begun : ℕ) (old new : Slab Entry) (session : ℕ) (tx : Tx) (outcome : Outcome) (ops : List Op) (e after : Entry) → slot old.slots tx.place ≡ Some e →
+    (e.session == session && e.generation == tx.generation) ≡ true → is_active (transaction_of e) ≡ true → Updates old new tx.place (Some after) → transaction_of after ≡ ended outcome (transaction_of e) → ops ≡ e.ops.items →
+    EndsWith (shown trees number begun old.slots) session tx outcome ops (shown trees number begun new.slots)
+ends trees number begun old new session tx outcome ops e after there its active u kept given = record {
+  finishes = record {
+    one = transaction_of e;
+    found = own_found old.slots session tx e there its;
+    active = may_end (transaction_of e) active;
+    put = subst (λ t. Puts (places_of old.slots) (places_of new.slots) tx.place (Some t)) kept (puts old new tx.place (Some after) u);
+  };
+  given = given;
+  next = refl;
+}
+
+-- a transaction is begun
+pub begins : (trees : List TreeMap) (number begun : ℕ) (old new : Slab Entry) (session : ℕ) (id : List ℕ) (place : ℕ) (e : Entry) → seat_refusal (places_of old.slots) begun ≡ None → slot old.slots place ≡ None →
+    Updates old new place (Some e) → transaction_of e ≡ fresh_transaction session id (begun + 1) → Begins (shown trees number begun old.slots) session id (record { place = place; generation = begun + 1 }) (shown trees number (begun + 1) new.slots)
+begins trees number begun old new session id place e free vacant u kept = record {
+  free = free;
+  starts = record {
+    vacant = at_of old.slots place ∙ ap (option_map transaction_of) vacant;
+    numbered = refl;
+    put = subst (λ t. Puts (places_of old.slots) (places_of new.slots) place (Some t)) kept (puts old new place (Some e) u);
+  };
+  next = refl;
+}
+
+-- as many transactions are held as entries
+as_long : (key : ℕ) (slots : List (Option Entry)) → length (entries_from key (places_of slots)) ≡ length (entries_from key slots)
+as_long key [] = refl
+as_long key (None ∷ slots) = as_long (key + 1) slots
+as_long key (Some e ∷ slots) = ap suc (as_long (key + 1) slots)
+
+count_shown : (slots : List (Option Entry)) → count_held (places_of slots) ≡ count_by is_some slots
+count_shown slots = sym (length-entries_from 0 (places_of slots)) ∙ as_long 0 slots ∙ length-entries_from 0 slots
+
+seats : (held begun : ℕ) (few left : Bool) → nat_le MOST_TRANSACTIONS held ≡ few → nat_le (2 ^ 64 - 1) begun ≡ left → (nat_le MOST_TRANSACTIONS held || nat_le (2 ^ 64 - 1) begun) ≡ (few || left)
+seats held begun few left e f = ap (λ b. b || nat_le (2 ^ 64 - 1) begun) e ∙ ap (λ b. few || b) f
+
+module _ (begun : ℕ) (slots : List (Option Entry)) (held : ℕ) (counted : held ≡ count_by is_some slots) where
+  by_count : seat_refusal (places_of slots) begun ≡ refused_if (nat_le MOST_TRANSACTIONS held || nat_le (2 ^ 64 - 1) begun) NoSeat
+  by_count = ap (λ n. refused_if (nat_le MOST_TRANSACTIONS n || nat_le (2 ^ 64 - 1) begun) NoSeat) (count_shown slots ∙ sym counted)
+
+  pub some_seat : held < MOST_TRANSACTIONS → begun + 1 < 2 ^ 64 → seat_refusal (places_of slots) begun ≡ None
+  some_seat few below = by_count ∙ ap (λ b. refused_if b NoSeat) (seats held begun false false (lt-leb MOST_TRANSACTIONS held few) (lt-leb (2 ^ 64 - 1) begun (omega (arith, below))))
+
+  pub no_seat : MOST_TRANSACTIONS ≤ held → seat_refusal (places_of slots) begun ≡ Some NoSeat
+  no_seat many = by_count ∙ ap (λ b. refused_if b NoSeat) (ap (λ b. b || nat_le (2 ^ 64 - 1) begun) (le-leb MOST_TRANSACTIONS held many))
+
+  pub none_left : held < MOST_TRANSACTIONS → 2 ^ 64 ≤ begun + 1 → seat_refusal (places_of slots) begun ≡ Some NoSeat
+  none_left few many = by_count ∙ ap (λ b. refused_if b NoSeat) (seats held begun false true (lt-leb MOST_TRANSACTIONS held few) (le-leb (2 ^ 64 - 1) begun (omega (arith, many))))
+
+-- a slab with more room has the same entries
+pub updates_of : (s r new : Slab Entry) (key : ℕ) (entry : Option Entry) → r ≡ record s { capacity = r.capacity } → Updates r new key entry → Updates s new key entry
+updates_of s r new key entry same u = record { changed = u.changed; others = λ other ne. u.others other ne ∙ ap (λ (x : Slab Entry). slot x.slots other) same }
+
+pub slot_of : (s r : Slab Entry) (key : ℕ) (entry : Option Entry) → r ≡ record s { capacity = r.capacity } → slot r.slots key ≡ entry → slot s.slots key ≡ entry
+slot_of s r key entry same there = sym (ap (λ (x : Slab Entry). slot x.slots key) same) ∙ there
+
+-- a transaction that is begun
+pub begun_entry : (trees : List TreeMap) (number begun : ℕ) (session : ℕ) (id : List ℕ) (e : Entry) → transaction_of e ≡ fresh_transaction session id begun → e.length ≡ 16 → e.view ≡ None → IsEntry trees number begun e
+begun_entry trees number begun session id e kept length unseen = record {
+  known = omega (arith, ap (λ (t : Transaction). t.generation) kept);
+  counted = length ∙ ap (λ (ops : List Op). 16 + ops_text_len ops) (sym (ap (λ (t : Transaction). t.ops) kept));
+  short = omega (arith, length);
+  viewed = subst (IsViewed trees number e.ops.items) (sym unseen) tt;
+}
+
+-- an active transaction is rolled back
+pub rolled_back_put : (old new : Slab Entry) (place : ℕ) (e after : Entry) → slot old.slots place ≡ Some e → is_active (transaction_of e) ≡ true → Updates old new place (Some after) → transaction_of after ≡ ended RolledBack (transaction_of e) →
+    Puts (places_of old.slots) (places_of new.slots) place (rolled_back_if true (at (places_of old.slots) place))
+rolled_back_put old new place e after there active u kept =
+    subst (Puts (places_of old.slots) (places_of new.slots) place) (ap Some (kept ∙ sym (ap (λ b. cond b (ended RolledBack (transaction_of e)) (transaction_of e)) active)) ∙ sym (ap (rolled_back_if true) (at_slot old.slots place e there))) (puts old new place (Some after) u)
+
+-- what the view says of an operation is what the table says
+pub judge_ok : (table : Table) (session : ℕ) (tx : Tx) (op : Op) (one : Transaction) → own table.places session tx ≡ Some one → is_active one ≡ true → (r : Result (Option Judged) Refusal) →
+    IfOk r (IsJudged table.trees table.number one op) → IfOk r (IsJudgedOf table session tx op)
+judge_ok table session tx op one its active (Ok judged) h =
+    (subst (λ o. IfSome o (IsJudgedBy table.trees table.number op judged)) (sym its) record { active = active; told = h }, subst IsSome (sym its) refl)
+judge_ok table session tx op one its active (Err why) h = tt
+
+pub judge_refused : (table : Table) (session : ℕ) (tx : Tx) (op : Op) (one : Transaction) → own table.places session tx ≡ Some one → is_active one ≡ true → (r : Result (Option Judged) Refusal) →
+    IfErr r (λ why. (legal (view table.trees one) op ≡ Err why) ⊎ (why ≡ NoMemory)) →
+    IfErr r (λ why. (judge_refusal table.trees op (own table.places session tx) ≡ Some why) ⊎ (why ≡ NoMemory))
+judge_refused table session tx op one its active (Ok judged) h = tt
+judge_refused table session tx op one its active (Err why) h = elim h [
+  | inl e ↦ inl (ap (judge_refusal table.trees op) its ∙ ap (λ first. first_of first (illegal table.trees op one)) (may_end one active) ∙ ap (λ l. refusal_by l None) e)
+  | inr m ↦ inr m
+]
+
+-- a handle that doesn't pass its test isn't judged
+pub unjudged : (trees : List TreeMap) (op : Op) (its : Option Transaction) (why : Refusal) → inactive_refusal its ≡ Some why → judge_refusal trees op its ≡ Some why
+unjudged trees op None why e = e
+unjudged trees op (Some one) why e = ap (λ first. first_of first (illegal trees op one)) e
+
+first_same : (first : Option Refusal) (l : Result Legality Refusal) (further : Option Refusal) (why : Refusal) → first_of first (refusal_by l None) ≡ Some why → first_of first (refusal_by l further) ≡ Some why
+first_same (Some x) l further why e = e
+first_same None (Err x) further why e = e
+first_same None (Ok Opened) further why e = absurd (none-some why e)
+first_same None (Ok Legal) further why e = absurd (none-some why e)
+
+-- a refusal of the judgement is one of the write
+pub judged_refused : (trees : List TreeMap) (places : Places) (place : ℕ) (op : Op) (there : Option Transaction) (why : Refusal) → judge_refusal trees op there ≡ Some why → added_refusal_if trees places place op there ≡ Some why
+judged_refused trees places place op None why e = e
+judged_refused trees places place op (Some one) why e = first_same (inactive_refusal (Some one)) (legal (view trees one) op) (first_of (refused_if (too_long one op) TooLarge) (refused_if (is_claimed places place (claim_of op)) Conflict)) why e

@@ -1,6 +1,0 @@
-use Rattle.transactions.proofs.Kept.{kept_moved}
-use Rattle.transactions.proofs.table.TxTable.moved.Goals as goal
-
--- src/table.rt:347:5
-pub invariant_of-self : goal.invariant_of-self
-invariant_of-self c = kept_moved _ _ _ _ _ _ c.self.invariant
