@@ -1,11 +1,11 @@
 -- What was read of the records of a file is what a tree may hold.
-use Rattle.std.proofs.Common.{◌≡◌, ◌≢◌, ℕ, zero, suc, ◌+◌, ◌-◌, ◌*◌, ◌/◌, ◌%◌, ◌<◌, ◌≤◌, ◌^◌, inl, inr, List, [], ◌∷◌, length, take, drop, get_or, refl, ◌∙◌, ap, sym, subst, Bool, true, false, not, cond, ◌||◌, Option, Some, None, Ok, Err, Result, arith, eqb, ltb}
+use Rattle.std.proofs.Common.{◌≡◌, ◌≢◌, ℕ, zero, suc, ◌+◌, ◌-◌, ◌*◌, ◌/◌, ◌%◌, ◌<◌, ◌≤◌, ◌^◌, inl, inr, List, [], ◌∷◌, length, take, drop, get_or, refl, ◌∙◌, ap, sym, subst, Bool, true, false, not, cond, ◌||◌, Option, Some, None, Ok, Err, Result, arith, eqb}
 use Rattle.std.specs.Prelude.{slice_range, nat_lt, bit_and, map, MatchOption}
 use Rattle.std.specs.List.{list_all, list_any, AllByRecursion}
 use Rattle.std.specs.FinMap as finite
 use Rattle.std.specs.FinMap.Entries.{find}
 use Rattle.std.proofs.lemmas.Bool.{cases_Bool, cases_eq, eq-eqb, ne_eqb, lt-ltb, and_from}
-use Rattle.std.proofs.lemmas.List.{length-take, length-drop}
+use Rattle.std.proofs.lemmas.List.{length-take}
 use Rattle.std.proofs.lemmas.Nat.Bits.{and_high}
 use Rattle.refusals.specs.declared.refusal.Refusal.{Refusal}
 use Rattle.refusals.specs.declared.refusal.Refusal.TheVariants as refusal
@@ -24,10 +24,10 @@ use Rattle.hive_shape.specs.Trees.{same}
 use Rattle.hive_shape.proofs.Basics.{ok_same, never, clash, decided, yes_if, no_if, some_same, some_none, same_is, names_total}
 use Rattle.hive_shape.proofs.ChainsAre.{chains}
 use Rattle.hive_records.specs.Bytes.{AreBytes, HoldBytes}
-use Rattle.hive_records.specs.Readers.{Read, Reader, done, refuse, joined_if, own_if, look, look_lent, choice, rule, barred, each, ◌⟫◌}
+use Rattle.hive_records.specs.Readers.{Read, Reader, done, refuse, joined_if, own_if, look, choice, rule, barred, each, ◌⟫◌}
 use Rattle.hive_records.specs.Numbers.{half_at}
 use Rattle.hive_records.specs.Names.{has_flag, pairs, name_in}
-use Rattle.hive_records.specs.Values.{piece, data_of, value_at, map_of, values_at}
+use Rattle.hive_records.specs.Values.{data_of, value_at, map_of, values_at}
 use Rattle.hive_records.specs.KeyNodes.{flags_of, class_at, descriptor_at, key_at, parts_if, keys_in}
 use Rattle.hive_records.specs.Lists.{kids_at}
 use Rattle.hive_records.specs.Images.{StandsFor, splits}

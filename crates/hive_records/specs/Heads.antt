@@ -6,7 +6,7 @@ use Rattle.refusals.specs.declared.refusal.Refusal.TheVariants as refusal
 use Rattle.refusals.specs.declared.refusal.Cause.{Cause}
 use Rattle.refusals.specs.declared.refusal.Cause.TheVariants as cause
 use Rattle.hive_cells.specs.Tiles.{word_at}
-use Rattle.hive_records.specs.Numbers.{half_at, long_at, words_from, begins_with}
+use Rattle.hive_records.specs.Numbers.{half_at, long_at, begins_with}
 use Rattle.hive_records.specs.Names.{has_flag, pairs}
 use Rattle.hive_records.specs.Values.{segments_of}
 use Rattle.hive_records.specs.Lists.{is_plain, is_hinted, is_indirect}

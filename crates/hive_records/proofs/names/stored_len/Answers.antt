@@ -1,4 +1,4 @@
-use Rattle.std.proofs.Common.{◌≡◌, false, ◌∙◌, sym, arith, rules}
+use Rattle.std.proofs.Common.{◌≡◌, false, sym, arith, rules}
 use Rattle.hive_records.specs.Spellings.{is_latin}
 use Rattle.hive_records.proofs.Puts.{length-wide_text}
 use Rattle.hive_records.proofs.names.stored_len.Goals as goal

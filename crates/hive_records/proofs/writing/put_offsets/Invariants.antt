@@ -1,5 +1,4 @@
 use Rattle.std.proofs.Common.{◌≡◌, ◌++◌, drop}
-use Rattle.hive_records.specs.Spellings.{wide}
 use Rattle.hive_records.specs.ListTexts.{offsets_text}
 use Rattle.hive_records.proofs.writing.put_offsets.Given as goal
 

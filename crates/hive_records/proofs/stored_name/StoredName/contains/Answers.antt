@@ -1,6 +1,5 @@
-use Rattle.std.proofs.Common.{◌<◌, length, sym, arith}
-use Rattle.hive_records.specs.Heads.{units_in}
-use Rattle.hive_records.proofs.Units.{any_none, any_some}
+use Rattle.std.proofs.Common.{sym, arith}
+use Rattle.hive_records.proofs.Units.{any_none}
 use Rattle.hive_records.proofs.stored_name.StoredName.contains.Goals as goal
 
 pub returns : goal.returns

@@ -1,5 +1,4 @@
-use Rattle.std.proofs.Common.{◌≡◌, Bool, List, ℕ, length, false, ap, sym, ◌∙◌, ◌/◌, arith}
-use Rattle.hive_records.specs.Heads.{units_in}
+use Rattle.std.proofs.Common.{sym}
 use Rattle.hive_records.proofs.Units.{length_pairs}
 use Rattle.hive_records.proofs.stored_name.StoredName.len.Goals as goal
 
