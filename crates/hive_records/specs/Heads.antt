@@ -46,7 +46,7 @@ key_name_bytes bytes = slice_range bytes 76 (76 + half_at bytes 72)
 -- the rules of a key node by itself
 abbrev pub key_node_fault : List ℕ → Option Refusal
 key_node_fault bytes = first_broken (
-      (begins_with bytes 0x6b6e 76, told cause.BadRecord)
+    (begins_with bytes 0x6b6e 76, told cause.BadRecord)
     ∷ (nat_le (76 + half_at bytes 72) (length bytes), told cause.BadRecord)
     ∷ (not (has_flag 0x40 (half_at bytes 2)), refusal.Unsupported)
     ∷ (is_even (has_flag 0x20 (half_at bytes 2)) (key_name_bytes bytes), told cause.BadName)
@@ -69,7 +69,7 @@ pub record IsKeyNode (node : KeyNode) (bytes : List ℕ) : Type 0 where
 -- the rules of a value's record by itself, and its fields
 abbrev pub value_fault : List ℕ → Option Refusal
 value_fault bytes = first_broken (
-      (begins_with bytes 0x6b76 20, told cause.BadRecord)
+    (begins_with bytes 0x6b76 20, told cause.BadRecord)
     ∷ (nat_le (20 + half_at bytes 2) (length bytes), told cause.BadRecord)
     ∷ (is_even (has_flag 1 (half_at bytes 16)) (slice_range bytes 20 (20 + half_at bytes 2)), told cause.BadName)
     ∷ (not (nat_le (2 ^ 31) (word_at bytes 4)) || nat_le (word_at bytes 4 - 2 ^ 31) 4, told cause.BadRecord)
@@ -85,7 +85,7 @@ pub record IsValueRec (value : ValueRec) (bytes : List ℕ) : Type 0 where
 -- those of a security cell
 abbrev pub security_fault : List ℕ → Option Refusal
 security_fault bytes = first_broken (
-      (begins_with bytes 0x6b73 20, told cause.BadRecord)
+    (begins_with bytes 0x6b73 20, told cause.BadRecord)
     ∷ (nat_le (20 + word_at bytes 16) (length bytes), told cause.BadRecord)
     ∷ [])
 
@@ -98,7 +98,7 @@ stride_of bytes = if is_hinted bytes then 8 else 4
 
 abbrev pub list_fault : List ℕ → Option Refusal
 list_fault bytes = first_broken (
-      (is_plain bytes || (is_hinted bytes || is_indirect bytes), told cause.BadList)
+    (is_plain bytes || (is_hinted bytes || is_indirect bytes), told cause.BadList)
     ∷ (nat_le (4 + stride_of bytes * half_at bytes 2) (length bytes), told cause.BadList)
     ∷ [])
 
@@ -111,7 +111,7 @@ pub record IsSubkeyList (list : SubkeyList) (bytes : List ℕ) : Type 0 where
 -- those of big data of a size
 abbrev pub big_fault : List ℕ → ℕ → Option Refusal
 big_fault bytes size = first_broken (
-      (begins_with bytes 0x6264 8, told cause.BadRecord)
+    (begins_with bytes 0x6264 8, told cause.BadRecord)
     ∷ (half_at bytes 2 == segments_of size, told cause.BadRecord)
     ∷ [])
 

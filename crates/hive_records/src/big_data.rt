@@ -15,6 +15,7 @@ const FIELDS: usize = 8;
 pub const SEGMENT_BYTES: usize = 16_344;
 
 const _: () = prove!(LETTERS == 0x6264);
+
 const _: () = prove!(SEGMENT_BYTES == 16_344);
 
 /// How many segments data of a size lie in.

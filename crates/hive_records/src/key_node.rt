@@ -13,12 +13,14 @@ const FIELDS: usize = 76;
 
 // the flag of a name in Latin-1, and that of a predefined handle, which stands where values would
 const LATIN: u16 = 0x20;
+
 const PREDEFINED: u16 = 0x40;
 
 // the unit that parts names in a path
 const BACKSLASH: u16 = 0x5c;
 
 const _: () = prove!(LETTERS == 0x6b6e);
+
 const _: () = prove!(FIELDS == 76);
 
 /// A key node, whose name is borrowed from its cell. What no field names is unread.

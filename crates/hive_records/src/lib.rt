@@ -9,11 +9,11 @@
 
 mod big_data;
 mod example_laws;
+mod hashes;
 mod image_laws;
 mod key_node;
 mod key_places;
 mod names;
-mod hashes;
 mod numbers;
 mod reading_laws;
 mod security_cell;
@@ -25,10 +25,10 @@ mod writing;
 
 pub use big_data::{BigData, SEGMENT_BYTES, segment_count};
 pub use example_laws::{example, spelled_by_hand};
+pub use hashes::name_hash;
 pub use image_laws::{keys_are_local, nodes, one_tree, rows_are_spellable, stays};
 pub use key_node::KeyNode;
 pub use key_places::KeyPlaces;
-pub use hashes::name_hash;
 pub use names::is_latin;
 pub use reading_laws::{follows, loops};
 pub use security_cell::Security;

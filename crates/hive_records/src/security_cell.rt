@@ -11,6 +11,7 @@ const LETTERS: u16 = 0x6b73;
 const FIELDS: usize = 20;
 
 const _: () = prove!(LETTERS == 0x6b73);
+
 const _: () = prove!(FIELDS == 20);
 
 /// A security cell, whose descriptor is borrowed from it. Its links and its count are unread.

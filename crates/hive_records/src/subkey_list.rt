@@ -6,13 +6,18 @@ use refusals::{Cause, Refusal};
 
 // `li`, `lf`, `lh` and `ri`, as the numbers of these two bytes
 const PLAIN: u16 = 0x696c;
+
 const HINTED: u16 = 0x666c;
+
 const HASHED: u16 = 0x686c;
+
 const INDIRECT: u16 = 0x6972;
 
 // the bytes of the fields, which stand before the elements, and of an element
 const FIELDS: usize = 4;
+
 const OFFSET: usize = 4;
+
 const OFFSET_AND_HINT: usize = 8;
 
 const _: () = prove!(FIELDS == 4);

@@ -16,9 +16,11 @@ const LATIN: u16 = 1;
 
 // set in the size of data that lie in the offset field, which has room for so many bytes
 const IN_RECORD: u32 = 0x8000_0000;
+
 const MOST_IN_RECORD: u32 = 4;
 
 const _: () = prove!(LETTERS == 0x6b76);
+
 const _: () = prove!(FIELDS == 20);
 
 /// A value's record, whose name and small data are borrowed from its cell. What no field names is unread.

@@ -17,11 +17,17 @@ use std::alloc::AllocError;
 
 // the letters of records, as numbers of two bytes
 const KEY_NODE: u16 = 0x6b6e;
+
 const VALUE: u16 = 0x6b76;
+
 const SECURITY: u16 = 0x6b73;
+
 const BIG_DATA: u16 = 0x6264;
+
 const PLAIN: u16 = 0x696c;
+
 const HASHED: u16 = 0x686c;
+
 const INDIRECT: u16 = 0x6972;
 
 // the flag of a key's name in Latin-1
@@ -32,7 +38,6 @@ const NOWHERE: u32 = 0xffff_ffff;
 
 // the top bit of a size field, set where the data lie in the record
 const IN_RECORD: u32 = 0x8000_0000;
-
 
 /// Puts a number of two bytes behind some bytes, the lowest byte first.
 fn put_half(bytes: &mut Vec<u8>, number: u16) -> Result<(), AllocError>
@@ -95,12 +100,7 @@ fn put_wide(bytes: &mut Vec<u8>, name: &[u16]) -> Result<(), AllocError>
 }
 
 // puts a value's record with a size field and the bytes of the offset field
-fn put_value(
-    bytes: &mut Vec<u8>,
-    value: &Value,
-    size: u32,
-    field: &[u8],
-) -> Result<(), AllocError>
+fn put_value(bytes: &mut Vec<u8>, value: &Value, size: u32, field: &[u8]) -> Result<(), AllocError>
     requires { length (name_text value.now.name) < 2 ^ 16 }
     ensures { OnOk result (bytes.new.items ≡ bytes.old.items ++ value_record value.now size field.now) }
 {

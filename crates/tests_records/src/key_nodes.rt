@@ -6,7 +6,8 @@ use std::alloc::{AllocError, Global};
 use std::test::Fail;
 
 // the key `Ab`, written at 1, with 2 subkeys at 0x20, 3 values at 0x30, its sk at 0x40, a class of 6 bytes at 0x50
-const KEY: [u8; 78] = *b"nk\x2c\0\x01\0\0\0\0\0\0\0\0\0\0\0\x18\0\0\0\x02\0\0\0\0\0\0\0\x20\0\0\0\xff\xff\xff\xff\x03\0\0\0\x30\0\0\0\x40\0\0\0\x50\0\0\0\0\0\0\0\0\0\0\0\0\0\0\0\0\0\0\0\0\0\0\0\x02\0\x06\0Ab";
+const KEY: [u8; 78] =
+    *b"nk\x2c\0\x01\0\0\0\0\0\0\0\0\0\0\0\x18\0\0\0\x02\0\0\0\0\0\0\0\x20\0\0\0\xff\xff\xff\xff\x03\0\0\0\x30\0\0\0\x40\0\0\0\x50\0\0\0\0\0\0\0\0\0\0\0\0\0\0\0\0\0\0\0\0\0\0\0\x02\0\x06\0Ab";
 
 // a security cell with a descriptor of 2 bytes
 const SECURITY: [u8; 22] = *b"sk\0\0\0\0\0\0\0\0\0\0\x01\0\0\0\x02\0\0\0\x09\x08";
@@ -28,7 +29,11 @@ const SPOILED_KEYS: [(&[Part], Refusal, &str); 6] = [
     (&[(2, &[0x6c])], Refusal::Unsupported, "a predefined handle"),
     (&[(2, &[0]), (72, &[1])], BAD_NAME, "half a unit"),
     (&[(77, &[0x5c])], BAD_NAME, "a backslash"),
-    (&[(2, &[0]), (76, &[0x5c, 0])], BAD_NAME, "a backslash of two bytes"),
+    (
+        &[(2, &[0]), (76, &[0x5c, 0])],
+        BAD_NAME,
+        "a backslash of two bytes",
+    ),
 ];
 
 fn key_with(alloc: Global, parts: &[Part]) -> Result<Option<Refusal>, AllocError> {
@@ -83,7 +88,11 @@ fn security_with(alloc: Global, parts: &[Part]) -> Result<Option<Refusal>, Alloc
 #[test]
 fn each_rule_of_a_security_cell_refuses_it(rt: HostRuntime) -> Result<(), Fail> {
     for (parts, what) in SPOILED_SECURITY {
-        assert_eq!(rt; security_with(rt.alloc(), parts)?, Some(BAD_RECORD), "{what}");
+        assert_eq!(rt;
+            security_with(rt.alloc(), parts)?,
+            Some(BAD_RECORD),
+            "{what}"
+        );
     }
     let security = Security::read(&SECURITY)?;
     assert_eq!(rt; security.descriptor, [9u8, 8].as_slice());

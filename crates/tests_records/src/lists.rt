@@ -7,6 +7,7 @@ use std::test::Fail;
 
 // two elements of 4 bytes, and one of 8
 const PLAIN: [u8; 12] = *b"li\x02\0\x20\0\0\0\x28\0\0\0";
+
 const HASHED: [u8; 12] = *b"lh\x01\0\x20\0\0\0\x41\0\0\0";
 
 fn why_no_list(cell: &[u8]) -> Option<Refusal> {
@@ -25,8 +26,18 @@ const LISTS: [(&[u8], &[Part], Option<Refusal>, &str); 8] = [
     (&HASHED, &[(0, b"lf")], None, "the first letters"),
     (&PLAIN, &[(0, b"lj")], Some(BAD_LIST), "other letters"),
     (&PLAIN, &[(2, &[3])], Some(BAD_LIST), "3 elements"),
-    (&HASHED, &[(2, &[2])], Some(BAD_LIST), "2 elements with hashes"),
-    (&PLAIN, &[(0, b"lh")], Some(BAD_LIST), "2 elements, each as with a hash"),
+    (
+        &HASHED,
+        &[(2, &[2])],
+        Some(BAD_LIST),
+        "2 elements with hashes",
+    ),
+    (
+        &PLAIN,
+        &[(0, b"lh")],
+        Some(BAD_LIST),
+        "2 elements, each as with a hash",
+    ),
 ];
 
 #[test]

@@ -28,6 +28,9 @@ fn texts_are_those_of_the_format(rt: HostRuntime) -> Result<(), Fail> {
     let mut bytes = Vec::new(rt.alloc());
     put_hashed(&mut bytes, 0x0102_0304, &[0x41, 0x62])?;
     put_big_data(&mut bytes, 2, 0x60)?;
-    assert_eq!(rt; bytes.as_slice(), b"\x04\x03\x02\x01\xa7\x09\0\0db\x02\0\x60\0\0\0".as_slice());
+    assert_eq!(rt;
+        bytes.as_slice(),
+        b"\x04\x03\x02\x01\xa7\x09\0\0db\x02\0\x60\0\0\0".as_slice()
+    );
     Ok(())
 }

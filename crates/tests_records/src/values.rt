@@ -37,7 +37,11 @@ fn each_rule_of_a_value_refuses_it(rt: HostRuntime) -> Result<(), Fail> {
         assert_eq!(rt; value_with(rt.alloc(), parts)?, Some(refusal), "{what}");
     }
     for len in [0usize, 19, 20] {
-        assert_eq!(rt; value_cut(rt.alloc(), len)?, Some(BAD_RECORD), "{len} bytes");
+        assert_eq!(rt;
+            value_cut(rt.alloc(), len)?,
+            Some(BAD_RECORD),
+            "{len} bytes"
+        );
     }
     Ok(())
 }
@@ -63,10 +67,20 @@ fn big_with(alloc: Global, parts: &[Part], size: u32) -> Result<Option<Refusal>,
 
 #[test]
 fn each_rule_of_big_data_refuses_them(rt: HostRuntime) -> Result<(), Fail> {
-    assert_eq!(rt; big_with(rt.alloc(), &[(0, b"dc")], 16_345)?, Some(BAD_RECORD));
-    assert_eq!(rt; big_with(rt.alloc(), &[(2, &[3])], 16_345)?, Some(BAD_RECORD));
+    assert_eq!(rt;
+        big_with(rt.alloc(), &[(0, b"dc")], 16_345)?,
+        Some(BAD_RECORD)
+    );
+    assert_eq!(rt;
+        big_with(rt.alloc(), &[(2, &[3])], 16_345)?,
+        Some(BAD_RECORD)
+    );
     for size in [0u32, 16_344, 32_689] {
-        assert_eq!(rt; big_with(rt.alloc(), &[], size)?, Some(BAD_RECORD), "of size {size}");
+        assert_eq!(rt;
+            big_with(rt.alloc(), &[], size)?,
+            Some(BAD_RECORD),
+            "of size {size}"
+        );
     }
     for size in [16_345u32, 32_688] {
         assert_eq!(rt; big_with(rt.alloc(), &[], size)?, None, "of size {size}");
@@ -77,7 +91,13 @@ fn each_rule_of_big_data_refuses_them(rt: HostRuntime) -> Result<(), Fail> {
 
 #[test]
 fn segments_are_counted(rt: HostRuntime) -> Result<(), Fail> {
-    for (size, count) in [(1u32, 1usize), (16_344, 1), (16_345, 2), (32_688, 2), (32_689, 3)] {
+    for (size, count) in [
+        (1u32, 1usize),
+        (16_344, 1),
+        (16_345, 2),
+        (32_688, 2),
+        (32_689, 3),
+    ] {
         assert_eq!(rt; segment_count(size), count, "of size {size}");
     }
     Ok(())
