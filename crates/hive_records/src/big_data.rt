@@ -40,7 +40,8 @@ impl BigData {
     /// Reads the data of a cell, for data of a size. Refused with `BadRecord` where it doesn't begin with `db`, the fields
     /// don't fit, or the number of segments isn't the one that such data lie in.
     pub fn read(cell: &[u8], size: u32) -> Result<BigData, Refusal>
-        ensures { MatchResult result (λ big. (big_fault cell.now size ≡ None) × IsBigData big cell.now)
+        ensures { MatchResult result (λ big. (big_fault cell.now size ≡ None)
+            × IsBigData big cell.now)
             (λ refusal. big_fault cell.now size ≡ Some refusal) }
     {
         if !begins_with(cell, LETTERS, FIELDS) {

@@ -29,6 +29,14 @@ pub fn spelled_by_hand()
     ensures values { full_cells 240 ≡ Some (offsets_text (256 ∷ [])) }
     ensures lists { full_cells 200 ≡ Some (indirect (208 ∷ [])) }
     ensures security { full_cells 280 ≡ Some (security_text 0 0 0 (9 ∷ 8 ∷ [])) }
-    ensures reads { keys_in true full_cells 120 ≡ Ok (record { name = 0x41 ∷ []; row = child_row; kids = []; own = 120 ∷ []; lent = 280 ∷ [] }) }
+    ensures reads { keys_in true full_cells 120
+        ≡ Ok (record {
+          name = 0x41 ∷ [];
+          row = child_row;
+          kids = [];
+          own = 120 ∷ [];
+          lent = 280 ∷
+              [];
+        }) }
     ensures wide { name_text (0x41 ∷ 0x100 ∷ []) ≡ 0x41 ∷ 0 ∷ 0 ∷ 1 ∷ [] }
 {}

@@ -56,7 +56,8 @@ pub fn stays()
 /// the tree is the one that the keys make.
 pub fn nodes()
     ensures begins { AreNodesOf [] none }
-    ensures goes_on { (at : ℕ) (parts : Parts Row) (below first : Keys Row) (kids : List (List ℕ × Entries)) (entries : Entries) →
+    ensures goes_on { (at : ℕ) (parts : Parts Row) (below first : Keys Row) (kids : List (List ℕ
+        × Entries)) (entries : Entries) →
         AreNodesOf kids first → IsNodeOf entries parts below → (IsIn parts.name (names first) → ⊥) →
         AreNodesOf (put name_order parts.name entries kids) (with_last first at parts below) }
     ensures ends { (parts : Parts Row) (keys : Keys Row) (kids : List (List ℕ × Entries)) →
@@ -76,8 +77,10 @@ pub fn nodes()
 pub fn rows_are_spellable()
     ensures row { (cells : Cells) → HoldBytes cells → (split : Bool) (at : ℕ) (parts : Parts Row) →
         keys_in split cells at ≡ Ok parts → IsSpellableRow parts.row }
-    ensures cells { (bytes : List ℕ) (cells : Cells) → AreBytes bytes → Shows bytes cells → HoldBytes cells }
+    ensures cells { (bytes : List ℕ) (cells : Cells) → AreBytes bytes → Shows bytes cells →
+        HoldBytes cells }
     ensures tree { (bytes : List ℕ) (root minor : ℕ) (tree : TreeMap) → AreBytes bytes →
-        StandsFor bytes root minor tree → (path : List (List ℕ)) (key : Row) → row tree path ≡ Some key →
+        StandsFor bytes root minor tree → (path : List (List ℕ)) (key : Row) →
+        row tree path ≡ Some key →
         IsSpellableRow key }
 {}

@@ -55,7 +55,8 @@ impl<'a> KeyNode<'a> {
     /// or the fields or the name don't fit, `Unsupported` where it is a predefined handle, and `BadName` where a name of
     /// two bytes a unit has an odd length, or a backslash stands in the name.
     pub fn read(cell: &'a [u8]) -> Result<KeyNode<'a>, Refusal>
-        ensures { MatchResult result (λ node. (key_node_fault cell.now ≡ None) × IsKeyNode node cell.now)
+        ensures { MatchResult result (λ node. (key_node_fault cell.now ≡ None)
+            × IsKeyNode node cell.now)
             (λ refusal. key_node_fault cell.now ≡ Some refusal) }
     {
         if !begins_with(cell, LETTERS, FIELDS) {

@@ -27,7 +27,8 @@ pub fn loops<A, B>()
         Follows (each f first) cells old mid (Ok ys) → Follows (f x) cells mid new (Ok y) →
         Follows (each f (first ++ x ∷ [])) cells old new (Ok (ys ++ y ∷ [])) }
     ensures stops { (f : A →
-        Reader B) (first : List A) (x : A) (rest : List A) (cells : Cells) (old mid new : Marks) (ys : List B) (e : Refusal) →
+        Reader B) (first : List A) (x : A) (rest : List A) (cells : Cells) (old mid new : Marks)
+        (ys : List B) (e : Refusal) →
         Follows (each f first) cells old mid (Ok ys) → Follows (f x) cells mid new (Err e) →
         Follows (each f (first ++ x ∷ rest)) cells old new (Err e) }
 {}

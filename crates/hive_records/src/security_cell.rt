@@ -27,7 +27,8 @@ impl<'a> Security<'a> {
     /// Reads the data of a cell. Refused with `BadRecord` where it doesn't begin with `sk`, or the fields or the
     /// descriptor don't fit.
     pub fn read(cell: &'a [u8]) -> Result<Security<'a>, Refusal>
-        ensures { MatchResult result (λ security. (security_fault cell.now ≡ None) × IsSecurity security cell.now)
+        ensures { MatchResult result (λ security. (security_fault cell.now ≡ None)
+            × IsSecurity security cell.now)
             (λ refusal. security_fault cell.now ≡ Some refusal) }
     {
         if !begins_with(cell, LETTERS, FIELDS) {

@@ -41,7 +41,8 @@ impl<'a> SubkeyList<'a> {
     /// Reads the data of a cell. Refused with `BadList` where it begins with none of `li`, `lf`, `lh` and `ri`, or the
     /// elements don't fit.
     pub fn read(cell: &'a [u8]) -> Result<SubkeyList<'a>, Refusal>
-        ensures { MatchResult result (λ list. (list_fault cell.now ≡ None) × IsSubkeyList list cell.now)
+        ensures { MatchResult result (λ list. (list_fault cell.now ≡ None)
+            × IsSubkeyList list cell.now)
             (λ refusal. list_fault cell.now ≡ Some refusal) }
     {
         let is_hinted = begins_with(cell, HINTED, FIELDS) || begins_with(cell, HASHED, FIELDS);

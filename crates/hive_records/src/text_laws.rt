@@ -60,9 +60,11 @@ pub fn written_again()
         Gives (value_at split v.at) cells v.own [] v.value }
     ensures all { (split : Bool) (cells : Cells) (list : ℕ) (values : List Written) →
         0 < length values → AreOffsets (map (λ (v : Written). v.at) values) →
-        all_apart (map (λ (v : Value). folded v.name) (map (λ (v : Written). v.value) values)) ≡ true → AllByRecursion (λ (v : Written). IsWritten split cells v) values →
+        all_apart (map (λ (v : Value). folded v.name) (map (λ (v : Written). v.value) values)) ≡ true →
+        AllByRecursion (λ (v : Written). IsWritten split cells v) values →
         Holds cells list (offsets_text (map (λ (v : Written). v.at) values)) →
-        Gives (values_at split (length values) list) cells (list ∷ flat_map (λ (v : Written). v.own) values) [] (map_of (map (λ (v : Written). v.value) values)) }
+        Gives (values_at split (length values) list) cells (list ∷ flat_map
+        (λ (v : Written). v.own) values) [] (map_of (map (λ (v : Written). v.value) values)) }
 {}
 
 /// A list that is written reads back.
@@ -107,24 +109,37 @@ pub fn many_again()
     ensures no_kids { (cells : Cells) (list : ℕ) → Gives (kids_at 0 list) cells [] [] [] }
     ensures values { (split : Bool) (cells : Cells) (list : ℕ) (values : List Written) →
         0 < length values → AreOffsets (map (λ (v : Written). v.at) values) →
-        all_apart (map (λ (v : Value). folded v.name) (map (λ (v : Written). v.value) values)) ≡ true → AllByRecursion (λ (v : Written). Gives (value_at split v.at) cells v.own [] v.value) values →
+        all_apart (map (λ (v : Value). folded v.name) (map (λ (v : Written). v.value) values)) ≡ true →
+        AllByRecursion (λ (v : Written). Gives (value_at split v.at) cells v.own [] v.value) values
+        →
         Holds cells list (offsets_text (map (λ (v : Written). v.at) values)) →
-        Gives (values_at split (length values) list) cells (list ∷ flat_map (λ (v : Written). v.own) values) [] (map_of (map (λ (v : Written). v.value) values)) }
+        Gives (values_at split (length values) list) cells (list ∷ flat_map
+        (λ (v : Written). v.own) values) [] (map_of (map (λ (v : Written). v.value) values)) }
     ensures leaves { (cells : Cells) (list : ℕ) (leaves : List Leaf) →
         0 < length (flat_map (λ (l : Leaf). l.kids) leaves) → length leaves < 2 ^ 16 →
         AreOffsets (map (λ (l : Leaf). l.at) leaves) →
         AllByRecursion (λ (l : Leaf). Gives (leaf_at l.at) cells (l.at ∷ []) [] l.kids) leaves →
         Holds cells list (indirect (map (λ (l : Leaf). l.at) leaves)) →
-        Gives (kids_at (length (flat_map (λ (l : Leaf). l.kids) leaves)) list) cells (list ∷ map (λ (l : Leaf). l.at) leaves) [] (flat_map (λ (l : Leaf). l.kids) leaves) }
+        Gives (kids_at (length (flat_map (λ (l : Leaf). l.kids) leaves)) list) cells (list ∷ map
+        (λ (l : Leaf). l.at) leaves) [] (flat_map (λ (l : Leaf). l.kids) leaves) }
 {}
 
 /// A key whose class, descriptor, values and list of subkeys read back from where its record says, reads back whole, as
 /// the law of shapes asks for it.
 pub fn keys_again()
-    ensures { (split : Bool) (cells : Cells) (at : ℕ) (row : Row) (its : KeyPlaces) (class lent values lists kids : List ℕ) → RowFits row → KeyPlacesFit its → Holds cells at (key_text row its) →
+    ensures { (split : Bool) (cells : Cells) (at : ℕ) (row : Row) (its : KeyPlaces)
+        (class lent values lists kids : List ℕ) → RowFits row → KeyPlacesFit its →
+        Holds cells at (key_text row its) →
         Gives (class_at (length row.class) its.class) cells class [] row.class →
         Gives (descriptor_at its.security) cells [] lent row.descriptor →
         Gives (values_at split its.value_count its.values) cells values [] row.values →
         Gives (kids_at its.kid_count its.kids) cells lists [] kids →
-        keys_in split cells at ≡ Ok (record { name = folded row.name; row = row; kids = kids; own = at ∷ (class ++ (values ++ lists)); lent = lent }) }
+        keys_in split cells at ≡ Ok (record {
+          name = folded row.name;
+          row = row;
+          kids = kids;
+          own = at
+              ∷ (class ++ (values ++ lists));
+          lent = lent;
+        }) }
 {}

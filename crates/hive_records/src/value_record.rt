@@ -45,7 +45,8 @@ impl<'a> ValueRec<'a> {
     /// or the fields or the name don't fit, `BadName` where a name of two bytes a unit has an odd length, and `BadRecord`
     /// where more than 4 bytes are said to lie in the record.
     pub fn read(cell: &'a [u8]) -> Result<ValueRec<'a>, Refusal>
-        ensures { MatchResult result (λ value. (value_fault cell.now ≡ None) × IsValueRec value cell.now)
+        ensures { MatchResult result (λ value. (value_fault cell.now ≡ None)
+            × IsValueRec value cell.now)
             (λ refusal. value_fault cell.now ≡ Some refusal) }
     {
         if !begins_with(cell, LETTERS, FIELDS) {

@@ -102,7 +102,8 @@ fn put_wide(bytes: &mut Vec<u8>, name: &[u16]) -> Result<(), AllocError>
 // puts a value's record with a size field and the bytes of the offset field
 fn put_value(bytes: &mut Vec<u8>, value: &Value, size: u32, field: &[u8]) -> Result<(), AllocError>
     requires { length (name_text value.now.name) < 2 ^ 16 }
-    ensures { OnOk result (bytes.new.items ≡ bytes.old.items ++ value_record value.now size field.now) }
+    ensures { OnOk result (bytes.new.items ≡ bytes.old.items ++ value_record value.now size
+        field.now) }
 {
     let name = value.name.units();
     put_half(bytes, VALUE)?;
@@ -141,7 +142,8 @@ pub fn put_large_value(bytes: &mut Vec<u8>, value: &Value, at: u32) -> Result<()
 
 /// Puts the record of big data in so many segments, whose offsets are in a cell.
 pub fn put_big_data(bytes: &mut Vec<u8>, count: u16, segments: u32) -> Result<(), AllocError>
-    ensures { OnOk result (bytes.new.items ≡ bytes.old.items ++ (half 0x6264 ++ half count ++ word segments)) }
+    ensures { OnOk result (bytes.new.items ≡ bytes.old.items ++
+        (half 0x6264 ++ half count ++ word segments)) }
 {
     put_half(bytes, BIG_DATA)?;
     put_half(bytes, count)?;
@@ -190,7 +192,8 @@ pub fn put_security(
     descriptor: &[u8],
 ) -> Result<(), AllocError>
     requires { length descriptor.now < 2 ^ 32 }
-    ensures { OnOk result (bytes.new.items ≡ bytes.old.items ++ security_text next previous count descriptor.now) }
+    ensures { OnOk result (bytes.new.items ≡ bytes.old.items ++ security_text next previous count
+        descriptor.now) }
 {
     put_half(bytes, SECURITY)?;
     put_half(bytes, 0)?;
@@ -213,7 +216,8 @@ pub fn put_hashed_head(bytes: &mut Vec<u8>, count: u16) -> Result<(), AllocError
 
 /// Puts an element of such a list: the cell of a subkey, and the hash of its name.
 pub fn put_hashed(bytes: &mut Vec<u8>, at: u32, name: &[u16]) -> Result<(), AllocError>
-    ensures { OnOk result (bytes.new.items ≡ bytes.old.items ++ hashed (record { at = at; name = folded name.now })) }
+    ensures { OnOk result (bytes.new.items ≡ bytes.old.items ++ hashed
+        (record { at = at; name = folded name.now })) }
 {
     put_word(bytes, at)?;
     put_word(bytes, name_hash(name))?;
@@ -232,7 +236,8 @@ pub fn put_key_node(
 ) -> Result<(), AllocError>
     requires name { length (name_text name.now) < 2 ^ 16 }
     requires flags { has_flag 0x20 flags ≡ false }
-    ensures { OnOk result (bytes.new.items ≡ bytes.old.items ++ node_text name.now flags time class_len its.now) }
+    ensures { OnOk result (bytes.new.items ≡ bytes.old.items ++ node_text name.now flags time
+        class_len its.now) }
 {
     put_node_head(bytes, stored_flags(name, flags), time, its)?;
     put_node_bounds(bytes, its)?;
