@@ -1,11 +1,11 @@
 -- No event but a step is answered that the device failed.
-use Rattle.std.proofs.Common.{◌≡◌, ◌⊎◌, inl, inr, ℕ, Bool, true, false, List, [], ◌∷◌, Option, Some, None, Result, Ok, Err, cond, refl, ap}
+use Rattle.std.proofs.Common.{◌≡◌, inl, inr, ℕ, Bool, true, false, List, [], ◌∷◌, Option, Some, None, Result, Ok, Err, cond, refl, ap}
 use Rattle.std.specs.Prelude.{slice_get}
 use Rattle.refusals.specs.declared.refusal.Refusal.{Refusal}
-use Rattle.refusals.specs.declared.refusal.Refusal.TheVariants.{DiskFault, NoMemory, NotFound, HasSubkeys, TooDeep, TooLarge, Fixed, NotActive}
-use Rattle.reg_tree.specs.Maps.{TreeMap, row, subkeys}
+use Rattle.refusals.specs.declared.refusal.Refusal.TheVariants.{DiskFault, NotFound, HasSubkeys, TooDeep, TooLarge, Fixed, NotActive}
+use Rattle.reg_tree.specs.Maps.{TreeMap, row}
 use Rattle.reg_tree.specs.Operations.{hive_of}
-use Rattle.reg_tree.specs.Judgement.{judged, judged_there, judged_delete, legal_after, legal_in, legal_if, legal}
+use Rattle.reg_tree.specs.Judgement.{judged, judged_there, legal_after, legal_if, legal}
 use Rattle.reg_tree_parts.specs.Rows.{Row}
 use Rattle.reg_names.specs.Names.{folded_path}
 use Rattle.reg_tree.specs.declared.op.Op.{Op}
@@ -13,7 +13,7 @@ use Rattle.reg_tree.specs.declared.op.Op.TheVariants.{CreateKey, DeleteKey, SetV
 use Rattle.reg_tree.specs.declared.op.Legality.{Legality}
 use Rattle.reg_tree.specs.declared.op.Legality.TheVariants.{Legal, Opened}
 use Rattle.machine.specs.Transactions.{Transaction, Places, missing_refusal, inactive_refusal, view, is_active}
-use Rattle.machine.specs.Machine.{Machine, trees_now, found_in, change, first_of, refused_if, refusal_by, fault, closed_refusal, start_refusal, read_refusal, room_refusal, write_refusal, begin_refusal, added_refusal, added_refusal_if, commit_refusal, commit_refusal_if}
+use Rattle.machine.specs.Machine.{Machine, trees_now, found_in, first_of, refused_if, refusal_by, fault, closed_refusal, start_refusal, read_refusal, room_refusal, write_refusal, begin_refusal, added_refusal_if, commit_refusal_if}
 use Rattle.machine.specs.Steps.{Step, Refuses, IsRefused, is_step}
 use Rattle.machine.specs.declared.event.Found.{Found}
 use Rattle.machine.specs.declared.event.Event.{Event}

@@ -1,7 +1,6 @@
 -- Numbers, seats and room stay within their limits, and each accepted change was legal.
-use Rattle.std.proofs.Common.{◌≡◌, ◌≢◌, ◌⊎◌, inl, inr, ℕ, zero, suc, ◌+◌, ◌-◌, ◌<◌, ◌≤◌, ◌==◌, ◌||◌, ◌&&◌, not, Bool, true, false, List, [], ◌∷◌, ◌++◌, length, take, drop, filter, sum_by, Option, Some, None, IsSome, is_some, Ok, cond, refl, sym, ◌∙◌, ap, subst, arith}
+use Rattle.std.proofs.Common.{◌≡◌, ◌≢◌, ◌⊎◌, inl, inr, ℕ, zero, suc, ◌+◌, ◌-◌, ◌<◌, ◌≤◌, ◌==◌, ◌||◌, ◌&&◌, not, Bool, true, false, List, [], ◌∷◌, ◌++◌, length, take, drop, filter, sum_by, Option, Some, None, IsSome, is_some, cond, refl, sym, ◌∙◌, ap, subst, arith}
 use Rattle.std.specs.Prelude.{nat_le, nat_lt}
-use Rattle.std.proofs.lemmas.Bool.{eqb-true}
 use Rattle.std.proofs.lemmas.Bool.Decides.{nat_tests}
 use Rattle.std.proofs.lemmas.List.{take-append-drop, drop-append-le, length-append}
 use Rattle.std.proofs.lemmas.List.Sums.{sum_by-append, sum_by-cons, length-filter, count_by-le-length}
@@ -10,15 +9,14 @@ use Rattle.refusals.specs.declared.refusal.Refusal.{Refusal}
 use Rattle.refusals.specs.declared.refusal.Refusal.TheVariants.{TooLarge, NoSeat, HistoryFull, JournalFull}
 use Rattle.refusals.specs.declared.limits.TheConstants.{GREATEST_NUMBER, MOST_HISTORY, MOST_JOURNAL_BYTES, MOST_SESSIONS, MOST_TRANSACTIONS}
 use Rattle.reg_tree.specs.Maps.{TreeMap}
-use Rattle.reg_tree.specs.Judgement.{legal, applied, any_outweighs}
+use Rattle.reg_tree.specs.Judgement.{applied, any_outweighs}
 use Rattle.reg_tree.specs.Sequences.{after_elements}
 use Rattle.reg_tree.specs.Texts.{element_text_len}
 use Rattle.reg_tree.specs.declared.element.Element.{Element}
 use Rattle.reg_tree.specs.declared.op.Op.{Op}
-use Rattle.reg_tree.specs.declared.op.Legality.TheVariants.{Legal}
 use Rattle.machine.specs.Transactions.{Transaction, Places, at, with_op, count_held, inactive_refusal}
-use Rattle.machine.specs.Machine.{Machine, trees_now, last_number, pending, room_of, room_with, is_open, change, first_of, refused_if, refusal_by, fault, closed_refusal, start_refusal, room_refusal, write_refusal, begin_refusal, commit_refusal, commit_refusal_if}
-use Rattle.machine.specs.Steps.{Accepts, Begins, Commits, Ends, Journals, Trims, EndsTrim, StepFails, Step, Run, with_session, after_commit}
+use Rattle.machine.specs.Machine.{Machine, trees_now, last_number, pending, room_of, room_with, is_open, change, first_of, refused_if, refusal_by, fault, closed_refusal, start_refusal, room_refusal, commit_refusal, commit_refusal_if}
+use Rattle.machine.specs.Steps.{Accepts, Begins, Commits, Ends, Journals, Trims, EndsTrim, StepFails, Step, with_session}
 use Rattle.machine.specs.Kept.{IsKept, IsWithin, IsActiveAt, AreLegalChanges, AreLegalHistory}
 use Rattle.machine.specs.declared.handle.Tx.{Tx}
 use Rattle.machine.specs.declared.event.Progress.{Progress}
@@ -28,7 +26,7 @@ use Rattle.machine.specs.declared.event.Reply.{Reply}
 use Rattle.machine.specs.declared.event.Reply.TheVariants as reply
 use Rattle.machine.proofs.AtCommit.{WeightAlone, neither, legal_within}
 use Rattle.machine.proofs.Replies.{done_or, read_or, accepted_or, added_or, begun_or, awaits_or, stands_or, receipt_or, stepped_or}
-use Rattle.machine.proofs.TransactionChanges.{Descends, Way, Fewer, Wrote, Longer, Accepted, Began, way, none_first, not_refused, found_at, active_of, put_or_not, put_descends}
+use Rattle.machine.proofs.TransactionChanges.{Descends, Way, Fewer, Wrote, Longer, Accepted, Began, way, none_first, not_refused, found_at, active_of, put_descends}
 
 -- Room
 

@@ -22,12 +22,9 @@ use Rattle.machine.proofs.Replies.{done_or, read_or, accepted_or, added_or, begu
 use Rattle.machine.specs.declared.handle.Tx.{Tx}
 use Rattle.machine.specs.declared.handle.Outcome.{Outcome}
 use Rattle.machine.specs.declared.handle.Outcome.TheVariants.{Committed, RolledBack}
-use Rattle.machine.specs.declared.event.Found.{Found}
-use Rattle.machine.specs.declared.event.Progress.{Progress}
 use Rattle.machine.specs.declared.event.Event.{Event}
 use Rattle.machine.specs.declared.event.Event.TheVariants as event
 use Rattle.machine.specs.declared.event.Reply.{Reply}
-use Rattle.machine.specs.declared.event.Reply.TheVariants as reply
 
 -- Tests and refusals
 

@@ -7,7 +7,7 @@ use Rattle.reg_tree.specs.Judgement.{legal}
 use Rattle.reg_tree.specs.declared.op.Op.{Op}
 use Rattle.reg_tree.specs.declared.op.Legality.TheVariants.{Legal, Opened}
 use Rattle.conflicts.specs.Claims.{claim_of}
-use Rattle.machine.specs.Transactions.{Transaction, Puts, Becomes, at, view, fresh_transaction, ended, with_op, rolled_back_by, gone_with, missing_refusal, inactive_refusal}
+use Rattle.machine.specs.Transactions.{Transaction, Puts, Becomes, ended, rolled_back_by, gone_with, missing_refusal, inactive_refusal}
 use Rattle.machine.specs.Machine.{Machine, trees_now, last_number, pending, room_with, room_of, is_open, found_in, change, first_of, fault, closed_refusal, start_refusal, looked_up, read_refusal, levels_made, write_refusal, begin_refusal, seen, added_refusal_if, commit_refusal_if}
 use Rattle.machine.specs.Acts.{Starts, Adds, Opens, Finishes, Closes}
 use Rattle.machine.specs.Shapes.{DoneOr, ReadOr, AcceptedOr, AddedOr, BegunOr, AwaitsOr, StandsOr, ReceiptOr, SteppedOr}

@@ -1,5 +1,5 @@
 -- An operation keeps a tree one that a hive file can spell.
-use Rattle.std.proofs.Common.{◌≡◌, ◌≢◌, ℕ, zero, suc, ◌+◌, ◌-◌, ◌*◌, ◌<◌, ◌≤◌, ◌^◌, Bool, true, false, not, ◌&&◌, cond, ◌⊎◌, inl, inr, List, [], ◌∷◌, ◌++◌, length, take, Option, Some, None, refl, sym, ◌∙◌, ap, subst, arith}
+use Rattle.std.proofs.Common.{◌≡◌, ◌≢◌, ℕ, zero, suc, ◌+◌, ◌-◌, ◌*◌, ◌<◌, ◌≤◌, ◌^◌, Bool, true, false, not, ◌&&◌, cond, List, [], ◌∷◌, length, take, Option, Some, None, refl, sym, ◌∙◌, ap, subst, arith}
 use Rattle.std.specs.Prelude.{nat_lt, nat_le, ◌==◌, slice_index_or}
 use Rattle.std.specs.List.{list_all, AllByRecursion}
 use Rattle.std.specs.Ordering.{eq_by_cmp}
@@ -22,7 +22,7 @@ use Rattle.reg_tree_parts.proofs.Finds.{equal_of}
 use Rattle.reg_tree.specs.Maps.{TreeMap, row}
 use Rattle.reg_tree.specs.Operations.{touched, depth_there, descriptor_of, row_created, row_deleted, row_edited, row_after, tree_after}
 use Rattle.reg_tree.specs.Judgement.{judged, changed, changed_if}
-use Rattle.reg_tree.specs.Spellable.{stored_len, IsSpellableName, IsSpellableValue, IsSpellableRow, IsSpellableAt, IsSpellable, IsNamed}
+use Rattle.reg_tree.specs.Spellable.{stored_len, IsSpellableName, IsSpellableValue, IsSpellableAt, IsSpellable, IsNamed}
 use Rattle.reg_tree.specs.declared.op.Op.{Op}
 use Rattle.reg_tree.specs.declared.op.Op.TheVariants.{CreateKey, DeleteKey, SetValue, DeleteValue}
 use Rattle.reg_tree.specs.declared.op.Legality.{Legality}

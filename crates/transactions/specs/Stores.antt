@@ -1,15 +1,14 @@
 -- What a plain store shows.
-use Rattle.std.specs.Prelude.{◌≡◌, ◌≤◌, ℕ, ◌+◌, ◌||◌, nat_le, nat_lt, Bool, false, List, length, map, Option, Result, Ok, Err, refl}
+use Rattle.std.specs.Prelude.{◌≡◌, ◌≤◌, ℕ, Bool, false, List, length, map, Result, Ok, Err, refl}
 use Rattle.std.specs.Coded.{Coded, code_by, coded×, coded_ℕ, coded_list, coded_bool}
 use Rattle.std.specs.declared.snapshot.Snapshot.{Snapshot}
 use Rattle.refusals.specs.declared.refusal.Refusal.{Refusal}
-use Rattle.refusals.specs.declared.refusal.Refusal.TheVariants.{HistoryFull, JournalFull}
-use Rattle.refusals.specs.declared.limits.TheConstants.{MOST_HISTORY, MOST_JOURNAL_BYTES, GREATEST_NUMBER}
+use Rattle.refusals.specs.declared.limits.TheConstants.{MOST_HISTORY}
 use Rattle.reg_tree.specs.Maps.{TreeMap}
 use Rattle.reg_tree.specs.contracts.element.Element as element
 use Rattle.reg_tree.specs.declared.element.Element.{Element}
 use Rattle.machine.specs.Codes.{trees_code, places_code}
-use Rattle.machine.specs.Machine.{Machine, trees_now, last_number, refused_if, first_of}
+use Rattle.machine.specs.Machine.{Machine, trees_now, last_number}
 use Rattle.machine.specs.Steps.{Step}
 use Rattle.machine.specs.Transactions.{Places}
 use Rattle.machine.specs.declared.event.Event.{Event}

@@ -1,20 +1,16 @@
 -- What a table of transactions shows.
-use Rattle.std.specs.Prelude.{◌≡◌, ℕ, ◌+◌, ◌-◌, ◌^◌, ◌==◌, ◌||◌, nat_le, Bool, false, if◌then◌else◌, List, Option, Some, None, Ok, ◌⊎◌}
+use Rattle.std.specs.Prelude.{◌≡◌, ℕ, ◌+◌, ◌==◌, Bool, false, if◌then◌else◌, List, Option, Some, None, ◌⊎◌}
 use Rattle.std.specs.List.{list_any}
 use Rattle.refusals.specs.declared.refusal.Refusal.{Refusal}
-use Rattle.refusals.specs.declared.refusal.Refusal.TheVariants.{NoMemory, NoSeat}
-use Rattle.refusals.specs.declared.limits.TheConstants.{MOST_TRANSACTIONS}
+use Rattle.refusals.specs.declared.refusal.Refusal.TheVariants.{NoMemory}
 use Rattle.reg_tree.specs.Maps.{TreeMap}
 use Rattle.reg_tree.specs.Texts.{element_text_len}
-use Rattle.reg_tree.specs.Judgement.{legal}
 use Rattle.reg_tree.specs.declared.op.Op.{Op}
-use Rattle.reg_tree.specs.declared.op.Legality.TheVariants.{Legal}
-use Rattle.reg_tree.specs.declared.op.Legality.TheVariants as legality
 use Rattle.claims_law.specs.Skeleton.{Claim}
 use Rattle.machine.specs.Ends.{refusal_of}
 use Rattle.machine.specs.Machine.{seat_refusal}
 use Rattle.machine.specs.Acts.{Starts, Adds, Opens, Finishes}
-use Rattle.machine.specs.Transactions.{Transaction, Places, Puts, at, own, view, is_active, ended, holds, with_op, fresh_transaction, count_held, inactive_refusal}
+use Rattle.machine.specs.Transactions.{Transaction, Places, own, is_active, ended, holds, inactive_refusal}
 use Rattle.machine.specs.declared.handle.Tx.{Tx}
 use Rattle.machine.specs.declared.handle.NotEnded.{NotEnded}
 use Rattle.machine.specs.declared.handle.Outcome.{Outcome}
