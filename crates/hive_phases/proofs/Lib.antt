@@ -1,0 +1,5 @@
+pub mod Holding
+pub mod Leaving
+pub mod Moving
+pub mod Planning
+pub mod Deciding
