@@ -1,0 +1,34 @@
+use Rattle.std.proofs.Common.{ℕ, List, subst, arith}
+use Rattle.disk_model.specs.FileState.{Writes, MayWrite}
+use Rattle.disk_model.specs.StoreFiles.{primary_file, log_file}
+use Rattle.hive_phases.specs.Phases.{Phase.Logged, Phase.Raised}
+use Rattle.hive_phases.proofs.Moving.{raised_written, raised_failed}
+use Rattle.hive_writer.specs.Writing.{plan_of, work_of}
+use Rattle.hive_writer.proofs.Moved.{log_same, raised_is}
+use Rattle.hive_writer.proofs.writer.HiveWriter.raise.Goals as goal
+
+pub returns-in-Ok-clause-leads : goal.returns-in-Ok-clause-leads
+returns-in-Ok-clause-leads g c = λ faithful stands image pages now memory ready on.
+    let w = work_of (plan_of c.args.self.now image pages) image pages now memory in
+    let hive = c.args.self.now.hive in
+    let p = g.D.Disk.state_at c.args.disk.now (g.D.Disk.clock c.args.disk.now) (primary_file hive) in
+    let l = g.D.Disk.state_at c.args.disk.now (g.D.Disk.clock c.args.disk.now) (log_file hive) in
+    let p2 = g.D.Disk.state_at c.write_primary.new.disk (g.D.Disk.clock c.write_primary.new.disk) (primary_file hive) in
+    let l2 = g.D.Disk.state_at c.write_primary.new.disk (g.D.Disk.clock c.write_primary.new.disk) (log_file hive) in
+    let sound = g.met.D.Disk.sound c.args.disk.now (g.D.Disk.clock c.args.disk.now) (primary_file hive) (c.write_primary.ensures.faithful faithful) (omega arith) in
+    let is = raised_is c.args.self.now.base c.next-raised.result c.write.result c.next-raised.ensures c.write.ensures.text in
+    let done = subst (λ (s : List ℕ). Writes 0 s p p2) is (c.in-Ok.ensures.done faithful) in
+    log_same stands w Raised p2 l l2 c.write_primary.ensures.other (raised_written stands w p l p2 sound on done)
+
+pub returns-in-Err-clause-leads : goal.returns-in-Err-clause-leads
+returns-in-Err-clause-leads g c = λ faithful stands image pages now memory ready on.
+    let w = work_of (plan_of c.args.self.now image pages) image pages now memory in
+    let hive = c.args.self.now.hive in
+    let p = g.D.Disk.state_at c.args.disk.now (g.D.Disk.clock c.args.disk.now) (primary_file hive) in
+    let l = g.D.Disk.state_at c.args.disk.now (g.D.Disk.clock c.args.disk.now) (log_file hive) in
+    let p2 = g.D.Disk.state_at c.write_primary.new.disk (g.D.Disk.clock c.write_primary.new.disk) (primary_file hive) in
+    let l2 = g.D.Disk.state_at c.write_primary.new.disk (g.D.Disk.clock c.write_primary.new.disk) (log_file hive) in
+    let sound = g.met.D.Disk.sound c.args.disk.now (g.D.Disk.clock c.args.disk.now) (primary_file hive) (c.write_primary.ensures.faithful faithful) (omega arith) in
+    let is = raised_is c.args.self.now.base c.next-raised.result c.write.result c.next-raised.ensures c.write.ensures.text in
+    let part = subst (λ (s : List ℕ). MayWrite 0 s p p2) is (c.in-Err.ensures.failed faithful) in
+    log_same stands w Logged p2 l l2 c.write_primary.ensures.other (raised_failed stands w p l p2 sound on part)

@@ -1,0 +1,28 @@
+use Rattle.std.proofs.Common.{◌*◌, arith}
+use Rattle.disk_model.specs.StoreFiles.{primary_file, log_file}
+use Rattle.hive_phases.specs.Phases.{Phase.Paging, Phase.Paged}
+use Rattle.hive_writer.specs.Writing.{work_of, purpose_in}
+use Rattle.hive_writer.proofs.Moved.{log_same, primary_same, none_left}
+use Rattle.hive_writer.proofs.writer.HiveWriter.sync_pages.Goals as goal
+
+pub returns-in-Ok-clause-leads : goal.returns-in-Ok-clause-leads
+returns-in-Ok-clause-leads g c = λ faithful stands plan image pages ends none now memory ready on.
+    let w = work_of plan image pages now memory in
+    let hive = c.args.self.now.hive in
+    let p = g.D.Disk.state_at c.args.disk.now (g.D.Disk.clock c.args.disk.now) (primary_file hive) in
+    let l = g.D.Disk.state_at c.args.disk.now (g.D.Disk.clock c.args.disk.now) (log_file hive) in
+    let p2 = g.D.Disk.state_at c.sync_primary.new.disk (g.D.Disk.clock c.sync_primary.new.disk) (primary_file hive) in
+    let l2 = g.D.Disk.state_at c.sync_primary.new.disk (g.D.Disk.clock c.sync_primary.new.disk) (log_file hive) in
+    let sound = g.met.D.Disk.sound c.args.disk.now (g.D.Disk.clock c.args.disk.now) (primary_file hive) (c.sync_primary.ensures.faithful faithful) (omega arith) in
+    log_same stands w (Paged (purpose_in c.args.purpose)) p2 l l2 c.sync_primary.ensures.other (none_left stands w c.args.from p l p2 sound none on (c.in-Ok.ensures.done faithful))
+
+pub returns-in-Err-clause-leads : goal.returns-in-Err-clause-leads
+returns-in-Err-clause-leads g c = λ faithful stands plan image pages ends none now memory ready on.
+    let w = work_of plan image pages now memory in
+    let hive = c.args.self.now.hive in
+    let p = g.D.Disk.state_at c.args.disk.now (g.D.Disk.clock c.args.disk.now) (primary_file hive) in
+    let l = g.D.Disk.state_at c.args.disk.now (g.D.Disk.clock c.args.disk.now) (log_file hive) in
+    let p2 = g.D.Disk.state_at c.sync_primary.new.disk (g.D.Disk.clock c.sync_primary.new.disk) (primary_file hive) in
+    let l2 = g.D.Disk.state_at c.sync_primary.new.disk (g.D.Disk.clock c.sync_primary.new.disk) (log_file hive) in
+    let at = Paging (purpose_in c.args.purpose) (512 * c.args.from) in
+    log_same stands w at p2 l l2 c.sync_primary.ensures.other (primary_same stands w at p p2 l (c.in-Err.ensures.failed faithful) on)

@@ -1,0 +1,32 @@
+use Rattle.std.proofs.Common.{ℕ, List, sym, ◌∙◌, subst, arith}
+use Rattle.disk_model.specs.FileState.{Writes, MayWrite}
+use Rattle.disk_model.specs.StoreFiles.{primary_file, log_file}
+use Rattle.hive_phases.specs.Phases.{Phase.Paged, Phase.Finished}
+use Rattle.hive_phases.proofs.Moving.{final_written, final_failed}
+use Rattle.hive_writer.specs.Writing.{work_of, purpose_in}
+use Rattle.hive_writer.proofs.Moved.{log_same}
+use Rattle.hive_writer.proofs.writer.HiveWriter.write_last.Goals as goal
+
+pub returns-in-Ok-clause-leads : goal.returns-in-Ok-clause-leads
+returns-in-Ok-clause-leads g c = λ faithful stands plan image pages ends now memory ready on.
+    let w = work_of plan image pages now memory in
+    let hive = c.args.self.now.hive in
+    let p = g.D.Disk.state_at c.args.disk.now (g.D.Disk.clock c.args.disk.now) (primary_file hive) in
+    let l = g.D.Disk.state_at c.args.disk.now (g.D.Disk.clock c.args.disk.now) (log_file hive) in
+    let p2 = g.D.Disk.state_at c.write_primary.new.disk (g.D.Disk.clock c.write_primary.new.disk) (primary_file hive) in
+    let l2 = g.D.Disk.state_at c.write_primary.new.disk (g.D.Disk.clock c.write_primary.new.disk) (log_file hive) in
+    let sound = g.met.D.Disk.sound c.args.disk.now (g.D.Disk.clock c.args.disk.now) (primary_file hive) (c.write_primary.ensures.faithful faithful) (omega arith) in
+    let done = subst (λ (s : List ℕ). Writes 0 s p p2) (c.write.ensures.text ∙ sym ends.final) (c.in-Ok.ensures.done faithful) in
+    log_same stands w (Finished (purpose_in c.args.purpose)) p2 l l2 c.write_primary.ensures.other (final_written stands w p l p2 sound on done)
+
+pub returns-in-Err-clause-leads : goal.returns-in-Err-clause-leads
+returns-in-Err-clause-leads g c = λ faithful stands plan image pages ends now memory ready on.
+    let w = work_of plan image pages now memory in
+    let hive = c.args.self.now.hive in
+    let p = g.D.Disk.state_at c.args.disk.now (g.D.Disk.clock c.args.disk.now) (primary_file hive) in
+    let l = g.D.Disk.state_at c.args.disk.now (g.D.Disk.clock c.args.disk.now) (log_file hive) in
+    let p2 = g.D.Disk.state_at c.write_primary.new.disk (g.D.Disk.clock c.write_primary.new.disk) (primary_file hive) in
+    let l2 = g.D.Disk.state_at c.write_primary.new.disk (g.D.Disk.clock c.write_primary.new.disk) (log_file hive) in
+    let sound = g.met.D.Disk.sound c.args.disk.now (g.D.Disk.clock c.args.disk.now) (primary_file hive) (c.write_primary.ensures.faithful faithful) (omega arith) in
+    let part = subst (λ (s : List ℕ). MayWrite 0 s p p2) (c.write.ensures.text ∙ sym ends.final) (c.in-Err.ensures.failed faithful) in
+    log_same stands w (Paged (purpose_in c.args.purpose)) p2 l l2 c.write_primary.ensures.other (final_failed stands w p l p2 sound on part)

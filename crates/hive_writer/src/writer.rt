@@ -1,0 +1,268 @@
+//! The writer of a hive's two files.
+ghost use Rattle.std.specs.Prelude.{◌≡◌, ◌↔◌, ◌⊎◌, ◌^◌, ◌<◌, ℕ, false, length, Ok, Err, IfOk, IfErr, IsTrue};
+ghost use Rattle.disk_model.specs.Call.{OneCall, HasFailed, CountsFailure};
+ghost use Rattle.disk_model.specs.StoreFiles.{IsOfHive};
+ghost use Rattle.engine_words.specs.Steps.{Says};
+ghost use Rattle.hive_phases.specs.Holding.{Standing};
+ghost use Rattle.hive_phases.specs.Plans.{Plan};
+ghost use Rattle.hive_writer.specs.Writing.{
+  BeginsAt,
+  EndsWith,
+  IsFlushing,
+  IsNext,
+  IsRewriting,
+  KeepsBlocks,
+  Leads,
+  LeadsOn,
+  Settles,
+  choice_at,
+  now_after,
+  plan_of,
+};
+ghost use Rattle.hive_writer.specs.declared.stage.Stage.TheVariants as stage;
+ghost use Rattle.hive_writer.specs.declared.stage.Purpose.TheVariants as purpose;
+ghost use Rattle.prefix_law.specs.Promises.{HiveSays};
+ghost use Rattle.engine_words.specs.declared.Progress.TheVariants as Progress;
+ghost use Rattle.refusals.specs.declared.refusal.Refusal.TheVariants.{DiskFault, Faulted};
+
+use crate::stage::{Purpose, Stage};
+use base_block::BaseBlock;
+use dirty_vector::DirtyVector;
+use disk_model::{Disk, Failed};
+use engine_words::Progress;
+use refusals::Refusal;
+
+/// Where a flush or a repair of one hive is, and what it writes beside pages. Plain data: whoever owns it changes it through
+/// the calls below alone.
+#[derive(Drop)]
+pub struct HiveWriter {
+    /// The hive's number in its store.
+    pub hive: u8,
+    /// The primary file's base block, as its last sync left it.
+    pub base: BaseBlock,
+    /// The base block as it will be.
+    pub block: BaseBlock,
+    /// How far it is.
+    pub stage: Stage,
+    /// Whether the device failed in a step: nothing more is done then.
+    pub failed: bool,
+}
+
+impl HiveWriter {
+    /// Of a clean primary file with this base block.
+    pub fn of_clean(hive: u8, base: BaseBlock) -> HiveWriter
+        ensures { result ≡ record {
+          hive = hive;
+          base = base;
+          block = base;
+          stage = stage.Quiet;
+          failed = false;
+        } }
+    {
+        let block = base;
+        HiveWriter {
+            hive,
+            base,
+            block,
+            stage: Stage::Quiet,
+            failed: false,
+        }
+    }
+
+    /// Of an unclean primary file, whose log's block, as that of a primary file, is the one that it will have.
+    pub fn of_unclean(hive: u8, block: BaseBlock) -> HiveWriter
+        ensures { result ≡ record {
+          hive = hive;
+          base = block;
+          block = block;
+          stage = stage.Paging purpose.Repair 0;
+          failed = false;
+        } }
+    {
+        let base = block;
+        HiveWriter {
+            hive,
+            base,
+            block,
+            stage: Stage::Paging(Purpose::Repair, 0),
+            failed: false,
+        }
+    }
+
+    /// Says which base block the next flush ends with.
+    pub fn plan(&mut self, block: BaseBlock)
+        requires { self.old.stage ≡ stage.Quiet }
+        ensures { self.new ≡ record self.old { block = block } }
+    {
+        self.block = block;
+    }
+
+    /// One step of a flush, which begins where the hive is quiet. The image and its dirty pages are the same from the first
+    /// step to the last.
+    ///
+    /// Takes no memory. Refused with `DiskFault` where the device failed in the call, and with `Faulted` exactly where it had
+    /// failed in an earlier one: nothing is done then.
+    pub fn step<D: Disk, T>(
+        &mut self,
+        disk: &mut D,
+        image: &[u8],
+        pages: &DirtyVector,
+    ) -> Result<Progress, Refusal>
+        requires size { length image.now ≡ pages.now.bins_size }
+        requires short { length (plan_of self.old image.now pages.now).text < 2 ^ 32 }
+        requires flushing { IsFlushing self.old.stage }
+        ensures on { D.faithful disk.new → (stands : Standing T) →
+            LeadsOn stands (plan_of self.old image.now pages.now) image.now pages.now result
+            self.old self.new
+            (D.state_at disk.old (D.clock disk.old)) (D.state_at disk.new (D.clock disk.new)) }
+        ensures says { (now memory : T × ℕ) → Says (HiveSays memory) result
+            (choice_at self.old.stage now memory)
+            (choice_at self.new.stage (now_after result now memory) memory) }
+        ensures flushing { IsFlushing self.new.stage }
+        ensures keeps { KeepsBlocks self.old self.new result }
+        ensures refused { IfErr result (λ why. (why ≡ DiskFault) ⊎ (why ≡ Faulted)) }
+        ensures faulted { (result ≡ Err Faulted) ↔ IsTrue self.old.failed }
+        ensures broken { (result ≡ Err DiskFault) → IsTrue self.new.failed }
+        ensures still { IsTrue self.old.failed → (self.new ≡ self.old) × (disk.new ≡ disk.old) }
+        ensures call { OneCall (IsOfHive self.old.hive) (D.state_at disk.old) (D.state_at disk.new)
+            (D.clock disk.old) (D.clock disk.new) }
+        ensures failures { HasFailed result (D.failures disk.old) (D.failures disk.new) }
+        ensures faithful { D.faithful disk.new → D.faithful disk.old }
+    {
+        if self.failed {
+            return Err(Refusal::Faulted);
+        }
+        self.begin();
+        let called = self.flush::<D, T>(disk, image, pages);
+        self.settle(called)
+    }
+
+    /// One step of a repair, with the image as the log repairs it and the pages that the log marks.
+    ///
+    /// Takes no memory. Refused as [`step`](HiveWriter::step) is.
+    pub fn repair_step<D: Disk, T>(
+        &mut self,
+        disk: &mut D,
+        image: &[u8],
+        pages: &DirtyVector,
+    ) -> Result<Progress, Refusal>
+        requires size { length image.now ≡ pages.now.bins_size }
+        requires repairing { IsRewriting purpose.Repair self.old.stage }
+        ensures on { D.faithful disk.new → (stands : Standing T) (plan : Plan) →
+            EndsWith self.old.block plan →
+            LeadsOn stands plan image.now pages.now result self.old self.new
+            (D.state_at disk.old (D.clock disk.old)) (D.state_at disk.new (D.clock disk.new)) }
+        ensures holds { (now memory : T × ℕ) →
+            choice_at self.new.stage (now_after result now memory) memory
+            ≡ choice_at self.old.stage now memory }
+        ensures repairing { (result ≡ Ok Progress.Done → ⊥) → IsRewriting purpose.Repair self.new.stage }
+        ensures done { result ≡ Ok Progress.Done → self.new.stage ≡ stage.Quiet }
+        ensures keeps { KeepsBlocks self.old self.new result }
+        ensures refused { IfErr result (λ why. (why ≡ DiskFault) ⊎ (why ≡ Faulted)) }
+        ensures faulted { (result ≡ Err Faulted) ↔ IsTrue self.old.failed }
+        ensures broken { (result ≡ Err DiskFault) → IsTrue self.new.failed }
+        ensures still { IsTrue self.old.failed → (self.new ≡ self.old) × (disk.new ≡ disk.old) }
+        ensures call { OneCall (IsOfHive self.old.hive) (D.state_at disk.old) (D.state_at disk.new)
+            (D.clock disk.old) (D.clock disk.new) }
+        ensures failures { HasFailed result (D.failures disk.old) (D.failures disk.new) }
+        ensures faithful { D.faithful disk.new → D.faithful disk.old }
+    {
+        if self.failed {
+            return Err(Refusal::Faulted);
+        }
+        let called = self.rewrite::<D, T>(disk, image, pages);
+        self.settle(called)
+    }
+
+    // where the hive is quiet, the log is what is written first
+    fn begin(&mut self)
+        ensures begins { BeginsAt self.old.stage self.old self.new }
+        ensures flushing { IsFlushing self.old.stage → IsFlushing self.new.stage }
+        ensures busy { self.new.stage ≡ stage.Quiet → ⊥ }
+    {
+        if let Stage::Quiet = self.stage {
+            self.stage = Stage::Logging(0);
+        }
+    }
+
+    // the next call of a flush
+    fn flush<D: Disk, T>(
+        &self,
+        disk: &mut D,
+        image: &[u8],
+        pages: &DirtyVector,
+    ) -> Result<Stage, Failed>
+        requires size { length image.now ≡ pages.now.bins_size }
+        requires short { length (plan_of self.now image.now pages.now).text < 2 ^ 32 }
+        requires flushing { IsFlushing self.now.stage }
+        requires begun { self.now.stage ≡ stage.Quiet → ⊥ }
+        ensures leads { D.faithful disk.new → (stands : Standing T) →
+            Leads stands (plan_of self.now image.now pages.now) image.now pages.now self.now.hive
+            self.now.stage result
+            (D.state_at disk.old (D.clock disk.old)) (D.state_at disk.new (D.clock disk.new)) }
+        ensures next { IfOk result (IsNext self.now.stage) }
+        ensures call { OneCall (IsOfHive self.now.hive) (D.state_at disk.old) (D.state_at disk.new)
+            (D.clock disk.old) (D.clock disk.new) }
+        ensures failures { CountsFailure result (D.failures disk.old) (D.failures disk.new) }
+        ensures faithful { D.faithful disk.new → D.faithful disk.old }
+    {
+        match self.stage {
+            Stage::Logging(index) => self.write_log::<D, T>(disk, index, image, pages),
+            Stage::Logged => self.raise::<D, T>(disk),
+            Stage::Raised => self.sync_raised::<D, T>(disk),
+            _ => self.rewrite::<D, T>(disk, image, pages),
+        }
+    }
+
+    // the next call on the pages or the last sector, of a flush or a repair
+    fn rewrite<D: Disk, T>(
+        &self,
+        disk: &mut D,
+        image: &[u8],
+        pages: &DirtyVector,
+    ) -> Result<Stage, Failed>
+        requires size { length image.now ≡ pages.now.bins_size }
+        requires writing { (IsRewriting purpose.Flush self.now.stage)
+            ⊎ (IsRewriting purpose.Repair self.now.stage) }
+        ensures leads { D.faithful disk.new → (stands : Standing T) (plan : Plan) →
+            EndsWith self.now.block plan →
+            Leads stands plan image.now pages.now self.now.hive self.now.stage result
+            (D.state_at disk.old (D.clock disk.old)) (D.state_at disk.new (D.clock disk.new)) }
+        ensures next { IfOk result (IsNext self.now.stage) }
+        ensures call { OneCall (IsOfHive self.now.hive) (D.state_at disk.old) (D.state_at disk.new)
+            (D.clock disk.old) (D.clock disk.new) }
+        ensures failures { CountsFailure result (D.failures disk.old) (D.failures disk.new) }
+        ensures faithful { D.faithful disk.new → D.faithful disk.old }
+    {
+        match self.stage {
+            Stage::Paging(purpose, from) => match pages.next_run(from) {
+                Some(run) => self.write_pages::<D, T>(disk, purpose, from, run, image, pages),
+                None => self.sync_pages::<D, T>(disk, purpose, from),
+            },
+            Stage::Paged(purpose) => self.write_last::<D, T>(disk, purpose),
+            Stage::Finished(purpose) => self.sync_last::<D, T>(disk, purpose),
+            Stage::Quiet | Stage::Logging(_) | Stage::Logged | Stage::Raised => unreachable!(),
+        }
+    }
+
+    // takes in what a call has come to
+    fn settle(&mut self, called: Result<Stage, Failed>) -> Result<Progress, Refusal>
+        ensures { Settles called result self.old self.new }
+    {
+        match called {
+            Ok(Stage::Quiet) => {
+                self.stage = Stage::Quiet;
+                self.base = self.block;
+                Ok(Progress::Done)
+            }
+            Ok(next) => {
+                self.stage = next;
+                Ok(Progress::More)
+            }
+            Err(_) => {
+                self.failed = true;
+                Err(Refusal::DiskFault)
+            }
+        }
+    }
+}
