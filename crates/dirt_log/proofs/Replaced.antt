@@ -20,7 +20,7 @@ count_more : (mark : ℕ → Bool) (d n : ℕ) → marked_count mark n ≤ marke
 count_more mark zero n = let e : n + 0 ≡ n = omega arith in rw e (omega arith)
 count_more mark (suc d) n = let e : n + suc d ≡ suc (n + d) = omega arith in rw e (omega (arith, count_more mark d n))
 
-count_rises : (mark : ℕ → Bool) (n m : ℕ) → n ≤ m → marked_count mark n ≤ marked_count mark m
+pub count_rises : (mark : ℕ → Bool) (n m : ℕ) → n ≤ m → marked_count mark n ≤ marked_count mark m
 count_rises mark n m h = let e : n + (m - n) ≡ m = omega arith in omega (arith, count_more mark (m - n) n, ap (marked_count mark) e)
 
 count_same : (mark : ℕ → Bool) (d n : ℕ) → ((p : ℕ) → n ≤ p → p < n + d → mark p ≡ false) → marked_count mark (n + d) ≡ marked_count mark n

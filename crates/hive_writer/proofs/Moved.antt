@@ -1,6 +1,6 @@
 -- Calls as the code makes them, as the calls of a phase.
-use Rattle.std.proofs.Common.{◌≡◌, ℕ, ◌+◌, ◌-◌, ◌*◌, ◌/◌, ◌<◌, ◌≤◌, List, length, take, drop, arith, length-take, length-drop, sym, ap, ◌∙◌, subst}
-use Rattle.std.specs.Prelude.{min}
+use Rattle.std.proofs.Common.{◌≡◌, ℕ, zero, suc, Bool, ◌+◌, ◌-◌, ◌*◌, ◌/◌, ◌<◌, ◌≤◌, List, length, take, drop, arith, length-take, length-drop, sym, ap, ◌∙◌, subst}
+use Rattle.std.specs.Prelude.{min, if◌then◌else◌}
 use Rattle.std.proofs.lemmas.Grind.{same_number_lists}
 use Rattle.std.proofs.lemmas.List.{get_or-take}
 use Rattle.disk_model.specs.FileState.{FileState, IsSound, Writes, MayWrite, Syncs}
@@ -8,13 +8,15 @@ use Rattle.base_block.specs.declared.block.BaseBlock.{BaseBlock}
 use Rattle.base_block.specs.declared.fields.SequenceNumber.{SequenceNumber}
 use Rattle.base_block.specs.Layout.{sector_of}
 use Rattle.base_block.specs.Numbers.{number_after}
-use Rattle.dirty_vector.specs.Pages.{Pages, NoneFrom, IsFirstRun}
+use Rattle.dirty_vector.specs.Marks.{marked_count}
+use Rattle.dirty_vector.specs.Pages.{Pages, is_dirty, NoneFrom, IsFirstRun}
+use Rattle.dirt_log.proofs.Replaced.{count_rises, dirty_counts}
 use Rattle.hive_phases.specs.Holding.{Standing}
 use Rattle.hive_phases.specs.Plans.{AreClean, AreDirty}
 use Rattle.hive_phases.specs.Phases.{Phase, Work}
 use Rattle.hive_phases.specs.States.{IsLogging, IsLogged, IsPaging, IsPaged, is_on_in}
 use Rattle.hive_phases.proofs.Moving.{log_written, log_failed, log_synced, page_written, page_failed, pages_synced}
-use Rattle.hive_writer.specs.Writing.{raised_block}
+use Rattle.hive_writer.specs.Writing.{raised_block, dirty_from}
 
 -- the other file is as it was
 pub log_same : {T : Type 0} (stands : Standing T) (w : Work T) (phase : Phase) (p old new : FileState) → new ≡ old → is_on_in stands w phase p old → is_on_in stands w phase p new
@@ -40,6 +42,15 @@ clean_run v from start end run = λ i low high. run.before (i / 512) (omega (ari
 
 dirty_run : (v : Pages) (from start end last : ℕ) → IsFirstRun v from start end → last ≤ end → AreDirty v (512 * start) (512 * last)
 dirty_run v from start end last run le = λ i low high. run.dirty (i / 512) (omega (arith, low)) (omega (arith, high, le))
+
+-- each page of a run that is written is one less
+pub run_falls : (v : Pages) (from start end last : ℕ) → IsFirstRun v from start end → start < last → last ≤ end → dirty_from v last < dirty_from v from
+run_falls v from start end zero run some le = absurd (omega (arith, some))
+run_falls v from start end (suc page) run some le =
+    let dirty = run.dirty page (omega (arith, some)) (omega (arith, le)) in
+    let counted : marked_count (is_dirty v) (suc page) ≡ marked_count (is_dirty v) page + 1 = ap (λ (b : Bool). marked_count (is_dirty v) page + (if b then 1 else 0)) dirty in
+    let there = dirty_counts v page dirty (omega (arith, le, run.within)) in
+    omega (arith, counted, there, count_rises (is_dirty v) from page (omega (arith, run.after, some)))
 
 -- ---- the log
 

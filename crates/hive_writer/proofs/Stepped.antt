@@ -1,5 +1,5 @@
 -- A step: where it begins, its call, and what is taken in of it.
-use Rattle.std.proofs.Common.{◌≡◌, inl, inr, ℕ, ◌*◌, List, length, refl, sym, ap, ◌∙◌, subst, arith, Option, Result, Ok, Err}
+use Rattle.std.proofs.Common.{◌≡◌, inl, inr, ℕ, ◌*◌, ◌<◌, List, length, refl, sym, ap, ◌∙◌, subst, arith, Option, Result, Ok, Err}
 use Rattle.std.specs.Prelude.{min, IfOk}
 use Rattle.refusals.specs.declared.refusal.Refusal.{Refusal}
 use Rattle.refusals.specs.declared.refusal.Refusal.TheVariants.{DiskFault}
@@ -20,7 +20,7 @@ use Rattle.hive_writer.specs.declared.writer.HiveWriter.{HiveWriter}
 use Rattle.hive_writer.specs.declared.stage.Stage.{Stage}
 use Rattle.hive_writer.specs.declared.stage.Stage.TheVariants as stage
 use Rattle.hive_writer.specs.declared.stage.Purpose.{Purpose}
-use Rattle.hive_writer.specs.Writing.{plan_of, work_of, IsAt, Leads, LeadsOn, IsNext, IsFlushing, BeginsAt, Settles, KeepsBlocks, base_after, choice_at, now_after}
+use Rattle.hive_writer.specs.Writing.{Falls, calls_left, plan_of, work_of, IsAt, Leads, LeadsOn, IsNext, IsFlushing, BeginsAt, Settles, KeepsBlocks, base_after, choice_at, now_after}
 
 -- ---- what is taken in
 
@@ -61,6 +61,24 @@ module _ {T : Type 0} (stands : Standing T) (plan : Plan) (image : List ℕ) (pa
   settled_on (Err why) result old new s leads now memory ready on =
       subst (λ (n : HiveWriter). IsAt stands (work_of plan image pages (now_after result now memory) memory) n.hive n.stage after) (sym s.1)
       (subst (λ (r : Result Progress Refusal). IsAt stands (work_of plan image pages (now_after r now memory) memory) old.hive old.stage after) (sym s.0) (leads now memory ready on))
+
+-- fewer calls are left
+pub settled_falls : (total : ℕ) (pages : Pages) (called : Result Stage Failed) (result : Result Progress Refusal) (old new : HiveWriter)
+    → IfOk called (Falls total pages old.stage) → Settles called result old new → result ≡ Ok progress.More → calls_left total pages new.stage < calls_left total pages old.stage
+settled_falls total pages (Ok stage.Quiet) result old new f s more = let e : Ok progress.Done ≡ Ok progress.More = sym s.0 ∙ more in absurd cc
+settled_falls total pages (Ok (stage.Logging k)) result old new (inl e) s more = absurd cc
+settled_falls total pages (Ok (stage.Logging k)) result old new (inr f) s more = subst (λ (n : HiveWriter). calls_left total pages n.stage < calls_left total pages old.stage) (sym s.1) f
+settled_falls total pages (Ok stage.Logged) result old new (inl e) s more = absurd cc
+settled_falls total pages (Ok stage.Logged) result old new (inr f) s more = subst (λ (n : HiveWriter). calls_left total pages n.stage < calls_left total pages old.stage) (sym s.1) f
+settled_falls total pages (Ok stage.Raised) result old new (inl e) s more = absurd cc
+settled_falls total pages (Ok stage.Raised) result old new (inr f) s more = subst (λ (n : HiveWriter). calls_left total pages n.stage < calls_left total pages old.stage) (sym s.1) f
+settled_falls total pages (Ok (stage.Paging p k)) result old new (inl e) s more = absurd cc
+settled_falls total pages (Ok (stage.Paging p k)) result old new (inr f) s more = subst (λ (n : HiveWriter). calls_left total pages n.stage < calls_left total pages old.stage) (sym s.1) f
+settled_falls total pages (Ok (stage.Paged p)) result old new (inl e) s more = absurd cc
+settled_falls total pages (Ok (stage.Paged p)) result old new (inr f) s more = subst (λ (n : HiveWriter). calls_left total pages n.stage < calls_left total pages old.stage) (sym s.1) f
+settled_falls total pages (Ok (stage.Finished p)) result old new (inl e) s more = absurd cc
+settled_falls total pages (Ok (stage.Finished p)) result old new (inr f) s more = subst (λ (n : HiveWriter). calls_left total pages n.stage < calls_left total pages old.stage) (sym s.1) f
+settled_falls total pages (Err why) result old new f s more = let e : Err DiskFault ≡ Ok progress.More = sym s.0 ∙ more in absurd cc
 
 -- ---- where it begins
 

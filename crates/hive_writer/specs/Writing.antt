@@ -1,5 +1,5 @@
 -- A hive's writer as the work and the phase of a flush or a repair.
-use Rattle.std.specs.Prelude.{◌≡◌, ◌⊎◌, ⊤, ℕ, ◌+◌, ◌*◌, min, true, List, length, Result, Ok, Err, MatchResult}
+use Rattle.std.specs.Prelude.{◌≡◌, ◌⊎◌, ⊤, ℕ, ◌+◌, ◌-◌, ◌*◌, ◌/◌, ◌<◌, min, true, List, length, Result, Ok, Err, MatchResult}
 use Rattle.refusals.specs.declared.refusal.Refusal.{Refusal}
 use Rattle.refusals.specs.declared.refusal.Refusal.TheVariants.{DiskFault}
 use Rattle.engine_words.specs.declared.Progress.{Progress}
@@ -12,7 +12,8 @@ use Rattle.base_block.specs.declared.block.BaseBlock.{BaseBlock}
 use Rattle.base_block.specs.Layout.{sector_of}
 use Rattle.base_block.specs.Numbers.{number_after}
 use Rattle.dirt_log.specs.LogText.{log_text}
-use Rattle.dirty_vector.specs.Pages.{Pages}
+use Rattle.dirty_vector.specs.Marks.{marked_count}
+use Rattle.dirty_vector.specs.Pages.{Pages, is_dirty, dirty_count}
 use Rattle.hive_phases.specs.Holding.{Standing}
 use Rattle.hive_phases.specs.Plans.{Plan, IsReady}
 use Rattle.hive_phases.specs.Phases.{Phase, Phase.Quiet, Phase.Logging, Phase.Logged, Phase.Raised, Phase.Paging, Phase.Paged, Phase.Finished, Work, Purpose.Flush, Purpose.Repair, choice_in}
@@ -109,6 +110,26 @@ IsFlushing stage.Raised = ⊤
 IsFlushing (stage.Paging whose page) = whose ≡ purpose.Flush
 IsFlushing (stage.Paged whose) = whose ≡ purpose.Flush
 IsFlushing (stage.Finished whose) = whose ≡ purpose.Flush
+
+-- how many dirty pages lie from a page on
+abbrev pub dirty_from : Pages → ℕ → ℕ
+dirty_from pages page = dirty_count pages - marked_count (is_dirty pages) page
+
+-- How many calls are left until a flush or a repair is done, at most, for a log of so many bytes: its pieces and its sync, the
+-- raised sector and its sync, a write for each dirty page and their sync, the last sector and its sync. Of a quiet hive it is
+-- a whole flush.
+abbrev pub calls_left : ℕ → Pages → Stage → ℕ
+calls_left total pages stage.Quiet = (total + 65535) / 65536 + dirty_count pages + 6
+calls_left total pages (stage.Logging pieces) = (total + 65535) / 65536 - pieces + dirty_count pages + 6
+calls_left total pages stage.Logged = dirty_count pages + 5
+calls_left total pages stage.Raised = dirty_count pages + 4
+calls_left total pages (stage.Paging purpose page) = dirty_from pages page + 3
+calls_left total pages (stage.Paged purpose) = 2
+calls_left total pages (stage.Finished purpose) = 1
+
+-- a call leads to the end, or to where fewer calls are left
+abbrev pub Falls : ℕ → Pages → Stage → Stage → Type 0
+Falls total pages at next = (next ≡ stage.Quiet) ⊎ (calls_left total pages next < calls_left total pages at)
 
 -- what the files surely hold at a stage, and what may be on its way
 abbrev pub choice_at : {T : Type 0} → Stage → T × ℕ → T × ℕ → Choice (T × ℕ)

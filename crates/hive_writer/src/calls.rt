@@ -5,7 +5,7 @@ ghost use Rattle.disk_model.specs.StoreFiles.{IsOfHive};
 ghost use Rattle.dirty_vector.specs.Pages.{Pages, NoneFrom, IsFirstRun};
 ghost use Rattle.hive_phases.specs.Holding.{Standing};
 ghost use Rattle.hive_phases.specs.Plans.{Plan};
-ghost use Rattle.hive_writer.specs.Writing.{EndsWith, Leads, plan_of};
+ghost use Rattle.hive_writer.specs.Writing.{EndsWith, Falls, Leads, plan_of};
 ghost use Rattle.hive_writer.specs.declared.stage.Purpose.TheVariants as purpose;
 ghost use Rattle.hive_writer.specs.declared.stage.Stage.TheVariants as stage;
 
@@ -40,6 +40,7 @@ impl HiveWriter {
             (stage.Logging index) result
             (D.state_at disk.old (D.clock disk.old)) (D.state_at disk.new (D.clock disk.new)) }
         ensures next { IfOk result (λ next. next ≡ stage.Logging (index + 1)) }
+        ensures falls { IfOk result (Falls (length (plan_of self.now image.now pages.now).text) pages.now (stage.Logging index)) }
         ensures call { OneCall (IsOfHive self.now.hive) (D.state_at disk.old) (D.state_at disk.new)
             (D.clock disk.old) (D.clock disk.new) }
         ensures failures { CountsFailure result (D.failures disk.old) (D.failures disk.new) }
@@ -64,6 +65,7 @@ impl HiveWriter {
             (stage.Logging index) result
             (D.state_at disk.old (D.clock disk.old)) (D.state_at disk.new (D.clock disk.new)) }
         ensures next { IfOk result (λ next. next ≡ stage.Logged) }
+        ensures falls { (total : ℕ) (pages : Pages) → IfOk result (Falls total pages (stage.Logging index)) }
         ensures call { OneCall (IsOfHive self.now.hive) (D.state_at disk.old) (D.state_at disk.new)
             (D.clock disk.old) (D.clock disk.new) }
         ensures failures { CountsFailure result (D.failures disk.old) (D.failures disk.new) }
@@ -90,6 +92,7 @@ impl HiveWriter {
             (stage.Logging index) result
             (D.state_at disk.old (D.clock disk.old)) (D.state_at disk.new (D.clock disk.new)) }
         ensures next { IfOk result (λ next. (next ≡ stage.Logging (index + 1)) ⊎ (next ≡ stage.Logged)) }
+        ensures falls { IfOk result (Falls (length (plan_of self.now image.now pages.now).text) pages.now (stage.Logging index)) }
         ensures call { OneCall (IsOfHive self.now.hive) (D.state_at disk.old) (D.state_at disk.new)
             (D.clock disk.old) (D.clock disk.new) }
         ensures failures { CountsFailure result (D.failures disk.old) (D.failures disk.new) }
@@ -111,6 +114,7 @@ impl HiveWriter {
             stage.Logged result
             (D.state_at disk.old (D.clock disk.old)) (D.state_at disk.new (D.clock disk.new)) }
         ensures next { IfOk result (λ next. next ≡ stage.Raised) }
+        ensures falls { (total : ℕ) (pages : Pages) → IfOk result (Falls total pages stage.Logged) }
         ensures call { OneCall (IsOfHive self.now.hive) (D.state_at disk.old) (D.state_at disk.new)
             (D.clock disk.old) (D.clock disk.new) }
         ensures failures { CountsFailure result (D.failures disk.old) (D.failures disk.new) }
@@ -131,6 +135,7 @@ impl HiveWriter {
             stage.Raised result
             (D.state_at disk.old (D.clock disk.old)) (D.state_at disk.new (D.clock disk.new)) }
         ensures next { IfOk result (λ next. next ≡ stage.Paging purpose.Flush 0) }
+        ensures falls { (total : ℕ) (pages : Pages) → IfOk result (Falls total pages stage.Raised) }
         ensures call { OneCall (IsOfHive self.now.hive) (D.state_at disk.old) (D.state_at disk.new)
             (D.clock disk.old) (D.clock disk.new) }
         ensures failures { CountsFailure result (D.failures disk.old) (D.failures disk.new) }
@@ -160,6 +165,7 @@ impl HiveWriter {
             (stage.Paging purpose from) result
             (D.state_at disk.old (D.clock disk.old)) (D.state_at disk.new (D.clock disk.new)) }
         ensures next { IfOk result (λ next. next ≡ stage.Paging purpose (run.start + min 128 (run.end - run.start))) }
+        ensures falls { (total : ℕ) → IfOk result (Falls total pages.now (stage.Paging purpose from)) }
         ensures call { OneCall (IsOfHive self.now.hive) (D.state_at disk.old) (D.state_at disk.new)
             (D.clock disk.old) (D.clock disk.new) }
         ensures failures { CountsFailure result (D.failures disk.old) (D.failures disk.new) }
@@ -186,6 +192,7 @@ impl HiveWriter {
             (stage.Paging purpose from) result
             (D.state_at disk.old (D.clock disk.old)) (D.state_at disk.new (D.clock disk.new)) }
         ensures next { IfOk result (λ next. next ≡ stage.Paged purpose) }
+        ensures falls { (total : ℕ) (pages : Pages) → IfOk result (Falls total pages (stage.Paging purpose from)) }
         ensures call { OneCall (IsOfHive self.now.hive) (D.state_at disk.old) (D.state_at disk.new)
             (D.clock disk.old) (D.clock disk.new) }
         ensures failures { CountsFailure result (D.failures disk.old) (D.failures disk.new) }
@@ -209,6 +216,7 @@ impl HiveWriter {
             (stage.Paged purpose) result
             (D.state_at disk.old (D.clock disk.old)) (D.state_at disk.new (D.clock disk.new)) }
         ensures next { IfOk result (λ next. next ≡ stage.Finished purpose) }
+        ensures falls { (total : ℕ) (pages : Pages) → IfOk result (Falls total pages (stage.Paged purpose)) }
         ensures call { OneCall (IsOfHive self.now.hive) (D.state_at disk.old) (D.state_at disk.new)
             (D.clock disk.old) (D.clock disk.new) }
         ensures failures { CountsFailure result (D.failures disk.old) (D.failures disk.new) }

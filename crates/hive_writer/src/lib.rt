@@ -12,6 +12,7 @@
 
 mod calls;
 mod device;
+pub mod laws;
 pub mod stage;
 pub mod writer;
 

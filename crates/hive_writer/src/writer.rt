@@ -5,20 +5,7 @@ ghost use Rattle.disk_model.specs.StoreFiles.{IsOfHive};
 ghost use Rattle.engine_words.specs.Steps.{Says};
 ghost use Rattle.hive_phases.specs.Holding.{Standing};
 ghost use Rattle.hive_phases.specs.Plans.{Plan};
-ghost use Rattle.hive_writer.specs.Writing.{
-  BeginsAt,
-  EndsWith,
-  IsFlushing,
-  IsNext,
-  IsRewriting,
-  KeepsBlocks,
-  Leads,
-  LeadsOn,
-  Settles,
-  choice_at,
-  now_after,
-  plan_of,
-};
+ghost use Rattle.hive_writer.specs.Writing.{BeginsAt, EndsWith, Falls, IsFlushing, IsNext, IsRewriting, KeepsBlocks, Leads, LeadsOn, Settles, calls_left, choice_at, now_after, plan_of};
 ghost use Rattle.hive_writer.specs.declared.stage.Stage.TheVariants as stage;
 ghost use Rattle.hive_writer.specs.declared.stage.Purpose.TheVariants as purpose;
 ghost use Rattle.prefix_law.specs.Promises.{HiveSays};
@@ -119,6 +106,10 @@ impl HiveWriter {
             (choice_at self.old.stage now memory)
             (choice_at self.new.stage (now_after result now memory) memory) }
         ensures flushing { IsFlushing self.new.stage }
+        ensures falls { result ≡ Ok Progress.More →
+            calls_left (length (plan_of self.old image.now pages.now).text) pages.now self.new.stage
+            < calls_left (length (plan_of self.old image.now pages.now).text) pages.now
+            self.old.stage }
         ensures keeps { KeepsBlocks self.old self.new result }
         ensures refused { IfErr result (λ why. (why ≡ DiskFault) ⊎ (why ≡ Faulted)) }
         ensures faulted { (result ≡ Err Faulted) ↔ IsTrue self.old.failed }
@@ -157,6 +148,8 @@ impl HiveWriter {
             ≡ choice_at self.old.stage now memory }
         ensures repairing { (result ≡ Ok Progress.Done → ⊥) → IsRewriting purpose.Repair self.new.stage }
         ensures done { result ≡ Ok Progress.Done → self.new.stage ≡ stage.Quiet }
+        ensures falls { (total : ℕ) → result ≡ Ok Progress.More →
+            calls_left total pages.now self.new.stage < calls_left total pages.now self.old.stage }
         ensures keeps { KeepsBlocks self.old self.new result }
         ensures refused { IfErr result (λ why. (why ≡ DiskFault) ⊎ (why ≡ Faulted)) }
         ensures faulted { (result ≡ Err Faulted) ↔ IsTrue self.old.failed }
@@ -201,6 +194,7 @@ impl HiveWriter {
             self.now.stage result
             (D.state_at disk.old (D.clock disk.old)) (D.state_at disk.new (D.clock disk.new)) }
         ensures next { IfOk result (IsNext self.now.stage) }
+        ensures falls { IfOk result (Falls (length (plan_of self.now image.now pages.now).text) pages.now self.now.stage) }
         ensures call { OneCall (IsOfHive self.now.hive) (D.state_at disk.old) (D.state_at disk.new)
             (D.clock disk.old) (D.clock disk.new) }
         ensures failures { CountsFailure result (D.failures disk.old) (D.failures disk.new) }
@@ -229,6 +223,7 @@ impl HiveWriter {
             Leads stands plan image.now pages.now self.now.hive self.now.stage result
             (D.state_at disk.old (D.clock disk.old)) (D.state_at disk.new (D.clock disk.new)) }
         ensures next { IfOk result (IsNext self.now.stage) }
+        ensures falls { (total : ℕ) → IfOk result (Falls total pages.now self.now.stage) }
         ensures call { OneCall (IsOfHive self.now.hive) (D.state_at disk.old) (D.state_at disk.new)
             (D.clock disk.old) (D.clock disk.new) }
         ensures failures { CountsFailure result (D.failures disk.old) (D.failures disk.new) }

@@ -1,8 +1,8 @@
-use Rattle.std.proofs.Common.{◌+◌, ◌*◌, ◌-◌, ◌≤◌, take, drop, refl, arith}
+use Rattle.std.proofs.Common.{inr, ◌<◌, ◌+◌, ◌*◌, ◌-◌, ◌≤◌, take, drop, refl, arith}
 use Rattle.disk_model.specs.StoreFiles.{primary_file, log_file}
 use Rattle.hive_phases.specs.Phases.{Phase.Paging}
 use Rattle.hive_writer.specs.Writing.{work_of, purpose_in}
-use Rattle.hive_writer.proofs.Moved.{log_same, run_written, run_failed}
+use Rattle.hive_writer.proofs.Moved.{log_same, run_written, run_failed, run_falls}
 use Rattle.hive_writer.proofs.writer.HiveWriter.write_pages.Goals as goal
 
 pub returns-in-Ok-clause-leads : goal.returns-in-Ok-clause-leads
@@ -35,3 +35,12 @@ returns-in-Err-clause-leads g c = λ faithful stands plan ends now memory ready 
     let le : last ≤ run.end = omega (arith, c.min.ensures, c.requires.run.some) in
     log_same stands w (Paging (purpose_in c.args.purpose) (512 * c.args.from)) p2 l l2 c.write_primary.ensures.other
     (run_failed stands w c.args.from run.start run.end last p l p2 (take (512 * last - 512 * run.start) (drop (512 * run.start) c.args.image.now)) c.requires.run some le refl on (c.in-Err.ensures.failed faithful))
+
+pub returns-in-Ok-clause-falls : goal.returns-in-Ok-clause-falls
+returns-in-Ok-clause-falls g c = λ total.
+    let run = c.args.run in
+    let last = run.start + c.min.result in
+    let some : run.start < last = omega (arith, c.min.ensures, c.requires.run.some) in
+    let le : last ≤ run.end = omega (arith, c.min.ensures, c.requires.run.some) in
+    let fewer = run_falls c.args.pages.now c.args.from run.start run.end last c.requires.run some le in
+    inr (omega (arith, fewer))
