@@ -23,3 +23,4 @@ pub mod Puts
 pub mod GoesOn
 pub mod ListsGoOn
 pub mod Samples
+pub mod Sizes

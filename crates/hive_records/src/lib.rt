@@ -37,8 +37,8 @@ pub use security_cell::Security;
 pub use stored_name::StoredName;
 pub use subkey_list::SubkeyList;
 pub use text_laws::{
-    big_again, cells_again, keys_again, lists_again, many_again, names_again, values_again,
-    written_again,
+    big_again, cells_again, keys_again, lists_again, many_again, names_again, texts_are_so_long,
+    values_again, written_again,
 };
 pub use value_record::ValueRec;
 pub use writing::{
