@@ -19,9 +19,13 @@ splits minor = nat_le 4 minor
 abbrev pub StandsFor : List ℕ → ℕ → ℕ → TreeMap → Type 0
 StandsFor bytes root minor tree = Tiles bytes × (cells : Cells) × Shows bytes cells × Stands (keys_in (splits minor) cells) root tree
 
--- a rule is broken in the data, and the refusal tells it. (A key deeper than the limit, or a tree over the weight, is no
--- such fault: a tree stands there, but none within the limits.)
+-- a rule of records or of keys is broken in cells, and the refusal tells it
+abbrev pub FaultIn : Bool → Cells → ℕ → Refusal → Type 0
+FaultIn split cells root r =
+    Told (trail_in split cells) (keys_in split cells) (refusal.HiveDamaged 0 cause.BadName) (refusal.HiveDamaged 0 cause.Shared) (λ cell. false) root r
+    ⊎ ((r ≡ refusal.HiveDamaged 0 cause.Shared) × Lends (trail_in split cells) (lends_in split cells) (keys_in split cells) root)
+
+-- so it is in the data. (A key deeper than the limit, or a tree over the weight, is no such fault: a tree stands there,
+-- but none within the limits.)
 abbrev pub FaultFor : List ℕ → ℕ → ℕ → Refusal → Type 0
-FaultFor bytes root minor r = (cells : Cells) × Shows bytes cells ×
-    (Told (trail_in (splits minor) cells) (keys_in (splits minor) cells) (refusal.HiveDamaged 0 cause.BadName) (refusal.HiveDamaged 0 cause.Shared) (λ cell. false) root r
-    ⊎ ((r ≡ refusal.HiveDamaged 0 cause.Shared) × Lends (trail_in (splits minor) cells) (lends_in (splits minor) cells) (keys_in (splits minor) cells) root))
+FaultFor bytes root minor r = (cells : Cells) × Shows bytes cells × FaultIn (splits minor) cells root r

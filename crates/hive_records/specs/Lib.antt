@@ -17,3 +17,5 @@ pub mod ListTexts
 pub mod KeyTexts
 pub mod BigTexts
 pub mod Wholes
+pub mod GoesOn
+pub mod Samples

@@ -5,6 +5,12 @@ ghost use Rattle.hive_shape.specs.Keys.{none};
 ghost use Rattle.hive_shape.specs.Stands.{Stands};
 ghost use Rattle.hive_records.specs.Example.{one_cell, one_key, full_cells, two_keys, full_root, child_record, full_row, child_row, full_value};
 ghost use Rattle.hive_records.specs.KeyNodes.{keys_in};
+ghost use Rattle.refusals.specs.declared.refusal.Refusal.TheVariants as refusal;
+ghost use Rattle.refusals.specs.declared.refusal.Cause.TheVariants as cause;
+ghost use Rattle.hive_records.specs.Values.{value_at};
+ghost use Rattle.hive_records.specs.Fields.{Gives};
+ghost use Rattle.hive_records.specs.Images.{FaultIn};
+ghost use Rattle.hive_records.specs.Samples.{every_list, four_keys, big_cells, big_value, no_cells, empty_cell, handle_in_place, odd_name, backslash_in_name, values_alike, no_list, list_in_lists, other_total, nameless_kid, kids_alike, cell_met_twice, key_in_itself, lent_and_own};
 ghost use Rattle.hive_records.specs.ValueTexts.{small_value};
 ghost use Rattle.hive_records.specs.ListTexts.{offsets_text, indirect};
 ghost use Rattle.hive_records.specs.Wholes.{root_places, child_places};
@@ -39,4 +45,35 @@ pub fn spelled_by_hand()
               [];
         }) }
     ensures wide { name_text (0x41 ∷ 0x100 ∷ []) ≡ 0x41 ∷ 0 ∷ 0 ∷ 1 ∷ [] }
+{}
+
+/// Each kind of list, a class, a name of two bytes a unit, and big data.
+///
+/// - `lists`: three subkeys below a ri, a li, a lf and a lh, of a root with a class.
+/// - `big`: data of 16,345 bytes in two segments.
+pub fn each_kind()
+    ensures lists { Stands (keys_in true every_list) 32 four_keys }
+    ensures big { Gives (value_at true 32) big_cells (32 ∷ 64 ∷ 80 ∷ 96 ∷ 104 ∷ []) [] big_value }
+{}
+
+/// One image for each refusal of one key's cells.
+pub fn each_refusal()
+    ensures offset { FaultIn true no_cells 32 (refusal.HiveDamaged 0 cause.BadOffset) }
+    ensures empty { FaultIn true empty_cell 32 (refusal.HiveDamaged 0 cause.BadRecord) }
+    ensures handle { FaultIn true handle_in_place 32 refusal.Unsupported }
+    ensures odd { FaultIn true odd_name 32 (refusal.HiveDamaged 0 cause.BadName) }
+    ensures backslash { FaultIn true backslash_in_name 32 (refusal.HiveDamaged 0 cause.BadName) }
+    ensures values { FaultIn true values_alike 32 (refusal.HiveDamaged 0 cause.BadName) }
+    ensures list { FaultIn true no_list 32 (refusal.HiveDamaged 0 cause.BadList) }
+    ensures inside { FaultIn true list_in_lists 32 (refusal.HiveDamaged 0 cause.BadList) }
+    ensures total { FaultIn true other_total 32 (refusal.HiveDamaged 0 cause.BadList) }
+{}
+
+/// One image for each fault between keys, or between the cells of one.
+pub fn each_fault()
+    ensures nameless { FaultIn true nameless_kid 32 (refusal.HiveDamaged 0 cause.BadName) }
+    ensures alike { FaultIn true kids_alike 32 (refusal.HiveDamaged 0 cause.BadName) }
+    ensures twice { FaultIn true cell_met_twice 32 (refusal.HiveDamaged 0 cause.Shared) }
+    ensures itself { FaultIn true key_in_itself 32 (refusal.HiveDamaged 0 cause.Shared) }
+    ensures lent { FaultIn true lent_and_own 32 (refusal.HiveDamaged 0 cause.Shared) }
 {}

@@ -11,6 +11,7 @@ mod big_data;
 mod example_laws;
 mod hashes;
 mod image_laws;
+mod joined_laws;
 mod key_node;
 mod key_places;
 mod names;
@@ -24,9 +25,10 @@ mod value_record;
 mod writing;
 
 pub use big_data::{BigData, SEGMENT_BYTES, segment_count};
-pub use example_laws::{example, spelled_by_hand};
+pub use example_laws::{each_fault, each_kind, each_refusal, example, spelled_by_hand};
 pub use hashes::name_hash;
 pub use image_laws::{keys_are_local, nodes, one_tree, rows_are_spellable, stays};
+pub use joined_laws::{big_data_go_on, descriptors_go_on, keys_go_on, lists_go_on, values_go_on};
 pub use key_node::KeyNode;
 pub use key_places::KeyPlaces;
 pub use names::is_latin;
@@ -35,8 +37,8 @@ pub use security_cell::Security;
 pub use stored_name::StoredName;
 pub use subkey_list::SubkeyList;
 pub use text_laws::{
-    big_again, cells_again, keys_again, lists_again, many_again, names_again, values_again,
-    written_again,
+    big_again, cells_again, keys_again, lists_again, many_again, names_again, texts_are_so_long,
+    values_again, written_again,
 };
 pub use value_record::ValueRec;
 pub use writing::{

@@ -1,6 +1,6 @@
 //! What is written of a record reads back as the same parts: laws.
 
-ghost use Rattle.std.specs.Prelude.{◌≡◌, ◌≤◌, ◌<◌, ◌^◌, ◌++◌, ◌∷◌, [], ℕ, Bool, true, List, length, map, flat_map, Ok};
+ghost use Rattle.std.specs.Prelude.{◌≡◌, ◌≤◌, ◌<◌, ◌+◌, ◌*◌, ◌^◌, ◌++◌, ◌∷◌, [], ℕ, Bool, true, List, length, map, flat_map, Ok};
 ghost use Rattle.std.specs.List.{AllByRecursion};
 ghost use Rattle.hive_cells.specs.Bins.{Cells};
 ghost use Rattle.hive_records.specs.Names.{name_in, all_apart};
@@ -142,4 +142,25 @@ pub fn keys_again()
               ∷ (class ++ (values ++ lists));
           lent = lent;
         }) }
+{}
+
+/// How many bytes texts have.
+///
+/// - `name`: at most two for each unit.
+/// - `key`, `small`, `large`, `security`: the fields, and the name or the descriptor behind them.
+/// - `plain`, `hashed`, `indirect`, `offsets`: so many for each element of a list, behind its fields.
+pub fn texts_are_so_long()
+    ensures name { (name : List ℕ) → length (name_text name) ≤ 2 * length name }
+    ensures key { (row : Row) (its : KeyPlaces) →
+        length (key_text row its) ≡ 76 + length (name_text row.name) }
+    ensures small { (value : Value) → length (small_value value) ≡ 20 + length
+        (name_text value.name) }
+    ensures large { (value : Value) (at : ℕ) →
+        length (large_value value at) ≡ 20 + length (name_text value.name) }
+    ensures security { (next previous count : ℕ) (descriptor : List ℕ) →
+        length (security_text next previous count descriptor) ≡ 20 + length descriptor }
+    ensures plain { (offsets : List ℕ) → length (plain_leaf offsets) ≡ 4 + 4 * length offsets }
+    ensures hashed { (kids : List Kid) → length (hashed_leaf kids) ≡ 4 + 8 * length kids }
+    ensures indirect { (offsets : List ℕ) → length (indirect offsets) ≡ 4 + 4 * length offsets }
+    ensures offsets { (offsets : List ℕ) → length (offsets_text offsets) ≡ 4 * length offsets }
 {}
