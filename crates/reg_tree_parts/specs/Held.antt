@@ -1,19 +1,23 @@
--- What a list of shared values stands for.
-use Rattle.std.specs.Prelude.{ℕ, List, map}
-use Rattle.std.specs.declared.sync.Arc.{Arc}
-use Rattle.std.specs.declared.alloc.Global.{Global}
-use Rattle.std.specs.Arc.{arc_value}
+-- What the map of a key's values stands for.
+use Rattle.std.specs.Prelude.{ℕ, List, T}
+use Rattle.std.specs.FinMap.Entries.{is_sorted}
 use Rattle.reg_names.specs.Names.{folded}
+use Rattle.shared_map.specs.declared.map.SharedMap.{SharedMap}
+use Rattle.shared_map.specs.Listings.{entries}
+use Rattle.shared_map.specs.Parts.{FitsMap}
 use Rattle.reg_tree_parts.specs.declared.value.Value.{Value}
+use Rattle.reg_tree_parts.specs.Orders.{name_order}
+use Rattle.reg_tree_parts.specs.Weights.{value_weight}
 
--- a shared value under its folded name
-abbrev pub value_entry : Arc Value Global → List ℕ × Value
-value_entry shared = (folded (arc_value shared).name, arc_value shared)
+-- the folded name of a value
+abbrev pub value_key : Value → List ℕ
+value_key value = folded value.name
 
--- the entries of a list of shared values
-abbrev pub value_entries : List (Arc Value Global) → List (List ℕ × Value)
-value_entries items = map value_entry items
+-- the values in a map, under their folded names
+abbrev pub value_entries : SharedMap Value → List (List ℕ × Value)
+value_entries items = entries value_key items
 
--- the folded name of a shared value
-abbrev pub shared_name : Arc Value Global → List ℕ
-shared_name shared = folded (arc_value shared).name
+-- the values are in the order of their folded names, and their counts and weights are kept
+pub record ValuesFit (items : SharedMap Value) : Type 0 where
+  pub sorted : T (is_sorted name_order (value_entries items))
+  pub fits : FitsMap value_key value_weight items

@@ -1,7 +1,6 @@
 pub mod Orders
 pub mod Weights
 pub mod Rows
-pub mod Searches
 pub mod Held
 pub mod ValueEdits
 pub mod NewRows

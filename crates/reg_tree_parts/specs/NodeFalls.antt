@@ -5,13 +5,35 @@ use denote.Param.Weighed.{most}
 use Rattle.std.specs.declared.sync.Arc.{Arc}
 use Rattle.std.specs.declared.alloc.Global.{Global}
 use Rattle.std.specs.Arc.{arc_value}
-use Rattle.reg_tree_parts.specs.Nodes.{Entries, below, subkey_entries, all_below, root_name}
+use Rattle.shared_map.specs.declared.map.Held.{Held}
+use Rattle.shared_map.specs.declared.map.Held.TheVariants.{Empty, Few, Many}
+use Rattle.shared_map.specs.Listings.{held_entries, leaf_entries, group_entries}
+use Rattle.shared_map.specs.ListingFalls.{capped, most_items, most_parts}
+use Rattle.reg_tree_parts.specs.Rows.{Row}
+use Rattle.reg_tree_parts.specs.Nodes.{Entries, below, all_below, root_name}
+use Rattle.reg_tree_parts.specs.declared.node.Node.TheDeep.{deep-Node}
+use Rattle.reg_tree_parts.specs.declared.node.Node.TheInside.{Inside}
 
 length-below : (name : List ℕ) (entries : Entries) → length (below name entries) ≡ length entries
 length-below name [] = refl
 length-below name (e ∷ es) = ap suc (length-below name es)
 
-pub most_subkey : (subkeys : List (Arc Entries Global)) → most (λ k. length (arc_value k) + 1) subkeys ≤ length (all_below (subkey_entries subkeys)) + 1
-most_subkey [] = omega arith
-most_subkey (k ∷ ks) =
-    omega (arith, most_subkey ks, length-append (below (root_name (arc_value k)) (arc_value k)) (all_below (subkey_entries ks)), length-below (root_name (arc_value k)) (arc_value k))
+-- the measure of a subkey under its name
+abbrev measure : List ℕ × Entries → ℕ
+measure e = length e.1 + 1
+
+most_below : (subkeys : List (List ℕ × Entries)) → most measure subkeys ≤ length (all_below subkeys) + 1
+most_below [] = omega arith
+most_below (k ∷ ks) = omega (arith, most_below ks, length-append (below k.0 k.1) (all_below ks), length-below k.0 k.1)
+
+held_falls : (key : Arc Row Global) (held : Held Entries) (weight : ℕ) → deep-Node (record { key = key; subkeys = record { held = held }; weight = weight }) ≤ most measure (held_entries root_name held)
+held_falls key Empty weight = omega arith
+held_falls key (Few leaf) weight = capped (capped (capped (capped (most_items measure root_name (λ x. length (arc_value x) + 1) (λ x. omega arith) (arc_value leaf).items.items))))
+held_falls key (Many whole) weight =
+    capped (capped (capped (capped (capped (most_parts measure _ (group_entries (leaf_entries root_name))
+    (λ p. capped (capped (most_parts measure _ (leaf_entries root_name) (λ q. capped (capped (most_items measure root_name (λ x. length (arc_value x) + 1) (λ x. omega arith) (arc_value q.body).items.items))) (arc_value p.body).parts.items)))
+    (arc_value (arc_value whole).body).parts.items)))))
+
+-- no subkey has more entries than the node
+pub node_falls : (node : Inside) → deep-Node node ≤ suc (length (all_below (held_entries root_name node.subkeys.held)))
+node_falls node = omega (arith, held_falls node.key node.subkeys.held node.weight, most_below (held_entries root_name node.subkeys.held))

@@ -7,6 +7,9 @@ use Rattle.std.specs.declared.sync.Arc.{Arc}
 use Rattle.std.specs.declared.alloc.Global.{Global}
 use Rattle.std.specs.Arc.{arc_value}
 use Rattle.reg_names.specs.Names.{folded}
+use Rattle.shared_map.specs.declared.map.SharedMap.{SharedMap}
+use Rattle.shared_map.specs.Listings.{entries}
+use Rattle.shared_map.specs.Parts.{FitsMap}
 use Rattle.reg_tree_parts.specs.Orders.{name_order, path_order}
 use Rattle.reg_tree_parts.specs.Rows.{Row, row_weight}
 use Rattle.reg_tree_parts.specs.NewRows.{new_row}
@@ -32,10 +35,6 @@ below name entries = map (λ e. (name ∷ e.0, e.1)) entries
 -- the entries of a subkey under its own name
 abbrev pub subkey_entry : Arc Entries Global → List ℕ × Entries
 subkey_entry subkey = (root_name (arc_value subkey), arc_value subkey)
-
--- the folded name of a subkey
-abbrev pub subkey_name : Arc Entries Global → List ℕ
-subkey_name subkey = root_name (arc_value subkey)
 
 abbrev pub subkey_entries : List (Arc Entries Global) → List (List ℕ × Entries)
 subkey_entries subkeys = map subkey_entry subkeys
@@ -72,12 +71,13 @@ abbrev pub AreNodes : List (List ℕ × Entries) → Type 0
 AreNodes [] = Unit {0}
 AreNodes (subkey ∷ subkeys) = IsNode subkey.1 × AreNodes subkeys
 
--- what holds of every node: its subkeys are nodes in the order of their names, and its weight is that of its
--- entries, as far as 64 bits hold it
-pub record NodeFits (row : Row) (subkeys : List (List ℕ × Entries)) (weight : ℕ) : Type 0 where
-  pub nodes : AreNodes subkeys
-  pub rises : T (is_sorted name_order subkeys)
-  pub weighs : weight ≡ min (entries_weight (entries_of row subkeys)) MAX
+-- what holds of every node: its subkeys are nodes in the order of their names, whose counts and weights are kept, and
+-- its weight is that of its entries, as far as 64 bits hold it
+pub record NodeFits (row : Row) (subkeys : SharedMap Entries) (weight : ℕ) : Type 0 where
+  pub nodes : AreNodes (entries root_name subkeys)
+  pub rises : T (is_sorted name_order (entries root_name subkeys))
+  pub fits : FitsMap root_name entries_weight subkeys
+  pub weighs : weight ≡ min (entries_weight (entries_of row (entries root_name subkeys))) MAX
 
 -- the row that stands at a path of what was found, if anything was
 abbrev pub row_in : Option Entries → List (List ℕ) → Option Row

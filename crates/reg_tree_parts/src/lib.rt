@@ -9,7 +9,6 @@
 mod data;
 mod key;
 mod node;
-mod shared;
 mod value;
 mod values;
 

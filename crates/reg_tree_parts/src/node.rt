@@ -1,55 +1,53 @@
 //! Nodes: a key with its subkeys, which never changes once it is made.
-ghost use Rattle.std.specs.Prelude.{◌≡◌, ℕ, ◌+◌, ◌<◌, ◌≤◌, T, not, false, List, [], ◌∷◌, ◌++◌, length, take, IfOk, IfSome, IfNone, MatchResult, min, slice_get};
-ghost use Rattle.std.specs.Arc.{arc_value, arc_slice_items};
-ghost use Rattle.std.specs.FinMap.Entries.{is_sorted, put, where_key};
+ghost use Rattle.std.specs.Prelude.{◌≡◌, ℕ, ◌+◌, ◌<◌, ◌≤◌, T, false, List, [], ◌∷◌, ◌++◌, length, take, IfOk, IfSome, IfNone, min, slice_get};
+ghost use Rattle.std.specs.Arc.{arc_value};
+ghost use Rattle.std.specs.FinMap.Entries.{is_sorted};
 ghost use Rattle.std.specs.Ordering.{eq_by_cmp};
 ghost use Rattle.std.specs.Option.{option_copied};
 ghost use Rattle.reg_names.specs.Names.{folded, folded_path};
 ghost use Rattle.reg_tree_parts.specs.Orders.{name_order};
 ghost use Rattle.reg_tree_parts.specs.Rows.{Row};
-ghost use Rattle.reg_tree_parts.specs.Searches.{IsFound, IsGap};
-ghost use Rattle.reg_tree_parts.specs.Nodes.{Entries, entries_of, entries_weight, all_below, subkey_entries, subkey_name, root_name, row_at, names_below, spelled_root, begins_path, branch_row, IsNode, AreNodes};
+ghost use Rattle.shared_map.specs.Listings.{entries};
+ghost use Rattle.shared_map.specs.Parts.{FitsMap};
+ghost use Rattle.reg_tree_parts.specs.Nodes.{Entries, entries_of, entries_weight, subkey_entries, root_name, row_at, names_below, spelled_root, begins_path, branch_row, IsNode, AreNodes};
 
 use crate::data::Data;
 use crate::key::Key;
-use crate::shared::copy;
 use reg_names::Name;
+use shared_map::{Listed, SharedMap};
 use std::alloc::{AllocError, Global};
-use std::cmp::Ordering;
 use std::marker::Model;
-use std::sync::{Arc, ArcSlice};
+use std::sync::Arc;
 
 /// A key and all keys below it, shared by `Arc`.
 #[derive(Drop)]
 pub struct Node {
     key: Arc<Key>,
-    subkeys: ArcSlice<Arc<Node>>,
+    subkeys: SharedMap<Node>,
     weight: u64,
 }
 
 impl Model for Node {
     ghost use Rattle.std.specs.Prelude.{length};
     ghost use Rattle.std.specs.Coded.{coded×, coded_ℕ, coded_list};
-    ghost use Rattle.std.specs.Arc.{arc_value, arc_slice_items};
+    ghost use Rattle.std.specs.Arc.{arc_value};
+    ghost use Rattle.shared_map.specs.Listings.{entries};
     ghost use Rattle.reg_tree_parts.specs.Rows.{row_code};
-    ghost use Rattle.reg_tree_parts.specs.Nodes.{Entries, entries_of, subkey_entries, NodeFits};
+    ghost use Rattle.reg_tree_parts.specs.Nodes.{Entries, entries_of, root_name, NodeFits};
 
     ghost Value = { Entries };
 
     ghost coded = { coded_list (coded× (coded_list (coded_list coded_ℕ)) row_code) };
 
-    ghost view = { λ inside. entries_of (arc_value inside.key)
-        (subkey_entries (arc_slice_items inside.subkeys)) };
+    ghost view = { λ inside. entries_of (arc_value inside.key) (entries root_name inside.subkeys) };
 
-    ghost invariant = { λ inside. NodeFits (arc_value inside.key)
-        (subkey_entries (arc_slice_items inside.subkeys)) inside.weight };
+    ghost invariant = { λ inside. NodeFits (arc_value inside.key) inside.subkeys inside.weight };
 
     ghost size = { length };
 
-    ghost use Rattle.std.proofs.Common.{arith};
-    ghost use Rattle.reg_tree_parts.specs.NodeFalls.{most_subkey};
+    ghost use Rattle.reg_tree_parts.specs.NodeFalls.{node_falls};
 
-    ghost size_decreases = { λ a h. omega (arith, most_subkey a.subkeys.items.value.items) };
+    ghost size_decreases = { λ a h. node_falls a };
 }
 
 impl Node {
@@ -61,7 +59,7 @@ impl Node {
         ensures node { IfOk result IsNode }
     {
         let key = Arc::new(alloc, key)?;
-        let subkeys = ArcSlice::from_vec(subkeys)?;
+        let subkeys = SharedMap::from_vec(alloc, subkeys)?;
         Ok(Node::from_parts(key, subkeys))
     }
 
@@ -99,9 +97,9 @@ impl Node {
         ensures none { IfNone result ((path : List (List ℕ)) →
             row_at self.now (folded name.now ∷ path) ≡ None) }
     {
-        match search(&self.subkeys, name) {
-            Ok(at) => Some(&*self.subkeys[at]),
-            Err(_) => None,
+        match self.subkeys.find(name) {
+            Some(child) => Some(child),
+            None => None,
         }
     }
 
@@ -155,7 +153,7 @@ impl Node {
     {
         let _ = &self.weight;
         let key = Arc::new(alloc, key)?;
-        let subkeys = self.subkeys.clone()?;
+        let subkeys = self.subkeys.share()?;
         Ok(Node::from_parts(key, subkeys))
     }
 
@@ -172,8 +170,7 @@ impl Node {
         ensures root { IfOk result (λ made. root_name made ≡ root_name self.now) }
         ensures node { IfOk result IsNode }
     {
-        let subkeys = insert(alloc, &self.subkeys, child)?;
-        let subkeys = ArcSlice::from_vec(subkeys)?;
+        let subkeys = self.subkeys.with(alloc, child)?;
         Ok(Node::from_parts(key, subkeys))
     }
 
@@ -208,8 +205,7 @@ impl Node {
         ensures node { IfOk result IsNode }
     {
         let key = Arc::new(alloc, key)?;
-        let subkeys = remove(alloc, &self.subkeys, name)?;
-        let subkeys = ArcSlice::from_vec(subkeys)?;
+        let subkeys = self.subkeys.without(alloc, name)?;
         Ok(Node::from_parts(key, subkeys))
     }
 
@@ -217,10 +213,9 @@ impl Node {
     pub fn subkey(&self, index: usize) -> Option<&Name>
         ensures { option_copied result ≡ slice_get (names_below [] self.now) index }
     {
-        if index < self.subkeys.len() {
-            Some(self.subkeys[index].key().name())
-        } else {
-            None
+        match self.subkeys.at(index) {
+            Some(subkey) => Some(subkey.key().name()),
+            None => None,
         }
     }
 
@@ -263,8 +258,7 @@ impl Node {
         ensures node { IfOk result IsNode }
     {
         let key = Arc::new(alloc, key)?;
-        let subkeys = ArcSlice::from_vec(Vec::new(alloc))?;
-        Ok(Node::from_parts(key, subkeys))
+        Ok(Node::from_parts(key, SharedMap::new()))
     }
 
     /// A new key of this name, and below it one new key of each further name, all with this descriptor.
@@ -291,14 +285,14 @@ impl Node {
     }
 
     // a key with these subkeys
-    fn from_parts(key: Arc<Key>, subkeys: ArcSlice<Arc<Node>>) -> Node
-        requires nodes { AreNodes (subkey_entries (arc_slice_items subkeys)) }
-        requires rises { T (is_sorted name_order (subkey_entries (arc_slice_items subkeys))) }
-        ensures is { result
-            ≡ entries_of (arc_value key) (subkey_entries (arc_slice_items subkeys)) }
+    fn from_parts(key: Arc<Key>, subkeys: SharedMap<Node>) -> Node
+        requires nodes { AreNodes (entries root_name subkeys) }
+        requires rises { T (is_sorted name_order (entries root_name subkeys)) }
+        requires fits { FitsMap root_name entries_weight subkeys }
+        ensures is { result ≡ entries_of (arc_value key) (entries root_name subkeys) }
         ensures node { IsNode result }
     {
-        let weight = key.weight().saturating_add(weight_of(&subkeys));
+        let weight = key.weight().saturating_add(subkeys.weight());
         Node {
             key,
             subkeys,
@@ -307,68 +301,16 @@ impl Node {
     }
 }
 
-// the weight of these keys and of all keys below them
-fn weight_of(subkeys: &[Arc<Node>]) -> u64
-    ensures { result ≡ min (entries_weight (all_below (subkey_entries subkeys.now))) u64.MAX }
-{
-    let mut weight = 0u64;
-    for subkey in subkeys {
-        weight = weight.saturating_add(subkey.weight());
+impl Listed for Node {
+    ghost key = { root_name };
+
+    ghost load = { entries_weight };
+
+    fn name(&self) -> &Name {
+        self.key.name()
     }
-    weight
-}
 
-// the subkeys with this one in the place of its name
-fn insert(
-    alloc: Global,
-    subkeys: &[Arc<Node>],
-    child: Arc<Node>,
-) -> Result<Vec<Arc<Node>>, AllocError>
-    requires { T (is_sorted name_order (subkey_entries subkeys.now)) }
-    ensures { IfOk result (λ made. subkey_entries made.items
-        ≡ put name_order (root_name child.value) child.value (subkey_entries subkeys.now)) }
-{
-    let mut made = copy(alloc, subkeys, 1)?;
-    match search(&made, child.key().name()) {
-        Ok(at) => {
-            made[at] = child;
-            Ok(made)
-        }
-        Err(at) => {
-            made.insert(at, child)?;
-            Ok(made)
-        }
+    fn weight(&self) -> u64 {
+        self.weight
     }
-}
-
-// the subkeys without the one of this name
-fn remove(alloc: Global, subkeys: &[Arc<Node>], name: &Name) -> Result<Vec<Arc<Node>>, AllocError>
-    requires { T (is_sorted name_order (subkey_entries subkeys.now)) }
-    ensures { IfOk result (λ made. subkey_entries made.items ≡ where_key name_order (λ key. not
-        (eq_by_cmp name_order (folded name.now) key)) (subkey_entries subkeys.now)) }
-{
-    let mut made = copy(alloc, subkeys, 0)?;
-    match search(&made, name) {
-        Ok(at) => {
-            let _ = made.remove(at);
-            Ok(made)
-        }
-        Err(_) => Ok(made),
-    }
-}
-
-// where the subkey of this name stands, or where it would go
-fn search(subkeys: &[Arc<Node>], name: &Name) -> Result<usize, usize>
-    requires { T (is_sorted name_order (subkey_entries subkeys.now)) }
-    ensures { MatchResult result (IsFound subkey_name subkeys.now (folded name.now)) (IsGap
-        name_order subkey_name subkeys.now (folded name.now)) }
-{
-    subkeys.binary_search_by(|subkey| compare(subkey, name))
-}
-
-// how the key's name compares with this one
-fn compare(subkey: &Arc<Node>, name: &Name) -> Ordering
-    ensures { result ≡ name_order (subkey_name subkey.now) (folded name.now) }
-{
-    subkey.key().name().cmp(name)
 }

@@ -1,9 +1,11 @@
 //! One value of a key.
 ghost use Rattle.std.specs.Prelude.{◌≡◌, IfOk, min};
+ghost use Rattle.reg_names.specs.Names.{folded};
 ghost use Rattle.reg_tree_parts.specs.Weights.{value_weight};
 
 use crate::data::Data;
 use reg_names::Name;
+use shared_map::Listed;
 use std::alloc::AllocError;
 
 /// A value: its name as it was spelled first, its type number, and its data.
@@ -28,12 +30,7 @@ impl Value {
     pub fn weight(&self) -> u64
         ensures { result ≡ min (value_weight self.now) u64.MAX }
     {
-        let units = self.name.units().len() as u64;
-        let bytes = self.data.bytes().len() as u64;
-        units
-            .saturating_mul(2)
-            .saturating_add(bytes)
-            .saturating_add(VALUE_WEIGHT)
+        weight_of(self)
     }
 
     /// A copy that shares the units of the name and the data.
@@ -48,4 +45,30 @@ impl Value {
             data,
         })
     }
+}
+
+impl Listed for Value {
+    ghost key = { λ value. folded value.name };
+
+    ghost load = { value_weight };
+
+    fn name(&self) -> &Name {
+        &self.name
+    }
+
+    fn weight(&self) -> u64 {
+        weight_of(self)
+    }
+}
+
+// the weight of a value
+fn weight_of(value: &Value) -> u64
+    ensures { result ≡ min (value_weight value.now) u64.MAX }
+{
+    let units = value.name.units().len() as u64;
+    let bytes = value.data.bytes().len() as u64;
+    units
+        .saturating_mul(2)
+        .saturating_add(bytes)
+        .saturating_add(VALUE_WEIGHT)
 }

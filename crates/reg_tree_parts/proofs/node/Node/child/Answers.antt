@@ -1,19 +1,19 @@
-use Rattle.std.specs.Arc.{arc_slice_items, arc_value}
-use Rattle.reg_tree_parts.proofs.NodeLists.{found_subkey, rows_of_found, names_of_found, rows_of_gap}
+use Rattle.std.proofs.Common.{Some, None}
+use Rattle.std.specs.Arc.{arc_value}
+use Rattle.shared_map.specs.Listings.{entries}
+use Rattle.reg_tree_parts.specs.Nodes.{root_name}
+use Rattle.reg_names.specs.Names.{folded}
+use Rattle.reg_tree_parts.proofs.NodeLists.{rows_of_found, names_of_found}
 use Rattle.reg_tree_parts.proofs.node.Node.child.Goals as goal
 
-pub returns-in-Ok-clause-found : goal.returns-in-Ok-clause-found
-returns-in-Ok-clause-found c = rw (← c.self.view_is, c.deref-in-Ok-2.ensures)
-    (rows_of_found (arc_slice_items c.self.inside.subkeys) c.self.invariant.rises (arc_value c.self.inside.key) _ c.in-Ok.at c.index-deref-at.result (rw c.deref.ensures.value at c.in-Ok.ensures) (rw c.deref-in-Ok.ensures.value at c.index-deref-at.is))
+pub find-requires : goal.find-requires
+find-requires c = record { fits = c.self.invariant.fits; sorted = c.self.invariant.rises }
 
-pub returns-in-Ok-clause-names : goal.returns-in-Ok-clause-names
-returns-in-Ok-clause-names c = rw (← c.self.view_is, c.deref-in-Ok-2.ensures)
-    (names_of_found (arc_slice_items c.self.inside.subkeys) c.self.invariant.rises (arc_value c.self.inside.key) _ c.in-Ok.at c.index-deref-at.result (rw c.deref.ensures.value at c.in-Ok.ensures) (rw c.deref-in-Ok.ensures.value at c.index-deref-at.is))
+pub returns-in-Some-clause-found : goal.returns-in-Some-clause-found
+returns-in-Some-clause-found c = rw (← c.self.view_is) (rows_of_found (entries root_name c.self.inside.subkeys) c.self.invariant.rises (arc_value c.self.inside.key) (folded c.args.name.now) (Some c.in-Some.child.now) c.in-Some.ensures.found)
 
-pub returns-in-Err-clause-none : goal.returns-in-Err-clause-none
-returns-in-Err-clause-none c = rw (← c.self.view_is)
-    (rows_of_gap (arc_slice_items c.self.inside.subkeys) c.self.invariant.rises (arc_value c.self.inside.key) _ c.in-Err.field-0 (rw c.deref.ensures.value at c.in-Err.ensures))
+pub returns-in-Some-clause-names : goal.returns-in-Some-clause-names
+returns-in-Some-clause-names c = rw (← c.self.view_is) (names_of_found (entries root_name c.self.inside.subkeys) c.self.invariant.rises (arc_value c.self.inside.key) (folded c.args.name.now) (Some c.in-Some.child.now) c.in-Some.ensures.found)
 
-pub returns-in-Ok-clause-named : goal.returns-in-Ok-clause-named
-returns-in-Ok-clause-named c = rw c.deref-in-Ok-2.ensures
-    (found_subkey _ _ c.in-Ok.at c.index-deref-at.result (rw c.deref.ensures.value at c.in-Ok.ensures) (rw c.deref-in-Ok.ensures.value at c.index-deref-at.is))
+pub returns-in-None-clause-none : goal.returns-in-None-clause-none
+returns-in-None-clause-none c = rw (← c.self.view_is) (rows_of_found (entries root_name c.self.inside.subkeys) c.self.invariant.rises (arc_value c.self.inside.key) (folded c.args.name.now) None c.in-None.ensures.found)

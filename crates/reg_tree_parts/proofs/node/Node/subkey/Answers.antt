@@ -1,16 +1,17 @@
-use Rattle.std.proofs.Common.{◌<◌, ◌≤◌, Some, length, sym, ◌∙◌, ap, arith}
-use Rattle.std.specs.Arc.{arc_slice_items, arc_value}
-use Rattle.reg_tree_parts.specs.Nodes.{spelled_root}
-use Rattle.reg_tree_parts.proofs.NodeLists.{name_at, name_past}
+use Rattle.std.proofs.Common.{Some, sym, ◌∙◌, ap}
+use Rattle.std.specs.Arc.{arc_value}
+use Rattle.std.specs.Option.{option_map}
+use Rattle.shared_map.specs.Listings.{entries}
+use Rattle.reg_tree_parts.specs.Nodes.{root_name, spelled_root}
+use Rattle.reg_tree_parts.proofs.NodeLists.{names_at}
 use Rattle.reg_tree_parts.proofs.node.Node.subkey.Goals as goal
 
-pub returns-then-index-len : goal.returns-then-index-len
-returns-then-index-len c =
-    let below : c.args.index < length (arc_slice_items c.self.inside.subkeys) = omega arith in
-    rw (← c.self.view_is, name_at (arc_value c.self.inside.key) (arc_slice_items c.self.inside.subkeys) c.self.invariant.nodes c.args.index c.index-deref-index.result below (rw c.deref.ensures.value at c.index-deref-index.is))
-    (ap Some (c.name.ensures ∙ sym c.key.ensures.spelled ∙ ap spelled_root c.deref-then-index-len.ensures))
+pub at-requires : goal.at-requires
+at-requires c = c.self.invariant.fits
 
-pub returns-else-index-len : goal.returns-else-index-len
-returns-else-index-len c =
-    let past : length (arc_slice_items c.self.inside.subkeys) ≤ c.args.index = omega arith in
-    rw (← c.self.view_is) (sym (name_past (arc_value c.self.inside.key) (arc_slice_items c.self.inside.subkeys) c.self.invariant.nodes c.args.index past))
+pub returns-in-Some : goal.returns-in-Some
+returns-in-Some c = rw (← c.self.view_is, names_at (arc_value c.self.inside.key) (entries root_name c.self.inside.subkeys) c.self.invariant.nodes c.args.index)
+    (ap Some (c.name.ensures ∙ sym c.key.ensures.spelled) ∙ ap (option_map spelled_root) c.in-Some.ensures)
+
+pub returns-in-None : goal.returns-in-None
+returns-in-None c = rw (← c.self.view_is, names_at (arc_value c.self.inside.key) (entries root_name c.self.inside.subkeys) c.self.invariant.nodes c.args.index) (ap (option_map spelled_root) c.in-None.ensures)

@@ -1,21 +1,20 @@
-use Rattle.std.proofs.Common.{◌∙◌, ap}
-use Rattle.std.specs.Arc.{arc_slice_items, arc_value}
-use Rattle.reg_tree_parts.specs.Nodes.{root_name, subkey_entries}
+use Rattle.std.specs.Arc.{arc_value}
+use Rattle.shared_map.specs.Listings.{entries}
+use Rattle.reg_tree_parts.specs.Nodes.{root_name}
 use Rattle.reg_tree_parts.proofs.NodeLists.{nodes_put, rows_put_same, rows_put_other}
 use Rattle.reg_tree_parts.proofs.node.Node.with_child.Goals as goal
 
+pub with-requires : goal.with-requires
+with-requires c = record { fits = c.self.invariant.fits; sorted = c.self.invariant.rises }
+
 pub from_parts-requires-clause-nodes : goal.from_parts-requires-clause-nodes
-from_parts-requires-clause-nodes c = rw c.in_ok-subkeys-2.ensures (nodes_put (arc_slice_items c.self.inside.subkeys) c.self.invariant.rises c.in_ok-subkeys.subkeys.items (root_name c.args.child.value) c.args.child.value c.requires.node c.self.invariant.nodes (rw c.deref.ensures.value at c.in_ok-subkeys.ensures)).0
+from_parts-requires-clause-nodes c = (nodes_put (entries root_name c.self.inside.subkeys) c.self.invariant.rises (entries root_name c.in_ok-subkeys.subkeys) (root_name c.args.child.value) c.args.child.value c.requires.node c.self.invariant.nodes c.in_ok-subkeys.ensures.entries).0
 
 pub from_parts-requires-clause-rises : goal.from_parts-requires-clause-rises
-from_parts-requires-clause-rises c = rw c.in_ok-subkeys-2.ensures (nodes_put (arc_slice_items c.self.inside.subkeys) c.self.invariant.rises c.in_ok-subkeys.subkeys.items (root_name c.args.child.value) c.args.child.value c.requires.node c.self.invariant.nodes (rw c.deref.ensures.value at c.in_ok-subkeys.ensures)).1
+from_parts-requires-clause-rises c = (nodes_put (entries root_name c.self.inside.subkeys) c.self.invariant.rises (entries root_name c.in_ok-subkeys.subkeys) (root_name c.args.child.value) c.args.child.value c.requires.node c.self.invariant.nodes c.in_ok-subkeys.ensures.entries).1
 
 pub returns-clause-child : goal.returns-clause-child
-returns-clause-child c =
-    let put_in = ap subkey_entries c.in_ok-subkeys-2.ensures ∙ (rw c.deref.ensures.value at c.in_ok-subkeys.ensures) in
-    rw c.from_parts.ensures.is (rows_put_same (arc_slice_items c.self.inside.subkeys) c.self.invariant.rises (arc_value c.args.key) (subkey_entries (arc_slice_items c.in_ok-subkeys-2.subkeys)) (root_name c.args.child.value) c.args.child.value put_in)
+returns-clause-child c = rw c.from_parts.ensures.is (rows_put_same (entries root_name c.self.inside.subkeys) c.self.invariant.rises (arc_value c.args.key) (entries root_name c.in_ok-subkeys.subkeys) (root_name c.args.child.value) c.args.child.value c.in_ok-subkeys.ensures.entries)
 
 pub returns-clause-others : goal.returns-clause-others
-returns-clause-others c =
-    let put_in = ap subkey_entries c.in_ok-subkeys-2.ensures ∙ (rw c.deref.ensures.value at c.in_ok-subkeys.ensures) in
-    rw (c.from_parts.ensures.is, ← c.self.view_is) (rows_put_other (arc_slice_items c.self.inside.subkeys) c.self.invariant.rises (arc_value c.args.key) (arc_value c.self.inside.key) (subkey_entries (arc_slice_items c.in_ok-subkeys-2.subkeys)) (root_name c.args.child.value) c.args.child.value put_in)
+returns-clause-others c = rw (c.from_parts.ensures.is, ← c.self.view_is) (rows_put_other (entries root_name c.self.inside.subkeys) c.self.invariant.rises (arc_value c.args.key) (arc_value c.self.inside.key) (entries root_name c.in_ok-subkeys.subkeys) (root_name c.args.child.value) c.args.child.value c.in_ok-subkeys.ensures.entries)

@@ -1,14 +1,9 @@
-use Rattle.std.proofs.Common.{◌<◌, ◌≤◌, length, arith}
-use Rattle.std.specs.Arc.{arc_slice_items}
-use Rattle.reg_tree_parts.proofs.ValueLists.{at_item, at_none}
+use Rattle.std.proofs.Common.{slice_get, sym, ◌∙◌, ap}
+use Rattle.reg_tree_parts.proofs.ValueLists.{values_are}
 use Rattle.reg_tree_parts.proofs.values.Values.at.Goals as goal
 
-pub returns-then-index-len : goal.returns-then-index-len
-returns-then-index-len c =
-    let below : c.args.index < length (arc_slice_items c.self.inside.items) = omega arith in
-    rw (← c.self.view_is, c.deref-then-index-len.ensures) (at_item _ c.self.invariant c.args.index c.index-deref-index.result below (rw (← c.deref.ensures.value) c.index-deref-index.is))
+pub at-requires : goal.at-requires
+at-requires c = c.self.invariant.fits
 
-pub returns-else-index-len : goal.returns-else-index-len
-returns-else-index-len c =
-    let past : length (arc_slice_items c.self.inside.items) ≤ c.args.index = omega arith in
-    rw (← c.self.view_is) (at_none _ c.self.invariant c.args.index past)
+pub returns : goal.returns
+returns c = rw (← c.self.view_is) (c.at.ensures ∙ ap (λ vs. slice_get vs c.args.index) (sym (values_are _ c.self.invariant.sorted)))

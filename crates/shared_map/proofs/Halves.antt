@@ -1,0 +1,74 @@
+-- Lists cut in two.
+use Rattle.std.proofs.Common.{◌≡◌, ℕ, zero, suc, ◌+◌, ◌<◌, ◌≤◌, List, [], ◌∷◌, ◌++◌, map, take, drop, get_or, length, refl, sym, ◌∙◌, ap, subst, append-nil, arith, add-one}
+use Rattle.std.specs.declared.sync.Arc.{Arc}
+use Rattle.std.specs.declared.alloc.Global.{Global}
+use Rattle.std.specs.Arc.{arc_value}
+use Rattle.shared_map.specs.declared.leaf.Leaf.{Leaf}
+use Rattle.shared_map.specs.declared.parts.Part.{Part}
+use Rattle.shared_map.specs.declared.parts.Group.{Group}
+use Rattle.shared_map.specs.Listings.{seen, keyed, keyed_all, leaf_entries, parts_entries}
+use Rattle.shared_map.specs.Parts.{IsSum, AreSums}
+use Rattle.shared_map.proofs.LeafLists.{same_entries}
+
+pub map-halves : {A B : Type 0} (f : A → B) (h : ℕ) (xs : List A) → map f (take h xs) ++ map f (drop h xs) ≡ map f xs
+map-halves f zero xs = refl
+map-halves f (suc h) [] = refl
+map-halves f (suc h) (x ∷ xs) = ap (λ ys. f x ∷ ys) (map-halves f h xs)
+
+-- two leaves of the halves of a list have its entries
+pub leaf_halves : {A : Type 0} (key : A → List ℕ) (items xs ys : List (Arc A Global)) (h : ℕ) → map arc_value xs ≡ map arc_value (take h items) → map arc_value ys ≡ map arc_value (drop h items)
+    → (p q : Part (Leaf A)) → leaf_entries key (arc_value p.body) ≡ keyed_all key xs → leaf_entries key (arc_value q.body) ≡ keyed_all key ys → (made : List (Part (Leaf A))) → made ≡ p ∷ q ∷ [] → parts_entries (leaf_entries key) made ≡ keyed_all key items
+leaf_halves key items xs ys h front back p q ps qs made is =
+    ap (parts_entries (leaf_entries key)) is
+    ∙ ap (λ es. es ++ (leaf_entries key (arc_value q.body) ++ [])) (ps ∙ same_entries key xs (take h items) front)
+    ∙ ap (λ es. keyed_all key (take h items) ++ es) (append-nil (leaf_entries key (arc_value q.body)) ∙ qs ∙ same_entries key ys (drop h items) back)
+    ∙ map-halves (keyed key) h items
+
+-- two groups of the halves of parts take them all
+pub group_halves : {P : Type 0} (parts xs ys : List (Part P)) (h : ℕ) → map seen xs ≡ map seen (take h parts) → map seen ys ≡ map seen (drop h parts)
+    → (p q : Part (Group P)) → IsSum (map seen xs) (seen p) → IsSum (map seen ys) (seen q) → (made : List (Part (Group P))) → made ≡ p ∷ q ∷ [] → AreSums (map seen parts) made
+group_halves parts xs ys h front back p q ps qs made is =
+    subst (AreSums (map seen parts)) (sym is) (
+      map seen (take h parts),
+      (
+        map seen (drop h parts),
+        (
+          sym (map-halves seen h parts),
+          (
+            subst (λ s. IsSum s (seen p)) front ps,
+            (map seen (drop h parts), ([], (sym (append-nil (map seen (drop h parts))), (subst (λ s. IsSum s (seen q)) back qs, refl)))),
+          ),
+        ),
+      ),
+    )
+
+-- a list around one of its items
+around : {A B : Type 0} (f : A → B) (xs : List A) (i : ℕ) (x : A) → i < length xs → x ≡ get_or xs i x → map f xs ≡ map f (take i xs) ++ (f x ∷ map f (drop (suc i) xs))
+around f [] i x lt is = absurd (omega arith)
+around f (y ∷ xs) zero x lt is = ap (λ z. f z ∷ map f xs) (sym is)
+around f (y ∷ xs) (suc i) x lt is = ap (λ zs. f y ∷ zs) (around f xs i x (omega arith) is)
+
+pub map-around : {A B : Type 0} (f : A → B) (xs : List A) (i : ℕ) (x : A) → i < length xs → x ≡ get_or xs i x → map f xs ≡ map f (take i xs) ++ (f x ∷ map f (drop (i + 1) xs))
+map-around f xs i x lt is = rw add-one (around f xs i x lt is)
+
+-- what is left from an item on begins with it
+from_here : {A B : Type 0} (f : A → B) (xs : List A) (i : ℕ) (x : A) → i < length xs → x ≡ get_or xs i x → map f (drop i xs) ≡ f x ∷ map f (drop (suc i) xs)
+from_here f [] i x lt is = absurd (omega arith)
+from_here f (y ∷ xs) zero x lt is = ap (λ z. f z ∷ map f xs) (sym is)
+from_here f (y ∷ xs) (suc i) x lt is = from_here f xs i x (omega arith) is
+
+pub map-from : {A B : Type 0} (f : A → B) (xs : List A) (i : ℕ) (x : A) → i < length xs → x ≡ get_or xs i x → map f (drop i xs) ≡ f x ∷ map f (drop (suc i) xs)
+map-from = from_here
+
+-- past the end nothing is left
+pub map-past : {A B : Type 0} (f : A → B) (xs : List A) (i : ℕ) → length xs ≤ i → map f (drop i xs) ≡ []
+map-past f [] zero le = refl
+map-past f [] (suc i) le = refl
+map-past f (y ∷ xs) zero le = absurd (omega arith)
+map-past f (y ∷ xs) (suc i) le = map-past f xs i (omega arith)
+
+-- an item of a list, whatever stands for none
+pub item_at : {A : Type 0} (xs : List A) (i : ℕ) → i < length xs → (x : A) × ((d : A) → get_or xs i d ≡ x)
+item_at [] i lt = absurd (omega arith)
+item_at (y ∷ xs) zero lt = (y, λ d. refl)
+item_at (y ∷ xs) (suc i) lt = item_at xs i (omega arith)

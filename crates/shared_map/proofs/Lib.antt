@@ -1,0 +1,9 @@
+pub mod SortedLists
+pub mod Names
+pub mod LeafLists
+pub mod Halves
+pub mod Spans
+pub mod Steps
+pub mod Sums
+pub mod Places
+pub mod Adds

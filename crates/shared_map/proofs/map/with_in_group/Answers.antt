@@ -1,0 +1,28 @@
+use Rattle.std.proofs.Common.{◌≡◌, ◌+◌, ◌++◌, map, take, drop, get_or, ◌∙◌, ap, subst}
+use Rattle.std.specs.FinMap.Entries.{put}
+use Rattle.shared_map.specs.Orders.{name_order}
+use Rattle.shared_map.specs.Listings.{seen, leaf_entries}
+use Rattle.shared_map.specs.Parts.{IsPlace, FitsLeaf}
+use Rattle.shared_map.proofs.Steps.{part_sorted, put_step, fit_step}
+use Rattle.shared_map.proofs.Sums.{sums_entries, sums_fit}
+use Rattle.shared_map.proofs.map.with_in_group.Goals as goal
+
+pub with-requires : goal.with-requires
+with-requires g c =
+    let place : IsPlace c.args.group.now.parts.items (g.E.Listed.key c.args.new.value) c.place-at.result = subst (λ k. IsPlace c.args.group.now.parts.items k c.place-at.result) (c.name.ensures ∙ ap g.E.Listed.key c.deref.ensures) (rw c.parts-parts.ensures at c.place-at.ensures) in
+    let is : c.index-parts-at.result ≡ get_or c.args.group.now.parts.items c.place-at.result c.index-parts-at.result = rw c.parts-parts.ensures at c.index-parts-at.is in
+    rw c.body.ensures (part_sorted (leaf_entries g.E.Listed.key) g.E.Listed.load (FitsLeaf g.E.Listed.key g.E.Listed.load) c.args.group.now.parts.items c.requires.fits c.requires.sorted (g.E.Listed.key c.args.new.value) c.place-at.result place c.index-parts-at.result is)
+
+pub returns-clause-entries : goal.returns-clause-entries
+returns-clause-entries g c =
+    let place : IsPlace c.args.group.now.parts.items (g.E.Listed.key c.args.new.value) c.place-at.result = subst (λ k. IsPlace c.args.group.now.parts.items k c.place-at.result) (c.name.ensures ∙ ap g.E.Listed.key c.deref.ensures) (rw c.parts-parts.ensures at c.place-at.ensures) in
+    let is : c.index-parts-at.result ≡ get_or c.args.group.now.parts.items c.place-at.result c.index-parts-at.result = rw c.parts-parts.ensures at c.index-parts-at.is in
+    let spliced : map seen c.in_ok-pieces.pieces.items ≡ map seen (take c.place-at.result c.args.group.now.parts.items) ++ (map seen c.in_ok-leaves.leaves.items ++ map seen (drop (c.place-at.result + 1) c.args.group.now.parts.items)) = rw c.parts-parts.ensures at c.in_ok-pieces.ensures in
+    sums_entries (leaf_entries g.E.Listed.key) g.E.Listed.load (FitsLeaf g.E.Listed.key g.E.Listed.load) (map seen c.in_ok-pieces.pieces.items) c.in_ok-made.made.items c.in_ok-made.ensures ∙ put_step (leaf_entries g.E.Listed.key) g.E.Listed.load (FitsLeaf g.E.Listed.key g.E.Listed.load) c.args.group.now.parts.items c.requires.fits c.requires.sorted (g.E.Listed.key c.args.new.value) c.place-at.result place c.index-parts-at.result is (map seen c.in_ok-leaves.leaves.items) (map seen c.in_ok-pieces.pieces.items) spliced c.args.new.value (c.in_ok-leaves.ensures.entries ∙ ap (λ l. put name_order (g.E.Listed.key c.args.new.value) c.args.new.value ((leaf_entries g.E.Listed.key) l)) c.body.ensures)
+
+pub returns-clause-parts : goal.returns-clause-parts
+returns-clause-parts g c =
+    let place : IsPlace c.args.group.now.parts.items (g.E.Listed.key c.args.new.value) c.place-at.result = subst (λ k. IsPlace c.args.group.now.parts.items k c.place-at.result) (c.name.ensures ∙ ap g.E.Listed.key c.deref.ensures) (rw c.parts-parts.ensures at c.place-at.ensures) in
+    let is : c.index-parts-at.result ≡ get_or c.args.group.now.parts.items c.place-at.result c.index-parts-at.result = rw c.parts-parts.ensures at c.index-parts-at.is in
+    let spliced : map seen c.in_ok-pieces.pieces.items ≡ map seen (take c.place-at.result c.args.group.now.parts.items) ++ (map seen c.in_ok-leaves.leaves.items ++ map seen (drop (c.place-at.result + 1) c.args.group.now.parts.items)) = rw c.parts-parts.ensures at c.in_ok-pieces.ensures in
+    sums_fit (leaf_entries g.E.Listed.key) g.E.Listed.load (FitsLeaf g.E.Listed.key g.E.Listed.load) (map seen c.in_ok-pieces.pieces.items) c.in_ok-made.made.items (fit_step (leaf_entries g.E.Listed.key) g.E.Listed.load (FitsLeaf g.E.Listed.key g.E.Listed.load) c.args.group.now.parts.items c.requires.fits c.requires.sorted (g.E.Listed.key c.args.new.value) c.place-at.result place c.index-parts-at.result is (map seen c.in_ok-leaves.leaves.items) (map seen c.in_ok-pieces.pieces.items) spliced c.in_ok-leaves.ensures.parts) c.in_ok-made.ensures

@@ -1,0 +1,38 @@
+-- The entries of a map are under their own names.
+use Rattle.std.specs.Prelude.{◌≡◌, ℕ, List, [], ◌∷◌, ◌++◌, map, refl}
+use Rattle.std.specs.declared.sync.Arc.{Arc}
+use Rattle.std.specs.declared.alloc.Global.{Global}
+use Rattle.std.specs.Arc.{arc_value}
+use Rattle.shared_map.specs.declared.leaf.Leaf.{Leaf}
+use Rattle.shared_map.specs.declared.map.Held.{Held}
+use Rattle.shared_map.specs.declared.map.Held.TheVariants.{Empty, Few, Many}
+use Rattle.shared_map.specs.declared.map.SharedMap.{SharedMap}
+use Rattle.shared_map.specs.Listings.{Seen, seen, keyed_all, leaf_entries, seen_entries, group_entries, held_entries, entries}
+
+-- each of these entries is under the name of what it has
+abbrev pub AreKeyed : {A : Type 0} → (A → List ℕ) → List (List ℕ × A) → Type 0
+AreKeyed key [] = Unit {0}
+AreKeyed key (e ∷ es) = (e.0 ≡ key e.1) × AreKeyed key es
+
+module _ {A : Type 0} (key : A → List ℕ) where
+  keyed_join : (xs ys : List (List ℕ × A)) → AreKeyed key xs → AreKeyed key ys → AreKeyed key (xs ++ ys)
+  keyed_join [] ys f g = g
+  keyed_join (x ∷ xs) ys f g = (f.0, keyed_join xs ys f.1 g)
+
+  leaf_keyed : (items : List (Arc A Global)) → AreKeyed key (keyed_all key items)
+  leaf_keyed [] = tt
+  leaf_keyed (x ∷ items) = (refl, leaf_keyed items)
+
+  parts_keyed : {P : Type 0} (list : P → List (List ℕ × A)) → ((body : P) → AreKeyed key (list body)) → (parts : List (Seen P)) → AreKeyed key (seen_entries list parts)
+  parts_keyed list each [] = tt
+  parts_keyed list each (part ∷ parts) = keyed_join (list part.body) (seen_entries list parts) (each part.body) (parts_keyed list each parts)
+
+  held_keyed : (held : Held A) → AreKeyed key (held_entries key held)
+  held_keyed Empty = tt
+  held_keyed (Few leaf) = leaf_keyed (arc_value leaf).items.items
+  held_keyed (Many whole) =
+      parts_keyed (group_entries (leaf_entries key)) (λ group. parts_keyed (leaf_entries key) (λ leaf. leaf_keyed leaf.items.items) (map seen group.parts.items)) (map seen (arc_value (arc_value whole).body).parts.items)
+
+  -- a map's are
+  pub entries_keyed : (shared : SharedMap A) → AreKeyed key (entries key shared)
+  entries_keyed shared = held_keyed shared.held

@@ -1,0 +1,273 @@
+//! Leaves: a few entries in order.
+ghost use Rattle.std.specs.Prelude.{◌≡◌, ℕ, T, not, List, [], ◌∷◌, ◌<◌, min, length, slice_get, IfOk, IfSome, OnOk, ◌++◌, MatchResult, sum_by, map};
+ghost use Rattle.std.specs.Option.{option_copied, option_map};
+ghost use Rattle.std.specs.Arc.{arc_value};
+ghost use Rattle.std.specs.FinMap.Entries.{find, is_sorted, put, where_key};
+ghost use Rattle.std.specs.Ordering.{eq_by_cmp};
+ghost use Rattle.reg_names.specs.Names.{folded};
+ghost use Rattle.shared_map.specs.Orders.{name_order};
+ghost use Rattle.shared_map.specs.Searches.{IsFound, IsGap};
+ghost use Rattle.shared_map.specs.Listings.{seen, keyed_all, leaf_entries, parts_entries};
+ghost use Rattle.shared_map.specs.Parts.{IsPart, AreParts, FitsLeaf, load_of};
+
+use crate::parts::Part;
+use reg_names::Name;
+use std::alloc::{AllocError, Global};
+use std::cmp::Ordering;
+use std::sync::Arc;
+
+/// What a map lists: it has a name and a weight.
+pub trait Listed: Drop {
+    ghost key: { Self → List ℕ };
+
+    ghost load: { Self → ℕ };
+
+    /// The name.
+    fn name(&self) -> &Name
+        ensures { folded result.now ≡ key self.now };
+
+    /// The weight, or the greatest number of 64 bits where it is more.
+    fn weight(&self) -> u64
+        ensures { result ≡ min (load self.now) u64.MAX };
+}
+
+/// A few entries in the order of their folded names.
+#[derive(Drop)]
+pub struct Leaf<E> {
+    items: Vec<Arc<E>>,
+    weight: u64,
+}
+
+/// The most entries of a leaf.
+const MOST_ENTRIES: usize = 32;
+
+impl<E: Listed> Leaf<E> {
+    // a leaf of these entries
+    fn new(items: Vec<Arc<E>>) -> Leaf<E>
+        ensures entries { leaf_entries E.key result ≡ keyed_all E.key items.items }
+        ensures fits { FitsLeaf E.key E.load result }
+    {
+        let weight = weight_of(&items);
+        Leaf { items, weight }
+    }
+
+    /// A leaf of nothing.
+    pub(crate) fn empty(alloc: Global) -> Leaf<E>
+        ensures { leaf_entries E.key result ≡ [] }
+    {
+        Leaf {
+            items: Vec::new(alloc),
+            weight: 0,
+        }
+    }
+
+    /// How many entries there are.
+    pub(crate) fn len(&self) -> usize
+        ensures { result ≡ length (leaf_entries E.key self.now) }
+    {
+        self.items.len()
+    }
+
+    /// The weight of the entries together.
+    pub(crate) fn weight(&self) -> u64
+        requires { FitsLeaf E.key E.load self.now }
+        ensures { result ≡ min (load_of E.load (leaf_entries E.key self.now)) u64.MAX }
+    {
+        self.weight
+    }
+
+    /// The entry of this name.
+    pub(crate) fn find(&self, name: &Name) -> Option<&E>
+        requires { T (is_sorted name_order (leaf_entries E.key self.now)) }
+        ensures found { option_copied result
+            ≡ find name_order (folded name.now) (leaf_entries E.key self.now) }
+        ensures named { IfSome result (λ entry. E.key entry.now ≡ folded name.now) }
+    {
+        match search(&self.items, name) {
+            Ok(at) => Some(&*self.items[at]),
+            Err(_) => None,
+        }
+    }
+
+    /// The entry at this index.
+    pub(crate) fn at(&self, index: usize) -> Option<&E>
+        ensures { option_copied result
+            ≡ option_map (λ e. e.1) (slice_get (leaf_entries E.key self.now) index) }
+    {
+        if index < self.items.len() {
+            Some(&*self.items[index])
+        } else {
+            None
+        }
+    }
+
+    /// The parts of the entries with this one in the place of its name.
+    pub(crate) fn with(&self, alloc: Global, new: Arc<E>) -> Result<Vec<Part<Leaf<E>>>, AllocError>
+        requires { T (is_sorted name_order (leaf_entries E.key self.now)) }
+        ensures entries { IfOk result (λ made. parts_entries (leaf_entries E.key) made.items
+            ≡ put name_order (E.key new.value) new.value (leaf_entries E.key self.now)) }
+        ensures parts { IfOk result (λ made. AreParts (leaf_entries E.key) E.load (FitsLeaf E.key
+            E.load) made.items) }
+    {
+        let items = self.with_item(alloc, new)?;
+        leaf_parts(alloc, items)
+    }
+
+    /// The parts of the entries without the one of this name.
+    pub(crate) fn without(
+        &self,
+        alloc: Global,
+        name: &Name,
+    ) -> Result<Vec<Part<Leaf<E>>>, AllocError>
+        requires { T (is_sorted name_order (leaf_entries E.key self.now)) }
+        ensures entries { IfOk result (λ made. parts_entries (leaf_entries E.key) made.items
+            ≡ where_key name_order (λ key. not (eq_by_cmp name_order (folded name.now) key))
+            (leaf_entries E.key self.now)) }
+        ensures parts { IfOk result (λ made. AreParts (leaf_entries E.key) E.load (FitsLeaf E.key
+            E.load) made.items) }
+    {
+        let items = self.without_item(alloc, name)?;
+        leaf_parts(alloc, items)
+    }
+
+    // the entries with this one in the place of its name
+    fn with_item(&self, alloc: Global, new: Arc<E>) -> Result<Vec<Arc<E>>, AllocError>
+        requires { T (is_sorted name_order (leaf_entries E.key self.now)) }
+        ensures { IfOk result (λ made. keyed_all E.key made.items ≡ put name_order (E.key new.value)
+            new.value (leaf_entries E.key self.now)) }
+    {
+        let mut made = copied(alloc, &self.items, 1)?;
+        match search(&made, new.name()) {
+            Ok(at) => {
+                made[at] = new;
+                Ok(made)
+            }
+            Err(at) => {
+                made.insert(at, new)?;
+                Ok(made)
+            }
+        }
+    }
+
+    // the entries without the one of this name
+    fn without_item(&self, alloc: Global, name: &Name) -> Result<Vec<Arc<E>>, AllocError>
+        requires { T (is_sorted name_order (leaf_entries E.key self.now)) }
+        ensures { IfOk result (λ made. keyed_all E.key made.items ≡ where_key name_order (λ key. not
+            (eq_by_cmp name_order (folded name.now) key)) (leaf_entries E.key self.now)) }
+    {
+        let mut made = copied(alloc, &self.items, 0)?;
+        match search(&made, name) {
+            Ok(at) => {
+                let _ = made.remove(at);
+                Ok(made)
+            }
+            Err(_) => Ok(made),
+        }
+    }
+}
+
+/// The parts of these entries: none, one leaf, or two halves.
+pub(crate) fn leaf_parts<E: Listed>(
+    alloc: Global,
+    items: Vec<Arc<E>>,
+) -> Result<Vec<Part<Leaf<E>>>, AllocError>
+    ensures entries { IfOk result (λ made. parts_entries (leaf_entries E.key) made.items
+        ≡ keyed_all E.key items.items) }
+    ensures parts { IfOk result (λ made. AreParts (leaf_entries E.key) E.load (FitsLeaf E.key
+        E.load) made.items) }
+{
+    let mut made = Vec::new(alloc);
+    if items.is_empty() {
+        return Ok(made);
+    }
+    if items.len() <= MOST_ENTRIES {
+        made.push(leaf_part(alloc, items)?)?;
+        return Ok(made);
+    }
+    let half = items.len() / 2;
+    made.push(leaf_part(alloc, copied(alloc, &items[..half], 0)?)?)?;
+    made.push(leaf_part(alloc, copied(alloc, &items[half..], 0)?)?)?;
+    Ok(made)
+}
+
+/// Adds the leaves of these entries.
+pub(crate) fn add_leaves<E: Listed>(
+    alloc: Global,
+    items: &[Arc<E>],
+    made: &mut Vec<Part<Leaf<E>>>,
+) -> Result<(), AllocError>
+    requires { AreParts (leaf_entries E.key) E.load (FitsLeaf E.key E.load) made.old.items }
+    ensures entries { OnOk result (parts_entries (leaf_entries E.key) made.new.items
+        ≡ parts_entries (leaf_entries E.key) made.old.items ++ keyed_all E.key items.now) }
+    ensures parts { OnOk result (AreParts (leaf_entries E.key) E.load (FitsLeaf E.key E.load)
+        made.new.items) }
+{
+    if items.is_empty() {
+        return Ok(());
+    }
+    if items.len() <= MOST_ENTRIES {
+        made.push(leaf_part(alloc, copied(alloc, items, 0)?)?)?;
+        return Ok(());
+    }
+    let (front, back) = items.split_at(items.len() / 2);
+    add_leaves(alloc, front, made)?;
+    add_leaves(alloc, back, made)?;
+    Ok(())
+}
+
+// the part of a leaf of these entries
+fn leaf_part<E: Listed>(alloc: Global, items: Vec<Arc<E>>) -> Result<Part<Leaf<E>>, AllocError>
+    requires { 0 < length items.items }
+    ensures entries { IfOk result (λ part. leaf_entries E.key (arc_value part.body)
+        ≡ keyed_all E.key items.items) }
+    ensures part { IfOk result (λ part. IsPart (leaf_entries E.key) E.load (seen part)) }
+    ensures fits { IfOk result (λ part. FitsLeaf E.key E.load (arc_value part.body)) }
+{
+    let first = items[0].name().clone()?;
+    let count = items.len();
+    let leaf = Leaf::new(items);
+    let weight = leaf.weight;
+    Ok(Part::new(Arc::new(alloc, leaf)?, first, count, weight))
+}
+
+// the weight of these entries together
+fn weight_of<E: Listed>(items: &[Arc<E>]) -> u64
+    ensures { result ≡ min (load_of E.load (keyed_all E.key items.now)) u64.MAX }
+{
+    let mut weight = 0u64;
+    for item in items {
+        weight = weight.saturating_add(item.weight());
+    }
+    weight
+}
+
+// a vector of the same entries, with room for some more
+fn copied<E: Listed>(
+    alloc: Global,
+    items: &[Arc<E>],
+    room: usize,
+) -> Result<Vec<Arc<E>>, AllocError>
+    ensures { IfOk result (λ made. map arc_value made.items ≡ map arc_value items.now) }
+{
+    let mut made = Vec::with_capacity(alloc, items.len().saturating_add(room))?;
+    for item in items {
+        made.push(item.clone()?)?;
+    }
+    Ok(made)
+}
+
+// where the entry of this name stands, or where it would go
+fn search<E: Listed>(items: &[Arc<E>], name: &Name) -> Result<usize, usize>
+    requires { T (is_sorted name_order (keyed_all E.key items.now)) }
+    ensures { MatchResult result (IsFound (λ item. E.key (arc_value item)) items.now (folded
+        name.now)) (IsGap name_order (λ item. E.key (arc_value item)) items.now (folded name.now)) }
+{
+    items.binary_search_by(|item| compare(item, name))
+}
+
+// how the entry's name compares with this one
+fn compare<E: Listed>(item: &Arc<E>, name: &Name) -> Ordering
+    ensures { result ≡ name_order (E.key (arc_value item.now)) (folded name.now) }
+{
+    item.name().cmp(name)
+}

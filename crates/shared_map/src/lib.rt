@@ -1,0 +1,10 @@
+//! Entries in the order of their folded names, shared and never changed.
+#![tactic(auto)]
+
+mod leaf;
+mod map;
+mod parts;
+
+pub use leaf::{Leaf, Listed};
+pub use map::SharedMap;
+pub use parts::{Group, Part};
