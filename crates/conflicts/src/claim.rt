@@ -31,7 +31,8 @@ impl<'a> Model for Claim<'a> {
 
     ghost use Rattle.conflicts.specs.Claims.{kind_of, key_at};
 
-    ghost view = { λ inside. record { kind = kind_of inside.kind; key = key_at inside.hive inside.path.now } };
+    ghost view = { λ inside.
+        record { kind = kind_of inside.kind; key = key_at inside.hive inside.path.now } };
 }
 
 /// The claim of an operation. Takes no memory.

@@ -3,6 +3,7 @@ use Rattle.std.specs.Prelude.{◌≡◌, ℕ, ◌/◌, ◌%◌, ◌<◌, ◌≤�
 use Rattle.base_block.specs.declared.block.BaseBlock.{BaseBlock}
 use Rattle.base_block.specs.Judgements.{IsPrimary}
 use Rattle.base_block.specs.Layout.{block_at, is_clean_block}
+use Rattle.base_block.specs.Numbers.{number_after}
 use Rattle.dirty_vector.specs.Pages.{Pages, is_dirty}
 use Rattle.dirt_log.specs.WholeLog.{IsWhole, IsCovered, block_of, pages_in, page_bytes_in, repaired}
 use Rattle.dirt_log.specs.Held.{SameWhereClean}
@@ -13,6 +14,10 @@ use Rattle.hive_phases.specs.Holding.{Standing, tree_under}
 pub record IsBehind (image : List ℕ) (pages : Pages) (primary : List ℕ) : Type 0 where
   pub same : SameWhereClean image (drop 4096 primary) pages
   pub covered : IsCovered (length (drop 4096 primary)) pages
+
+-- a base block with the raised primary number
+abbrev pub raised_block : BaseBlock → BaseBlock
+raised_block block = record block { primary = record { 0 = number_after block.secondary.0 } }
 
 -- What a flush writes, made when it begins: the base block as it will be, the first sector with the raised primary number,
 -- the first sector as it will be, and the log's text.

@@ -6,7 +6,6 @@ ghost use Rattle.disk_model.specs.FileState.{FileState, Leaves, IsSound, Writes,
 ghost use Rattle.disk_model.specs.Sector.{IsHonest};
 ghost use Rattle.base_block.specs.declared.block.BaseBlock.{BaseBlock};
 ghost use Rattle.base_block.specs.Layout.{block_at};
-ghost use Rattle.base_block.specs.Numbers.{number_after};
 ghost use Rattle.dirty_vector.specs.Pages.{Pages};
 ghost use Rattle.dirt_log.specs.Held.{is_clean_file};
 ghost use Rattle.dirt_log.specs.LogText.{pages_from};
@@ -23,7 +22,7 @@ ghost use Rattle.dirt_log.specs.WholeLog.{
 };
 ghost use Rattle.hive_phases.specs.Decided.{held};
 ghost use Rattle.hive_phases.specs.Holding.{Standing, tree_under, Holds};
-ghost use Rattle.hive_phases.specs.Plans.{Plan, IsReady, IsBehind, Marks, AreClean, AreDirty};
+ghost use Rattle.hive_phases.specs.Plans.{raised_block, Plan, IsReady, IsBehind, Marks, AreClean, AreDirty};
 ghost use Rattle.hive_phases.specs.Phases.{
   Purpose,
   Hive,
@@ -97,7 +96,8 @@ pub fn raised_calls<T>()
     ensures failed { (stands : Standing T) (work : Work T) (p l new : FileState) →
         IsSound p → is_on_in stands work Logged p l →
         MayWrite 0 work.plan.raised p new → is_on_in stands work Logged new l }
-    ensures synced { (stands : Standing T) (work : Work T) (p l new : FileState) (purpose : Purpose) →
+    ensures synced { (stands : Standing T) (work : Work T) (p l new : FileState)
+        (purpose : Purpose) →
         IsSound p → is_on_in stands work Raised p l →
         Syncs p new → is_on_in stands work (Paging purpose 0) new l }
 {}
@@ -123,10 +123,12 @@ pub fn page_calls<T>()
 
 /// The calls on the last first sector. After its sync what was in memory stands, and no page differs.
 pub fn final_calls<T>()
-    ensures written { (stands : Standing T) (work : Work T) (p l new : FileState) (purpose : Purpose) →
+    ensures written { (stands : Standing T) (work : Work T) (p l new : FileState)
+        (purpose : Purpose) →
         IsSound p → is_on_in stands work (Paged purpose) p l →
         Writes 0 work.plan.final p new → is_on_in stands work (Finished purpose) new l }
-    ensures failed { (stands : Standing T) (work : Work T) (p l new : FileState) (purpose : Purpose) →
+    ensures failed { (stands : Standing T) (work : Work T) (p l new : FileState)
+        (purpose : Purpose) →
         IsSound p → is_on_in stands work (Paged purpose) p l →
         MayWrite 0 work.plan.final p new → is_on_in stands work (Paged purpose) new l }
     ensures synced { (stands : Standing T) (work : Work T) (pages : Pages) (p l new : FileState)
@@ -145,18 +147,19 @@ pub fn plans<T>()
         tree_under stands plan.block image ≡ Some memory.0 → plan.block.applied.0 ≡ memory.1 →
         old.secondary.0 < 2 ^ 32 → length plan.raised ≡ 512 →
         block_at plan.raised
-        ≡ record old { primary = record { 0 = number_after old.secondary.0 }; sum_is_right = true } →
+        ≡ record (raised_block old) { sum_is_right = true } →
         length plan.final ≡ 512 → block_at plan.final ≡ record plan.block { sum_is_right = true } →
         ReadsAs plan.text (block_as_read plan.block) pages (pages_from image pages 0) →
         IsReady stands memory image pages plan }
     ensures repair { (stands : Standing T) (memory : T × ℕ) (old : BaseBlock)
         (primary log raised final : List ℕ) → IsWhole log →
         IsCovered (length (drop 4096 primary)) (pages_in log) →
-        tree_under stands (block_of log) (repaired (drop 4096 primary) (pages_in log) (page_bytes_in log))
+        tree_under stands (block_of log) (repaired (drop 4096 primary) (pages_in log)
+        (page_bytes_in log))
         ≡ Some memory.0 → (block_of log).applied.0 ≡ memory.1 →
         old.secondary.0 < 2 ^ 32 → length raised ≡ 512 →
         block_at raised
-        ≡ record old { primary = record { 0 = number_after old.secondary.0 }; sum_is_right = true } →
+        ≡ record (raised_block old) { sum_is_right = true } →
         length final ≡ 512 →
         block_at final
         ≡ record (block_of log) { file_type = record { 0 = 0 }; sum_is_right = true } →

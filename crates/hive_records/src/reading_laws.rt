@@ -23,7 +23,8 @@ pub fn loops<A, B>()
     ensures starts { (f : A → Reader B) (cells : Cells) (marks : Marks) →
         Follows (each f []) cells marks marks (Ok []) }
     ensures goes_on { (f : A →
-        Reader B) (first : List A) (x : A) (cells : Cells) (old mid new : Marks) (ys : List B) (y : B) →
+        Reader B) (first : List A) (x : A) (cells : Cells) (old mid new : Marks) (ys : List B)
+        (y : B) →
         Follows (each f first) cells old mid (Ok ys) → Follows (f x) cells mid new (Ok y) →
         Follows (each f (first ++ x ∷ [])) cells old new (Ok (ys ++ y ∷ [])) }
     ensures stops { (f : A →

@@ -60,7 +60,8 @@ pub fn written_again()
         Gives (value_at split v.at) cells v.own [] v.value }
     ensures all { (split : Bool) (cells : Cells) (list : ℕ) (values : List Written) →
         0 < length values → AreOffsets (map (λ (v : Written). v.at) values) →
-        all_apart (map (λ (v : Value). folded v.name) (map (λ (v : Written). v.value) values)) ≡ true →
+        all_apart (map (λ (v : Value). folded v.name) (map (λ (v : Written). v.value) values))
+        ≡ true →
         AllByRecursion (λ (v : Written). IsWritten split cells v) values →
         Holds cells list (offsets_text (map (λ (v : Written). v.at) values)) →
         Gives (values_at split (length values) list) cells (list ∷ flat_map
@@ -109,7 +110,8 @@ pub fn many_again()
     ensures no_kids { (cells : Cells) (list : ℕ) → Gives (kids_at 0 list) cells [] [] [] }
     ensures values { (split : Bool) (cells : Cells) (list : ℕ) (values : List Written) →
         0 < length values → AreOffsets (map (λ (v : Written). v.at) values) →
-        all_apart (map (λ (v : Value). folded v.name) (map (λ (v : Written). v.value) values)) ≡ true →
+        all_apart (map (λ (v : Value). folded v.name) (map (λ (v : Written). v.value) values))
+        ≡ true →
         AllByRecursion (λ (v : Written). Gives (value_at split v.at) cells v.own [] v.value) values
         →
         Holds cells list (offsets_text (map (λ (v : Written). v.at) values)) →

@@ -75,7 +75,8 @@ pub fn edits<D, R, C>()
         (n : List ℕ) (path : List (List ℕ)) (parts : Parts R) (below : Keys R) →
         Whole (read old) root above kids → Edits read old new above kids n path parts below →
         below_in kids (n ∷ path) ≡ Some below →
-        finite.get (tree_of above (with_key kids (n ∷ path) parts below)) (n ∷ path) ≡ Some parts.row }
+        finite.get (tree_of above (with_key kids (n ∷ path) parts below)) (n ∷ path)
+        ≡ Some parts.row }
     ensures others { (read : (ℕ → Option D) → Reads R C) → IsLocal read → (old new : ℕ →
         Option D) (root : ℕ) (above : Parts R) (kids : Keys R)
         (n : List ℕ) (path : List (List ℕ)) (parts : Parts R) (below : Keys R) →
@@ -107,7 +108,8 @@ pub fn faults<R, C>()
         Told trail reads bad_name shared (λ cell. false) root cause → Stands reads root tree → ⊥ }
     ensures deep { (reads : Reads R C) (root : ℕ) (tree : TreeOf R) (most : ℕ) →
         Deeper reads root most → Stands reads root tree →
-        (path : List (List ℕ)) × (row : R) × (finite.get tree path ≡ Some row) × (most < length path) }
+        (path : List (List ℕ)) × (row : R) × (finite.get tree path ≡ Some row) ×
+        (most < length path) }
 {}
 
 /// Reading keys one after another, each cell marked as it is looked at, so that none is looked at twice.

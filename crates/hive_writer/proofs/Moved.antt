@@ -16,7 +16,8 @@ use Rattle.hive_phases.specs.Plans.{AreClean, AreDirty}
 use Rattle.hive_phases.specs.Phases.{Phase, Work}
 use Rattle.hive_phases.specs.States.{IsLogging, IsLogged, IsPaging, IsPaged, is_on_in}
 use Rattle.hive_phases.proofs.Moving.{log_written, log_failed, log_synced, page_written, page_failed, pages_synced}
-use Rattle.hive_writer.specs.Writing.{raised_block, dirty_from}
+use Rattle.hive_phases.specs.Plans.{raised_block}
+use Rattle.hive_writer.specs.Writing.{dirty_from}
 
 -- the other file is as it was
 pub log_same : {T : Type 0} (stands : Standing T) (w : Work T) (phase : Phase) (p old new : FileState) → new ≡ old → is_on_in stands w phase p old → is_on_in stands w phase p new

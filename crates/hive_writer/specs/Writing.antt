@@ -10,12 +10,11 @@ use Rattle.disk_model.specs.StoreFiles.{primary_file, log_file}
 use Rattle.disk_model.specs.declared.disk.Failed.{Failed}
 use Rattle.base_block.specs.declared.block.BaseBlock.{BaseBlock}
 use Rattle.base_block.specs.Layout.{sector_of}
-use Rattle.base_block.specs.Numbers.{number_after}
 use Rattle.dirt_log.specs.LogText.{log_text}
 use Rattle.dirty_vector.specs.Marks.{marked_count}
 use Rattle.dirty_vector.specs.Pages.{Pages, is_dirty, dirty_count}
 use Rattle.hive_phases.specs.Holding.{Standing}
-use Rattle.hive_phases.specs.Plans.{Plan, IsReady}
+use Rattle.hive_phases.specs.Plans.{Plan, IsReady, raised_block}
 use Rattle.hive_phases.specs.Phases.{Phase, Phase.Quiet, Phase.Logging, Phase.Logged, Phase.Raised, Phase.Paging, Phase.Paged, Phase.Finished, Work, Purpose.Flush, Purpose.Repair, choice_in}
 use Rattle.hive_phases.specs.Phases as phases
 use Rattle.hive_phases.specs.States.{is_on_in}
@@ -24,10 +23,6 @@ use Rattle.hive_writer.specs.declared.stage.Stage.{Stage}
 use Rattle.hive_writer.specs.declared.stage.Stage.TheVariants as stage
 use Rattle.hive_writer.specs.declared.stage.Purpose.{Purpose}
 use Rattle.hive_writer.specs.declared.stage.Purpose.TheVariants as purpose
-
--- a base block with the raised primary number
-abbrev pub raised_block : BaseBlock → BaseBlock
-raised_block block = record block { primary = record { 0 = number_after block.secondary.0 } }
 
 -- what a flush of an image and its dirty pages writes
 abbrev pub plan_of : HiveWriter → List ℕ → Pages → Plan

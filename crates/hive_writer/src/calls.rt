@@ -34,13 +34,15 @@ impl HiveWriter {
     ) -> Result<Stage, Failed>
         requires short { length (plan_of self.now image.now pages.now).text < 2 ^ 32 }
         requires some { 0 < length piece.now }
-        requires piece { piece.now ≡ take 65536 (drop (65536 * index) (plan_of self.now image.now pages.now).text) }
+        requires piece { piece.now ≡ take 65536 (drop (65536 * index)
+            (plan_of self.now image.now pages.now).text) }
         ensures leads { D.faithful disk.new → (stands : Standing T) →
             Leads stands (plan_of self.now image.now pages.now) image.now pages.now self.now.hive
             (stage.Logging index) result
             (D.state_at disk.old (D.clock disk.old)) (D.state_at disk.new (D.clock disk.new)) }
         ensures next { IfOk result (λ next. next ≡ stage.Logging (index + 1)) }
-        ensures falls { IfOk result (Falls (length (plan_of self.now image.now pages.now).text) pages.now (stage.Logging index)) }
+        ensures falls { IfOk result (Falls (length
+            (plan_of self.now image.now pages.now).text) pages.now (stage.Logging index)) }
         ensures call { OneCall (IsOfHive self.now.hive) (D.state_at disk.old) (D.state_at disk.new)
             (D.clock disk.old) (D.clock disk.new) }
         ensures failures { CountsFailure result (D.failures disk.old) (D.failures disk.new) }
@@ -59,13 +61,15 @@ impl HiveWriter {
 
     // the sync of the log, behind its last piece
     pub(crate) fn sync_log<D: Disk, T>(&self, disk: &mut D, index: u32) -> Result<Stage, Failed>
-        ensures leads { D.faithful disk.new → (stands : Standing T) (image : List ℕ) (pages : Pages) →
+        ensures leads { D.faithful disk.new →
+            (stands : Standing T) (image : List ℕ) (pages : Pages) →
             length (plan_of self.now image pages).text ≤ 65536 * index →
             Leads stands (plan_of self.now image pages) image pages self.now.hive
             (stage.Logging index) result
             (D.state_at disk.old (D.clock disk.old)) (D.state_at disk.new (D.clock disk.new)) }
         ensures next { IfOk result (λ next. next ≡ stage.Logged) }
-        ensures falls { (total : ℕ) (pages : Pages) → IfOk result (Falls total pages (stage.Logging index)) }
+        ensures falls { (total : ℕ) (pages : Pages) →
+            IfOk result (Falls total pages (stage.Logging index)) }
         ensures call { OneCall (IsOfHive self.now.hive) (D.state_at disk.old) (D.state_at disk.new)
             (D.clock disk.old) (D.clock disk.new) }
         ensures failures { CountsFailure result (D.failures disk.old) (D.failures disk.new) }
@@ -91,8 +95,10 @@ impl HiveWriter {
             Leads stands (plan_of self.now image.now pages.now) image.now pages.now self.now.hive
             (stage.Logging index) result
             (D.state_at disk.old (D.clock disk.old)) (D.state_at disk.new (D.clock disk.new)) }
-        ensures next { IfOk result (λ next. (next ≡ stage.Logging (index + 1)) ⊎ (next ≡ stage.Logged)) }
-        ensures falls { IfOk result (Falls (length (plan_of self.now image.now pages.now).text) pages.now (stage.Logging index)) }
+        ensures next { IfOk result (λ next. (next ≡ stage.Logging (index + 1)) ⊎
+            (next ≡ stage.Logged)) }
+        ensures falls { IfOk result (Falls (length
+            (plan_of self.now image.now pages.now).text) pages.now (stage.Logging index)) }
         ensures call { OneCall (IsOfHive self.now.hive) (D.state_at disk.old) (D.state_at disk.new)
             (D.clock disk.old) (D.clock disk.new) }
         ensures failures { CountsFailure result (D.failures disk.old) (D.failures disk.new) }
@@ -109,7 +115,8 @@ impl HiveWriter {
 
     // the first sector with the raised number
     pub(crate) fn raise<D: Disk, T>(&self, disk: &mut D) -> Result<Stage, Failed>
-        ensures leads { D.faithful disk.new → (stands : Standing T) (image : List ℕ) (pages : Pages) →
+        ensures leads { D.faithful disk.new →
+            (stands : Standing T) (image : List ℕ) (pages : Pages) →
             Leads stands (plan_of self.now image pages) image pages self.now.hive
             stage.Logged result
             (D.state_at disk.old (D.clock disk.old)) (D.state_at disk.new (D.clock disk.new)) }
@@ -130,7 +137,8 @@ impl HiveWriter {
 
     // its sync: from here on the log decides
     pub(crate) fn sync_raised<D: Disk, T>(&self, disk: &mut D) -> Result<Stage, Failed>
-        ensures leads { D.faithful disk.new → (stands : Standing T) (image : List ℕ) (pages : Pages) →
+        ensures leads { D.faithful disk.new →
+            (stands : Standing T) (image : List ℕ) (pages : Pages) →
             Leads stands (plan_of self.now image pages) image pages self.now.hive
             stage.Raised result
             (D.state_at disk.old (D.clock disk.old)) (D.state_at disk.new (D.clock disk.new)) }
@@ -164,8 +172,10 @@ impl HiveWriter {
             Leads stands plan image.now pages.now self.now.hive
             (stage.Paging purpose from) result
             (D.state_at disk.old (D.clock disk.old)) (D.state_at disk.new (D.clock disk.new)) }
-        ensures next { IfOk result (λ next. next ≡ stage.Paging purpose (run.start + min 128 (run.end - run.start))) }
-        ensures falls { (total : ℕ) → IfOk result (Falls total pages.now (stage.Paging purpose from)) }
+        ensures next { IfOk result (λ next. next ≡ stage.Paging purpose (run.start + min 128
+            (run.end - run.start))) }
+        ensures falls { (total : ℕ) → IfOk result (Falls total pages.now
+            (stage.Paging purpose from)) }
         ensures call { OneCall (IsOfHive self.now.hive) (D.state_at disk.old) (D.state_at disk.new)
             (D.clock disk.old) (D.clock disk.new) }
         ensures failures { CountsFailure result (D.failures disk.old) (D.failures disk.new) }
@@ -186,13 +196,15 @@ impl HiveWriter {
         purpose: Purpose,
         from: usize,
     ) -> Result<Stage, Failed>
-        ensures leads { D.faithful disk.new → (stands : Standing T) (plan : Plan) (image : List ℕ) (pages : Pages) →
+        ensures leads { D.faithful disk.new →
+            (stands : Standing T) (plan : Plan) (image : List ℕ) (pages : Pages) →
             EndsWith self.now.block plan → NoneFrom pages from →
             Leads stands plan image pages self.now.hive
             (stage.Paging purpose from) result
             (D.state_at disk.old (D.clock disk.old)) (D.state_at disk.new (D.clock disk.new)) }
         ensures next { IfOk result (λ next. next ≡ stage.Paged purpose) }
-        ensures falls { (total : ℕ) (pages : Pages) → IfOk result (Falls total pages (stage.Paging purpose from)) }
+        ensures falls { (total : ℕ) (pages : Pages) →
+            IfOk result (Falls total pages (stage.Paging purpose from)) }
         ensures call { OneCall (IsOfHive self.now.hive) (D.state_at disk.old) (D.state_at disk.new)
             (D.clock disk.old) (D.clock disk.new) }
         ensures failures { CountsFailure result (D.failures disk.old) (D.failures disk.new) }
@@ -210,13 +222,15 @@ impl HiveWriter {
         disk: &mut D,
         purpose: Purpose,
     ) -> Result<Stage, Failed>
-        ensures leads { D.faithful disk.new → (stands : Standing T) (plan : Plan) (image : List ℕ) (pages : Pages) →
+        ensures leads { D.faithful disk.new →
+            (stands : Standing T) (plan : Plan) (image : List ℕ) (pages : Pages) →
             EndsWith self.now.block plan →
             Leads stands plan image pages self.now.hive
             (stage.Paged purpose) result
             (D.state_at disk.old (D.clock disk.old)) (D.state_at disk.new (D.clock disk.new)) }
         ensures next { IfOk result (λ next. next ≡ stage.Finished purpose) }
-        ensures falls { (total : ℕ) (pages : Pages) → IfOk result (Falls total pages (stage.Paged purpose)) }
+        ensures falls { (total : ℕ) (pages : Pages) →
+            IfOk result (Falls total pages (stage.Paged purpose)) }
         ensures call { OneCall (IsOfHive self.now.hive) (D.state_at disk.old) (D.state_at disk.new)
             (D.clock disk.old) (D.clock disk.new) }
         ensures failures { CountsFailure result (D.failures disk.old) (D.failures disk.new) }
@@ -234,7 +248,8 @@ impl HiveWriter {
         disk: &mut D,
         purpose: Purpose,
     ) -> Result<Stage, Failed>
-        ensures leads { D.faithful disk.new → (stands : Standing T) (plan : Plan) (image : List ℕ) (pages : Pages) →
+        ensures leads { D.faithful disk.new →
+            (stands : Standing T) (plan : Plan) (image : List ℕ) (pages : Pages) →
             EndsWith self.now.block plan →
             Leads stands plan image pages self.now.hive
             (stage.Finished purpose) result

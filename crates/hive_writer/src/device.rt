@@ -28,9 +28,11 @@ pub(crate) fn write_primary<D: Disk>(
     bytes: &[u8],
 ) -> Result<(), Failed>
     ensures done { OnOk result (D.faithful disk.new → Writes offset bytes.now
-        (D.state_at disk.old (D.clock disk.old) (primary_file hive)) (D.state_at disk.new (D.clock disk.new) (primary_file hive))) }
+        (D.state_at disk.old (D.clock disk.old) (primary_file hive)) (D.state_at disk.new
+        (D.clock disk.new) (primary_file hive))) }
     ensures failed { OnErr result (D.faithful disk.new → MayWrite offset bytes.now
-        (D.state_at disk.old (D.clock disk.old) (primary_file hive)) (D.state_at disk.new (D.clock disk.new) (primary_file hive))) }
+        (D.state_at disk.old (D.clock disk.old) (primary_file hive)) (D.state_at disk.new
+        (D.clock disk.new) (primary_file hive))) }
     ensures other { D.state_at disk.new (D.clock disk.new) (log_file hive)
         ≡ D.state_at disk.old (D.clock disk.old) (log_file hive) }
     ensures call { OneCall (IsOfHive hive) (D.state_at disk.old) (D.state_at disk.new)
@@ -44,9 +46,11 @@ pub(crate) fn write_primary<D: Disk>(
 /// Syncs the primary file.
 pub(crate) fn sync_primary<D: Disk>(disk: &mut D, hive: u8) -> Result<(), Failed>
     ensures done { OnOk result (D.faithful disk.new → Syncs
-        (D.state_at disk.old (D.clock disk.old) (primary_file hive)) (D.state_at disk.new (D.clock disk.new) (primary_file hive))) }
+        (D.state_at disk.old (D.clock disk.old) (primary_file hive)) (D.state_at disk.new
+        (D.clock disk.new) (primary_file hive))) }
     ensures failed { OnErr result (D.faithful disk.new →
-        D.state_at disk.new (D.clock disk.new) (primary_file hive) ≡ D.state_at disk.old (D.clock disk.old) (primary_file hive)) }
+        D.state_at disk.new (D.clock disk.new) (primary_file hive) ≡ D.state_at disk.old
+        (D.clock disk.old) (primary_file hive)) }
     ensures other { D.state_at disk.new (D.clock disk.new) (log_file hive)
         ≡ D.state_at disk.old (D.clock disk.old) (log_file hive) }
     ensures call { OneCall (IsOfHive hive) (D.state_at disk.old) (D.state_at disk.new)
@@ -65,9 +69,11 @@ pub(crate) fn write_log<D: Disk>(
     bytes: &[u8],
 ) -> Result<(), Failed>
     ensures done { OnOk result (D.faithful disk.new → Writes offset bytes.now
-        (D.state_at disk.old (D.clock disk.old) (log_file hive)) (D.state_at disk.new (D.clock disk.new) (log_file hive))) }
+        (D.state_at disk.old (D.clock disk.old) (log_file hive)) (D.state_at disk.new
+        (D.clock disk.new) (log_file hive))) }
     ensures failed { OnErr result (D.faithful disk.new → MayWrite offset bytes.now
-        (D.state_at disk.old (D.clock disk.old) (log_file hive)) (D.state_at disk.new (D.clock disk.new) (log_file hive))) }
+        (D.state_at disk.old (D.clock disk.old) (log_file hive)) (D.state_at disk.new
+        (D.clock disk.new) (log_file hive))) }
     ensures other { D.state_at disk.new (D.clock disk.new) (primary_file hive)
         ≡ D.state_at disk.old (D.clock disk.old) (primary_file hive) }
     ensures call { OneCall (IsOfHive hive) (D.state_at disk.old) (D.state_at disk.new)
@@ -81,9 +87,11 @@ pub(crate) fn write_log<D: Disk>(
 /// Syncs the log.
 pub(crate) fn sync_log<D: Disk>(disk: &mut D, hive: u8) -> Result<(), Failed>
     ensures done { OnOk result (D.faithful disk.new → Syncs
-        (D.state_at disk.old (D.clock disk.old) (log_file hive)) (D.state_at disk.new (D.clock disk.new) (log_file hive))) }
+        (D.state_at disk.old (D.clock disk.old) (log_file hive)) (D.state_at disk.new
+        (D.clock disk.new) (log_file hive))) }
     ensures failed { OnErr result (D.faithful disk.new →
-        D.state_at disk.new (D.clock disk.new) (log_file hive) ≡ D.state_at disk.old (D.clock disk.old) (log_file hive)) }
+        D.state_at disk.new (D.clock disk.new) (log_file hive) ≡ D.state_at disk.old
+        (D.clock disk.old) (log_file hive)) }
     ensures other { D.state_at disk.new (D.clock disk.new) (primary_file hive)
         ≡ D.state_at disk.old (D.clock disk.old) (primary_file hive) }
     ensures call { OneCall (IsOfHive hive) (D.state_at disk.old) (D.state_at disk.new)

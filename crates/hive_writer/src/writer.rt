@@ -146,7 +146,8 @@ impl HiveWriter {
         ensures holds { (now memory : T × ℕ) →
             choice_at self.new.stage (now_after result now memory) memory
             ≡ choice_at self.old.stage now memory }
-        ensures repairing { (result ≡ Ok Progress.Done → ⊥) → IsRewriting purpose.Repair self.new.stage }
+        ensures repairing { (result ≡ Ok Progress.Done → ⊥) →
+            IsRewriting purpose.Repair self.new.stage }
         ensures done { result ≡ Ok Progress.Done → self.new.stage ≡ stage.Quiet }
         ensures falls { (total : ℕ) → result ≡ Ok Progress.More →
             calls_left total pages.now self.new.stage < calls_left total pages.now self.old.stage }
@@ -194,7 +195,8 @@ impl HiveWriter {
             self.now.stage result
             (D.state_at disk.old (D.clock disk.old)) (D.state_at disk.new (D.clock disk.new)) }
         ensures next { IfOk result (IsNext self.now.stage) }
-        ensures falls { IfOk result (Falls (length (plan_of self.now image.now pages.now).text) pages.now self.now.stage) }
+        ensures falls { IfOk result (Falls (length
+            (plan_of self.now image.now pages.now).text) pages.now self.now.stage) }
         ensures call { OneCall (IsOfHive self.now.hive) (D.state_at disk.old) (D.state_at disk.new)
             (D.clock disk.old) (D.clock disk.new) }
         ensures failures { CountsFailure result (D.failures disk.old) (D.failures disk.new) }

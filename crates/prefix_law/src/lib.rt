@@ -79,7 +79,8 @@ pub fn kept<T, Op>()
         IsKept r most hives new × GoesOn r hives old new }
     ensures quiet { (r : Rules T Op) (most hives : ℕ) (old new : State T Op) →
         IsKept r most hives old →
-        old.durable ≡ last_number old.life → Reopens r most hives old new → (new.durable ≡ old.durable)
+        old.durable ≡ last_number old.life → Reopens r most hives old new →
+        (new.durable ≡ old.durable)
         × ((i : ℕ) → i < hives → new.life.trees i ≡ tree_at r old.life (last_number old.life) i) }
     ensures begins { (r : Rules T Op) (most hives : ℕ) (spelled : Spelled Op)
         (held : ℕ → T × ℕ) (n : ℕ) (trees : ℕ → T) → Recovers r most hives spelled held n trees →

@@ -70,7 +70,8 @@ impl Image {
     pub(super) fn free_before(&self, at: usize) -> Option<usize>
         requires { BeginsCell self.now.bytes at }
         ensures { MatchOption result
-            ((from : ℕ) → IsFreeCell self.now.bytes from → from + cell_size self.now.bytes from ≢ at)
+            ((from : ℕ) → IsFreeCell self.now.bytes from →
+            from + cell_size self.now.bytes from ≢ at)
             (λ from. IsFreeCell self.now.bytes from × (from + cell_size self.now.bytes from ≡ at)
             × ((other : ℕ) → IsFreeCell self.now.bytes other →
             other + cell_size self.now.bytes other ≡ at → from ≡ other)) }
