@@ -8,7 +8,7 @@ ghost use Rattle.refusals.specs.declared.refusal.Refusal.TheVariants.{Faulted, N
 ghost use Rattle.refusals.specs.declared.limits.TheConstants.{MOST_HIVES};
 ghost use Rattle.engine_words.specs.Changes.{TimedOp, timed_elements};
 ghost use Rattle.engine_words.specs.Steps.{Says};
-ghost use Rattle.commit_journal.specs.OnDisk.{is_on, longer};
+ghost use Rattle.commit_journal.specs.OnDisk.{is_on, longer, value_at};
 ghost use Rattle.commit_journal.specs.Told.{elements_told};
 ghost use Rattle.commit_journal.specs.OnDisk as phase;
 ghost use Rattle.commit_journal.specs.Store.{texts, room_of};
@@ -105,6 +105,21 @@ impl Journal {
             stands: Standing::nothing(),
             phase: Phase::Quiet,
         })
+    }
+
+    /// The journal of what stands in a file that is at rest.
+    pub(crate) fn found(alloc: Global, id: Uuid, hives: u8, stands: Standing) -> Journal
+        ensures store { store_of result ≡ record { id = id; hives = hives } }
+        ensures value { value_of result ≡ value_at (spelled_by stands) nothing stands.gate stands.gate
+            phase.Phase.Quiet }
+    {
+        Journal {
+            alloc,
+            id,
+            hives,
+            stands,
+            phase: Phase::Quiet,
+        }
     }
 
     /// The id of the store.

@@ -1,4 +1,4 @@
-use Rattle.std.proofs.Common.{◌≡◌, ◌∙◌, ap, subst}
+use Rattle.std.proofs.Common.{◌∙◌, ap, subst}
 use Rattle.prefix_law.specs.Promises.{JournalSays}
 use Rattle.engine_words.specs.Steps.{Says}
 use Rattle.commit_journal.specs.Journals.{value_in, choice_of}
