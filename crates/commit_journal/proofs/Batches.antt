@@ -1,5 +1,5 @@
 -- The numbers and the body of a batch.
-use Rattle.std.proofs.Common.{◌≡◌, ◌⊎◌, inl, inr, ⊎_elim, ℕ, zero, suc, ◌+◌, ◌-◌, ◌*◌, ◌^◌, ◌<◌, ◌≤◌, List, [], ◌∷◌, ◌++◌, length, take, map, get_or, refl, sym, ◌∙◌, ap, subst, arith, append_assoc, length-append, Some, None, Option}
+use Rattle.std.proofs.Common.{◌≡◌, ℕ, zero, suc, ◌+◌, ◌-◌, ◌*◌, ◌^◌, ◌<◌, ◌≤◌, List, [], ◌∷◌, ◌++◌, length, take, map, refl, sym, ◌∙◌, ap, subst, arith, length-append, Some, Option}
 use Rattle.std.specs.Prelude.{sum_by, option_map}
 use Rattle.std.specs.List.{flat_map, AllByRecursion}
 use Rattle.std.proofs.lemmas.List.{length-map}
@@ -14,7 +14,7 @@ use Rattle.element_text.specs.Text.{element_text, Fits}
 use Rattle.element_text.proofs.Elements.{element_law}
 use Rattle.element_text.proofs.Lengths.{element_length}
 use Rattle.engine_words.specs.Changes.{TimedOp, timed, timed_element, timed_elements}
-use Rattle.commit_journal.specs.Text.{Texts, IsBody, body_text}
+use Rattle.commit_journal.specs.Text.{IsBody, body_text}
 use Rattle.commit_journal.specs.OnDisk.{longer}
 use Rattle.commit_journal.specs.Store.{Store, texts, timed_at, timed_len, room_of}
 use Rattle.commit_journal.specs.Standing.{IsStanding}
@@ -96,7 +96,7 @@ all_taken P (suc n) (x ∷ xs) all = (all.0, all_taken P n xs all.1)
 
 module _ (hives : ℕ) (le : hives ≤ 256) where
   -- a change that fits is read as an element of the journal, whatever follows
-  reads : (e : Element) (rest : List ℕ) → Fits hives e → timed_at hives (element_text e ++ rest) ≡ Some (timed_element e, rest)
+  pub reads : (e : Element) (rest : List ℕ) → Fits hives e → timed_at hives (element_text e ++ rest) ≡ Some (timed_element e, rest)
   reads e rest fits = ap (λ (o : Option (Element × List ℕ)). option_map (λ got. (timed_element got.0, got.1)) o) ((element_law hives le).again e rest fits)
 
   abbrev Fitting : Type 0

@@ -1,5 +1,5 @@
 -- A batch that begins, from the body that is ready to be written.
-use Rattle.std.proofs.Common.{◌≡◌, inl, ℕ, ◌+◌, ◌-◌, ◌<◌, ◌≤◌, List, [], ◌∷◌, ◌++◌, length, take, refl, sym, ◌∙◌, ap, subst, arith, length-append, length-take, Some, None}
+use Rattle.std.proofs.Common.{◌≡◌, ℕ, ◌+◌, ◌-◌, ◌<◌, ◌≤◌, List, [], ◌∷◌, ◌++◌, length, take, refl, sym, ◌∙◌, ap, subst, arith, length-append, length-take}
 use Rattle.std.proofs.lemmas.List.{length-map, take-map}
 use Rattle.std.specs.Prelude.{◌^◌, sum_by}
 use Rattle.std.specs.List.{flat_map, AllByRecursion}
@@ -16,7 +16,7 @@ use Rattle.prefix_law.specs.Promises.{Spelled, nothing, under_way, MayFollow, Be
 use Rattle.disk_model.specs.FileState.{FileState, Writes, MayWrite}
 use Rattle.engine_words.specs.Changes.{TimedOp, timed_element, timed_elements}
 use Rattle.commit_journal.specs.Text.{Texts, Body, IsBody, body_text}
-use Rattle.commit_journal.specs.OnDisk.{is_on, value_at, longer, MayBegin, Phase.Quiet, Phase.BodyWritten, Phase.Broken}
+use Rattle.commit_journal.specs.OnDisk.{is_on, value_at, longer, MayBegin, Phase.BodyWritten, Phase.Broken}
 use Rattle.commit_journal.specs.Journals.{spelled_by, value_in, IsReady}
 use Rattle.commit_journal.specs.declared.standing.Standing.{Standing}
 use Rattle.commit_journal.specs.declared.journal.Phase.{Phase}

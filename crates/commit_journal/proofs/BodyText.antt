@@ -1,5 +1,5 @@
 -- A body's text is that body's, whatever follows.
-use Rattle.std.proofs.Common.{◌≡◌, ℕ, zero, suc, ◌+◌, ◌<◌, ◌≤◌, ◌^◌, List, [], ◌∷◌, ◌++◌, length, take, drop, map, refl, sym, ◌∙◌, ap, arith, append_assoc, length-append, Some, None, Option}
+use Rattle.std.proofs.Common.{◌≡◌, ℕ, suc, ◌+◌, ◌<◌, ◌≤◌, ◌^◌, List, [], ◌∷◌, ◌++◌, length, drop, map, refl, sym, ◌∙◌, ap, arith, append_assoc, length-append, Some, Option}
 use Rattle.std.specs.Prelude.{option_map}
 use Rattle.std.specs.Option.{option_and_then}
 use Rattle.std.specs.List.{flat_map}
@@ -7,7 +7,7 @@ use Rattle.std.proofs.lemmas.List.{drop_at, append-nil}
 use Rattle.byteorder.specs.Endian.{little_bytes, little_number}
 use Rattle.byteorder.specs.Numbers.{little_number-reads_back, length-bytes_low_first}
 use Rattle.prefix_law.specs.Changes.{Element}
-use Rattle.commit_journal.specs.Text.{Texts, Body, read_elements, whole_body, body_of, IsBody, body_text}
+use Rattle.commit_journal.specs.Text.{Texts, read_elements, whole_body, body_of, IsBody, body_text}
 use Rattle.commit_journal.proofs.Opening.{body_read}
 
 module _ {X Op : Type 0} (t : Texts Op) (text : X → List ℕ) (seen : X → Element Op) (reads : (x : X) (rest : List ℕ) → t.read (text x ++ rest) ≡ Some (seen x, rest)) where

@@ -1,9 +1,9 @@
 -- Each call of the device, from one phase to the next.
-use Rattle.std.proofs.Common.{◌≡◌, ◌≢◌, ◌⊎◌, inl, inr, ⊎_elim, ℕ, ◌+◌, ◌<◌, ◌≤◌, List, [], ◌∷◌, ◌++◌, length, refl, sym, ◌∙◌, ap, subst, arith, length-append, Some, None}
+use Rattle.std.proofs.Common.{◌≡◌, ⊎_elim, ℕ, ◌+◌, ◌<◌, List, [], ◌∷◌, ◌++◌, length, refl, ap, subst, arith, Some}
 use Rattle.prefix_law.specs.Promises.{Spelled, nothing}
 use Rattle.disk_model.specs.FileState.{FileState, Writes, MayWrite, Syncs}
 use Rattle.commit_journal.specs.Text.{Texts, Body, Stands}
-use Rattle.commit_journal.specs.OnDisk.{is_on, in_phase, IsQuiet, MayBegin, longer, value_at, next_at}
+use Rattle.commit_journal.specs.OnDisk.{is_on, in_phase, MayBegin, longer, value_at, next_at}
 use Rattle.commit_journal.specs.OnDisk.{Phase, Phase.Quiet, Phase.BodyWritten, Phase.BodySynced, Phase.GateWritten, Phase.TrimWritten, Phase.Broken}
 use Rattle.commit_journal.proofs.Numbers.{first_gate}
 use Rattle.commit_journal.proofs.States as states

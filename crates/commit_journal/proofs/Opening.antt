@@ -1,6 +1,6 @@
 -- What the decoder takes is what the grammar says: so a file that is at rest, and spells something, is that of a quiet journal.
-use Rattle.std.proofs.Common.{◌≡◌, ◌≢◌, ℕ, zero, suc, ◌+◌, ◌-◌, ◌≤◌, Bool, true, false, List, [], ◌∷◌, ◌++◌, length, take, drop, refl, sym, ◌∙◌, ap, subst, arith, append_assoc, length-append, length-take, take-append-drop, Some, None, Option}
-use Rattle.std.specs.Prelude.{if◌then◌else◌, ◌==◌, ◌&&◌, nat_le, nat_eq, option_map}
+use Rattle.std.proofs.Common.{◌≡◌, ◌≢◌, ℕ, zero, suc, ◌≤◌, Bool, true, false, List, [], ◌∷◌, ◌++◌, length, take, drop, refl, sym, ◌∙◌, ap, subst, arith, append_assoc, length-append, length-take, take-append-drop, Some, None, Option}
+use Rattle.std.specs.Prelude.{if◌then◌else◌, ◌==◌, nat_le, nat_eq, option_map}
 use Rattle.std.specs.Option.{option_and_then}
 use Rattle.std.specs.List.{starts_with}
 use Rattle.std.proofs.lemmas.Option.{same_Some, none-some, option_and_then_some}
@@ -9,7 +9,7 @@ use Rattle.std.proofs.lemmas.Bool.{eqb-true, eqb-false, and_parts, and_from, le-
 use Rattle.byteorder.specs.Endian.{little_number}
 use Rattle.byteorder.specs.Numbers.{little_from-append, little_from-take}
 use Rattle.prefix_law.specs.Promises.{Spelled, nothing}
-use Rattle.disk_model.specs.FileState.{FileState, at_rest}
+use Rattle.disk_model.specs.FileState.{at_rest}
 use Rattle.commit_journal.specs.Text.{Texts, Body, body_of, is_body_length, read_body, read_gates, spelled_of, spelled, IsBody, AreGated, Stands}
 use Rattle.commit_journal.proofs.Reading.{begun_with}
 use Rattle.commit_journal.proofs.Numbers.{stands_empty}

@@ -1,20 +1,19 @@
 -- What bytes spell: the decoder reads what the grammar says.
-use Rattle.std.proofs.Common.{◌≡◌, ◌≢◌, ◌⊎◌, inl, inr, ⊎_elim, ℕ, zero, suc, ◌+◌, ◌-◌, ◌<◌, ◌≤◌, Bool, true, false, List, [], ◌∷◌, ◌++◌, length, get_or, take, drop, refl, sym, ◌∙◌, ap, subst, arith, append_assoc, length-append, Some, None, Option}
-use Rattle.std.specs.Prelude.{if◌then◌else◌, ◌==◌, ◌&&◌, nat_le, nat_eq, option_map}
+use Rattle.std.proofs.Common.{◌≡◌, ◌≢◌, ℕ, zero, suc, ◌<◌, ◌≤◌, Bool, true, false, List, [], ◌∷◌, ◌++◌, length, drop, refl, sym, ◌∙◌, ap, arith, append_assoc, length-append, Some, Option}
+use Rattle.std.specs.Prelude.{if◌then◌else◌, ◌==◌, nat_eq, option_map}
 use Rattle.std.specs.List.{starts_with}
 use Rattle.std.proofs.lemmas.Slice.Eq.{starts_is}
 use Rattle.std.proofs.lemmas.Bool.Decides.{Decides-eqb}
 use Rattle.std.specs.Option.{option_and_then}
-use Rattle.std.proofs.lemmas.List.{take_at, drop_at, append-nil}
-use Rattle.std.proofs.lemmas.Bool.{ne_eqb, and_from, and_parts, eq-eqb, eqb-true, le-leb, leb-true}
-use Rattle.prefix_law.specs.Changes.{Element}
-use Rattle.prefix_law.specs.Promises.{Spelled, nothing, floor, top}
-use Rattle.commit_journal.specs.Text.{Texts, Body, read_body, read_gates, follow, elements_of, are_numbered, spelled_of, spelled, IsBody, AreGated, Stands}
+use Rattle.std.proofs.lemmas.List.{drop_at, append-nil}
+use Rattle.std.proofs.lemmas.Bool.{ne_eqb}
+use Rattle.prefix_law.specs.Promises.{Spelled}
+use Rattle.commit_journal.specs.Text.{Texts, Body, read_gates, spelled_of, spelled, IsBody, AreGated, Stands}
 
-choose : {A : Type 0} (b : Bool) (x y : A) → b ≡ false → (if b then x else y) ≡ y
+pub choose : {A : Type 0} (b : Bool) (x y : A) → b ≡ false → (if b then x else y) ≡ y
 choose b x y e = ap (λ (c : Bool). if c then x else y) e
 
-chosen : {A : Type 0} (b : Bool) (x y : A) → b ≡ true → (if b then x else y) ≡ x
+pub chosen : {A : Type 0} (b : Bool) (x y : A) → b ≡ true → (if b then x else y) ≡ x
 chosen b x y e = ap (λ (c : Bool). if c then x else y) e
 
 -- bytes that begin with a header, and what is behind it

@@ -1,18 +1,17 @@
 -- What a crash leaves in each phase, and how each call of the device leads from one phase to the next.
-use Rattle.std.proofs.Common.{◌≡◌, ◌≢◌, ◌⊎◌, inl, inr, ⊎_elim, ℕ, ◌+◌, ◌≤◌, List, [], ◌∷◌, ◌++◌, length, get_or, drop, refl, sym, ◌∙◌, ap, subst, arith, append_assoc, Some, None, Option}
+use Rattle.std.proofs.Common.{◌≡◌, ◌≢◌, inl, inr, ⊎_elim, ℕ, ◌+◌, List, [], ◌∷◌, ◌++◌, length, get_or, drop, refl, sym, ◌∙◌, ap, subst, arith, append_assoc, Some}
 use Rattle.std.proofs.lemmas.Option.{same_Some}
 use Rattle.std.proofs.lemmas.Bool.{cases_eq}
-use Rattle.prefix_law.specs.Changes.{Element}
 use Rattle.prefix_law.specs.Promises.{Choice, Spelled, nothing, floor, top, settled, under_way, JournalOn}
 use Rattle.prefix_law.specs.Promises as law
 use Rattle.prefix_law.specs.Files.{SpellsBy}
 use Rattle.disk_model.specs.FileState.{FileState, at_rest, after_write, put, Leaves, Writes, MayWrite, Syncs}
 use Rattle.disk_model.proofs.Leaves.{left_at_rest, left_of_write}
-use Rattle.commit_journal.specs.Text.{Texts, Body, IsBody, Stands, spelled}
+use Rattle.commit_journal.specs.Text.{Texts, Body, Stands, spelled}
 use Rattle.commit_journal.specs.OnDisk.{Value, IsQuiet, Batch, staged, IsBodyWritten, IsBodySynced, IsGateWritten, IsTrimWritten, IsBroken, in_phase, is_on, MayBegin, longer, begun, trimmed, with_phase, ended}
 use Rattle.commit_journal.specs.OnDisk.{Phase, Phase.Quiet, Phase.BodyWritten, Phase.BodySynced, Phase.GateWritten, Phase.TrimWritten, Phase.Broken}
 use Rattle.commit_journal.proofs.Reading.{stands_spells}
-use Rattle.commit_journal.proofs.Numbers.{stands_push, stands_empty, first_gate}
+use Rattle.commit_journal.proofs.Numbers.{stands_push, stands_empty}
 use Rattle.commit_journal.proofs.Bytes.{put_behind, put_gate, left_behind, left_gate}
 
 module _ {Op : Type 0} (t : Texts Op) where

@@ -1,5 +1,5 @@
 -- What contracts see of a journal.
-use Rattle.std.specs.Prelude.{◌≡◌, ℕ, ◌+◌, ◌-◌, ◌<◌, List, [], ◌∷◌, ◌++◌, length, take, Some}
+use Rattle.std.specs.Prelude.{◌≡◌, ◌⊎◌, ℕ, ◌+◌, ◌-◌, ◌<◌, List, [], ◌∷◌, ◌++◌, length, take, Some}
 use Rattle.reg_tree.specs.declared.element.Element.{Element}
 use Rattle.prefix_law.specs.Promises.{Choice, Spelled, nothing}
 use Rattle.engine_words.specs.Changes.{TimedOp, timed_elements}
@@ -64,3 +64,20 @@ pub record IsReady (t : Texts TimedOp) (now : Standing) (first : ℕ) (handed : 
 abbrev pub BeginsLongest : ℕ → List Element → Choice (Spelled TimedOp) → Choice (Spelled TimedOp) → Type 0
 BeginsLongest first handed old new = (count : ℕ) × IsLongestFront count handed
     × (new.next ≡ Some (longer old.now (first - 1) (timed_elements (take count handed))))
+
+-- How many steps that aren't refused are left until something is durable, where elements wait: a trim that is halfway is
+-- ended first, and a batch takes four.
+abbrev pub steps_in : phase.Phase → ℕ
+steps_in phase.Phase.Quiet = 4
+steps_in phase.Phase.BodyWritten = 3
+steps_in phase.Phase.BodySynced = 2
+steps_in phase.Phase.GateWritten = 1
+steps_in phase.Phase.TrimWritten = 5
+steps_in phase.Phase.Broken = 0
+
+abbrev pub steps_left : Journal → ℕ
+steps_left j = steps_in (value_of j).phase
+
+-- A step that wasn't refused came nearer to that, or it was the last one: the batch that was on its way stands.
+abbrev pub ComesNearer : Journal → Journal → Type 0
+ComesNearer old new = (steps_left new + 1 ≡ steps_left old) ⊎ ((steps_left old ≡ 1) × ((choice_of old).next ≡ Some (choice_of new).now))

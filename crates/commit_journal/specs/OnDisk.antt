@@ -1,5 +1,5 @@
 -- The journal's value, and what its phase says of its file.
-use Rattle.std.specs.Prelude.{◌≡◌, ◌≢◌, ℕ, ◌+◌, ◌<◌, ◌≤◌, List, [], ◌∷◌, ◌++◌, length, drop, Option, Some, None}
+use Rattle.std.specs.Prelude.{◌≡◌, ◌≢◌, ℕ, ◌+◌, ◌≤◌, List, [], ◌∷◌, ◌++◌, length, drop, Option, Some, None}
 use Rattle.prefix_law.specs.Promises.{Choice, Spelled, nothing, floor, top, settled, under_way, JournalOn}
 use Rattle.prefix_law.specs.Changes.{Element}
 use Rattle.prefix_law.specs.Files.{SpellsBy}

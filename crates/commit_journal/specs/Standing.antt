@@ -1,6 +1,5 @@
 -- What a journal keeps of what stands, or will stand.
-use Rattle.std.specs.Prelude.{◌≡◌, ℕ, ◌+◌, ◌≤◌, List}
-use Rattle.prefix_law.specs.Changes as law
+use Rattle.std.specs.Prelude.{◌≡◌, ℕ, ◌+◌, ◌≤◌}
 use Rattle.prefix_law.specs.Promises.{Spelled, top}
 use Rattle.engine_words.specs.Changes.{TimedOp}
 use Rattle.commit_journal.specs.Store.{room_of}

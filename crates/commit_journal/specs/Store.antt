@@ -1,17 +1,23 @@
 -- The text of a store's journal: its header, and its elements as the law of one prefix sees them.
-use Rattle.std.specs.Prelude.{ℕ, ◌+◌, List, ◌++◌, replicate, codes, sum_by, Option, option_map}
+use Rattle.std.specs.Prelude.{◌≡◌, ◌≤◌, ℕ, ◌+◌, List, length, ◌++◌, replicate, codes, sum_by, Option, None, option_map}
 use Rattle.byteorder.specs.Endian.{little_bytes}
-use Rattle.refusals.specs.declared.limits.TheConstants.{GREATEST_NUMBER}
+use Rattle.refusals.specs.declared.limits.TheConstants.{GREATEST_NUMBER, MOST_HIVES}
 use Rattle.reg_tree.specs.Texts.{op_text_len}
 use Rattle.prefix_law.specs.Changes as law
 use Rattle.element_text.specs.Text.{element_at}
 use Rattle.engine_words.specs.Changes.{TimedOp, timed_element}
-use Rattle.commit_journal.specs.Text.{Texts}
+use Rattle.commit_journal.specs.Text.{Texts, spelled}
 
 -- what a store's header holds: the 16 bytes of its id, and its number of hives
 pub record Store : Type 0 where
   pub id : List ℕ
   pub hives : ℕ
+
+-- a store has an id of 16 bytes, and 1 to 16 hives
+pub record IsStore (store : Store) : Type 0 where
+  pub id_is_whole : length store.id ≡ 16
+  pub some_hives : 1 ≤ store.hives
+  pub few_hives : store.hives ≤ MOST_HIVES
 
 -- the header: `KTMJRNL1`, the id, the number of hives in four bytes, and zeros up to 64 bytes
 abbrev pub header_text : Store → List ℕ
@@ -32,3 +38,7 @@ timed_len e = 16 + sum_by (λ o. op_text_len o.1.1) e
 -- the room of changes in a journal: 17 and its length for each
 abbrev pub room_of : List (law.Element TimedOp) → ℕ
 room_of es = sum_by (λ e. 17 + timed_len e) es
+
+-- the bytes are no store's journal
+abbrev pub SpellsNothing : List ℕ → Type 0
+SpellsNothing bytes = (store : Store) → IsStore store → spelled (texts store) bytes ≡ None

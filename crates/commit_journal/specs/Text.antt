@@ -1,5 +1,5 @@
 -- What a journal's bytes spell, by their layout alone: nothing here knows in which order they were written.
-use Rattle.std.specs.Prelude.{◌≡◌, ◌≢◌, ℕ, zero, suc, ◌+◌, ◌-◌, ◌≤◌, List, [], ◌∷◌, ◌++◌, length, take, drop, Bool, true, ◌==◌, ◌&&◌, nat_le, nat_eq, if◌then◌else◌, Option, Some, None, option_map}
+use Rattle.std.specs.Prelude.{◌≡◌, ℕ, zero, suc, ◌+◌, ◌-◌, List, [], ◌∷◌, ◌++◌, length, take, drop, Bool, true, ◌==◌, ◌&&◌, nat_le, nat_eq, if◌then◌else◌, Option, Some, None, option_map}
 use Rattle.std.specs.Option.{option_and_then}
 use Rattle.std.specs.List.{starts_with}
 use Rattle.byteorder.specs.Endian.{little_number, little_bytes}

@@ -1,7 +1,7 @@
-//! The two calls of the device that a journal makes.
-ghost use Rattle.std.specs.Prelude.{◌≡◌, ◌+◌, OnOk, OnErr, MatchResult};
+//! The calls of the device that a journal makes.
+ghost use Rattle.std.specs.Prelude.{◌≡◌, ◌+◌, ◌≤◌, ℕ, length, IfOk, OnOk, OnErr, MatchResult};
 ghost use Rattle.disk_model.specs.FileState.{Writes, MayWrite, Syncs};
-ghost use Rattle.disk_model.specs.Call.{OneCall};
+ghost use Rattle.disk_model.specs.Call.{OneCall, Extends, Reads};
 ghost use Rattle.disk_model.specs.StoreFiles.{IsJournal};
 
 use disk_model::{Disk, Failed};
@@ -36,4 +36,37 @@ pub(crate) fn sync<D: Disk>(disk: &mut D) -> Result<(), Failed>
     ensures faithful { D.faithful disk.new → D.faithful disk.old }
 {
     disk.sync(JOURNAL)
+}
+
+/// The length of the journal's file.
+pub(crate) fn len<D: Disk>(disk: &mut D) -> Result<u64, Failed>
+    ensures len { IfOk result (λ n. D.faithful disk.new →
+        n ≡ length (D.state_at disk.old (D.clock disk.old) 0).seen) }
+    ensures same { (f : ℕ) → D.state_at disk.new (D.clock disk.new) f
+        ≡ D.state_at disk.old (D.clock disk.old) f }
+    ensures time { Extends (D.state_at disk.old) (D.state_at disk.new) (D.clock disk.old)
+        (D.clock disk.new) }
+    ensures failures { MatchResult result (λ _. D.failures disk.new ≡ D.failures disk.old)
+        (λ _. D.failures disk.new ≡ D.failures disk.old + 1) }
+    ensures faithful { D.faithful disk.new → D.faithful disk.old }
+{
+    disk.len(JOURNAL)
+}
+
+/// Reads from an offset in the journal's file on into the front of a piece: answers how many bytes came.
+pub(crate) fn read<D: Disk>(disk: &mut D, offset: u64, piece: &mut Vec<u8>) -> Result<usize, Failed>
+    ensures size { length piece.new.items ≡ length piece.old.items }
+    ensures count { IfOk result (λ n. n ≤ length piece.new.items) }
+    ensures read { IfOk result (λ n. D.faithful disk.new →
+        Reads offset (D.state_at disk.old (D.clock disk.old) 0).seen
+        piece.old.items piece.new.items n) }
+    ensures same { (f : ℕ) → D.state_at disk.new (D.clock disk.new) f
+        ≡ D.state_at disk.old (D.clock disk.old) f }
+    ensures time { Extends (D.state_at disk.old) (D.state_at disk.new) (D.clock disk.old)
+        (D.clock disk.new) }
+    ensures failures { MatchResult result (λ _. D.failures disk.new ≡ D.failures disk.old)
+        (λ _. D.failures disk.new ≡ D.failures disk.old + 1) }
+    ensures faithful { D.faithful disk.new → D.faithful disk.old }
+{
+    disk.read(JOURNAL, offset, piece)
 }

@@ -1,8 +1,13 @@
 //! The header of a journal.
-ghost use Rattle.std.specs.Prelude.{◌≡◌, IfOk, length, codes};
-ghost use Rattle.commit_journal.specs.Store.{Store, header_text};
+ghost use Rattle.std.specs.Prelude.{◌≡◌, ◌≤◌, IfOk, MatchResult, length, take, codes};
+ghost use Rattle.refusals.specs.Answers.{RefusedFor};
+ghost use Rattle.refusals.specs.declared.refusal.Refusal.TheVariants.{JournalDamaged};
+ghost use Rattle.commit_journal.specs.Store.{Store, IsStore, header_text};
 
+use byteorder::{ByteOrder, LittleEndian};
 use element_text::put_u32;
+use refusals::Refusal;
+use refusals::limits::MOST_HIVES;
 use std::alloc::{AllocError, Global};
 use uuid::Uuid;
 
@@ -23,4 +28,29 @@ pub(crate) fn encode(alloc: Global, id: Uuid, hives: u8) -> Result<Vec<u8>, Allo
     put_u32(&mut header, u32::from(hives))?;
     header.extend_from_slice(&ZEROS)?;
     Ok(header)
+}
+
+/// The id and the number of hives of the store whose header bytes begin with. Refused with `JournalDamaged` where they begin
+/// with no store's, and with `NoMemory`.
+pub(crate) fn decode(alloc: Global, bytes: &[u8]) -> Result<(Uuid, u8), Refusal>
+    requires { 64 ≤ length bytes.now }
+    ensures { MatchResult result
+        (λ got. IsStore (record { id = got.0; hives = got.1 })
+        × (take 64 bytes.now ≡ header_text (record { id = got.0; hives = got.1 })))
+        (RefusedFor JournalDamaged ((store : Store) → IsStore store →
+        ¬ (take 64 bytes.now ≡ header_text store))) }
+{
+    let hives = LittleEndian::read_u32(&bytes[24..]);
+    if hives == 0 || hives > MOST_HIVES as u32 {
+        return Err(Refusal::JournalDamaged);
+    }
+    let hives = hives as u8;
+    let mut id = [0; 16];
+    id.copy_from_slice(&bytes[8..24]);
+    let id = Uuid::from_bytes(id);
+    let header = encode(alloc, id, hives)?;
+    if bytes[..64] != header[..] {
+        return Err(Refusal::JournalDamaged);
+    }
+    Ok((id, hives))
 }

@@ -1,5 +1,5 @@
 //! A journal on file 0 of a disk, and the steps of its batches and trims.
-ghost use Rattle.std.specs.Prelude.{[], ◌≡◌, ◌⊎◌, ◌↔◌, ◌+◌, ◌-◌, ◌<◌, ◌≤◌, ℕ, List, length, take, false, true, Some, None, Ok, Err, IfOk, IfErr};
+ghost use Rattle.std.specs.Prelude.{[], ◌≡◌, ◌⊎◌, ◌↔◌, ◌+◌, ◌-◌, ◌<◌, ◌≤◌, ℕ, List, length, take, false, true, Some, None, Ok, Err, IfOk, IfErr, OnOk};
 ghost use Rattle.prefix_law.specs.Promises.{nothing, settled, top, JournalSays, TrimSays};
 ghost use Rattle.prefix_law.specs.Changes as law;
 ghost use Rattle.disk_model.specs.Call.{OneCall, HasFailed, Extends};
@@ -8,7 +8,7 @@ ghost use Rattle.refusals.specs.declared.refusal.Refusal.TheVariants.{Faulted, N
 ghost use Rattle.refusals.specs.declared.limits.TheConstants.{MOST_HIVES};
 ghost use Rattle.engine_words.specs.Changes.{TimedOp, timed_elements};
 ghost use Rattle.engine_words.specs.Steps.{Says};
-ghost use Rattle.commit_journal.specs.OnDisk.{is_on, longer};
+ghost use Rattle.commit_journal.specs.OnDisk.{is_on, longer, value_at};
 ghost use Rattle.commit_journal.specs.Told.{elements_told};
 ghost use Rattle.commit_journal.specs.OnDisk as phase;
 ghost use Rattle.commit_journal.specs.Store.{texts, room_of};
@@ -66,7 +66,7 @@ pub struct Journal {
 }
 
 impl Journal {
-    ghost use Rattle.commit_journal.specs.Journals.{spelled_by, value_in, value_of, choice_of, store_of, texts_of, IsReady, BeginsLongest, IsTrimming, IsBroken};
+    ghost use Rattle.commit_journal.specs.Journals.{spelled_by, value_in, value_of, choice_of, store_of, texts_of, IsReady, BeginsLongest, IsTrimming, IsBroken, steps_left, ComesNearer};
 
     /// Makes the journal of a store: an empty one, whatever the file held. It is on the disk then.
     ///
@@ -105,6 +105,21 @@ impl Journal {
             stands: Standing::nothing(),
             phase: Phase::Quiet,
         })
+    }
+
+    /// The journal of what stands in a file that is at rest.
+    pub(crate) fn found(alloc: Global, id: Uuid, hives: u8, stands: Standing) -> Journal
+        ensures store { store_of result ≡ record { id = id; hives = hives } }
+        ensures value { value_of result ≡ value_at (spelled_by stands) nothing stands.gate stands.gate
+            phase.Phase.Quiet }
+    {
+        Journal {
+            alloc,
+            id,
+            hives,
+            stands,
+            phase: Phase::Quiet,
+        }
     }
 
     /// The id of the store.
@@ -176,9 +191,11 @@ impl Journal {
         ensures longest { (result ≡ Ok Progress.More) → (choice_of self.old).next ≡ None →
             BeginsLongest first handed.now (choice_of self.old) (choice_of self.new) }
         ensures faulted { (result ≡ Err Faulted) ↔ IsBroken self.old }
+        ensures still { (result ≡ Err Faulted) → disk.new ≡ disk.old }
         ensures on { D.faithful disk.new → is_on (texts_of self.old) (value_of self.old)
             (D.state_at disk.old (D.clock disk.old) 0) →
             is_on (texts_of self.old) (value_of self.new) (D.state_at disk.new (D.clock disk.new) 0) }
+        ensures nearer { OnOk result (0 < length handed.now → ComesNearer self.old self.new) }
         ensures same { store_of self.new ≡ store_of self.old }
         ensures call { OneCall IsJournal (D.state_at disk.old) (D.state_at disk.new)
             (D.clock disk.old) (D.clock disk.new) }
@@ -205,6 +222,7 @@ impl Journal {
             ⊎ ((choice_of self.old).next ≡ Some nothing) }
         ensures says { Says TrimSays result (choice_of self.old) (choice_of self.new) }
         ensures faulted { (result ≡ Err Faulted) ↔ IsBroken self.old }
+        ensures still { (result ≡ Err Faulted) → disk.new ≡ disk.old }
         ensures on { D.faithful disk.new → is_on (texts_of self.old) (value_of self.old)
             (D.state_at disk.old (D.clock disk.old) 0) →
             is_on (texts_of self.old) (value_of self.new) (D.state_at disk.new (D.clock disk.new) 0) }
@@ -229,6 +247,7 @@ impl Journal {
             (value_in self.old.stands (Phase.BodyWritten batch))
             (D.state_at disk.old (D.clock disk.old) 0) →
             is_on (texts_of self.old) (value_of self.new) (D.state_at disk.new (D.clock disk.new) 0) }
+        ensures nearer { OnOk result (steps_left self.new ≡ 2) }
         ensures same { store_of self.new ≡ store_of self.old }
         ensures unbroken { ¬ (result ≡ Err Faulted) }
         ensures call { OneCall IsJournal (D.state_at disk.old) (D.state_at disk.new)
@@ -256,6 +275,7 @@ impl Journal {
             (value_in self.old.stands (Phase.BodySynced batch))
             (D.state_at disk.old (D.clock disk.old) 0) →
             is_on (texts_of self.old) (value_of self.new) (D.state_at disk.new (D.clock disk.new) 0) }
+        ensures nearer { OnOk result (steps_left self.new ≡ 1) }
         ensures same { store_of self.new ≡ store_of self.old }
         ensures unbroken { ¬ (result ≡ Err Faulted) }
         ensures call { OneCall IsJournal (D.state_at disk.old) (D.state_at disk.new)
@@ -283,6 +303,7 @@ impl Journal {
             (value_in self.old.stands (Phase.GateWritten batch))
             (D.state_at disk.old (D.clock disk.old) 0) →
             is_on (texts_of self.old) (value_of self.new) (D.state_at disk.new (D.clock disk.new) 0) }
+        ensures stands { OnOk result ((choice_of self.new).now ≡ spelled_by batch.ahead) }
         ensures same { store_of self.new ≡ store_of self.old }
         ensures unbroken { ¬ (result ≡ Err Faulted) }
         ensures call { OneCall IsJournal (D.state_at disk.old) (D.state_at disk.new)
@@ -314,6 +335,7 @@ impl Journal {
             (value_in self.old.stands Phase.TrimWritten)
             (D.state_at disk.old (D.clock disk.old) 0) →
             is_on (texts_of self.old) (value_of self.new) (D.state_at disk.new (D.clock disk.new) 0) }
+        ensures nearer { OnOk result (steps_left self.new ≡ 4) }
         ensures same { store_of self.new ≡ store_of self.old }
         ensures unbroken { ¬ (result ≡ Err Faulted) }
         ensures call { OneCall IsJournal (D.state_at disk.old) (D.state_at disk.new)
@@ -398,6 +420,7 @@ impl Journal {
         ensures on { D.faithful disk.new → is_on (texts_of self.old) (value_of self.old)
             (D.state_at disk.old (D.clock disk.old) 0) →
             is_on (texts_of self.old) (value_of self.new) (D.state_at disk.new (D.clock disk.new) 0) }
+        ensures nearer { OnOk result (steps_left self.new ≡ 3) }
         ensures same { store_of self.new ≡ store_of self.old }
         ensures unbroken { ¬ (result ≡ Err Faulted) }
         ensures call { OneCall IsJournal (D.state_at disk.old) (D.state_at disk.new)
@@ -426,9 +449,11 @@ impl Journal {
         ensures trims { (choice_of self.old).next ≡ Some nothing →
             Says TrimSays result (choice_of self.old) (choice_of self.new) }
         ensures faulted { (result ≡ Err Faulted) ↔ IsBroken self.old }
+        ensures still { (result ≡ Err Faulted) → disk.new ≡ disk.old }
         ensures on { D.faithful disk.new → is_on (texts_of self.old) (value_of self.old)
             (D.state_at disk.old (D.clock disk.old) 0) →
             is_on (texts_of self.old) (value_of self.new) (D.state_at disk.new (D.clock disk.new) 0) }
+        ensures nearer { OnOk result (ComesNearer self.old self.new) }
         ensures same { store_of self.new ≡ store_of self.old }
         ensures call { OneCall IsJournal (D.state_at disk.old) (D.state_at disk.new)
             (D.clock disk.old) (D.clock disk.new) }

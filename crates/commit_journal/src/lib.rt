@@ -12,8 +12,12 @@ mod header;
 mod journal;
 pub mod laws;
 mod layout;
+mod reader;
+mod scanning;
 mod standing;
 mod told;
+mod window;
 
 pub use journal::Journal;
 pub use layout::{FIRST_GATE, MOST_BODY_BYTES, OPEN_GATE};
+pub use scanning::Opened;

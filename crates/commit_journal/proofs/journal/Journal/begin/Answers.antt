@@ -1,4 +1,4 @@
-use Rattle.std.proofs.Common.{◌≡◌, ◌∙◌, ◌+◌, List, ℕ, inl, sym, subst}
+use Rattle.std.proofs.Common.{◌+◌, List, ℕ, inl, sym, subst}
 use Rattle.prefix_law.specs.Promises.{under_way, BeginsBatch}
 use Rattle.disk_model.specs.FileState.{Writes, MayWrite}
 use Rattle.engine_words.specs.Changes.{timed_elements}

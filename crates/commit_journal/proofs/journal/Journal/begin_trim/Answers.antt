@@ -1,4 +1,4 @@
-use Rattle.std.proofs.Common.{◌≡◌, ◌∙◌, ℕ, refl, sym, ap, subst}
+use Rattle.std.proofs.Common.{ℕ, sym, subst}
 use Rattle.prefix_law.specs.Promises.{Spelled, nothing}
 use Rattle.engine_words.specs.Changes.{TimedOp}
 use Rattle.commit_journal.specs.OnDisk.{is_on, value_at}

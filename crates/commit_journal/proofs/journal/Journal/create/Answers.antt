@@ -1,4 +1,4 @@
-use Rattle.std.proofs.Common.{◌≡◌, ◌∙◌, ◌++◌, ◌∷◌, [], List, ℕ, ap}
+use Rattle.std.proofs.Common.{◌∙◌, ◌++◌, ◌∷◌, [], List, ℕ, ap}
 use Rattle.commit_journal.specs.Store.{Store}
 use Rattle.commit_journal.proofs.Created.{created_on}
 use Rattle.commit_journal.proofs.journal.Journal.create.Goals as goal

@@ -1,8 +1,9 @@
-use Rattle.std.proofs.Common.{◌≡◌, ◌∙◌, ap, subst}
+use Rattle.std.proofs.Common.{◌∙◌, inl, inr, sym, arith, Some, ap, subst}
 use Rattle.prefix_law.specs.Promises.{JournalSays}
 use Rattle.engine_words.specs.Steps.{Says}
-use Rattle.commit_journal.specs.Journals.{value_in, choice_of}
+use Rattle.commit_journal.specs.Journals.{value_in, choice_of, steps_in}
 use Rattle.commit_journal.specs.declared.journal.Phase.{Phase}
+use Rattle.commit_journal.proofs.Transitions.{ok_on}
 use Rattle.commit_journal.proofs.journal.Journal.go_on.Goals as goal
 
 pub returns-in-BodyWritten-clause-says : goal.returns-in-BodyWritten-clause-says
@@ -32,3 +33,18 @@ returns-in-GateWritten-clause-faulted g c =
 pub returns-in-TrimWritten-clause-faulted : goal.returns-in-TrimWritten-clause-faulted
 returns-in-TrimWritten-clause-faulted g c =
     (λ e. absurd (c.sync_trim.ensures.unbroken e), λ broken. absurd (let wrong = ap (λ (p : Phase). (value_in c.args.self.now.stands p).phase) c.in-TrimWritten.ensures.value ∙ broken in (cc)))
+
+pub returns-in-BodyWritten-clause-nearer : goal.returns-in-BodyWritten-clause-nearer
+returns-in-BodyWritten-clause-nearer g c = ok_on c.sync_body.result _ _ (λ left. inl (omega (arith, left, ap (λ (p : Phase). steps_in (value_in c.args.self.now.stands p).phase) c.in-BodyWritten.ensures.value))) c.sync_body.ensures.nearer
+
+pub returns-in-BodySynced-clause-nearer : goal.returns-in-BodySynced-clause-nearer
+returns-in-BodySynced-clause-nearer g c = ok_on c.open_gate.result _ _ (λ left. inl (omega (arith, left, ap (λ (p : Phase). steps_in (value_in c.args.self.now.stands p).phase) c.in-BodySynced.ensures.value))) c.open_gate.ensures.nearer
+
+pub returns-in-GateWritten-clause-nearer : goal.returns-in-GateWritten-clause-nearer
+returns-in-GateWritten-clause-nearer g c = ok_on c.sync_gate.result _ _ (λ stands. inr (
+  sym (ap (λ (p : Phase). steps_in (value_in c.args.self.now.stands p).phase) c.in-GateWritten.ensures.value),
+  sym (ap (λ (p : Phase). (value_in c.args.self.now.stands p).choice.next) c.in-GateWritten.ensures.value) ∙ ap Some (sym stands),
+)) c.sync_gate.ensures.stands
+
+pub returns-in-TrimWritten-clause-nearer : goal.returns-in-TrimWritten-clause-nearer
+returns-in-TrimWritten-clause-nearer g c = ok_on c.sync_trim.result _ _ (λ left. inl (omega (arith, left, ap (λ (p : Phase). steps_in (value_in c.args.self.now.stands p).phase) c.in-TrimWritten.ensures.value))) c.sync_trim.ensures.nearer

@@ -1,7 +1,6 @@
-use Rattle.std.proofs.Common.{◌≡◌, ◌∙◌, ℕ, refl, sym, ap, subst}
-use Rattle.prefix_law.specs.Promises.{Spelled, nothing}
-use Rattle.engine_words.specs.Changes.{TimedOp}
-use Rattle.commit_journal.specs.OnDisk.{is_on, value_at, Phase.Quiet, Phase.BodyWritten, Phase.BodySynced, Phase.GateWritten, Phase.TrimWritten, Phase.Broken}
+use Rattle.std.proofs.Common.{refl, sym, subst}
+use Rattle.prefix_law.specs.Promises.{nothing}
+use Rattle.commit_journal.specs.OnDisk.{is_on, value_at, Phase.GateWritten, Phase.Broken}
 use Rattle.commit_journal.specs.Journals.{spelled_by, texts_of}
 use Rattle.commit_journal.specs.declared.standing.Standing.{Standing}
 use Rattle.commit_journal.proofs.Calls as calls

@@ -1,4 +1,4 @@
-use Rattle.std.proofs.Common.{◌≡◌, ◌∙◌, ◌+◌, ◌-◌, ◌*◌, ◌++◌, ℕ, List, length, ap, sym, subst, arith}
+use Rattle.std.proofs.Common.{◌≡◌, ◌∙◌, ◌+◌, ◌-◌, ◌*◌, ◌++◌, List, length, ap, sym, subst, arith}
 use Rattle.prefix_law.specs.Changes as law
 use Rattle.prefix_law.specs.Promises.{Spelled, floor}
 use Rattle.engine_words.specs.Changes.{TimedOp, timed_elements}

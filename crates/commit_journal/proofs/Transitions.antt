@@ -1,0 +1,189 @@
+-- Each step of a reading, in the words of what is still to be read.
+use Rattle.std.proofs.Common.{◌≡◌, ◌≢◌, inl, inr, ⊎_elim, ℕ, ◌+◌, ◌-◌, ◌<◌, ◌≤◌, List, [], ◌∷◌, ◌++◌, length, take, drop, get_or, refl, sym, ◌∙◌, ap, subst, arith, length-append, length-take, length-drop, drop_of_length-le, Some, None}
+use Rattle.std.proofs.lemmas.List.{take-append-le, drop-append-le, take-take, map-append, length-map}
+use Rattle.std.proofs.lemmas.Option.{none-some}
+use Rattle.std.specs.Prelude.{Result, Ok, Err, OnOk, IfErr, sum_by}
+use Rattle.std.specs.List.{AllByRecursion}
+use Rattle.std.proofs.lemmas.List.Sums.{sum_by-cons, sum_by-append}
+use Rattle.refusals.specs.Answers.{RefusedFor}
+use Rattle.refusals.specs.declared.refusal.Refusal.{Refusal}
+use Rattle.reg_tree.specs.Texts.{element_text_len}
+use Rattle.byteorder.specs.Endian.{little_number}
+use Rattle.byteorder.specs.Numbers.{little_from-take, little_from-append}
+use Rattle.refusals.specs.declared.limits.TheConstants.{GREATEST_NUMBER}
+use Rattle.reg_tree.specs.declared.element.Element.{Element}
+use Rattle.prefix_law.specs.Changes as law
+use Rattle.prefix_law.specs.Promises.{Spelled, nothing, floor, top}
+use Rattle.element_text.specs.Text.{element_at, Fits}
+use Rattle.engine_words.specs.Changes.{TimedOp, timed_element, timed_elements}
+use Rattle.commit_journal.specs.Text.{Texts, spelled}
+use Rattle.commit_journal.specs.Store.{texts, timed_at}
+use Rattle.commit_journal.specs.OnDisk.{longer}
+use Rattle.commit_journal.specs.Journals.{spelled_by}
+use Rattle.commit_journal.specs.Reading.{AtGate, InBody, IsFound, GoesOn, in_part, KeepsElements, KeepsPart}
+use Rattle.commit_journal.specs.declared.standing.Standing.{Standing}
+use Rattle.commit_journal.specs.declared.reader.Part.{Part}
+use Rattle.commit_journal.proofs.Parts.{never, found_at, head_says, body_begins, no_end, no_element, in_body_on, body_done}
+use Rattle.commit_journal.proofs.Numbers.{floor_some}
+use Rattle.commit_journal.proofs.ElementsRead.{begins, whole}
+
+-- what is said of an answer, weakened
+pub ok_on : {X E : Type 0} (r : Result X E) (P Q : Type 0) → (P → Q) → OnOk r P → OnOk r Q
+ok_on (Ok x) P Q f p = f p
+ok_on (Err e) P Q f p = tt
+
+pub refused_on : {X : Type 0} (r : Result X Refusal) (why : Refusal) (P Q : Type 0) → (P → Q) → IfErr r (RefusedFor why P) → IfErr r (RefusedFor why Q)
+refused_on (Ok x) why P Q f p = tt
+refused_on (Err e) why P Q f p = ⊎_elim (λ a. inl (a.0, f a.1)) (λ b. inr b) p
+
+all_push : {X : Type 0} (P : X → Type 0) (xs : List X) (x : X) → AllByRecursion P xs → P x → AllByRecursion P (xs ++ x ∷ [])
+all_push P [] x all here = (here, tt)
+all_push P (y ∷ xs) x all here = (all.0, all_push P xs x all.1 here)
+
+-- one element more is kept
+pub keeps_more : (hives : ℕ) (now : Standing) (start : ℕ) (es xs : List Element) (e : Element) → KeepsElements hives now (take start es) es → start ≤ length es → Fits hives e → xs ≡ es ++ e ∷ [] → KeepsElements hives now (take start xs) xs
+keeps_more hives now start es xs e keeps inside fits is = subst (λ (l : List Element). KeepsElements hives now (take start l) l) (sym is) (record {
+  told = keeps.told ∙ ap timed_elements (sym (take-append-le start es (e ∷ []) inside));
+  fit = all_push (Fits hives) es e keeps.fit fits;
+  last = keeps.last;
+})
+
+pub part_more : (now : Standing) (es xs : List Element) (e : Element) (part : Part) (used : ℕ) → KeepsPart now es part → 1 ≤ part.count → used ≤ part.left → element_text_len e ≡ used → xs ≡ es ++ e ∷ []
+    → KeepsPart now xs (record { first = part.first; size = part.size; left = part.left - used; count = part.count - 1; start = part.start })
+part_more now es xs e part used keeps some inside is made =
+    let body : drop part.start xs ≡ drop part.start es ++ e ∷ [] = ap (drop part.start) made ∙ drop-append-le part.start es (e ∷ []) keeps.start in
+    let count : length (drop part.start xs) ≡ length (drop part.start es) + 1 = omega (arith, ap (λ (l : List Element). length l) body, length-append (drop part.start es) (e ∷ [])) in
+    let sum : sum_by element_text_len (drop part.start xs) ≡ sum_by element_text_len (drop part.start es) + element_text_len e
+    = ap (λ (l : List Element). sum_by element_text_len l) body ∙ sum_by-append element_text_len (drop part.start es) (e ∷ []) ∙ ap (λ (n : ℕ). sum_by element_text_len (drop part.start es) + n) (omega (arith, sum_by-cons element_text_len e [])) in
+    record {
+      start = omega (arith, keeps.start, ap (λ (l : List Element). length l) made, length-append es (e ∷ []));
+      number = keeps.number;
+      ends = keeps.ends;
+      some = omega (arith, count);
+      most = omega (arith, count, keeps.most, some);
+      size = omega (arith, keeps.size, sum, is, inside);
+      short = keeps.short;
+    }
+
+-- the first of some bytes
+pub gate_front : (bytes : List ℕ) → 1 ≤ length bytes → bytes ≡ get_or bytes 0 0 ∷ drop 1 bytes
+gate_front [] some = absurd (omega (arith, some))
+gate_front (b ∷ bytes) some = refl
+
+-- the last number with a body more
+pub last_is : (s : Spelled TimedOp) (d : ℕ) (es : List (law.Element TimedOp)) → 0 < length es → top d s ≡ d → top 0 (longer s d es) ≡ d + length es
+last_is s d es some ends =
+    let all : length (s.elements ++ es) ≡ length s.elements + length es = length-append s.elements es in
+    omega (arith, floor_some 0 (floor d s) (s.elements ++ es) (omega (arith, all, some)), all, ends)
+
+-- a number in the front of bytes, whatever is behind them
+pub number_front : (n k : ℕ) (bytes behind : List ℕ) → n + k ≤ length bytes → little_number k (drop n bytes) ≡ little_number k (drop n (bytes ++ behind))
+number_front n k bytes behind long =
+    sym (ap (little_number k) (drop-append-le n bytes behind (omega (arith, long))) ∙ little_from-append k (drop n bytes) behind (omega (arith, long, length-drop n bytes)))
+
+module _ (id : List ℕ) (hives : ℕ) (le : hives ≤ 256) (file : List ℕ) (now : Standing) where
+  abbrev t : Texts TimedOp
+  t = texts (record { id = id; hives = hives })
+
+  -- a gate
+  pub gate_shut : (bytes behind : List ℕ) (gate : ℕ) (tail : List ℕ) → bytes ≡ gate ∷ tail → gate ≢ 0xc3 → AtGate t file (spelled_by now) now.gate (bytes ++ behind) → IsFound t file now
+  gate_shut bytes behind gate tail is shut here =
+      let f = found_at t file (spelled_by now) now.gate gate (tail ++ behind) (subst (λ (l : List ℕ). AtGate t file (spelled_by now) now.gate (l ++ behind)) is here) shut in
+      record { spells = f.0; on = f.1 nothing now.gate }
+
+  pub gate_open : (bytes behind : List ℕ) (gate : ℕ) (tail : List ℕ) → bytes ≡ gate ∷ tail → gate ≡ 0xc3 → AtGate t file (spelled_by now) now.gate (bytes ++ behind) → AtGate t file (spelled_by now) now.gate (0xc3 ∷ tail ++ behind)
+  gate_open bytes behind gate tail is opened here = subst (λ (l : List ℕ). AtGate t file (spelled_by now) now.gate (l ++ behind)) (is ∙ ap (λ (g : ℕ). g ∷ tail) opened) here
+
+  module _ (es : List Element) (bytes behind : List ℕ) (size first count left : ℕ) (long : 16 ≤ length bytes) (size_is : size ≡ little_number 4 bytes) (first_is : first ≡ little_number 8 (drop 4 bytes)) (count_is : count ≡ little_number 4 (drop 12 bytes))
+      (left_is : left ≡ length bytes + length behind) (here : AtGate t file (spelled_by now) now.gate (0xc3 ∷ bytes ++ behind)) where
+    all : List ℕ
+    all = bytes ++ behind
+
+    a : size ≡ little_number 4 (bytes ++ behind)
+    a = size_is ∙ number_front 0 4 bytes behind (omega (arith, long))
+
+    b : first ≡ little_number 8 (drop 4 (bytes ++ behind))
+    b = first_is ∙ number_front 4 8 bytes behind (omega (arith, long))
+
+    c : count ≡ little_number 4 (drop 12 (bytes ++ behind))
+    c = count_is ∙ number_front 12 4 bytes behind (omega (arith, long))
+
+    -- a head
+    pub head_on : (start : ℕ) → start ≡ length es → 16 ≤ size → size ≤ 8388608 → size ≤ left
+        → in_part t file now es (record { first = first; size = size; left = size - 16; count = count; start = start }) (drop 16 bytes ++ behind)
+    head_on start is low high there =
+        let rest : drop 16 (bytes ++ behind) ≡ drop 16 bytes ++ behind = drop-append-le 16 bytes behind long in
+        let none : timed_elements (drop start es) ≡ [] = ap timed_elements (drop_of_length-le es (omega (arith, is))) in
+        let body : InBody t file (spelled_by now) now.gate size first [] (size - 16) count (drop 16 (bytes ++ behind)) = record {
+          bytes = bytes ++ behind;
+          gate = here;
+          reads = body_begins t (bytes ++ behind) size first count a b c low high (omega (arith, left_is, there, length-append bytes behind));
+          there = omega (arith, length-drop 16 (bytes ++ behind), length-append bytes behind, left_is, there);
+          length_is = omega (arith, length-drop 16 (bytes ++ behind), length-append bytes behind, left_is, there, low, long);
+        } in
+        subst (λ (l : List (law.Element TimedOp)). InBody t file (spelled_by now) now.gate size first l (size - 16) count (drop 16 bytes ++ behind)) (sym none)
+        (subst (λ (l : List ℕ). InBody t file (spelled_by now) now.gate size first [] (size - 16) count l) rest body)
+
+    pub head_none : ((16 ≤ size) → (size ≤ 8388608) → (size ≤ left) → GoesOn GREATEST_NUMBER (spelled_by now) first count → ⊥) → spelled t file ≡ None
+    head_none no_way = never (spelled t file) (λ x e.
+        let h = head_says t file (spelled_by now) x now.gate (bytes ++ behind) size first count a b c here e in
+        no_way h.low h.high (omega (arith, h.there, left_is, length-append bytes behind)) h.goes)
+
+  module _ (es : List Element) (part : Part) (rest : List ℕ) (here : in_part t file now es part rest) where
+    abbrev taken : List (law.Element TimedOp)
+    taken = timed_elements (drop part.start es)
+
+    unread : 1 ≤ part.count → ((one : law.Element TimedOp × List ℕ) → timed_at hives (take part.left rest) ≡ Some one → ⊥) → spelled t file ≡ None
+    unread some no_way = no_element t file (spelled_by now) now.gate part.size part.first taken part.left part.count rest here some (never (timed_at hives (take part.left rest)) no_way)
+
+    long : length (take part.left rest) ≡ part.left
+    long = omega (arith, length-take part.left rest, here.there)
+
+    pub part_none : 1 ≤ part.count → part.left < 16 → spelled t file ≡ None
+    part_none some few = unread some (λ one h. let g = begins hives le (take part.left rest) one h in omega (arith, g.low, g.there, long, few))
+
+    pub size_none : 1 ≤ part.count → 16 ≤ part.left → (16 ≤ little_number 4 rest → little_number 4 rest ≤ part.left → ⊥) → spelled t file ≡ None
+    size_none some enough no_way = unread some (λ one h.
+        let g = begins hives le (take part.left rest) one h in
+        let n : little_number 4 (take part.left rest) ≡ little_number 4 rest = little_from-take 0 4 part.left rest (omega (arith, enough)) in
+        no_way (omega (arith, n, g.low)) (omega (arith, n, g.there, long)))
+
+    pub end_none : part.count ≡ 0 → 0 < part.left → spelled t file ≡ None
+    end_none none more = no_end t file (spelled_by now) now.gate part.size part.first taken part.left part.count rest here none more
+
+    pub end_on : part.count ≡ 0 → part.left ≡ 0 → KeepsPart now es part → (then : Standing) → spelled_by then ≡ longer (spelled_by now) (part.first - 1) taken → then.gate ≡ now.gate + 1 + part.size → AtGate t file (spelled_by then) then.gate rest
+    end_on none empty keeps then spells gate =
+        let body : InBody t file (spelled_by now) now.gate part.size part.first taken 0 0 rest
+        = subst (λ (n : ℕ). InBody t file (spelled_by now) now.gate part.size part.first taken 0 n rest) none (subst (λ (n : ℕ). InBody t file (spelled_by now) now.gate part.size part.first taken n part.count rest) empty here) in
+        let count : length taken ≡ length (drop part.start es) = length-map (drop part.start es) timed_element in
+        let goes : GoesOn GREATEST_NUMBER (spelled_by now) part.first (length taken)
+        = record { one = keeps.number; ends = keeps.ends; some = omega (arith, keeps.some, count, none); room = omega (arith, keeps.most, count, none) } in
+        subst (λ (s : Spelled TimedOp). AtGate t file s then.gate rest) (sym spells)
+        (subst (λ (n : ℕ). AtGate t file (longer (spelled_by now) (part.first - 1) taken) n rest) (sym gate)
+        (body_done t file (spelled_by now) now.gate part.size part.first taken rest body goes))
+
+  module _ (es : List Element) (part : Part) (len : ℕ) (bytes behind : List ℕ) (here : in_part t file now es part (bytes ++ behind)) (len_is : little_number 4 (bytes ++ behind) ≡ len) (some : 1 ≤ part.count) (low : 16 ≤ len) (high : len ≤ part.left) (there : len ≤ length bytes) where
+    front : take len (bytes ++ behind) ≡ take len bytes
+    front = take-append-le len bytes behind there
+
+    pub text_none : element_at hives (take len bytes) ≡ None → spelled t file ≡ None
+    text_none none = unread es part (bytes ++ behind) here some (λ one h.
+        let g = begins hives le (take part.left (bytes ++ behind)) one h in
+        let n : little_number 4 (take part.left (bytes ++ behind)) ≡ len = little_from-take 0 4 part.left (bytes ++ behind) (omega (arith, low, high)) ∙ len_is in
+        let same : take (little_number 4 (take part.left (bytes ++ behind))) (take part.left (bytes ++ behind)) ≡ take len bytes
+        = ap (λ (k : ℕ). take k (take part.left (bytes ++ behind))) n ∙ take-take len part.left (bytes ++ behind) high ∙ front in
+        none-some (g.element, []) (sym none ∙ ap (element_at hives) (sym same) ∙ g.read))
+
+    pub text_on : (e : Element) (over : List ℕ) (xs : List Element) → element_at hives (take len bytes) ≡ Some (e, over) → part.start ≤ length es → xs ≡ es ++ e ∷ []
+        → in_part t file now xs (record { first = part.first; size = part.size; left = part.left - (len - length over); count = part.count - 1; start = part.start }) (drop len bytes ++ behind)
+    text_on e over xs read start is =
+        let w = whole hives le (bytes ++ behind) len e over len_is low (omega (arith, there, length-append bytes behind)) (ap (element_at hives) front ∙ read) in
+        let more = part.count - 1 in
+        let on = in_body_on t file (spelled_by now) now.gate part.size part.first (timed_elements (drop part.start es)) part.left part.count (bytes ++ behind) here (timed_element e) len more (omega (arith, some)) high (w.1 part.left high) in
+        let rest : drop len (bytes ++ behind) ≡ drop len bytes ++ behind = drop-append-le len bytes behind there in
+        let left : part.left - len ≡ part.left - (len - length over) = omega (arith, ap (λ (l : List ℕ). length l) w.0) in
+        let taken : timed_elements (drop part.start es) ++ timed_element e ∷ [] ≡ timed_elements (drop part.start xs)
+        = sym (ap timed_elements (ap (drop part.start) is ∙ drop-append-le part.start es (e ∷ []) start) ∙ map-append timed_element (drop part.start es) (e ∷ [])) in
+        subst (λ (l : List (law.Element TimedOp)). InBody t file (spelled_by now) now.gate part.size part.first l (part.left - (len - length over)) more (drop len bytes ++ behind)) taken
+        (subst (λ (n : ℕ). InBody t file (spelled_by now) now.gate part.size part.first (timed_elements (drop part.start es) ++ timed_element e ∷ []) n more (drop len bytes ++ behind)) left
+        (subst (λ (l : List ℕ). InBody t file (spelled_by now) now.gate part.size part.first (timed_elements (drop part.start es) ++ timed_element e ∷ []) (part.left - len) more l) rest on))

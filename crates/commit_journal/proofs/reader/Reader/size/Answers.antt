@@ -1,0 +1,18 @@
+use Rattle.std.proofs.Common.{◌++◌, inl, refl, arith}
+use Rattle.commit_journal.proofs.Transitions.{number_front, size_none}
+use Rattle.commit_journal.proofs.reader.Reader.size.Goals as goal
+use Rattle.commit_journal.proofs.reader.Reader.size.Goals.{then-len-lt-LEAST_ELEMENT_BYTES-via-then-len-lt-LEAST_ELEMENT_BYTES, then-len-lt-LEAST_ELEMENT_BYTES-via-else-len-lt-LEAST_ELEMENT_BYTES+then-len-part}
+
+pub returns-then-len-lt-LEAST_ELEMENT_BYTES-clause-refused : goal.returns-then-len-lt-LEAST_ELEMENT_BYTES-clause-refused
+returns-then-len-lt-LEAST_ELEMENT_BYTES-clause-refused c = inl (
+  refl,
+  λ id file behind here.
+      let r = c.args.self.now in
+      let bytes = c.args.bytes.now in
+      let n = number_front 0 4 bytes behind c.requires.there in
+      let k = c.requires.keeps.1.1 in
+      size_none id r.hives r.few file r.stands r.elements.items c.args.part (bytes ++ behind) here k.0 k.1 (λ low high. elim c.then-len-lt-LEAST_ELEMENT_BYTES.branch [
+        | then-len-lt-LEAST_ELEMENT_BYTES-via-then-len-lt-LEAST_ELEMENT_BYTES w ↦ omega (arith, n, low, c.from-len.ensures, c.read_u32.ensures, w.if-len-lt-LEAST_ELEMENT_BYTES.true)
+        | then-len-lt-LEAST_ELEMENT_BYTES-via-else-len-lt-LEAST_ELEMENT_BYTES+then-len-part w ↦ omega (arith, n, high, c.from-len.ensures, c.read_u32.ensures, w.if-len-part.true)
+      ]),
+)

@@ -1,0 +1,178 @@
+//! The opening of a journal: what its file spells.
+ghost use Rattle.std.specs.Prelude.{◌≡◌, ◌+◌, ◌<◌, ◌≤◌, ℕ, List, length, None, Some, IfOk, IfErr, OnOk, ◌⊎◌};
+ghost use Rattle.std.specs.List.{AllByRecursion};
+ghost use Rattle.prefix_law.specs.Promises.{settled, top};
+ghost use Rattle.refusals.specs.declared.limits.TheConstants.{GREATEST_NUMBER};
+ghost use Rattle.disk_model.specs.FileState.{Syncs, at_rest};
+ghost use Rattle.disk_model.specs.Call.{Extends};
+ghost use Rattle.disk_model.specs.StoreFiles.{IsJournal};
+ghost use Rattle.element_text.specs.Text.{Fits};
+ghost use Rattle.engine_words.specs.Changes.{timed_elements};
+ghost use Rattle.commit_journal.specs.Text.{spelled};
+ghost use Rattle.commit_journal.specs.Store.{IsStore, SpellsNothing, texts};
+ghost use Rattle.commit_journal.specs.OnDisk.{is_on};
+ghost use Rattle.commit_journal.specs.Journals.{value_of, choice_of, store_of, texts_of};
+ghost use Rattle.commit_journal.specs.Reading.{Keeps, IsReading, texts_for};
+ghost use Rattle.commit_journal.specs.Windows.{seen_at, rest_of, FailsBy};
+ghost use Rattle.commit_journal.specs.declared.reader.Next.TheVariants as next;
+
+use crate::journal::Journal;
+use crate::reader::Reader;
+use crate::window::Window;
+use crate::{device, header};
+use disk_model::Disk;
+use refusals::Refusal;
+use reg_tree::Element;
+use std::alloc::Global;
+
+/// A journal that was opened, and what it spells.
+#[derive(Drop)]
+pub struct Opened {
+    /// The journal.
+    pub journal: Journal,
+    /// The number below that of the first element.
+    pub below: u64,
+    /// The elements, numbered without a gap from there on.
+    pub elements: Vec<Element>,
+}
+
+/// The bytes of a header.
+const HEADER_BYTES: usize = 64;
+
+impl Journal {
+    /// Opens the journal of a store: what the file spells, with the journal that goes on from there.
+    ///
+    /// The file is synced, and then read in pieces of at most 65,536 bytes, from its beginning to the first gate that isn't
+    /// open. Nothing is allocated by a length that stands in the file before the file is known to have so many bytes.
+    ///
+    /// Refused with `JournalDamaged` exactly where the bytes are no store's journal, with `DiskFault` where the device
+    /// failed, and with `NoMemory`. No file changes but by the sync.
+    pub fn open<D: Disk>(alloc: Global, disk: &mut D) -> Result<Opened, Refusal>
+        ensures store { IfOk result (λ opened. IsStore (store_of opened.journal)) }
+        ensures choice { IfOk result (λ opened. choice_of opened.journal ≡ settled (record {
+          below = opened.below;
+          elements = timed_elements opened.elements.items;
+        })) }
+        ensures fit { IfOk result (λ opened.
+            AllByRecursion (Fits (store_of opened.journal).hives) opened.elements.items) }
+        ensures numbers { IfOk result (λ opened.
+            top 0 (choice_of opened.journal).now ≤ GREATEST_NUMBER) }
+        ensures spells { IfOk result (λ opened. D.faithful disk.new →
+            spelled (texts_of opened.journal) (seen_at (D.state_at disk.old) (D.clock disk.old))
+            ≡ Some (choice_of opened.journal).now) }
+        ensures on { IfOk result (λ opened. D.faithful disk.new →
+            is_on (texts_of opened.journal) (value_of opened.journal)
+            (D.state_at disk.new (D.clock disk.new) 0)) }
+        ensures fails { IfErr result (FailsBy (D.failures disk.old < D.failures disk.new)
+            (D.faithful disk.new →
+            SpellsNothing (seen_at (D.state_at disk.old) (D.clock disk.old)))) }
+        ensures synced { D.faithful disk.new →
+            (D.state_at disk.new (D.clock disk.new) 0 ≡ D.state_at disk.old (D.clock disk.old) 0)
+            ⊎ Syncs (D.state_at disk.old (D.clock disk.old) 0)
+            (D.state_at disk.new (D.clock disk.new) 0) }
+        ensures others { (f : ℕ) → ¬ (IsJournal f) →
+            D.state_at disk.new (D.clock disk.new) f ≡ D.state_at disk.old (D.clock disk.old) f }
+        ensures time { Extends (D.state_at disk.old) (D.state_at disk.new) (D.clock disk.old)
+            (D.clock disk.new) }
+        ensures faithful { D.faithful disk.new → D.faithful disk.old }
+    {
+        device::sync(disk)?;
+        read(alloc, disk)
+    }
+}
+
+/// What the journal's file spells, which is at rest.
+fn read<D: Disk>(alloc: Global, disk: &mut D) -> Result<Opened, Refusal>
+    ensures store { IfOk result (λ opened. IsStore (store_of opened.journal)) }
+    ensures choice { IfOk result (λ opened. choice_of opened.journal ≡ settled (record {
+      below = opened.below;
+      elements = timed_elements opened.elements.items;
+    })) }
+    ensures fit { IfOk result (λ opened.
+        AllByRecursion (Fits (store_of opened.journal).hives) opened.elements.items) }
+    ensures numbers { IfOk result (λ opened.
+        top 0 (choice_of opened.journal).now ≤ GREATEST_NUMBER) }
+    ensures spells { IfOk result (λ opened. D.faithful disk.new →
+        spelled (texts_of opened.journal) (seen_at (D.state_at disk.old) (D.clock disk.old))
+        ≡ Some (choice_of opened.journal).now) }
+    ensures on { IfOk result (λ opened. D.faithful disk.new →
+        is_on (texts_of opened.journal) (value_of opened.journal)
+        (at_rest (seen_at (D.state_at disk.old) (D.clock disk.old)))) }
+    ensures fails { IfErr result (FailsBy (D.failures disk.old < D.failures disk.new)
+        (D.faithful disk.new →
+        SpellsNothing (seen_at (D.state_at disk.old) (D.clock disk.old)))) }
+    ensures same { (f : ℕ) → D.state_at disk.new (D.clock disk.new) f
+        ≡ D.state_at disk.old (D.clock disk.old) f }
+    ensures time { Extends (D.state_at disk.old) (D.state_at disk.new) (D.clock disk.old)
+        (D.clock disk.new) }
+    ensures failures { D.failures disk.old ≤ D.failures disk.new }
+    ensures faithful { D.faithful disk.new → D.faithful disk.old }
+{
+    let end = device::len(disk)?;
+    let mut window = Window::new(alloc, end)?;
+    match window.fill(disk, HEADER_BYTES) {
+        Ok(()) => {}
+        Err(why) => return Err(why),
+    }
+    let (id, hives) = match header::decode(alloc, window.bytes()) {
+        Ok(store) => store,
+        Err(why) => return Err(why),
+    };
+    window.skip(HEADER_BYTES);
+    let mut reader = Reader::new(alloc, hives);
+    match scan(disk, &mut window, &mut reader) {
+        Ok(()) => {}
+        Err(why) => return Err(why),
+    }
+    let Reader {
+        stands,
+        elements,
+        ..
+    } = reader;
+    let below = stands.below;
+    let journal = Journal::found(alloc, id, hives, stands);
+    Ok(Opened {
+        journal,
+        below,
+        elements,
+    })
+}
+
+/// Reads on to the end of what counts.
+fn scan<D: Disk>(disk: &mut D, window: &mut Window, reader: &mut Reader) -> Result<(), Refusal>
+    requires keeps { Keeps reader.old }
+    ensures done { OnOk result (reader.new.next ≡ next.Done) }
+    ensures keeps { OnOk result (Keeps reader.new) }
+    ensures hives { reader.new.hives ≡ reader.old.hives }
+    ensures reads { OnOk result (D.faithful disk.new →
+        window.old.end ≡ length (seen_at (D.state_at disk.old) (D.clock disk.old)) →
+        (id : List ℕ) → IsReading id (seen_at (D.state_at disk.old) (D.clock disk.old)) reader.old
+        (rest_of (seen_at (D.state_at disk.old) (D.clock disk.old)) window.old) →
+        IsReading id (seen_at (D.state_at disk.old) (D.clock disk.old)) reader.new
+        (rest_of (seen_at (D.state_at disk.old) (D.clock disk.old)) window.new)) }
+    ensures fails { IfErr result (FailsBy (D.failures disk.old < D.failures disk.new)
+        (D.faithful disk.new →
+        window.old.end ≡ length (seen_at (D.state_at disk.old) (D.clock disk.old)) →
+        (id : List ℕ) → IsReading id (seen_at (D.state_at disk.old) (D.clock disk.old)) reader.old
+        (rest_of (seen_at (D.state_at disk.old) (D.clock disk.old)) window.old) →
+        spelled (texts_for id reader.old) (seen_at (D.state_at disk.old) (D.clock disk.old))
+        ≡ None)) }
+    ensures same { (f : ℕ) → D.state_at disk.new (D.clock disk.new) f
+        ≡ D.state_at disk.old (D.clock disk.old) f }
+    ensures time { Extends (D.state_at disk.old) (D.state_at disk.new) (D.clock disk.old)
+        (D.clock disk.new) }
+    ensures failures { D.failures disk.old ≤ D.failures disk.new }
+    ensures faithful { D.faithful disk.new → D.faithful disk.old }
+{
+    'reading: while !reader.is_done() {
+        match window.fill(disk, reader.wants()) {
+            Ok(()) => {}
+            Err(why) => return Err(why),
+        }
+        match reader.take(window.bytes(), window.left()) {
+            Ok(taken) => window.skip(taken),
+            Err(why) => return Err(why),
+        }
+    }
+    Ok(())
+}
