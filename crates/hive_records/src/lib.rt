@@ -32,6 +32,7 @@ pub use joined_laws::{big_data_go_on, descriptors_go_on, keys_go_on, lists_go_on
 pub use key_node::KeyNode;
 pub use key_places::KeyPlaces;
 pub use names::is_latin;
+pub use numbers::word_at;
 pub use reading_laws::{follows, loops};
 pub use security_cell::Security;
 pub use stored_name::StoredName;

@@ -17,7 +17,7 @@ pub(crate) fn half_at(bytes: &[u8], at: usize) -> u16
 
 /// The number of the four bytes that begin at an offset.
 #[tactic(auto, unfolding(hive_cells::specs::Tiles::word_at))]
-pub(crate) fn word_at(bytes: &[u8], at: usize) -> u32
+pub fn word_at(bytes: &[u8], at: usize) -> u32
     requires { at + 4 ≤ length bytes.now }
     ensures { result ≡ word_at bytes.now at }
 {

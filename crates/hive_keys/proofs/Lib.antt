@@ -1,0 +1,12 @@
+pub mod Looked
+pub mod Kit
+pub mod Counted
+pub mod Loops
+pub mod ValueSteps
+pub mod BigSteps
+pub mod Apart
+pub mod AllValues
+pub mod ListSteps
+pub mod KeySteps
+pub mod KeyTold
+pub mod Listed

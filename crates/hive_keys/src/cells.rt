@@ -1,0 +1,61 @@
+//! Cells, each looked at once.
+ghost use Rattle.std.specs.Prelude.{◌≡◌, ◌≤◌, ◌*◌, length};
+ghost use Rattle.hive_records.specs.Readers.{look};
+ghost use Rattle.hive_records.specs.Values.{piece};
+ghost use Rattle.hive_keys.specs.Reading.{Reads, Works};
+
+use hive_cells::{Image, Looks};
+use refusals::{Cause, Refusal};
+
+// each cell begins at a multiple of so many bytes
+const FLAGGED_BYTES: usize = 8;
+
+const _: () = prove!(FLAGGED_BYTES == 8);
+
+/// The data of the allocated cell at an offset, which is marked, and had no mark before.
+pub(crate) fn look_once<'a>(
+    image: &'a Image,
+    seen: &mut [bool],
+    looks: &mut Looks,
+    at: u32,
+) -> Result<&'a [u8], Refusal>
+    requires covers { length image.now.bytes ≤ 8 * length seen.old }
+    ensures reads { Reads (λ lent. lent.now) (look at) image.now.bytes seen.old seen.new result }
+    ensures covers { length seen.new ≡ length seen.old }
+    ensures works { Works looks.old looks.new seen.old seen.new result }
+{
+    let bytes = match image.cell(at, looks) {
+        Ok(bytes) => bytes,
+        Err(refusal) => return Err(refusal),
+    };
+    let slot = at as usize / FLAGGED_BYTES;
+    if seen[slot] {
+        return Err(Refusal::from(Cause::Shared));
+    }
+    seen[slot] = true;
+    Ok(bytes)
+}
+
+/// The first bytes of the cell at an offset, which has so many.
+pub(crate) fn piece<'a>(
+    image: &'a Image,
+    seen: &mut [bool],
+    looks: &mut Looks,
+    size: usize,
+    at: u32,
+) -> Result<&'a [u8], Refusal>
+    requires covers { length image.now.bytes ≤ 8 * length seen.old }
+    ensures reads { Reads (λ lent. lent.now) (piece size at) image.now.bytes seen.old seen.new
+        result }
+    ensures covers { length seen.new ≡ length seen.old }
+    ensures works { Works looks.old looks.new seen.old seen.new result }
+{
+    let bytes = match look_once(image, seen, looks, at) {
+        Ok(bytes) => bytes,
+        Err(refusal) => return Err(refusal),
+    };
+    if bytes.len() < size {
+        return Err(Refusal::from(Cause::BadRecord));
+    }
+    Ok(&bytes[..size])
+}
