@@ -4,11 +4,7 @@
 #[cfg(test)]
 mod disk_tests;
 mod gated_log;
-mod journal_steps;
-#[cfg(test)]
-mod journal_tests;
 #[cfg(test)]
 mod log_tests;
 
 pub use gated_log::{append, create};
-pub use journal_steps::{may_hand, step};
