@@ -78,6 +78,14 @@ steps_in phase.Phase.Broken = 0
 abbrev pub steps_left : Journal → ℕ
 steps_left j = steps_in (value_of j).phase
 
+-- The batch that was on its way stands.
+abbrev pub NowStands : Journal → Journal → Type 0
+NowStands old new = (steps_left old ≡ 1) × ((choice_of old).next ≡ Some (choice_of new).now)
+
 -- A step that wasn't refused came nearer to that, or it was the last one: the batch that was on its way stands.
 abbrev pub ComesNearer : Journal → Journal → Type 0
-ComesNearer old new = (steps_left new + 1 ≡ steps_left old) ⊎ ((steps_left old ≡ 1) × ((choice_of old).next ≡ Some (choice_of new).now))
+ComesNearer old new = (steps_left new + 1 ≡ steps_left old) ⊎ NowStands old new
+
+-- In the first so many of some steps a batch was made to stand. These are the journals before each step.
+abbrev pub StoodWithin : ℕ → (ℕ → Journal) → Type 0
+StoodWithin count journals = (k : ℕ) × (k < count) × NowStands (journals k) (journals (k + 1))

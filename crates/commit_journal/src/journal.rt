@@ -191,6 +191,7 @@ impl Journal {
         ensures longest { (result ≡ Ok Progress.More) → (choice_of self.old).next ≡ None →
             BeginsLongest first handed.now (choice_of self.old) (choice_of self.new) }
         ensures faulted { (result ≡ Err Faulted) ↔ IsBroken self.old }
+        ensures broken { IsBroken self.new ↔ (IsBroken self.old ⊎ (result ≡ Err DiskFault)) }
         ensures still { (result ≡ Err Faulted) → disk.new ≡ disk.old }
         ensures on { D.faithful disk.new → is_on (texts_of self.old) (value_of self.old)
             (D.state_at disk.old (D.clock disk.old) 0) →
@@ -222,6 +223,7 @@ impl Journal {
             ⊎ ((choice_of self.old).next ≡ Some nothing) }
         ensures says { Says TrimSays result (choice_of self.old) (choice_of self.new) }
         ensures faulted { (result ≡ Err Faulted) ↔ IsBroken self.old }
+        ensures broken { IsBroken self.new ↔ (IsBroken self.old ⊎ (result ≡ Err DiskFault)) }
         ensures still { (result ≡ Err Faulted) → disk.new ≡ disk.old }
         ensures on { D.faithful disk.new → is_on (texts_of self.old) (value_of self.old)
             (D.state_at disk.old (D.clock disk.old) 0) →
@@ -250,6 +252,7 @@ impl Journal {
         ensures nearer { OnOk result (steps_left self.new ≡ 2) }
         ensures same { store_of self.new ≡ store_of self.old }
         ensures unbroken { ¬ (result ≡ Err Faulted) }
+        ensures breaks { IsBroken self.new ↔ (result ≡ Err DiskFault) }
         ensures call { OneCall IsJournal (D.state_at disk.old) (D.state_at disk.new)
             (D.clock disk.old) (D.clock disk.new) }
         ensures failures { HasFailed result (D.failures disk.old) (D.failures disk.new) }
@@ -278,6 +281,7 @@ impl Journal {
         ensures nearer { OnOk result (steps_left self.new ≡ 1) }
         ensures same { store_of self.new ≡ store_of self.old }
         ensures unbroken { ¬ (result ≡ Err Faulted) }
+        ensures breaks { IsBroken self.new ↔ (result ≡ Err DiskFault) }
         ensures call { OneCall IsJournal (D.state_at disk.old) (D.state_at disk.new)
             (D.clock disk.old) (D.clock disk.new) }
         ensures failures { HasFailed result (D.failures disk.old) (D.failures disk.new) }
@@ -306,6 +310,7 @@ impl Journal {
         ensures stands { OnOk result ((choice_of self.new).now ≡ spelled_by batch.ahead) }
         ensures same { store_of self.new ≡ store_of self.old }
         ensures unbroken { ¬ (result ≡ Err Faulted) }
+        ensures breaks { IsBroken self.new ↔ (result ≡ Err DiskFault) }
         ensures call { OneCall IsJournal (D.state_at disk.old) (D.state_at disk.new)
             (D.clock disk.old) (D.clock disk.new) }
         ensures failures { HasFailed result (D.failures disk.old) (D.failures disk.new) }
@@ -338,6 +343,7 @@ impl Journal {
         ensures nearer { OnOk result (steps_left self.new ≡ 4) }
         ensures same { store_of self.new ≡ store_of self.old }
         ensures unbroken { ¬ (result ≡ Err Faulted) }
+        ensures breaks { IsBroken self.new ↔ (result ≡ Err DiskFault) }
         ensures call { OneCall IsJournal (D.state_at disk.old) (D.state_at disk.new)
             (D.clock disk.old) (D.clock disk.new) }
         ensures failures { HasFailed result (D.failures disk.old) (D.failures disk.new) }
@@ -367,6 +373,7 @@ impl Journal {
             is_on (texts_of self.old) (value_of self.new) (D.state_at disk.new (D.clock disk.new) 0) }
         ensures same { store_of self.new ≡ store_of self.old }
         ensures unbroken { ¬ (result ≡ Err Faulted) }
+        ensures breaks { IsBroken self.new ↔ (result ≡ Err DiskFault) }
         ensures call { OneCall IsJournal (D.state_at disk.old) (D.state_at disk.new)
             (D.clock disk.old) (D.clock disk.new) }
         ensures failures { HasFailed result (D.failures disk.old) (D.failures disk.new) }
@@ -423,6 +430,7 @@ impl Journal {
         ensures nearer { OnOk result (steps_left self.new ≡ 3) }
         ensures same { store_of self.new ≡ store_of self.old }
         ensures unbroken { ¬ (result ≡ Err Faulted) }
+        ensures breaks { IsBroken self.new ↔ (result ≡ Err DiskFault) }
         ensures call { OneCall IsJournal (D.state_at disk.old) (D.state_at disk.new)
             (D.clock disk.old) (D.clock disk.new) }
         ensures failures { HasFailed result (D.failures disk.old) (D.failures disk.new) }
@@ -449,6 +457,7 @@ impl Journal {
         ensures trims { (choice_of self.old).next ≡ Some nothing →
             Says TrimSays result (choice_of self.old) (choice_of self.new) }
         ensures faulted { (result ≡ Err Faulted) ↔ IsBroken self.old }
+        ensures broken { IsBroken self.new ↔ (IsBroken self.old ⊎ (result ≡ Err DiskFault)) }
         ensures still { (result ≡ Err Faulted) → disk.new ≡ disk.old }
         ensures on { D.faithful disk.new → is_on (texts_of self.old) (value_of self.old)
             (D.state_at disk.old (D.clock disk.old) 0) →
