@@ -143,7 +143,7 @@ pub(crate) fn expect(came: &'static str, wanted: &[&str]) -> Result<(), Fault> {
 }
 
 /// Sees that these numbers are wanted.
-fn are_numbers(came: &[u64], wanted: &[&str]) -> Result<(), Fault> {
+pub(crate) fn are_numbers(came: &[u64], wanted: &[&str]) -> Result<(), Fault> {
     if came.len() != wanted.len() {
         return Err(Fault::Otherwise("numbers"));
     }

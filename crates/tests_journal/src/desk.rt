@@ -1,8 +1,9 @@
 //! A journal, the disk in memory that it is on, and what lines have named.
 use crate::fault::Fault;
+use crate::files::tear_of;
 use crate::names::{Names, number};
 use commit_journal::Journal;
-use disk_model::{Disk, MemDisk, Plan, Tear};
+use disk_model::{Disk, MemDisk, Plan};
 use refusals::limits::MOST_HIVES;
 use reg_tree::Element;
 use std::alloc::{AllocError, Global};
@@ -62,10 +63,37 @@ impl Desk {
         let Some((verb, words)) = asked.split_first() else {
             return Err(Fault::NotUnderstood);
         };
-        match words {
-            [] => self.ask(verb, wanted),
-            [word] => self.make(verb, word, words, wanted),
-            _ => self.give(verb, words),
+        match *verb {
+            "let" | "disk" | "hand" => self.give(verb, words),
+            "write" | "cut" | "sync" | "length" | "get" | "left" => self.call(verb, words, wanted),
+            _ => match words {
+                [] => self.ask(verb, wanted),
+                [word] => self.make(verb, word, wanted),
+                _ => Err(Fault::NotUnderstood),
+            },
+        }
+    }
+
+    /// A line of words that spell bytes.
+    fn give(&mut self, verb: &str, words: &[&str]) -> Result<(), Fault> {
+        match (verb, words) {
+            ("let", [name, words @ ..]) => self.names.name(name, words),
+            ("disk", words) => self.begin(words),
+            ("hand", words) => self.hand(words),
+            _ => Err(Fault::NotUnderstood),
+        }
+    }
+
+    /// A line about one of the disk's files.
+    fn call(&mut self, verb: &str, words: &[&str], wanted: &[&str]) -> Result<(), Fault> {
+        match (verb, words) {
+            ("write", [file, offset, words @ ..]) => self.write(file, offset, words, wanted),
+            ("cut", [file, len]) => self.cut(file, len, wanted),
+            ("sync", [file]) => self.sync(file, wanted),
+            ("length", [file]) => self.length(file, wanted),
+            ("get", [file, offset]) => self.get(file, offset, wanted),
+            ("left", [tear, file]) => self.left(tear, file, wanted),
+            _ => Err(Fault::NotUnderstood),
         }
     }
 
@@ -79,34 +107,18 @@ impl Desk {
             "numbers" => self.numbers(wanted),
             "file" => self.file(wanted),
             "read" => self.read(wanted),
-            _ => self.give(verb, &[]),
+            _ => Err(Fault::NotUnderstood),
         }
     }
 
     /// A line of two words.
-    fn make(
-        &mut self,
-        verb: &str,
-        word: &str,
-        words: &[&str],
-        wanted: &[&str],
-    ) -> Result<(), Fault> {
+    fn make(&mut self, verb: &str, word: &str, wanted: &[&str]) -> Result<(), Fault> {
         match verb {
             "create" => self.create(word, wanted),
             "stop" => self.stop(word),
             "fail" => self.fail(word),
             "crash" => self.crash(word),
             "watch" => self.watch(word),
-            _ => self.give(verb, words),
-        }
-    }
-
-    /// A line of words that spell bytes.
-    fn give(&mut self, verb: &str, words: &[&str]) -> Result<(), Fault> {
-        match (verb, words) {
-            ("let", [name, words @ ..]) => self.names.name(name, words),
-            ("disk", words) => self.begin(words),
-            ("hand", words) => self.hand(words),
             _ => Err(Fault::NotUnderstood),
         }
     }
@@ -142,12 +154,7 @@ impl Desk {
 
     /// What a crash leaves is the disk.
     fn crash(&mut self, tear: &str) -> Result<(), Fault> {
-        let tear = match tear {
-            "old" => Tear::Old,
-            "new" => Tear::New,
-            "torn" => Tear::Torn,
-            _ => return Err(Fault::NotUnderstood),
-        };
+        let tear = tear_of(tear)?;
         let plan = plan(self.alloc)?;
         self.disk = self.disk.crashed(tear, Arc::try_clone(&plan)?)?;
         self.plan = plan;

@@ -1,6 +1,7 @@
 //! What is on the disk and in the journal, as lines see it.
-use crate::desk::{Desk, plan};
+use crate::desk::Desk;
 use crate::fault::Fault;
+use crate::files::same;
 use crate::names::number;
 use disk_model::{Disk, Tear};
 
@@ -18,7 +19,7 @@ impl Desk {
     /// From here on each call of the journal that takes memory is looked at, on a disk that takes none for so many bytes.
     pub fn watch(&mut self, bytes: &str) -> Result<(), Fault> {
         let bytes = number(bytes)?;
-        self.disk.room(1, bytes as usize, 64)?;
+        self.disk.room(2, bytes as usize, 64)?;
         self.is_watched = true;
         Ok(())
     }
@@ -38,7 +39,7 @@ impl Desk {
             None => None,
         };
         Ok(Look {
-            file: self.file_bytes()?,
+            file: self.left_of(Tear::New, 0)?,
             numbers,
         })
     }
@@ -57,27 +58,10 @@ impl Desk {
         }
     }
 
-    /// The bytes of the journal's file, as a read gives them. The disk meets no call.
-    fn file_bytes(&self) -> Result<Vec<u8>, Fault> {
-        let mut copy = self.disk.crashed(Tear::New, plan(self.alloc)?)?;
-        let len = copy.len(0)?;
-        let mut bytes = vec![in self.alloc; 0u8; len as usize]?;
-        let count = copy.read(0, 0, &mut bytes)?;
-        if count == bytes.len() {
-            Ok(bytes)
-        } else {
-            Err(Fault::Otherwise("a short read"))
-        }
-    }
-
     /// Sees that the journal's file has the bytes that words spell.
     pub fn file(&mut self, wanted: &[&str]) -> Result<(), Fault> {
         let wanted = self.names.bytes(wanted)?;
-        if self.file_bytes()? == wanted {
-            Ok(())
-        } else {
-            Err(Fault::Otherwise("other bytes"))
-        }
+        same(&self.left_of(Tear::New, 0)?, &wanted)
     }
 
     /// Sees that the last opening answered the elements of which words spell the texts.

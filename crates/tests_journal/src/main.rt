@@ -1,4 +1,4 @@
-//! Plays lines about a journal on the disk in memory, and sees that what comes is what each line says.
+//! Plays lines about the disk in memory and a journal on it, and sees that what comes is what each line says.
 //!
 //! Lines come on standard input. One that has nothing, or begins with `#`, says nothing. BYTES are words, each
 //! hexadecimal digits or a name, and behind either may stand `*` and how many times. WANTED is what has to come.
@@ -17,6 +17,9 @@
 //! | `file > BYTES` | the bytes of the journal's file, as a read gives them |
 //! | `stop K`, `fail K` | the K-th changing call and all behind it fail; the K-th call fails alone |
 //! | `crash old`, `crash new`, `crash torn` | what a crash leaves is the disk, and no journal is there |
+//! | `write FILE AT BYTES > WANTED`, `cut FILE LENGTH > WANTED`, `sync FILE > WANTED` | a call of the disk: `Done`, or `DiskFault` |
+//! | `length FILE > LENGTH`, `get FILE AT > BYTES` | a file's length; what a read of at most four bytes gives |
+//! | `left old FILE > BYTES`, and so `new` and `torn` | what a crash now would leave of a file |
 //! | `read > LENGTH` | reads the journal's file to its end, piece by piece |
 //! | `watch ROOM` | from here on a call that is refused memory has to leave file and journal as they were, and is made again; the disk's own calls take no memory within that room |
 //! | `timed LINE` | plays the line and prints the processor time that it took, in microseconds |
@@ -27,6 +30,7 @@
 mod calls;
 mod desk;
 mod fault;
+mod files;
 mod looks;
 mod names;
 mod steps;

@@ -1,8 +1,6 @@
-//! Tests of the crates on which a store's files stand, over their public calls, and what shows that the disk's contract suffices.
+//! What shows that the disk's contract suffices: a small log, proved over any disk, and what it leaves on the disk in memory.
 #![tactic(auto)]
 
-#[cfg(test)]
-mod disk_tests;
 mod gated_log;
 #[cfg(test)]
 mod log_tests;
