@@ -1,6 +1,13 @@
 -- Steps that come nearer to something durable, and a journal that the device has failed.
-use Rattle.std.proofs.Common.{◌≡◌, ◌⊎◌, inr, ⊎_elim, ℕ, zero, suc, ◌+◌, ◌<◌, ◌≤◌, ap, arith}
-use Rattle.std.specs.Prelude.{◌↔◌}
+use Rattle.std.proofs.Common.{subst, None, [], ◌≡◌, ◌⊎◌, inr, ⊎_elim, ℕ, zero, suc, ◌+◌, ◌<◌, ◌≤◌, ap, arith}
+use Rattle.std.specs.Prelude.{◌↔◌, Result, Ok, Err}
+use Rattle.refusals.specs.declared.refusal.Refusal.{Refusal}
+use Rattle.refusals.specs.declared.refusal.Refusal.TheVariants as refusal
+use Rattle.prefix_law.specs.Promises.{Choice, Spelled, JournalSays}
+use Rattle.engine_words.specs.declared.Progress.{Progress}
+use Rattle.engine_words.specs.declared.Progress.TheVariants as progress
+use Rattle.engine_words.specs.Changes.{TimedOp}
+use Rattle.engine_words.specs.Steps.{Says}
 use Rattle.commit_journal.specs.OnDisk as phase
 use Rattle.commit_journal.specs.Journals.{value_in, steps_in, steps_left, ComesNearer, StoodWithin}
 use Rattle.commit_journal.specs.declared.standing.Standing.{Standing}
@@ -38,3 +45,16 @@ whole now p q n same left broken = absurd (omega (arith, left, ap (λ (r : Phase
 -- what comes only by this call, where it wasn't there before
 pub only_now : {A B C : Type 0} → ¬ B → A ↔ C → A ↔ (B ⊎ C)
 only_now not_before now = (λ a. inr (now.0 a), λ either. ⊎_elim (λ b. absurd (not_before b)) now.1 either)
+
+-- where something is on its way, a step neither lacks memory nor is idle
+no_want : (old new : Choice (Spelled TimedOp)) → Says (JournalSays 0 []) (Err refusal.NoMemory) old new → old.next ≡ None
+no_want old new says = says.0
+
+no_idle : (old new : Choice (Spelled TimedOp)) → Says (JournalSays 0 []) (Ok progress.Idle) old new → old.next ≡ None
+no_idle old new says = says.0
+
+pub goes_on : (r : Result Progress Refusal) (old new : Choice (Spelled TimedOp)) → Says (JournalSays 0 []) r old new → ¬ (old.next ≡ None) → (r ≡ Err refusal.NoMemory) ⊎ (r ≡ Ok progress.Idle) → ⊥
+goes_on r old new says halfway either = ⊎_elim
+    (λ e. halfway (no_want old new (subst (λ (x : Result Progress Refusal). Says (JournalSays 0 []) x old new) e says)))
+    (λ e. halfway (no_idle old new (subst (λ (x : Result Progress Refusal). Says (JournalSays 0 []) x old new) e says)))
+    either

@@ -192,7 +192,10 @@ impl Journal {
             BeginsLongest first handed.now (choice_of self.old) (choice_of self.new) }
         ensures faulted { (result ≡ Err Faulted) ↔ IsBroken self.old }
         ensures broken { IsBroken self.new ↔ (IsBroken self.old ⊎ (result ≡ Err DiskFault)) }
-        ensures still { (result ≡ Err Faulted) → disk.new ≡ disk.old }
+        ensures idle { (choice_of self.old).next ≡ None → length handed.now ≡ 0 →
+            result ≡ Ok Progress.Idle }
+        ensures still { (result ≡ Err Faulted) ⊎ ((result ≡ Err NoMemory)
+            ⊎ (result ≡ Ok Progress.Idle)) → disk.new ≡ disk.old }
         ensures on { D.faithful disk.new → is_on (texts_of self.old) (value_of self.old)
             (D.state_at disk.old (D.clock disk.old) 0) →
             is_on (texts_of self.old) (value_of self.new) (D.state_at disk.new (D.clock disk.new) 0) }
@@ -424,6 +427,8 @@ impl Journal {
             (choice_of self.old) (choice_of self.new) }
         ensures longest { (result ≡ Ok Progress.More) →
             BeginsLongest first handed.now (choice_of self.old) (choice_of self.new) }
+        ensures still { (result ≡ Err NoMemory) ⊎ (result ≡ Ok Progress.Idle) →
+            disk.new ≡ disk.old }
         ensures on { D.faithful disk.new → is_on (texts_of self.old) (value_of self.old)
             (D.state_at disk.old (D.clock disk.old) 0) →
             is_on (texts_of self.old) (value_of self.new) (D.state_at disk.new (D.clock disk.new) 0) }
