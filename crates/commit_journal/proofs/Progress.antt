@@ -42,6 +42,10 @@ eight journals nearer = stands_from journals 5 0 nearer (few_steps _) (omega ari
 pub whole : (now : Standing) (p q : Phase) (n : ℕ) → p ≡ q → steps_in (value_in now p).phase ≡ suc n → ¬ ((value_in now q).phase ≡ phase.Phase.Broken)
 whole now p q n same left broken = absurd (omega (arith, left, ap (λ (r : Phase). steps_in (value_in now r).phase) same, ap steps_in broken))
 
+-- a phase in which no trim is on its way
+pub no_trim : (now : Standing) (p q : Phase) (n : ℕ) → p ≡ q → steps_in (value_in now p).phase ≡ n → n < 5 → ¬ ((value_in now q).phase ≡ phase.Phase.TrimWritten)
+no_trim now p q n same left few trims = absurd (omega (arith, left, few, ap (λ (r : Phase). steps_in (value_in now r).phase) same, ap steps_in trims))
+
 -- what comes only by this call, where it wasn't there before
 pub only_now : {A B C : Type 0} → ¬ B → A ↔ C → A ↔ (B ⊎ C)
 only_now not_before now = (λ a. inr (now.0 a), λ either. ⊎_elim (λ b. absurd (not_before b)) now.1 either)

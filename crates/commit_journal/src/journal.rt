@@ -199,7 +199,9 @@ impl Journal {
         ensures on { D.faithful disk.new → is_on (texts_of self.old) (value_of self.old)
             (D.state_at disk.old (D.clock disk.old) 0) →
             is_on (texts_of self.old) (value_of self.new) (D.state_at disk.new (D.clock disk.new) 0) }
-        ensures nearer { OnOk result (0 < length handed.now → ComesNearer self.old self.new) }
+        ensures nearer { OnOk result ((0 < length handed.now) ⊎ ¬ ((choice_of self.old).next ≡ None) →
+            ComesNearer self.old self.new) }
+        ensures ends { IsTrimming self.old → OnOk result (result ≡ Ok Progress.Done) }
         ensures same { store_of self.new ≡ store_of self.old }
         ensures call { OneCall IsJournal (D.state_at disk.old) (D.state_at disk.new)
             (D.clock disk.old) (D.clock disk.new) }
@@ -225,6 +227,8 @@ impl Journal {
         requires trims { ((choice_of self.old).next ≡ None)
             ⊎ ((choice_of self.old).next ≡ Some nothing) }
         ensures says { Says TrimSays result (choice_of self.old) (choice_of self.new) }
+        ensures begins { (result ≡ Ok Progress.More) → IsTrimming self.new }
+        ensures ends { IsTrimming self.old → OnOk result (result ≡ Ok Progress.Done) }
         ensures faulted { (result ≡ Err Faulted) ↔ IsBroken self.old }
         ensures broken { IsBroken self.new ↔ (IsBroken self.old ⊎ (result ≡ Err DiskFault)) }
         ensures still { (result ≡ Err Faulted) → disk.new ≡ disk.old }
@@ -344,6 +348,7 @@ impl Journal {
             (D.state_at disk.old (D.clock disk.old) 0) →
             is_on (texts_of self.old) (value_of self.new) (D.state_at disk.new (D.clock disk.new) 0) }
         ensures nearer { OnOk result (steps_left self.new ≡ 4) }
+        ensures ends { OnOk result (result ≡ Ok Progress.Done) }
         ensures same { store_of self.new ≡ store_of self.old }
         ensures unbroken { ¬ (result ≡ Err Faulted) }
         ensures breaks { IsBroken self.new ↔ (result ≡ Err DiskFault) }
@@ -374,6 +379,7 @@ impl Journal {
         ensures on { D.faithful disk.new → is_on (texts_of self.old) (value_of self.old)
             (D.state_at disk.old (D.clock disk.old) 0) →
             is_on (texts_of self.old) (value_of self.new) (D.state_at disk.new (D.clock disk.new) 0) }
+        ensures begins { OnOk result (IsTrimming self.new) }
         ensures same { store_of self.new ≡ store_of self.old }
         ensures unbroken { ¬ (result ≡ Err Faulted) }
         ensures breaks { IsBroken self.new ↔ (result ≡ Err DiskFault) }
@@ -468,6 +474,7 @@ impl Journal {
             (D.state_at disk.old (D.clock disk.old) 0) →
             is_on (texts_of self.old) (value_of self.new) (D.state_at disk.new (D.clock disk.new) 0) }
         ensures nearer { OnOk result (ComesNearer self.old self.new) }
+        ensures ends { IsTrimming self.old → OnOk result (result ≡ Ok Progress.Done) }
         ensures same { store_of self.new ≡ store_of self.old }
         ensures call { OneCall IsJournal (D.state_at disk.old) (D.state_at disk.new)
             (D.clock disk.old) (D.clock disk.new) }

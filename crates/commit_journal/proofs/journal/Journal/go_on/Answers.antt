@@ -4,7 +4,7 @@ use Rattle.engine_words.specs.Steps.{Says}
 use Rattle.commit_journal.specs.Journals.{value_in, choice_of, steps_in}
 use Rattle.commit_journal.specs.declared.journal.Phase.{Phase}
 use Rattle.commit_journal.proofs.Transitions.{ok_on}
-use Rattle.commit_journal.proofs.Progress.{whole, only_now}
+use Rattle.commit_journal.proofs.Progress.{whole, no_trim, only_now}
 use Rattle.commit_journal.proofs.journal.Journal.go_on.Goals as goal
 
 pub returns-in-BodyWritten-clause-says : goal.returns-in-BodyWritten-clause-says
@@ -61,3 +61,12 @@ returns-in-GateWritten-clause-broken g c = only_now (whole c.args.self.now.stand
 
 pub returns-in-TrimWritten-clause-broken : goal.returns-in-TrimWritten-clause-broken
 returns-in-TrimWritten-clause-broken g c = only_now (whole c.args.self.now.stands _ _ 4 c.in-TrimWritten.ensures.value refl) c.sync_trim.ensures.breaks
+
+pub returns-in-BodyWritten-clause-ends : goal.returns-in-BodyWritten-clause-ends
+returns-in-BodyWritten-clause-ends g c = λ trims. absurd (no_trim c.args.self.now.stands _ _ 3 c.in-BodyWritten.ensures.value refl (omega arith) trims)
+
+pub returns-in-BodySynced-clause-ends : goal.returns-in-BodySynced-clause-ends
+returns-in-BodySynced-clause-ends g c = λ trims. absurd (no_trim c.args.self.now.stands _ _ 2 c.in-BodySynced.ensures.value refl (omega arith) trims)
+
+pub returns-in-GateWritten-clause-ends : goal.returns-in-GateWritten-clause-ends
+returns-in-GateWritten-clause-ends g c = λ trims. absurd (no_trim c.args.self.now.stands _ _ 1 c.in-GateWritten.ensures.value refl (omega arith) trims)
