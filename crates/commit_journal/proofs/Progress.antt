@@ -14,7 +14,7 @@ use Rattle.commit_journal.specs.declared.standing.Standing.{Standing}
 use Rattle.commit_journal.specs.declared.journal.Phase.{Phase}
 use Rattle.commit_journal.specs.declared.journal.Journal.{Journal}
 
-few_steps : (p : phase.Phase) → steps_in p ≤ 5
+pub few_steps : (p : phase.Phase) → steps_in p ≤ 5
 few_steps phase.Phase.Quiet = omega arith
 few_steps phase.Phase.BodyWritten = omega arith
 few_steps phase.Phase.BodySynced = omega arith

@@ -314,7 +314,7 @@ impl Journal {
             (value_in self.old.stands (Phase.GateWritten batch))
             (D.state_at disk.old (D.clock disk.old) 0) →
             is_on (texts_of self.old) (value_of self.new) (D.state_at disk.new (D.clock disk.new) 0) }
-        ensures stands { OnOk result ((choice_of self.new).now ≡ spelled_by batch.ahead) }
+        ensures stands { OnOk result (choice_of self.new ≡ settled (spelled_by batch.ahead)) }
         ensures same { store_of self.new ≡ store_of self.old }
         ensures unbroken { ¬ (result ≡ Err Faulted) }
         ensures breaks { IsBroken self.new ↔ (result ≡ Err DiskFault) }

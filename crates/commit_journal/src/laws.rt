@@ -7,7 +7,7 @@ ghost use Rattle.disk_model.specs.FileState as file;
 ghost use Rattle.commit_journal.specs.declared.layout.TheConstants.{OPEN_GATE};
 ghost use Rattle.commit_journal.specs.Text.{Texts, Body, IsBody, Stands, spelled};
 ghost use Rattle.commit_journal.specs.OnDisk.{Value, is_on, MayBegin, longer, value_at, next_at};
-ghost use Rattle.commit_journal.specs.Journals.{ComesNearer, StoodWithin};
+ghost use Rattle.commit_journal.specs.Journals.{ComesNearer, StoodWithin, IsStep, StandsLonger};
 ghost use Rattle.commit_journal.specs.declared.journal.Journal.{Journal};
 ghost use Rattle.commit_journal.specs.OnDisk.{Phase, Phase.Quiet, Phase.BodyWritten, Phase.BodySynced, Phase.GateWritten, Phase.TrimWritten, Phase.Broken};
 
@@ -88,9 +88,13 @@ pub fn calls<Op>()
 {}
 
 /// In eight steps in a row, each of which comes nearer to something durable as long as nothing was made durable in those
-/// before it, a batch is made to stand. So it is with steps that aren't refused while elements wait.
+/// before it, a batch is made to stand; and in eight steps that aren't refused while elements wait, more elements are made to
+/// stand than did, since a whole batch begins and ends in them.
 pub fn progress()
-    ensures { (journals : ℕ → Journal) →
+    ensures stands { (journals : ℕ → Journal) →
         ((k : ℕ) → k < 8 → StoodWithin k journals ⊎ ComesNearer (journals k) (journals (k + 1))) →
         StoodWithin 8 journals }
+    ensures longer { (journals : ℕ → Journal) →
+        ((k : ℕ) → k < 8 → IsStep (journals k) (journals (k + 1))) →
+        (k : ℕ) × (k < 8) × StandsLonger (journals k) (journals (k + 1)) }
 {}

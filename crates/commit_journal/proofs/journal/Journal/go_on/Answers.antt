@@ -1,4 +1,4 @@
-use Rattle.std.proofs.Common.{◌∙◌, refl, inl, inr, sym, arith, Some, ap, subst}
+use Rattle.std.proofs.Common.{◌∙◌, refl, inl, inr, sym, arith, ap, subst}
 use Rattle.prefix_law.specs.Promises.{JournalSays}
 use Rattle.engine_words.specs.Steps.{Says}
 use Rattle.commit_journal.specs.Journals.{value_in, choice_of, steps_in}
@@ -44,7 +44,7 @@ returns-in-BodySynced-clause-nearer g c = ok_on c.open_gate.result _ _ (λ left.
 pub returns-in-GateWritten-clause-nearer : goal.returns-in-GateWritten-clause-nearer
 returns-in-GateWritten-clause-nearer g c = ok_on c.sync_gate.result _ _ (λ stands. inr (
   sym (ap (λ (p : Phase). steps_in (value_in c.args.self.now.stands p).phase) c.in-GateWritten.ensures.value),
-  sym (ap (λ (p : Phase). (value_in c.args.self.now.stands p).choice.next) c.in-GateWritten.ensures.value) ∙ ap Some (sym stands),
+  (_, sym (ap (λ (p : Phase). (value_in c.args.self.now.stands p).choice.next) c.in-GateWritten.ensures.value), stands),
 )) c.sync_gate.ensures.stands
 
 pub returns-in-TrimWritten-clause-nearer : goal.returns-in-TrimWritten-clause-nearer
