@@ -97,8 +97,9 @@ fn call_text(called: Result<(), Failed>) -> &'static str {
 }
 
 fn file_number(word: &str) -> Result<u32, Fault> {
-    match u32::try_from(number(word)?) {
-        Ok(file) => Ok(file),
-        Err(_) => Err(Fault::NotUnderstood),
+    let file = number(word)?;
+    if file > u64::from(u32::MAX) {
+        return Err(Fault::NotUnderstood);
     }
+    Ok(file as u32)
 }

@@ -80,33 +80,35 @@ fn status(is_right: bool, was_refused: bool) -> u8 {
     }
 }
 
-/// Plays a line.
+/// Plays a line: what stands behind a `>` says what has to come.
 fn play<R: Print + CpuClock>(
     rt: &R,
     alloc: Global,
     desk: &mut Desk,
     line: &str,
 ) -> Result<(), Fault> {
-    let words: Vec<&str> = line.split_whitespace().collect(alloc)?;
-    match words.as_slice() {
+    let (asked, wanted) = line.split_once(">").unwrap_or((line, ""));
+    let asked: Vec<&str> = asked.split_whitespace().collect(alloc)?;
+    let wanted: Vec<&str> = wanted.split_whitespace().collect(alloc)?;
+    match asked.as_slice() {
         [] => Ok(()),
         [first, ..] if first.starts_with("#") => Ok(()),
-        ["timed", rest @ ..] => {
-            let start = rt.process_cpu_time()?;
-            play_words(desk, rest)?;
-            let end = rt.process_cpu_time()?;
-            let took = end.saturating_sub(start).as_micros();
-            println!(rt; "{took}")?;
-            Ok(())
-        }
-        words => play_words(desk, words),
+        ["timed", rest @ ..] => timed(rt, desk, rest, &wanted),
+        asked => desk.play(asked, &wanted),
     }
 }
 
-/// Plays the words of a line, of which those behind a `>` say what has to come.
-fn play_words(desk: &mut Desk, words: &[&str]) -> Result<(), Fault> {
-    match words.iter().position(|word| *word == ">") {
-        Some(at) => desk.play(&words[..at], &words[at + 1..]),
-        None => desk.play(words, &[]),
-    }
+/// Plays a line and prints the processor time that it took, in microseconds.
+fn timed<R: Print + CpuClock>(
+    rt: &R,
+    desk: &mut Desk,
+    asked: &[&str],
+    wanted: &[&str],
+) -> Result<(), Fault> {
+    let start = rt.process_cpu_time()?;
+    desk.play(asked, wanted)?;
+    let end = rt.process_cpu_time()?;
+    let took = end.saturating_sub(start).as_micros();
+    println!(rt; "{took}")?;
+    Ok(())
 }
