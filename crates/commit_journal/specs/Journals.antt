@@ -1,7 +1,8 @@
 -- What contracts see of a journal.
 use Rattle.std.specs.Prelude.{◌≡◌, ◌⊎◌, ℕ, ◌+◌, ◌-◌, ◌<◌, List, [], ◌∷◌, ◌++◌, length, take, Some}
 use Rattle.reg_tree.specs.declared.element.Element.{Element}
-use Rattle.prefix_law.specs.Promises.{Choice, Spelled, nothing}
+use Rattle.prefix_law.specs.Changes as law
+use Rattle.prefix_law.specs.Promises.{Choice, Spelled, nothing, Ends, JournalSays, Answer.More, Answer.Done}
 use Rattle.engine_words.specs.Changes.{TimedOp, timed_elements}
 use Rattle.commit_journal.specs.Text.{Texts, IsBody}
 use Rattle.commit_journal.specs.Store.{Store, texts}
@@ -78,6 +79,25 @@ steps_in phase.Phase.Broken = 0
 abbrev pub steps_left : Journal → ℕ
 steps_left j = steps_in (value_of j).phase
 
+-- The batch that was on its way stands, and nothing else is on its way.
+abbrev pub NowStands : Journal → Journal → Type 0
+NowStands old new = (steps_left old ≡ 1) × Ends (choice_of old) (choice_of new)
+
 -- A step that wasn't refused came nearer to that, or it was the last one: the batch that was on its way stands.
 abbrev pub ComesNearer : Journal → Journal → Type 0
-ComesNearer old new = (steps_left new + 1 ≡ steps_left old) ⊎ ((steps_left old ≡ 1) × ((choice_of old).next ≡ Some (choice_of new).now))
+ComesNearer old new = (steps_left new + 1 ≡ steps_left old) ⊎ NowStands old new
+
+-- In the first so many of some steps a batch was made to stand. These are the journals before each step.
+abbrev pub StoodWithin : ℕ → (ℕ → Journal) → Type 0
+StoodWithin count journals = (k : ℕ) × (k < count) × NowStands (journals k) (journals (k + 1))
+
+-- What a step says that isn't refused, and that isn't idle since elements wait.
+pub record IsStep (old new : Journal) : Type 0 where
+  pub first : ℕ
+  pub handed : List (law.Element TimedOp)
+  pub says : JournalSays first handed More (choice_of old) (choice_of new) ⊎ JournalSays first handed Done (choice_of old) (choice_of new)
+  pub nearer : ComesNearer old new
+
+-- More elements stand than before.
+abbrev pub StandsLonger : Journal → Journal → Type 0
+StandsLonger old new = length (choice_of old).now.elements < length (choice_of new).now.elements

@@ -191,11 +191,17 @@ impl Journal {
         ensures longest { (result ≡ Ok Progress.More) → (choice_of self.old).next ≡ None →
             BeginsLongest first handed.now (choice_of self.old) (choice_of self.new) }
         ensures faulted { (result ≡ Err Faulted) ↔ IsBroken self.old }
-        ensures still { (result ≡ Err Faulted) → disk.new ≡ disk.old }
+        ensures broken { IsBroken self.new ↔ (IsBroken self.old ⊎ (result ≡ Err DiskFault)) }
+        ensures idle { (choice_of self.old).next ≡ None → length handed.now ≡ 0 →
+            result ≡ Ok Progress.Idle }
+        ensures still { (result ≡ Err Faulted) ⊎ ((result ≡ Err NoMemory)
+            ⊎ (result ≡ Ok Progress.Idle)) → disk.new ≡ disk.old }
         ensures on { D.faithful disk.new → is_on (texts_of self.old) (value_of self.old)
             (D.state_at disk.old (D.clock disk.old) 0) →
             is_on (texts_of self.old) (value_of self.new) (D.state_at disk.new (D.clock disk.new) 0) }
-        ensures nearer { OnOk result (0 < length handed.now → ComesNearer self.old self.new) }
+        ensures nearer { OnOk result ((0 < length handed.now) ⊎ ¬ ((choice_of self.old).next ≡ None) →
+            ComesNearer self.old self.new) }
+        ensures ends { IsTrimming self.old → OnOk result (result ≡ Ok Progress.Done) }
         ensures same { store_of self.new ≡ store_of self.old }
         ensures call { OneCall IsJournal (D.state_at disk.old) (D.state_at disk.new)
             (D.clock disk.old) (D.clock disk.new) }
@@ -221,7 +227,10 @@ impl Journal {
         requires trims { ((choice_of self.old).next ≡ None)
             ⊎ ((choice_of self.old).next ≡ Some nothing) }
         ensures says { Says TrimSays result (choice_of self.old) (choice_of self.new) }
+        ensures begins { (result ≡ Ok Progress.More) → IsTrimming self.new }
+        ensures ends { IsTrimming self.old → OnOk result (result ≡ Ok Progress.Done) }
         ensures faulted { (result ≡ Err Faulted) ↔ IsBroken self.old }
+        ensures broken { IsBroken self.new ↔ (IsBroken self.old ⊎ (result ≡ Err DiskFault)) }
         ensures still { (result ≡ Err Faulted) → disk.new ≡ disk.old }
         ensures on { D.faithful disk.new → is_on (texts_of self.old) (value_of self.old)
             (D.state_at disk.old (D.clock disk.old) 0) →
@@ -250,6 +259,7 @@ impl Journal {
         ensures nearer { OnOk result (steps_left self.new ≡ 2) }
         ensures same { store_of self.new ≡ store_of self.old }
         ensures unbroken { ¬ (result ≡ Err Faulted) }
+        ensures breaks { IsBroken self.new ↔ (result ≡ Err DiskFault) }
         ensures call { OneCall IsJournal (D.state_at disk.old) (D.state_at disk.new)
             (D.clock disk.old) (D.clock disk.new) }
         ensures failures { HasFailed result (D.failures disk.old) (D.failures disk.new) }
@@ -278,6 +288,7 @@ impl Journal {
         ensures nearer { OnOk result (steps_left self.new ≡ 1) }
         ensures same { store_of self.new ≡ store_of self.old }
         ensures unbroken { ¬ (result ≡ Err Faulted) }
+        ensures breaks { IsBroken self.new ↔ (result ≡ Err DiskFault) }
         ensures call { OneCall IsJournal (D.state_at disk.old) (D.state_at disk.new)
             (D.clock disk.old) (D.clock disk.new) }
         ensures failures { HasFailed result (D.failures disk.old) (D.failures disk.new) }
@@ -303,9 +314,10 @@ impl Journal {
             (value_in self.old.stands (Phase.GateWritten batch))
             (D.state_at disk.old (D.clock disk.old) 0) →
             is_on (texts_of self.old) (value_of self.new) (D.state_at disk.new (D.clock disk.new) 0) }
-        ensures stands { OnOk result ((choice_of self.new).now ≡ spelled_by batch.ahead) }
+        ensures stands { OnOk result (choice_of self.new ≡ settled (spelled_by batch.ahead)) }
         ensures same { store_of self.new ≡ store_of self.old }
         ensures unbroken { ¬ (result ≡ Err Faulted) }
+        ensures breaks { IsBroken self.new ↔ (result ≡ Err DiskFault) }
         ensures call { OneCall IsJournal (D.state_at disk.old) (D.state_at disk.new)
             (D.clock disk.old) (D.clock disk.new) }
         ensures failures { HasFailed result (D.failures disk.old) (D.failures disk.new) }
@@ -336,8 +348,10 @@ impl Journal {
             (D.state_at disk.old (D.clock disk.old) 0) →
             is_on (texts_of self.old) (value_of self.new) (D.state_at disk.new (D.clock disk.new) 0) }
         ensures nearer { OnOk result (steps_left self.new ≡ 4) }
+        ensures ends { OnOk result (result ≡ Ok Progress.Done) }
         ensures same { store_of self.new ≡ store_of self.old }
         ensures unbroken { ¬ (result ≡ Err Faulted) }
+        ensures breaks { IsBroken self.new ↔ (result ≡ Err DiskFault) }
         ensures call { OneCall IsJournal (D.state_at disk.old) (D.state_at disk.new)
             (D.clock disk.old) (D.clock disk.new) }
         ensures failures { HasFailed result (D.failures disk.old) (D.failures disk.new) }
@@ -365,8 +379,10 @@ impl Journal {
         ensures on { D.faithful disk.new → is_on (texts_of self.old) (value_of self.old)
             (D.state_at disk.old (D.clock disk.old) 0) →
             is_on (texts_of self.old) (value_of self.new) (D.state_at disk.new (D.clock disk.new) 0) }
+        ensures begins { OnOk result (IsTrimming self.new) }
         ensures same { store_of self.new ≡ store_of self.old }
         ensures unbroken { ¬ (result ≡ Err Faulted) }
+        ensures breaks { IsBroken self.new ↔ (result ≡ Err DiskFault) }
         ensures call { OneCall IsJournal (D.state_at disk.old) (D.state_at disk.new)
             (D.clock disk.old) (D.clock disk.new) }
         ensures failures { HasFailed result (D.failures disk.old) (D.failures disk.new) }
@@ -417,12 +433,15 @@ impl Journal {
             (choice_of self.old) (choice_of self.new) }
         ensures longest { (result ≡ Ok Progress.More) →
             BeginsLongest first handed.now (choice_of self.old) (choice_of self.new) }
+        ensures still { (result ≡ Err NoMemory) ⊎ (result ≡ Ok Progress.Idle) →
+            disk.new ≡ disk.old }
         ensures on { D.faithful disk.new → is_on (texts_of self.old) (value_of self.old)
             (D.state_at disk.old (D.clock disk.old) 0) →
             is_on (texts_of self.old) (value_of self.new) (D.state_at disk.new (D.clock disk.new) 0) }
         ensures nearer { OnOk result (steps_left self.new ≡ 3) }
         ensures same { store_of self.new ≡ store_of self.old }
         ensures unbroken { ¬ (result ≡ Err Faulted) }
+        ensures breaks { IsBroken self.new ↔ (result ≡ Err DiskFault) }
         ensures call { OneCall IsJournal (D.state_at disk.old) (D.state_at disk.new)
             (D.clock disk.old) (D.clock disk.new) }
         ensures failures { HasFailed result (D.failures disk.old) (D.failures disk.new) }
@@ -449,11 +468,13 @@ impl Journal {
         ensures trims { (choice_of self.old).next ≡ Some nothing →
             Says TrimSays result (choice_of self.old) (choice_of self.new) }
         ensures faulted { (result ≡ Err Faulted) ↔ IsBroken self.old }
+        ensures broken { IsBroken self.new ↔ (IsBroken self.old ⊎ (result ≡ Err DiskFault)) }
         ensures still { (result ≡ Err Faulted) → disk.new ≡ disk.old }
         ensures on { D.faithful disk.new → is_on (texts_of self.old) (value_of self.old)
             (D.state_at disk.old (D.clock disk.old) 0) →
             is_on (texts_of self.old) (value_of self.new) (D.state_at disk.new (D.clock disk.new) 0) }
         ensures nearer { OnOk result (ComesNearer self.old self.new) }
+        ensures ends { IsTrimming self.old → OnOk result (result ≡ Ok Progress.Done) }
         ensures same { store_of self.new ≡ store_of self.old }
         ensures call { OneCall IsJournal (D.state_at disk.old) (D.state_at disk.new)
             (D.clock disk.old) (D.clock disk.new) }

@@ -1,5 +1,5 @@
 //! What the definitions say, as contracts.
-ghost use Rattle.std.specs.Prelude.{◌≡◌, ◌≢◌, ℕ, ◌+◌, ◌<◌, ◌≤◌, List, [], ◌∷◌, ◌++◌, length, Some};
+ghost use Rattle.std.specs.Prelude.{◌≡◌, ◌≢◌, ◌⊎◌, ℕ, ◌+◌, ◌<◌, ◌≤◌, List, [], ◌∷◌, ◌++◌, length, Some};
 ghost use Rattle.prefix_law.specs.Promises.{Spelled, nothing, JournalOn, top, floor};
 ghost use Rattle.prefix_law.specs.Files.{SpellsBy};
 ghost use Rattle.disk_model.specs.FileState.{FileState, Writes, MayWrite, Syncs};
@@ -7,6 +7,8 @@ ghost use Rattle.disk_model.specs.FileState as file;
 ghost use Rattle.commit_journal.specs.declared.layout.TheConstants.{OPEN_GATE};
 ghost use Rattle.commit_journal.specs.Text.{Texts, Body, IsBody, Stands, spelled};
 ghost use Rattle.commit_journal.specs.OnDisk.{Value, is_on, MayBegin, longer, value_at, next_at};
+ghost use Rattle.commit_journal.specs.Journals.{ComesNearer, StoodWithin, IsStep, StandsLonger};
+ghost use Rattle.commit_journal.specs.declared.journal.Journal.{Journal};
 ghost use Rattle.commit_journal.specs.OnDisk.{Phase, Phase.Quiet, Phase.BodyWritten, Phase.BodySynced, Phase.GateWritten, Phase.TrimWritten, Phase.Broken};
 
 /// The text: what stands is spelled whatever is behind the gate that isn't open; and with that gate open and a body behind
@@ -83,4 +85,16 @@ pub fn calls<Op>()
     ensures trim_synced { (t : Texts Op) (now : Spelled Op) (gate : ℕ) (old new : FileState)
         (any : Spelled Op) → is_on t (value_at now nothing gate 64 TrimWritten) old →
         Syncs old new → is_on t (value_at nothing any 64 64 Quiet) new }
+{}
+
+/// In eight steps in a row, each of which comes nearer to something durable as long as nothing was made durable in those
+/// before it, a batch is made to stand; and in eight steps that aren't refused while elements wait, more elements are made to
+/// stand than did, since a whole batch begins and ends in them.
+pub fn progress()
+    ensures stands { (journals : ℕ → Journal) →
+        ((k : ℕ) → k < 8 → StoodWithin k journals ⊎ ComesNearer (journals k) (journals (k + 1))) →
+        StoodWithin 8 journals }
+    ensures longer { (journals : ℕ → Journal) →
+        ((k : ℕ) → k < 8 → IsStep (journals k) (journals (k + 1))) →
+        (k : ℕ) × (k < 8) × StandsLonger (journals k) (journals (k + 1)) }
 {}

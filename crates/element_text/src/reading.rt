@@ -67,7 +67,8 @@ fn take_ops(alloc: Global, hives: u8, count: u32, bytes: &[u8]) -> Result<(Vec<O
     ))
         (RefusedFor JournalDamaged (repeat count (op_at hives) bytes.now ≡ None)) }
 {
-    let mut ops = Vec::new(alloc);
+    // most changes have one operation: a list that grows would begin with room for four
+    let mut ops = Vec::with_capacity(alloc, usize::from(count > 0))?;
     let mut rest = bytes;
     for _taken in 0..count {
         let (op, behind) = take_op(alloc, hives, rest)?;

@@ -15,7 +15,7 @@ loop-taken-preserved c =
 pub returns-in_err-op : goal.returns-in_err-op
 returns-in_err-op c =
     let l = c.loop-taken in
-    let p = err_from_is_err_and c.from_residual.result c.from_residual.ensures.1 in
+    let p = err_from_is_err_and c.from_residual-in_err-op.result c.from_residual-in_err-op.ensures.1 in
     rw (p.1, p.2) (⊎_elim (λ h. inl (h.0, l.invariant ∙ stops (op_at c.args.hives) l.ops.items (c.args.count - l._taken) (c.args.count - (l._taken + 1)) l.rest.now (omega arith) h.1)) (λ h. inr h) c.in_err-op.ensures)
 
 pub returns : goal.returns

@@ -1,9 +1,10 @@
-use Rattle.std.proofs.Common.{◌∙◌, inl, inr, sym, arith, Some, ap, subst}
+use Rattle.std.proofs.Common.{◌∙◌, refl, inl, inr, sym, arith, ap, subst}
 use Rattle.prefix_law.specs.Promises.{JournalSays}
 use Rattle.engine_words.specs.Steps.{Says}
 use Rattle.commit_journal.specs.Journals.{value_in, choice_of, steps_in}
 use Rattle.commit_journal.specs.declared.journal.Phase.{Phase}
 use Rattle.commit_journal.proofs.Transitions.{ok_on}
+use Rattle.commit_journal.proofs.Progress.{whole, no_trim, only_now}
 use Rattle.commit_journal.proofs.journal.Journal.go_on.Goals as goal
 
 pub returns-in-BodyWritten-clause-says : goal.returns-in-BodyWritten-clause-says
@@ -43,8 +44,29 @@ returns-in-BodySynced-clause-nearer g c = ok_on c.open_gate.result _ _ (λ left.
 pub returns-in-GateWritten-clause-nearer : goal.returns-in-GateWritten-clause-nearer
 returns-in-GateWritten-clause-nearer g c = ok_on c.sync_gate.result _ _ (λ stands. inr (
   sym (ap (λ (p : Phase). steps_in (value_in c.args.self.now.stands p).phase) c.in-GateWritten.ensures.value),
-  sym (ap (λ (p : Phase). (value_in c.args.self.now.stands p).choice.next) c.in-GateWritten.ensures.value) ∙ ap Some (sym stands),
+  (_, sym (ap (λ (p : Phase). (value_in c.args.self.now.stands p).choice.next) c.in-GateWritten.ensures.value), stands),
 )) c.sync_gate.ensures.stands
 
 pub returns-in-TrimWritten-clause-nearer : goal.returns-in-TrimWritten-clause-nearer
 returns-in-TrimWritten-clause-nearer g c = ok_on c.sync_trim.result _ _ (λ left. inl (omega (arith, left, ap (λ (p : Phase). steps_in (value_in c.args.self.now.stands p).phase) c.in-TrimWritten.ensures.value))) c.sync_trim.ensures.nearer
+
+pub returns-in-BodyWritten-clause-broken : goal.returns-in-BodyWritten-clause-broken
+returns-in-BodyWritten-clause-broken g c = only_now (whole c.args.self.now.stands _ _ 2 c.in-BodyWritten.ensures.value refl) c.sync_body.ensures.breaks
+
+pub returns-in-BodySynced-clause-broken : goal.returns-in-BodySynced-clause-broken
+returns-in-BodySynced-clause-broken g c = only_now (whole c.args.self.now.stands _ _ 1 c.in-BodySynced.ensures.value refl) c.open_gate.ensures.breaks
+
+pub returns-in-GateWritten-clause-broken : goal.returns-in-GateWritten-clause-broken
+returns-in-GateWritten-clause-broken g c = only_now (whole c.args.self.now.stands _ _ 0 c.in-GateWritten.ensures.value refl) c.sync_gate.ensures.breaks
+
+pub returns-in-TrimWritten-clause-broken : goal.returns-in-TrimWritten-clause-broken
+returns-in-TrimWritten-clause-broken g c = only_now (whole c.args.self.now.stands _ _ 4 c.in-TrimWritten.ensures.value refl) c.sync_trim.ensures.breaks
+
+pub returns-in-BodyWritten-clause-ends : goal.returns-in-BodyWritten-clause-ends
+returns-in-BodyWritten-clause-ends g c = λ trims. absurd (no_trim c.args.self.now.stands _ _ 3 c.in-BodyWritten.ensures.value refl (omega arith) trims)
+
+pub returns-in-BodySynced-clause-ends : goal.returns-in-BodySynced-clause-ends
+returns-in-BodySynced-clause-ends g c = λ trims. absurd (no_trim c.args.self.now.stands _ _ 2 c.in-BodySynced.ensures.value refl (omega arith) trims)
+
+pub returns-in-GateWritten-clause-ends : goal.returns-in-GateWritten-clause-ends
+returns-in-GateWritten-clause-ends g c = λ trims. absurd (no_trim c.args.self.now.stands _ _ 1 c.in-GateWritten.ensures.value refl (omega arith) trims)

@@ -1,7 +1,7 @@
 //! Steps of a journal, after a look at whether they may be made: what the engine knows, a test has to ask.
-ghost use Rattle.std.specs.Prelude.{◌≡◌, ◌+◌, ◌≤◌, ℕ, true, IfSome, Some};
+ghost use Rattle.std.specs.Prelude.{◌≡◌, ◌⊎◌, ◌+◌, ◌<◌, ◌≤◌, ℕ, length, true, IfSome, Some, None};
 ghost use Rattle.std.specs.List.{AllByRecursion};
-ghost use Rattle.prefix_law.specs.Promises.{top};
+ghost use Rattle.prefix_law.specs.Promises.{nothing, top};
 ghost use Rattle.reg_tree.specs.Operations.{hive_of};
 ghost use Rattle.commit_journal.specs.Store.{room_of};
 ghost use Rattle.commit_journal.specs.Handed.{OnHives, IsHanded};
@@ -61,4 +61,28 @@ pub fn step<D: Disk>(
     }
     let first = journal.last_number() + 1;
     Some(journal.step(disk, first, handed))
+}
+
+/// One step of a trim; nothing where the journal may not be trimmed.
+pub fn trim_step<D: Disk>(
+    journal: &mut Journal,
+    disk: &mut D,
+) -> Option<Result<Progress, Refusal>> {
+    if !may_trim(journal) {
+        return None;
+    }
+    Some(journal.trim_step(disk))
+}
+
+/// Whether a trim goes on, or an element stands and nothing is on its way.
+fn may_trim(journal: &Journal) -> bool
+    ensures some { result ≡ true → (choice_of journal.now).next ≡ None →
+        0 < length (choice_of journal.now).now.elements }
+    ensures trims { result ≡ true → ((choice_of journal.now).next ≡ None)
+        ⊎ ((choice_of journal.now).next ≡ Some nothing) }
+{
+    if journal.is_trimming() {
+        return true;
+    }
+    !journal.is_halfway() && journal.last_number() > 0
 }

@@ -1,11 +1,11 @@
-use Rattle.std.proofs.Common.{◌≡◌, ◌+◌, ◌≤◌, take}
+use Rattle.std.proofs.Common.{◌≡◌, ◌+◌, take}
 use Rattle.std.specs.Prelude.{sum_by}
 use Rattle.std.specs.List.{AllByRecursion}
 use Rattle.reg_tree.specs.Texts.{element_text_len}
 use Rattle.commit_journal.specs.Store.{room_of}
 use Rattle.commit_journal.specs.Handed.{OnHives, IsShort}
 use Rattle.commit_journal.specs.Journals.{choice_of}
-use Rattle.tests_store.proofs.journal_steps.may_hand.Given as goal
+use Rattle.tests_journal.proofs.steps.may_hand.Given as goal
 
 abbrev pub invariant-loop-element : goal.invariant-loop-element
 invariant-loop-element l = record {
