@@ -1,4 +1,6 @@
 pub mod Looked
+pub mod Kept
+pub mod NoneLent
 pub mod Kit
 pub mod Counted
 pub mod Loops
@@ -8,5 +10,6 @@ pub mod Apart
 pub mod AllValues
 pub mod ListSteps
 pub mod KeySteps
+pub mod Lending
 pub mod KeyTold
 pub mod Listed

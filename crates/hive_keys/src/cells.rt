@@ -2,7 +2,7 @@
 ghost use Rattle.std.specs.Prelude.{◌≡◌, ◌≤◌, ◌*◌, length};
 ghost use Rattle.hive_records.specs.Readers.{look};
 ghost use Rattle.hive_records.specs.Values.{piece};
-ghost use Rattle.hive_keys.specs.Reading.{Reads, Works};
+ghost use Rattle.hive_keys.specs.Reading.{Reads, Works, marks_of};
 
 use hive_cells::{Image, Looks};
 use refusals::{Cause, Refusal};
@@ -11,6 +11,20 @@ use refusals::{Cause, Refusal};
 const FLAGGED_BYTES: usize = 8;
 
 const _: () = prove!(FLAGGED_BYTES == 8);
+
+/// Whether the cell at an offset is marked.
+pub(crate) fn is_marked(seen: &[bool], at: u32) -> bool
+    ensures { result ≡ marks_of seen.now at }
+{
+    let at = at as usize;
+    if at % FLAGGED_BYTES != 0 {
+        return false;
+    }
+    match seen.get(at / FLAGGED_BYTES) {
+        Some(flag) => *flag,
+        None => false,
+    }
+}
 
 /// The data of the allocated cell at an offset, which is marked, and had no mark before.
 pub(crate) fn look_once<'a>(
