@@ -1,0 +1,3 @@
+pub mod Sorting
+pub mod Shuffled
+pub mod Levels
