@@ -1,3 +1,4 @@
 pub mod Sorting
 pub mod Shuffled
 pub mod Levels
+pub mod Ends
