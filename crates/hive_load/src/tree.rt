@@ -29,34 +29,28 @@ fn flags_for(alloc: Global, bytes: usize) -> Result<Vec<bool>, AllocError>
     vec![in alloc; false; bytes.div_ceil(8)]
 }
 
-// the node of the root
+// the node of the root, where no cell is marked yet
 fn load_root(
     alloc: Global,
     image: &Image,
+    seen: &mut [bool],
+    looks: &mut Looks,
     split: bool,
     root: u32,
-    looks: &mut Looks,
 ) -> Result<Node, Refusal>
+    requires covers { length image.now.bytes ≤ 8 * length seen.old }
+    requires unset { (at : ℕ) → marks_of seen.old at ≡ false }
     ensures node { IfOk result IsNode }
     ensures answers { (cells : Cells) → Shows image.now.bytes cells → MatchResult result
         (λ node. LoadsRoot split cells root node) (λ why. RefusesRoot split cells root why) }
 {
-    let mut seen = flags_for(alloc, image.len())?;
     let mut known = Descriptors::new(alloc);
-    let node = match load_key(
-        alloc,
-        image,
-        &mut seen,
-        looks,
-        &mut known,
-        split,
-        MOST_PATH_NAMES + 1,
-        root,
-    ) {
+    let levels = MOST_PATH_NAMES + 1;
+    let node = match load_key(alloc, image, seen, looks, &mut known, split, levels, root) {
         Ok(node) => node,
         Err(refusal) => return Err(refusal),
     };
-    if known.are_apart(&seen) {
+    if known.are_apart(seen) {
         Ok(node)
     } else {
         Err(Refusal::from(Cause::Shared))
@@ -81,7 +75,9 @@ pub fn load(
     ensures refused { IfErr result (LoadRefused image.now.bytes root minor) }
 {
     image.tiles(0);
-    let node = match load_root(alloc, image, minor >= SPLITTING_MINOR, root, looks) {
+    let mut seen = flags_for(alloc, image.len())?;
+    let split = minor >= SPLITTING_MINOR;
+    let node = match load_root(alloc, image, &mut seen, looks, split, root) {
         Ok(node) => node,
         Err(refusal) => return Err(refusal),
     };
