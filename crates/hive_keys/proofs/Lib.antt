@@ -1,5 +1,6 @@
 pub mod Looked
 pub mod Kept
+pub mod Spread
 pub mod NoneLent
 pub mod Kit
 pub mod Counted

@@ -1,11 +1,11 @@
 //! Keys, each with all that is its own alone.
-ghost use Rattle.std.specs.Prelude.{◌≡◌, ◌≢◌, ◌≤◌, ◌+◌, ◌*◌, length, OnOk};
+ghost use Rattle.std.specs.Prelude.{◌≡◌, ◌≢◌, ◌<◌, ◌≤◌, ◌+◌, ◌*◌, length, OnOk};
 ghost use Rattle.hive_cells.specs.Bins.{Cells, Shows};
 ghost use Rattle.hive_shape.specs.Loads.{Marks};
 ghost use Rattle.hive_records.specs.Numbers.{nowhere};
 ghost use Rattle.hive_records.specs.KeyNodes.{class_at, descriptor_at, key_at, lends_in};
 ghost use Rattle.hive_keys.specs.Descriptors.{AreDescriptors, Keeps, SaysLent};
-ghost use Rattle.hive_keys.specs.Reading.{Reads, FollowsIn, Works, KeyWorks};
+ghost use Rattle.hive_keys.specs.Reading.{Spreads, Reads, FollowsIn, Works, KeyWorks, set_flags};
 
 use crate::cells::{look_once, piece};
 use crate::descriptors::Descriptors;
@@ -24,6 +24,7 @@ const NOWHERE: u32 = 0xffff_ffff;
 const _: () = prove!(NOWHERE == 0xffff_ffff);
 
 // the class of a length
+#[tactic(auto, using(crate::proofs::Spread::spreads_on))]
 fn class(
     alloc: Global,
     image: &Image,
@@ -35,6 +36,7 @@ fn class(
     requires covers { length image.now.bytes ≤ 8 * length seen.old }
     ensures reads { Reads (λ class. class) (class_at len at) image.now.bytes seen.old seen.new result }
     ensures covers { length seen.new ≡ length seen.old }
+    ensures spreads { Spreads image.now.bytes seen.old seen.new }
     ensures works { Works looks.old looks.new seen.old seen.new result }
 {
     if len == 0 {
@@ -100,6 +102,7 @@ fn descriptor(
 /// not read again: the key shares it.
 ///
 /// Refused with the cause that the definition of a key gives, with `Shared` at a cell that was met before, and with `NoMemory`.
+#[tactic(auto, using(crate::proofs::Spread::spreads_on))]
 pub fn key(
     alloc: Global,
     image: &Image,
@@ -114,7 +117,9 @@ pub fn key(
     ensures reads { Reads (λ its. (its.0, its.1.items)) (key_at split at) image.now.bytes seen.old
         seen.new result }
     ensures covers { length seen.new ≡ length seen.old }
+    ensures spreads { Spreads image.now.bytes seen.old seen.new }
     ensures works { KeyWorks looks.old looks.new seen.old seen.new result }
+    ensures more { OnOk result (set_flags seen.old < set_flags seen.new) }
     ensures known { AreDescriptors image.now.bytes known.new }
     ensures keeps { (cells : Cells) → Shows image.now.bytes cells →
         OnOk result (Keeps known.old known.new (lends_in split cells at)) }
