@@ -94,7 +94,6 @@ module _ (split : Bool) (cells : Cells) (old : Marks) (had : List (ℕ × List �
 found_nodes : (nodes sorted : List (List ℕ × Entries)) (keys : Keys Row) → AreSiblings nodes sorted → AreNodesOf nodes keys → AreNodesOf sorted keys
 found_nodes nodes sorted keys s h name path = ap (λ o. row_in o path) (shuffled_found nodes sorted s.same s.apart name) ∙ h name path
 
-
 module _ (split : Bool) (cells : Cells) (at : ℕ) (old mid : Marks) (row : Row) (kids : List ℕ) (read : Follows (key_at split at) cells old mid (Ok (row, kids))) where
   abbrev its : Parts Row
   its = parts_at split cells at row kids
@@ -184,25 +183,28 @@ module _ (split : Bool) (cells : Cells) (at : ℕ) (old mid : Marks) (row : Row)
       inr (inr (inr (inl (e, inl (there.place, [], there.kid, there.parts, (parts_at split cells at row kids, there.kid, reads_so, ap (λ (z : List ℕ). slice_get z there.place) (sym l.are_listed) ∙ there.listed, refl), there.reads, there.named)))))
   siblings_refused new between has levels nodes why l (inr (e, inr h)) =
       let pair : Pair l.keys = pair_in l.keys l.loading.fits (λ o. h (subst (λ (z : List (List ℕ)). Once z) (sym (listed_names nodes l.keys l.are_nodes)) o)) in
-      inr (inr (inr (inl (e, inr (record {
-        way = [];
-        at = at;
-        leads = refl;
-        parts = parts_at split cells at row kids;
-        reads_so = reads_so;
-        i = pair.one.place;
-        j = pair.other.place;
-        apart = pair.apart;
-        one = pair.one.kid;
-        one_listed = ap (λ (z : List ℕ). slice_get z pair.one.place) (sym l.are_listed) ∙ pair.one.listed;
-        one_parts = pair.one.parts;
-        one_reads = pair.one.reads;
-        other = pair.other.kid;
-        other_listed = ap (λ (z : List ℕ). slice_get z pair.other.place) (sym l.are_listed) ∙ pair.other.listed;
-        other_parts = pair.other.parts;
-        other_reads = pair.other.reads;
-        same_name = pair.one.named ∙ sym pair.other.named;
-      })))))
+      inr (inr (inr (inl (
+        e,
+        inr (record {
+          way = [];
+          at = at;
+          leads = refl;
+          parts = parts_at split cells at row kids;
+          reads_so = reads_so;
+          i = pair.one.place;
+          j = pair.other.place;
+          apart = pair.apart;
+          one = pair.one.kid;
+          one_listed = ap (λ (z : List ℕ). slice_get z pair.one.place) (sym l.are_listed) ∙ pair.one.listed;
+          one_parts = pair.one.parts;
+          one_reads = pair.one.reads;
+          other = pair.other.kid;
+          other_listed = ap (λ (z : List ℕ). slice_get z pair.other.place) (sym l.are_listed) ∙ pair.other.listed;
+          other_parts = pair.other.parts;
+          other_reads = pair.other.reads;
+          same_name = pair.one.named ∙ sym pair.other.named;
+        }),
+      ))))
 
 -- a key that isn't read
 pub key_unread : (split : Bool) (cells : Cells) (at : ℕ) (old new : Marks) (levels : ℕ) (why : Refusal) → Follows (key_at split at) cells old new (Err why) → RefusesKey split cells old levels at why

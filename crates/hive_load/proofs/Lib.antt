@@ -2,3 +2,4 @@ pub mod Sorting
 pub mod Shuffled
 pub mod Levels
 pub mod Ends
+pub mod Bound

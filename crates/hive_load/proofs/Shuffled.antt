@@ -46,7 +46,6 @@ once (n ∷ names) d = (none_in n names d.0, once names d.1)
 pub once_shuffled : (xs ys : List (List ℕ)) → IsPermutation xs ys → Once xs → Once ys
 once_shuffled xs ys p o = once ys (IsDistinct-IsPermutation same flips xs ys p (distinct xs o))
 
-
 -- ---- names that rise stand once, and nodes that have the same places
 
 abbrev pub AreFoundIn : List (List ℕ × Entries) → List (List ℕ × Entries) → Type 0

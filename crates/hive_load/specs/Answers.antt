@@ -11,6 +11,7 @@ use Rattle.hive_shape.specs.Loads.{Marks, Loaded, Loading, Told}
 use Rattle.hive_cells.specs.Bins.{Cells}
 use Rattle.hive_records.specs.KeyNodes.{keys_in, trail_in}
 use Rattle.hive_records.specs.Nodes.{IsNodeOf}
+use Rattle.hive_keys.specs.Reading.{set_flags}
 use Rattle.hive_keys.specs.Nodes.{AreListed}
 use Rattle.hive_keys.specs.Descriptors.{Keeps}
 
@@ -62,7 +63,7 @@ RefusesKeys split cells old levels listed why =
     ⊎ ((first : Keys Row) × (now : Marks) × (at : ℕ) × (rest : List ℕ) × Loading (keys_in split cells) old now first
     × (listed ≡ offsets first ++ at ∷ rest) × RefusesKey split cells now levels at why)
 
--- at most two looks for each flag that was set, and for a refusal two more
-abbrev pub LoadWorks : {X : Type 0} → ℕ → ℕ → ℕ → ℕ → Result X Refusal → Type 0
-LoadWorks before after had has (Ok x) = (had ≤ has) × (after + 2 * had ≤ before + 2 * has)
-LoadWorks before after had has (Err why) = (had ≤ has) × (after + 2 * had ≤ before + 2 * has + 2)
+-- at most two looks for each flag that was set, and two more for a refusal
+abbrev pub LoadWorks : {X : Type 0} → ℕ → ℕ → List Bool → List Bool → Result X Refusal → Type 0
+LoadWorks before after old new (Ok x) = after + 2 * set_flags old ≤ before + 2 * set_flags new
+LoadWorks before after old new (Err why) = after + 2 * set_flags old ≤ before + 2 * set_flags new + 2

@@ -2,9 +2,9 @@
 ghost use Rattle.std.specs.Prelude.{◌≡◌, ◌≤◌, ◌*◌, length, IfOk, MatchResult};
 ghost use Rattle.hive_cells.specs.Bins.{Cells, Shows};
 ghost use Rattle.reg_tree_parts.specs.Nodes.{subkey_entries, AreNodes, IsNode};
-ghost use Rattle.hive_keys.specs.Reading.{marks_of, set_flags};
+ghost use Rattle.hive_keys.specs.Reading.{marks_of, Spreads};
 ghost use Rattle.hive_keys.specs.Descriptors.{AreDescriptors};
-ghost use Rattle.hive_load.specs.Answers.{LoadsKey, RefusesKey, LoadsKeys, RefusesKeys};
+ghost use Rattle.hive_load.specs.Answers.{LoadsKey, RefusesKey, LoadsKeys, RefusesKeys, LoadWorks};
 
 use crate::siblings::node_of;
 use hive_cells::{Image, Looks};
@@ -35,6 +35,8 @@ pub(crate) fn load_key(
     ensures node { IfOk result IsNode }
     ensures covers { length seen.new ≡ length seen.old }
     ensures known { AreDescriptors image.now.bytes known.new }
+    ensures spreads { Spreads image.now.bytes seen.old seen.new }
+    ensures works { LoadWorks looks.old looks.new seen.old seen.new result }
 {
     let (key, offsets) = match key(alloc, image, seen, looks, known, split, at) {
         Ok(read) => read,
@@ -43,7 +45,16 @@ pub(crate) fn load_key(
     if levels == 0 {
         return Err(Refusal::TooLarge);
     }
-    let nodes = match load_keys(alloc, image, seen, looks, known, split, levels - 1, &offsets) {
+    let nodes = match load_keys(
+        alloc,
+        image,
+        seen,
+        looks,
+        known,
+        split,
+        levels - 1,
+        &offsets,
+    ) {
         Ok(nodes) => nodes,
         Err(refusal) => return Err(refusal),
     };
@@ -71,6 +82,8 @@ fn load_keys(
     ensures nodes { IfOk result (λ nodes. AreNodes (subkey_entries nodes.items)) }
     ensures covers { length seen.new ≡ length seen.old }
     ensures known { AreDescriptors image.now.bytes known.new }
+    ensures spreads { Spreads image.now.bytes seen.old seen.new }
+    ensures works { LoadWorks looks.old looks.new seen.old seen.new result }
 {
     let mut nodes = Vec::new(alloc);
     for at in offsets {

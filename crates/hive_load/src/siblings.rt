@@ -72,11 +72,7 @@ fn in_order(mut nodes: Vec<Arc<Node>>) -> Option<Vec<Arc<Node>>>
 /// A key with these subkeys, in whatever order they are.
 ///
 /// Refused with `BadName` exactly where a subkey has no name or two have the same, and with `NoMemory`.
-pub(crate) fn node_of(
-    alloc: Global,
-    key: Key,
-    nodes: Vec<Arc<Node>>,
-) -> Result<Node, Refusal>
+pub(crate) fn node_of(alloc: Global, key: Key, nodes: Vec<Arc<Node>>) -> Result<Node, Refusal>
     requires { AreNodes (subkey_entries nodes.items) }
     ensures node { IfOk result IsNode }
     ensures made { MatchResult result

@@ -43,6 +43,8 @@ fn load_root(
     ensures node { IfOk result IsNode }
     ensures answers { (cells : Cells) → Shows image.now.bytes cells → MatchResult result
         (λ node. LoadsRoot split cells root node) (λ why. RefusesRoot split cells root why) }
+    ensures looks { (cells : List ℕ) → AreAllCells image.now.bytes cells →
+        looks.new ≤ looks.old + 2 * length cells + 2 }
 {
     let mut known = Descriptors::new(alloc);
     let levels = MOST_PATH_NAMES + 1;
@@ -62,7 +64,7 @@ fn load_root(
 ///
 /// Refused with `HiveDamaged` of hive 0 and a cause that stands in the image, or with `Unsupported` for a flag that
 /// does, and so only where the image stands for no tree; with `TooLarge` only where a tree stands that weighs more, or a
-/// key lies deeper; and with `NoMemory`. The count of looks rises by at most four for each allocated cell, and four more.
+/// key lies deeper; and with `NoMemory`. The count of looks rises by at most two for each allocated cell, and two more.
 pub fn load(
     alloc: Global,
     image: &Image,
@@ -73,6 +75,8 @@ pub fn load(
     ensures stands { IfOk result (λ tree. StandsFor image.now.bytes root minor tree) }
     ensures within { IfOk result IsWithin }
     ensures refused { IfErr result (LoadRefused image.now.bytes root minor) }
+    ensures looks { (cells : List ℕ) → AreAllCells image.now.bytes cells →
+        looks.new ≤ looks.old + 2 * length cells + 2 }
 {
     image.tiles(0);
     let mut seen = flags_for(alloc, image.len())?;

@@ -1,6 +1,7 @@
 use Rattle.std.proofs.Common.{◌≡◌, ◌-◌, ◌<◌, inl, inr, ℕ, List, zero, suc, [], ◌∷◌, ◌++◌, get_or, take, drop, refl, ◌∙◌, sym, subst, ap, arith}
 use Rattle.std.proofs.lemmas.List.{take_more, take_all}
 use Rattle.hive_keys.proofs.Loops.{split_here}
+use Rattle.hive_keys.proofs.Spread.{spreads_none, spreads_on}
 use Rattle.hive_load.proofs.Sorting.{Nodes, one_more, nodes_more}
 use Rattle.refusals.specs.declared.refusal.Refusal.TheVariants.{TooLarge}
 use Rattle.reg_tree_parts.specs.Nodes.{Entries, root_name, subkey_entries, AreNodes}
@@ -47,6 +48,8 @@ pub load_keys-loop-at-init : goal.load_keys-loop-at-init
 load_keys-loop-at-init t c = record {
   covers = refl;
   known = c.requires.known;
+  spreads = spreads_none c.args.image.now.bytes c.args.seen.now;
+  works = omega arith;
   nodes = subst (λ (items : Nodes). AreNodes (subkey_entries items)) (sym c.new-nodes.ensures.items) tt;
   loaded = λ cells shows. subst (λ (items : Nodes). LoadsKeys c.args.split cells (marks_of c.args.seen.now) (marks_of c.args.seen.now) c.args.known.now c.args.known.now c.args.levels [] (subkey_entries items)) (sym c.new-nodes.ensures.items)
       (keys_begin c.args.split cells (marks_of c.args.seen.now) c.args.known.now c.args.levels);
@@ -60,6 +63,8 @@ load_keys-loop-at-preserved t c =
     record {
       covers = c.in-Ok.ensures.covers ∙ c.loop-at.invariant.covers;
       known = c.in-Ok.ensures.known;
+      spreads = spreads_on c.loop-at.invariant.spreads c.in-Ok.ensures.spreads;
+      works = omega (arith, c.in-Ok.ensures.works, c.loop-at.invariant.works);
       nodes = subst AreNodes (sym items) (nodes_more (subkey_entries c.loop-at.nodes.items) (root_name c.in-Ok.node) c.in-Ok.node c.loop-at.invariant.nodes c.in-Ok.ensures.node);
       loaded = λ cells shows.
           subst (λ (listed : List ℕ). LoadsKeys c.args.split cells (marks_of c.args.seen.now) (marks_of c.load_key.new.seen) c.args.known.now c.load_key.new.known c.args.levels listed (subkey_entries c.push.new.self.items)) (sym (take_more c.args.offsets.now c.loop-at.at-index 0 c.loop-at-test.true))

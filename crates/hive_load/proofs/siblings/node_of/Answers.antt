@@ -12,10 +12,13 @@ new-requires-clause-nodes c = nodes_shuffled (subkey_entries c.args.nodes.items)
 
 pub returns-clause-made : goal.returns-clause-made
 returns-clause-made c =
-    let moved = IsPermutation-map subkey_entry c.args.nodes.items c.in-Some.sorted.items c.in-Some.ensures.sorted.0 in
-    (subkey_entries c.in-Some.sorted.items, c.in_ok-new.ensures.is, record {
-      named = subst (λ (nodes : Nodes). IsIn [] (names_of (subkey_entries nodes)) → ⊥) c.deref.ensures.value (c.if-has_nameless.ensures.none refl);
-      apart = apart_if (subkey_entries c.args.nodes.items) (subkey_entries c.in-Some.sorted.items) moved c.in-Some.ensures.sorted.1;
-      same = moved;
-      rises = c.in-Some.ensures.sorted.1;
-    })
+    let moved = IsPermutation-map subkey_entry c.args.nodes.items c.in-Some.sorted.items c.in-Some.ensures.sorted.0 in (
+      subkey_entries c.in-Some.sorted.items,
+      c.in_ok-new.ensures.is,
+      record {
+        named = subst (λ (nodes : Nodes). IsIn [] (names_of (subkey_entries nodes)) → ⊥) c.deref.ensures.value (c.if-has_nameless.ensures.none refl);
+        apart = apart_if (subkey_entries c.args.nodes.items) (subkey_entries c.in-Some.sorted.items) moved c.in-Some.ensures.sorted.1;
+        same = moved;
+        rises = c.in-Some.ensures.sorted.1;
+      },
+    )

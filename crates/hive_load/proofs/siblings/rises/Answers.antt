@@ -34,7 +34,7 @@ pub loop-index-preserved : goal.loop-index-preserved
 loop-index-preserved c = λ k d lt. elim (before k c.loop-index.index lt) [
   | inl less ↦ c.loop-index.invariant k d less
   | inr is ↦ order_is c.args.nodes.now c.loop-index.index k c.index-nodes-index.result c.index-nodes-index-in-loop-index.result d c.loop-index-test.true is c.index-nodes-index.is c.index-nodes-index-in-loop-index.is
-    ∙ sym c.by_name-order.ensures ∙ lt_is _ (sym c.is_lt.ensures ∙ c.if-not-is_lt.false)
+      ∙ sym c.by_name-order.ensures ∙ lt_is _ (sym c.is_lt.ensures ∙ c.if-not-is_lt.false)
 ]
 
 pub returns : goal.returns
