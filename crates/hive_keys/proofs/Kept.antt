@@ -1,11 +1,11 @@
 -- Descriptors that are kept by offsets.
-use Rattle.std.proofs.Common.{◌≡◌, ◌⊎◌, inl, inr, ℕ, List, [], ◌∷◌, map, refl, ◌∙◌, ap, sym, subst, Bool, true, false, cond, IsSome, Some}
+use Rattle.std.proofs.Common.{◌≡◌, inl, inr, ℕ, List, [], ◌∷◌, refl, ◌∙◌, ap, sym, subst, Bool, true, cond, IsSome, Some}
 use Rattle.std.specs.declared.cmp.Ordering.TheVariants.{Equal}
 use Rattle.std.specs.Cmp.{nat_cmp_is}
 use Rattle.std.proofs.lemmas.Map.Lookups.{exact_unsigned}
 use Rattle.reg_tree_parts.proofs.Finds.{equal_of}
 use Rattle.std.specs.Ordering.{nat_cmp, is_eq}
-use Rattle.std.specs.Map.{lookup, keys_of}
+use Rattle.std.specs.Map.{keys_of}
 use Rattle.std.specs.BTreeMap.{is_at}
 use Rattle.hive_shape.specs.Lists.{IsIn}
 use Rattle.hive_shape.proofs.Basics.{decided, clash, never}

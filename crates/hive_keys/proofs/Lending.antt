@@ -14,7 +14,7 @@ use Rattle.hive_records.specs.Readers.{Read, Reader, joined_if, own_if, look, lo
 use Rattle.hive_records.specs.Numbers.{nowhere}
 use Rattle.hive_records.specs.Values.{values_at}
 use Rattle.hive_records.specs.Lists.{kids_at}
-use Rattle.hive_records.specs.KeyNodes.{class_at, descriptor_at, key_at, lends_in}
+use Rattle.hive_records.specs.KeyNodes.{class_at, descriptor_at, lends_in}
 use Rattle.hive_records.specs.Heads.{key_node_fault, IsKeyNode, security_fault, IsSecurity}
 use Rattle.hive_records.specs.GoesOn.{units_of, key_from}
 use Rattle.hive_records.specs.Follows.{Follows}

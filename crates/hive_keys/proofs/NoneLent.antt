@@ -1,5 +1,5 @@
 -- What no reader but that of a descriptor does: it lends no cell.
-use Rattle.std.proofs.Common.{◌≡◌, ◌==◌, ◌+◌, ◌-◌, ◌*◌, ◌^◌, nat_le, nat_lt, ℕ, List, [], ◌∷◌, ◌++◌, length, map, refl, ◌∙◌, ap, sym, Bool, true, false, Option, Some, None, Ok, Err, Result, flat_map, slice_range, append-nil, ◌||◌}
+use Rattle.std.proofs.Common.{◌≡◌, ◌==◌, ◌+◌, ◌-◌, ◌*◌, ◌^◌, nat_le, nat_lt, ℕ, List, [], ◌∷◌, ◌++◌, length, map, refl, ◌∙◌, ap, Bool, true, false, Option, Some, None, Ok, Err, Result, slice_range}
 use Rattle.refusals.specs.declared.refusal.Refusal.{Refusal}
 use Rattle.refusals.specs.declared.refusal.Cause.{Cause}
 use Rattle.refusals.specs.declared.refusal.Cause.TheVariants as cause
@@ -9,7 +9,7 @@ use Rattle.hive_cells.specs.Tiles.{word_at}
 use Rattle.hive_cells.specs.Bins.{Cells}
 use Rattle.hive_records.specs.Readers.{Read, Reader, done, refuse, damaged, joined_if, own_if, look, choice, rule, each, ◌⟫◌}
 use Rattle.hive_records.specs.Numbers.{half_at, words_from, begins_with}
-use Rattle.hive_records.specs.Names.{has_flag, name_in, all_apart, pairs}
+use Rattle.hive_records.specs.Names.{has_flag, name_in, all_apart}
 use Rattle.hive_records.specs.Values.{piece, segment_bytes, segments_of, piece_sizes, big_data, data_of, value_at, map_of, values_at}
 use Rattle.hive_records.specs.Lists.{is_plain, is_hinted, is_indirect, offsets_in, leaf_in, leaf_at, list_in, kids_at}
 use Rattle.hive_records.specs.KeyNodes.{class_at}

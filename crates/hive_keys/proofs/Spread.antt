@@ -1,5 +1,5 @@
 -- Flags that are set one after another.
-use Rattle.std.proofs.Common.{◌≡◌, ◌⊎◌, ◌≤◌, ◌+◌, inl, inr, ℕ, List, Bool, true, sym, subst, arith}
+use Rattle.std.proofs.Common.{◌≡◌, ◌⊎◌, ◌+◌, inl, inr, ℕ, List, Bool, true, sym, subst, arith}
 use Rattle.hive_cells.specs.Tiles.{IsAllocatedCell}
 use Rattle.hive_keys.specs.Reading.{marks_of, set_flags, Spreads}
 

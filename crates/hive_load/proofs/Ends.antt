@@ -1,24 +1,23 @@
 -- What a loaded root, or a refused one, says of the data.
-use Rattle.std.proofs.Common.{◌≡◌, ◌≢◌, ◌⊎◌, ◌≤◌, ◌<◌, inl, inr, ℕ, zero, suc, Bool, true, false, List, [], ◌∷◌, ◌++◌, length, refl, ◌∙◌, ap, sym, subst, arith, Ok, Err, Some, IsSome, T, min, append-nil, Result, MatchResult}
+use Rattle.std.proofs.Common.{◌≡◌, ◌≢◌, ◌⊎◌, ◌≤◌, ◌<◌, inl, inr, ℕ, zero, suc, Bool, true, false, List, [], ◌∷◌, ◌++◌, length, refl, ◌∙◌, ap, sym, subst, arith, Some, IsSome}
 use Rattle.std.specs.FinMap as finite
 use Rattle.std.specs.FinMap.{get-from_sorted, entries-from_sorted}
-use Rattle.std.specs.FinMap.Entries.{find, is_sorted}
 use Rattle.refusals.specs.declared.refusal.Refusal.{Refusal}
 use Rattle.refusals.specs.declared.refusal.Refusal.TheVariants as refusal
 use Rattle.refusals.specs.declared.refusal.Cause.TheVariants as cause
 use Rattle.refusals.specs.declared.limits.TheConstants.{MOST_PATH_NAMES, MOST_WEIGHT}
 use Rattle.reg_names.specs.Names.{folded}
-use Rattle.reg_tree_parts.specs.Orders.{name_order, path_order}
+use Rattle.reg_tree_parts.specs.Orders.{path_order}
 use Rattle.reg_tree_parts.specs.Rows.{Row}
-use Rattle.reg_tree_parts.specs.Nodes.{Entries, entries_weight, row_at, IsNode}
+use Rattle.reg_tree_parts.specs.Nodes.{Entries, entries_weight, IsNode}
 use Rattle.reg_tree.specs.Maps.{TreeMap, row, weight}
 use Rattle.reg_tree.specs.Spellable.{IsSpellable, IsSpellableAt, IsSpellableRow}
 use Rattle.hive_cells.specs.Tiles.{Tiles}
 use Rattle.hive_cells.specs.Bins.{Cells, Shows}
-use Rattle.hive_shape.specs.Lists.{IsIn, Once}
+use Rattle.hive_shape.specs.Lists.{IsIn}
 use Rattle.hive_shape.specs.Keys.{Parts, Keys, none, key, lent_cells}
-use Rattle.hive_shape.specs.Trees.{same, row_in, row_from, tree_of}
-use Rattle.hive_shape.specs.Stands.{Fits, Named, Whole, LentApart, Stands}
+use Rattle.hive_shape.specs.Trees.{same, row_in, row_from}
+use Rattle.hive_shape.specs.Stands.{Fits, Named, Stands}
 use Rattle.hive_shape.specs.Faults.{Deeper}
 use Rattle.hive_shape.specs.Loads.{Marks, Loaded, Told}
 use Rattle.hive_shape.proofs.Basics.{decided, never, yes_if, no_if, some_same, some_none}
@@ -26,17 +25,15 @@ use Rattle.hive_shape.proofs.Depths.{deep}
 use Rattle.hive_shape.proofs.Settled.{settled, lent_met}
 use Rattle.hive_records.specs.Bytes.{AreBytes, HoldBytes}
 use Rattle.hive_records.specs.KeyNodes.{keys_in, trail_in, lends_in}
-use Rattle.hive_records.specs.Nodes.{IsNodeOf}
-use Rattle.hive_records.specs.Images.{splits, StandsFor, FaultIn, FaultFor}
+use Rattle.hive_records.specs.Images.{splits, StandsFor, FaultIn}
 use Rattle.hive_records.proofs.NodesOf.{tree_of_node}
 use Rattle.hive_records.proofs.Keys.{keys_trail, keys_lends, keys_named}
 use Rattle.hive_records.proofs.Spelled.{row_spelled, cells_bytes}
 use Rattle.hive_records.proofs.Images.{same_cells, one_image, image_fault}
-use Rattle.hive_keys.specs.Descriptors.{descriptor_in, Keeps}
-use Rattle.hive_keys.specs.Reading.{marks_of}
+use Rattle.hive_keys.specs.Descriptors.{descriptor_in}
 use Rattle.hive_load.specs.Answers.{IsShallow, LoadsKey, RefusesKey}
 use Rattle.hive_load.specs.Roots.{LoadsRoot, RefusesRoot}
-use Rattle.hive_load.specs.Limits.{IsWithin, IsTooHeavy, IsTooDeep, LoadRefused}
+use Rattle.hive_load.specs.Limits.{IsWithin, LoadRefused}
 
 -- ---- rows at the end of paths
 

@@ -1,5 +1,5 @@
 -- Nodes in another order.
-use Rattle.std.proofs.Common.{◌≡◌, ◌≢◌, ◌⊎◌, ◌<◌, inl, inr, ℕ, zero, suc, length, get_or, arith, Bool, true, false, ◌&&◌, T, List, [], ◌∷◌, map, refl, ◌∙◌, ap, sym, subst, cond, Option, Some, None}
+use Rattle.std.proofs.Common.{◌≡◌, ◌<◌, inl, inr, ℕ, zero, suc, length, get_or, arith, Bool, true, false, ◌&&◌, T, List, [], ◌∷◌, refl, ◌∙◌, ap, sym, subst, cond, Option, Some, None}
 use Rattle.std.specs.List.{AllByRecursion, IsDistinct}
 use Rattle.std.specs.List.Sorted.{IsPermutation}
 use Rattle.std.specs.FinMap.Entries.{find, is_sorted, below_all}
@@ -8,7 +8,7 @@ use Rattle.std.specs.Cmp.{tied_itself}
 use Rattle.reg_tree_parts.proofs.Keys.{names_total}
 use Rattle.std.proofs.lemmas.List.Sorted.{IsPermutation-map, IsPermutation-sym, Contains-permutation}
 use Rattle.std.specs.List.{Contains}
-use Rattle.std.proofs.lemmas.Map.Keys.{IsDistinct-IsPermutation, IsDistinct-head, IsDistinct-tail, IsDistinct-cons}
+use Rattle.std.proofs.lemmas.Map.Keys.{IsDistinct-IsPermutation}
 use Rattle.reg_tree_parts.specs.Orders.{name_order}
 use Rattle.reg_tree_parts.specs.Nodes.{Entries, IsNode, AreNodes}
 use Rattle.hive_shape.specs.Lists.{IsIn, Once}

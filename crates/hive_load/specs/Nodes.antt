@@ -1,5 +1,5 @@
 -- Nodes of a key's subkeys, whose names are to be told apart.
-use Rattle.std.specs.Prelude.{◌≡◌, ◌⊎◌, ℕ, List, [], ◌∷◌, map, T}
+use Rattle.std.specs.Prelude.{◌≡◌, ◌⊎◌, ℕ, List, [], map, T}
 use Rattle.std.specs.List.Sorted.{IsPermutation}
 use Rattle.std.specs.FinMap.Entries.{is_sorted}
 use Rattle.refusals.specs.declared.refusal.Refusal.{Refusal}

@@ -1,5 +1,4 @@
-use Rattle.std.proofs.Common.{rules, sym}
-use Rattle.hive_records.specs.KeyNodes.{descriptor_at}
+use Rattle.std.proofs.Common.{rules}
 use Rattle.hive_keys.proofs.KeySteps.{no_descriptor}
 use Rattle.hive_keys.proofs.Lending.{keeps_none, keeps_as, nowhere_lent}
 use Rattle.hive_keys.proofs.keys.descriptor.Goals as goal

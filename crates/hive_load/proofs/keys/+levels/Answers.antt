@@ -1,4 +1,4 @@
-use Rattle.std.proofs.Common.{◌≡◌, ◌-◌, ◌<◌, inl, inr, ℕ, List, zero, suc, [], ◌∷◌, ◌++◌, get_or, take, drop, refl, ◌∙◌, sym, subst, ap, arith}
+use Rattle.std.proofs.Common.{◌≡◌, ◌-◌, inl, inr, ℕ, List, suc, [], ◌∷◌, ◌++◌, get_or, take, drop, refl, ◌∙◌, sym, subst, ap, arith}
 use Rattle.std.proofs.lemmas.List.{take_more, take_all}
 use Rattle.hive_keys.proofs.Loops.{split_here}
 use Rattle.hive_keys.proofs.Spread.{spreads_none, spreads_on}

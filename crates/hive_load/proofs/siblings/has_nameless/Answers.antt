@@ -1,9 +1,8 @@
-use Rattle.std.proofs.Common.{◌≡◌, ◌≢◌, ◌⊎◌, ◌<◌, ◌≤◌, ◌+◌, ℕ, [], List, ◌∷◌, length, get_or, refl, ◌∙◌, ap, sym, subst, true, false, arith, Global, inl, inr}
+use Rattle.std.proofs.Common.{◌≡◌, ◌≢◌, ◌⊎◌, ◌<◌, ◌≤◌, ◌+◌, ℕ, [], List, ◌∷◌, length, ◌∙◌, ap, sym, subst, arith, Global, inl, inr}
 use Rattle.std.specs.declared.sync.Arc.{Arc}
-use Rattle.std.specs.Arc.{arc_value}
 use Rattle.std.proofs.lemmas.Bool.{cases_lt}
 use Rattle.hive_shape.specs.Lists.{IsIn}
-use Rattle.reg_tree_parts.specs.Nodes.{Entries, root_name, subkey_entries}
+use Rattle.reg_tree_parts.specs.Nodes.{Entries, subkey_entries}
 use Rattle.hive_load.specs.Nodes.{names_of}
 use Rattle.hive_load.proofs.Sorting.{Nodes, name_at, name_there, name_in, name_from, no_name, some_name}
 use Rattle.hive_load.proofs.siblings.has_nameless.Goals as goal

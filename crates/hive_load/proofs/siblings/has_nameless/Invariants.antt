@@ -1,4 +1,4 @@
-use Rattle.std.proofs.Common.{◌≢◌, ◌<◌, ℕ, [], slice_index_or, Global}
+use Rattle.std.proofs.Common.{◌≢◌, ◌<◌, ℕ, [], Global}
 use Rattle.std.specs.declared.sync.Arc.{Arc}
 use Rattle.reg_tree_parts.specs.Nodes.{Entries}
 use Rattle.hive_load.proofs.Sorting.{name_at}

@@ -1,11 +1,10 @@
-use Rattle.std.proofs.Common.{◌≡◌, ◌⊎◌, inl, inr, ◌<◌, ◌≤◌, ◌+◌, ◌-◌, ℕ, suc, List, length, get_or, refl, ◌∙◌, ap, sym, subst, true, false, arith, Global}
-use Rattle.std.specs.declared.cmp.Ordering.TheVariants.{Less}
+use Rattle.std.proofs.Common.{◌≡◌, ◌⊎◌, inl, inr, ◌<◌, ◌+◌, ◌-◌, ℕ, suc, length, get_or, ◌∙◌, ap, sym, arith, Global}
 use Rattle.std.specs.declared.sync.Arc.{Arc}
 use Rattle.std.specs.Arc.{arc_value}
 use Rattle.std.specs.Ordering.{is_lt}
 use Rattle.std.proofs.lemmas.Bool.{cases_lt}
 use Rattle.reg_tree_parts.specs.Orders.{name_order}
-use Rattle.reg_tree_parts.specs.Nodes.{Entries, root_name, subkey_entries}
+use Rattle.reg_tree_parts.specs.Nodes.{Entries, root_name}
 use Rattle.hive_load.proofs.Sorting.{Nodes, name_at, here_is, rises_if, falls_if, lt_is}
 use Rattle.hive_load.proofs.siblings.rises.Goals as goal
 

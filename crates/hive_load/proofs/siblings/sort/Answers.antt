@@ -7,7 +7,6 @@ use Rattle.std.proofs.lemmas.List.MinMax.{ranks_by}
 use Rattle.reg_tree_parts.specs.Orders.{name_order}
 use Rattle.reg_tree_parts.specs.Nodes.{Entries, root_name, subkey_entry, subkey_entries}
 use Rattle.reg_tree_parts.proofs.Keys.{names_total}
-use Rattle.hive_load.specs.Nodes.{names_of}
 use Rattle.hive_load.proofs.Sorting.{sorted_rises, as_T}
 use Rattle.hive_load.proofs.Shuffled.{once_shuffled}
 use Rattle.hive_load.proofs.siblings.sort.Goals as goal

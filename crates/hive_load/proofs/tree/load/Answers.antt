@@ -1,5 +1,4 @@
-use Rattle.std.proofs.Common.{◌≡◌, ◌∙◌, ◌≤◌, ◌<◌, nat_le, min, ℕ, refl, sym, subst, ap, arith, rules}
-use Rattle.hive_cells.specs.Bins.{Cells, Shows}
+use Rattle.std.proofs.Common.{◌≡◌, ◌≤◌, ◌<◌, nat_le, min, ℕ, refl, sym, subst, arith, rules}
 use Rattle.refusals.specs.declared.refusal.Refusal.TheVariants.{TooLarge}
 use Rattle.refusals.specs.declared.limits.TheConstants.{MOST_WEIGHT}
 use Rattle.std.below.core.specs.declared.int.u64.TheConstants.{MAX}

@@ -1,6 +1,5 @@
-use Rattle.std.proofs.Common.{rules, ◌≡◌, ◌∙◌, ℕ, Bool, [], List, true, false, refl, sym, subst, ap, IsSome, arith}
+use Rattle.std.proofs.Common.{ℕ, List, refl, subst, arith}
 use Rattle.hive_keys.specs.Reading.{marks_of}
-use Rattle.hive_keys.specs.Descriptors.{descriptor_in}
 use Rattle.hive_load.specs.Answers.{LoadsKey}
 use Rattle.hive_load.proofs.Ends.{root_loaded, root_lends}
 use Rattle.hive_load.proofs.Bound.{few_looks}

@@ -1,8 +1,6 @@
-use Rattle.std.proofs.Common.{◌≡◌, ◌⊎◌, inl, inr, ℕ, List, [], ◌∷◌, refl, ◌∙◌, sym, ap, subst, true, false, IsSome}
+use Rattle.std.proofs.Common.{◌≡◌, inl, inr, ℕ, List, refl, ◌∙◌, sym, ap, subst}
 use Rattle.std.specs.Map.{keys_of}
 use Rattle.hive_shape.specs.Lists.{IsIn}
-use Rattle.hive_shape.proofs.Basics.{never}
-use Rattle.hive_keys.specs.Descriptors.{descriptor_in}
 use Rattle.hive_keys.specs.Reading.{marks_of}
 use Rattle.hive_keys.proofs.Kept.{in_keys, keys_in}
 use Rattle.hive_keys.proofs.descriptors.Descriptors.are_apart.Goals as goal
