@@ -14,3 +14,4 @@ pub mod KeySteps
 pub mod Lending
 pub mod KeyTold
 pub mod Listed
+pub mod BitFlags

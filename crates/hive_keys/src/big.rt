@@ -6,6 +6,7 @@ ghost use Rattle.hive_records.specs.Values.{piece, piece_sizes, segments_of, big
 ghost use Rattle.hive_keys.specs.Reading.{Spreads, Reads, Works, joined_pieces, size_at};
 
 use crate::cells::{look_once, piece};
+use crate::flags::Flags;
 use hive_cells::{Image, Looks};
 use hive_records::{BigData, SEGMENT_BYTES, segment_count, word_at};
 use refusals::{Cause, Refusal};
@@ -21,7 +22,7 @@ const _: () = prove!(OFFSET == 4);
 pub(crate) fn big_data(
     alloc: Global,
     image: &Image,
-    seen: &mut [bool],
+    seen: &mut Flags,
     looks: &mut Looks,
     size: u32,
     at: u32,
@@ -56,7 +57,7 @@ pub(crate) fn big_data(
 fn segments(
     alloc: Global,
     image: &Image,
-    seen: &mut [bool],
+    seen: &mut Flags,
     looks: &mut Looks,
     size: u32,
     list: &[u8],

@@ -4,6 +4,7 @@ ghost use Rattle.hive_records.specs.Readers.{look};
 ghost use Rattle.hive_records.specs.Values.{piece};
 ghost use Rattle.hive_keys.specs.Reading.{Spreads, Reads, Works, marks_of, set_flags};
 
+use crate::flags::Flags;
 use hive_cells::{Image, Looks};
 use refusals::{Cause, Refusal};
 
@@ -13,24 +14,21 @@ const FLAGGED_BYTES: usize = 8;
 const _: () = prove!(FLAGGED_BYTES == 8);
 
 /// Whether the cell at an offset is marked.
-pub(crate) fn is_marked(seen: &[bool], at: u32) -> bool
+pub(crate) fn is_marked(seen: &Flags, at: u32) -> bool
     ensures { result ≡ marks_of seen.now at }
 {
     let at = at as usize;
     if at % FLAGGED_BYTES != 0 {
         return false;
     }
-    match seen.get(at / FLAGGED_BYTES) {
-        Some(flag) => *flag,
-        None => false,
-    }
+    seen.is_set(at / FLAGGED_BYTES)
 }
 
 /// The data of the allocated cell at an offset, which is marked, and had no mark before.
 #[tactic(auto, using(crate::proofs::Spread::spreads_on))]
 pub(crate) fn look_once<'a>(
     image: &'a Image,
-    seen: &mut [bool],
+    seen: &mut Flags,
     looks: &mut Looks,
     at: u32,
 ) -> Result<&'a [u8], Refusal>
@@ -46,10 +44,10 @@ pub(crate) fn look_once<'a>(
         Err(refusal) => return Err(refusal),
     };
     let slot = at as usize / FLAGGED_BYTES;
-    if seen[slot] {
+    if seen.is_set(slot) {
         return Err(Refusal::from(Cause::Shared));
     }
-    seen[slot] = true;
+    seen.set(slot);
     Ok(bytes)
 }
 
@@ -57,7 +55,7 @@ pub(crate) fn look_once<'a>(
 #[tactic(auto, using(crate::proofs::Spread::spreads_on))]
 pub(crate) fn piece<'a>(
     image: &'a Image,
-    seen: &mut [bool],
+    seen: &mut Flags,
     looks: &mut Looks,
     size: usize,
     at: u32,

@@ -4,6 +4,7 @@ ghost use Rattle.hive_keys.specs.Descriptors.{descriptor_in};
 ghost use Rattle.hive_keys.specs.Reading.{marks_of};
 
 use crate::cells::is_marked;
+use crate::flags::Flags;
 use reg_tree_parts::Data;
 use std::alloc::{AllocError, Global};
 use std::collections::BTreeMap;
@@ -61,7 +62,7 @@ impl Descriptors {
     }
 
     /// Whether no flag is set at a security cell whose descriptor is kept.
-    pub fn are_apart(&self, seen: &[bool]) -> bool
+    pub fn are_apart(&self, seen: &Flags) -> bool
         ensures apart { result ≡ true → (at : ℕ) → IsSome (descriptor_in self.now at) →
             marks_of seen.now at ≡ false }
         ensures met { result ≡ false → (at : ℕ) × IsSome (descriptor_in self.now at)

@@ -9,6 +9,7 @@ ghost use Rattle.hive_keys.specs.Reading.{Spreads, Reads, FollowsIn, Works, KeyW
 
 use crate::cells::{look_once, piece};
 use crate::descriptors::Descriptors;
+use crate::flags::Flags;
 use crate::lists::kids;
 use crate::names::name_of;
 use crate::values::values;
@@ -28,7 +29,7 @@ const _: () = prove!(NOWHERE == 0xffff_ffff);
 fn class(
     alloc: Global,
     image: &Image,
-    seen: &mut [bool],
+    seen: &mut Flags,
     looks: &mut Looks,
     len: u16,
     at: u32,
@@ -106,7 +107,7 @@ fn descriptor(
 pub fn key(
     alloc: Global,
     image: &Image,
-    seen: &mut [bool],
+    seen: &mut Flags,
     looks: &mut Looks,
     known: &mut Descriptors,
     split: bool,

@@ -9,6 +9,7 @@
 mod big;
 mod cells;
 mod descriptors;
+mod flags;
 mod keys;
 pub mod laws;
 mod lists;
@@ -16,4 +17,5 @@ mod names;
 mod values;
 
 pub use crate::descriptors::Descriptors;
+pub use crate::flags::Flags;
 pub use crate::keys::key;

@@ -6,6 +6,7 @@ ghost use Rattle.hive_records.specs.GoesOn.{elements_of, list_from};
 ghost use Rattle.hive_keys.specs.Reading.{Spreads, Reads, Works, joined_leaves};
 
 use crate::cells::look_once;
+use crate::flags::Flags;
 use hive_cells::{Image, Looks};
 use hive_records::{SubkeyList, word_at};
 use refusals::{Cause, Refusal};
@@ -29,7 +30,7 @@ fn elements(alloc: Global, list: &SubkeyList) -> Result<Vec<u32>, AllocError>
 fn leaf(
     alloc: Global,
     image: &Image,
-    seen: &mut [bool],
+    seen: &mut Flags,
     looks: &mut Looks,
     at: u32,
 ) -> Result<Vec<u32>, Refusal>
@@ -58,7 +59,7 @@ fn leaf(
 fn leaves(
     alloc: Global,
     image: &Image,
-    seen: &mut [bool],
+    seen: &mut Flags,
     looks: &mut Looks,
     lists: &[u32],
 ) -> Result<Vec<u32>, Refusal>
@@ -85,7 +86,7 @@ fn leaves(
 fn listed(
     alloc: Global,
     image: &Image,
-    seen: &mut [bool],
+    seen: &mut Flags,
     looks: &mut Looks,
     list: &SubkeyList,
 ) -> Result<Vec<u32>, Refusal>
@@ -110,7 +111,7 @@ fn listed(
 pub(crate) fn kids(
     alloc: Global,
     image: &Image,
-    seen: &mut [bool],
+    seen: &mut Flags,
     looks: &mut Looks,
     count: u32,
     at: u32,

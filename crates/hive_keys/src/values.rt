@@ -11,6 +11,7 @@ ghost use Rattle.hive_keys.specs.Reading.{Spreads, Reads, Works, names_in};
 
 use crate::big::big_data;
 use crate::cells::{look_once, piece};
+use crate::flags::Flags;
 use crate::names::name_of;
 use hive_cells::{Image, Looks};
 use hive_records::{SEGMENT_BYTES, ValueRec, word_at};
@@ -33,7 +34,7 @@ const _: () = prove!(OFFSET == 4);
 fn data_of(
     alloc: Global,
     image: &Image,
-    seen: &mut [bool],
+    seen: &mut Flags,
     looks: &mut Looks,
     split: bool,
     value: &ValueRec,
@@ -79,7 +80,7 @@ fn is_big(split: bool, size: u32) -> bool
 pub(crate) fn value(
     alloc: Global,
     image: &Image,
-    seen: &mut [bool],
+    seen: &mut Flags,
     looks: &mut Looks,
     split: bool,
     at: u32,
@@ -116,7 +117,7 @@ pub(crate) fn value(
 pub(crate) fn values(
     alloc: Global,
     image: &Image,
-    seen: &mut [bool],
+    seen: &mut Flags,
     looks: &mut Looks,
     split: bool,
     count: u32,
@@ -151,7 +152,7 @@ pub(crate) fn values(
 fn listed(
     alloc: Global,
     image: &Image,
-    seen: &mut [bool],
+    seen: &mut Flags,
     looks: &mut Looks,
     split: bool,
     count: u32,

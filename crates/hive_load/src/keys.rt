@@ -8,7 +8,7 @@ ghost use Rattle.hive_load.specs.Answers.{LoadsKey, RefusesKey, LoadsKeys, Refus
 
 use crate::siblings::node_of;
 use hive_cells::{Image, Looks};
-use hive_keys::{Descriptors, key};
+use hive_keys::{Descriptors, Flags, key};
 use refusals::Refusal;
 use reg_tree_parts::Node;
 use std::alloc::Global;
@@ -19,7 +19,7 @@ use std::sync::Arc;
 pub(crate) fn load_key(
     alloc: Global,
     image: &Image,
-    seen: &mut [bool],
+    seen: &mut Flags,
     looks: &mut Looks,
     known: &mut Descriptors,
     split: bool,
@@ -66,7 +66,7 @@ pub(crate) fn load_key(
 fn load_keys(
     alloc: Global,
     image: &Image,
-    seen: &mut [bool],
+    seen: &mut Flags,
     looks: &mut Looks,
     known: &mut Descriptors,
     split: bool,

@@ -9,7 +9,7 @@ ghost use Rattle.hive_load.specs.Roots.{LoadsRoot, RefusesRoot};
 
 use crate::keys::load_key;
 use hive_cells::{Image, Looks};
-use hive_keys::Descriptors;
+use hive_keys::{Descriptors, Flags};
 use refusals::limits::{MOST_PATH_NAMES, MOST_WEIGHT};
 use refusals::{Cause, Refusal};
 use reg_tree::Tree;
@@ -21,19 +21,24 @@ const SPLITTING_MINOR: u32 = 4;
 
 const _: () = prove!(SPLITTING_MINOR == 4);
 
-// so many flags as there may be cells in so many bytes, none of them set
-fn flags_for(alloc: Global, bytes: usize) -> Result<Vec<bool>, AllocError>
-    ensures covers { IfOk result (λ seen. bytes ≤ 8 * length seen.items) }
-    ensures unset { IfOk result (λ seen. (at : ℕ) → marks_of seen.items at ≡ false) }
+// bytes in which at most one cell begins
+const FLAGGED_BYTES: usize = 8;
+
+const _: () = prove!(FLAGGED_BYTES == 8);
+
+// a flag for each cell that may be in so many bytes, none of them set
+fn flags_for(alloc: Global, bytes: usize) -> Result<Flags, AllocError>
+    ensures covers { IfOk result (λ seen. bytes ≤ 8 * length seen) }
+    ensures unset { IfOk result (λ seen. (at : ℕ) → marks_of seen at ≡ false) }
 {
-    vec![in alloc; false; bytes.div_ceil(8)]
+    Flags::new(alloc, bytes.div_ceil(FLAGGED_BYTES))
 }
 
 // the node of the root, where no cell is marked yet
 fn load_root(
     alloc: Global,
     image: &Image,
-    seen: &mut [bool],
+    seen: &mut Flags,
     looks: &mut Looks,
     split: bool,
     root: u32,
