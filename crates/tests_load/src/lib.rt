@@ -6,10 +6,8 @@
 mod damaged;
 #[cfg(test)]
 mod deep;
-#[cfg(test)]
-mod hives;
-#[cfg(test)]
-mod listings;
+pub mod hives;
+pub mod listings;
 #[cfg(test)]
 mod spoiled;
 #[cfg(test)]
