@@ -2,8 +2,8 @@
 //!
 //! [`load`] reads an image from its root on, key by key, and answers the tree that stands in it, or why none within the
 //! limits does. Whatever bytes the image has, it comes to an end: each cell that belongs to one key alone is looked at
-//! once, a security cell once, keys lie at most 512 levels deep, and nothing is allocated by a number that was read before
-//! its bytes are known to be there.
+//! once, a security cell once, keys lie at most 512 levels deep, and nothing is allocated by a number that was read
+//! before its bytes are known to be there.
 #![tactic(auto)]
 
 mod keys;

@@ -68,8 +68,9 @@ fn load_root(
 /// one cell, from it on in segments. The tree weighs at most 16,777,216, and no path in it has more than 512 names.
 ///
 /// Refused with `HiveDamaged` of hive 0 and a cause that stands in the image, or with `Unsupported` for a flag that
-/// does, and so only where the image stands for no tree; with `TooLarge` only where a tree stands that weighs more, or a
-/// key lies deeper; and with `NoMemory`. The count of looks rises by at most two for each allocated cell, and two more.
+/// does, and so only where the image stands for no tree; with `TooLarge` only where a tree stands that weighs more, or
+/// a key lies deeper; and with `NoMemory`. The count of looks rises by at most two for each allocated cell, and two
+/// more.
 pub fn load(
     alloc: Global,
     image: &Image,
