@@ -3,9 +3,10 @@ ghost use Rattle.std.specs.Prelude.{◌≡◌, ◌<◌, ◌≤◌, ◌*◌, ◌^
 ghost use Rattle.hive_records.specs.Readers.{each};
 ghost use Rattle.hive_records.specs.Numbers.{words_from};
 ghost use Rattle.hive_records.specs.Values.{piece, piece_sizes, segments_of, big_data};
-ghost use Rattle.hive_keys.specs.Reading.{Reads, Works, joined_pieces, size_at};
+ghost use Rattle.hive_keys.specs.Reading.{Spreads, Reads, Works, joined_pieces, size_at};
 
 use crate::cells::{look_once, piece};
+use crate::flags::Flags;
 use hive_cells::{Image, Looks};
 use hive_records::{BigData, SEGMENT_BYTES, segment_count, word_at};
 use refusals::{Cause, Refusal};
@@ -17,10 +18,11 @@ const OFFSET: usize = 4;
 const _: () = prove!(OFFSET == 4);
 
 /// Big data of a size, from their record on.
+#[tactic(auto, using(crate::proofs::Spread::spreads_on))]
 pub(crate) fn big_data(
     alloc: Global,
     image: &Image,
-    seen: &mut [bool],
+    seen: &mut Flags,
     looks: &mut Looks,
     size: u32,
     at: u32,
@@ -29,6 +31,7 @@ pub(crate) fn big_data(
     ensures reads { Reads (λ bytes. bytes.items) (big_data size at) image.now.bytes seen.old seen.new
         result }
     ensures covers { length seen.new ≡ length seen.old }
+    ensures spreads { Spreads image.now.bytes seen.old seen.new }
     ensures works { Works looks.old looks.new seen.old seen.new result }
 {
     let cell = match look_once(image, seen, looks, at) {
@@ -50,10 +53,11 @@ pub(crate) fn big_data(
 }
 
 // the segments of data of a size, whose offsets are in a list, one after another
+#[tactic(auto, using(crate::proofs::Spread::spreads_on))]
 fn segments(
     alloc: Global,
     image: &Image,
-    seen: &mut [bool],
+    seen: &mut Flags,
     looks: &mut Looks,
     size: u32,
     list: &[u8],
@@ -64,6 +68,7 @@ fn segments(
         (piece_sizes size (words_from list.now 0 4 (segments_of size)))) image.now.bytes seen.old
         seen.new result }
     ensures covers { length seen.new ≡ length seen.old }
+    ensures spreads { Spreads image.now.bytes seen.old seen.new }
     ensures works { Works looks.old looks.new seen.old seen.new result }
 {
     let count = segment_count(size);

@@ -1,0 +1,4 @@
+use Rattle.tests_load.proofs.listings.+put_node.Given as goal
+
+abbrev pub decreases-put_node : goal.decreases-put_node
+decreases-put_node l = l.levels
