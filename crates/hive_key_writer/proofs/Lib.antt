@@ -1,1 +1,4 @@
 pub mod NewCells
+pub mod Makings
+pub mod Datas
+pub mod Valued

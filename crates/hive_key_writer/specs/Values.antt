@@ -7,6 +7,7 @@ use Rattle.hive_records.specs.Numbers.{nowhere}
 use Rattle.hive_records.specs.Fields.{Gives, Holds}
 use Rattle.hive_records.specs.BigTexts.{Segment, big_text, segment_places, together, AreFull}
 use Rattle.hive_records.specs.ListTexts.{offsets_text, AreOffsets}
+use Rattle.hive_records.specs.ValueTexts.{Fits}
 use Rattle.hive_records.specs.KeyTexts.{Written}
 use Rattle.hive_records.specs.Wholes.{IsWritten}
 use Rattle.hive_records.specs.Values.{values_at}
@@ -61,3 +62,8 @@ pub record ValueAt (at : ℕ) (value : Value) (before after : Cells) : Type 0 wh
   pub near : at < 2 ^ 32
   pub is : IsWritten true after (record { at = at; own = own; value = value })
   pub adds : Adds before after own
+
+-- a value that can be put: it can be written, and its data have so many segments as a record can count
+pub record CanPut (value : Value) : Type 0 where
+  pub fits : Fits value
+  pub few : length value.«data» < 2 ^ 29

@@ -1,5 +1,5 @@
 //! Data of values that don't lie in their record.
-ghost use Rattle.std.specs.Prelude.{◌≡◌, ◌<◌, ◌≤◌, ◌^◌, length, IfOk};
+ghost use Rattle.std.specs.Prelude.{◌<◌, ◌+◌, ◌*◌, ◌^◌, length, IfOk};
 ghost use Rattle.hive_records.specs.BigTexts.{AreFull};
 ghost use Rattle.hive_key_writer.specs.Making.{Makes};
 ghost use Rattle.hive_key_writer.specs.Values.{InSegments, DataAt};
@@ -63,7 +63,10 @@ fn put_big(
     };
     text.clear();
     put_big_data(text, places.len() as u16, list)?;
-    put_cell(image, text, text.len())
+    match put_cell(image, text, text.len()) {
+        Ok(to) => Ok(to),
+        Err(why) => Err(why),
+    }
 }
 
 /// Puts data that don't lie in their record: into one cell, or into segments where they are longer than one segment.
@@ -76,9 +79,11 @@ pub(crate) fn put_data(
     requires { length content.now < 2 ^ 29 }
     ensures { IfOk result (λ to. Makes image.old.bytes image.new.bytes (DataAt to content.now)) }
 {
-    if content.len() <= SEGMENT_BYTES {
-        put_cell(image, content, content.len())
-    } else {
-        put_big(alloc, image, text, content)
+    if SEGMENT_BYTES < content.len() {
+        return put_big(alloc, image, text, content);
+    }
+    match put_cell(image, content, content.len()) {
+        Ok(to) => Ok(to),
+        Err(why) => Err(why),
     }
 }

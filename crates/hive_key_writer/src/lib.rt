@@ -5,5 +5,6 @@
 
 mod cells;
 mod data;
+mod values;
 
 pub use cells::{fill, new_cell, put_cell};
