@@ -2,3 +2,4 @@ pub mod NewCells
 pub mod Makings
 pub mod Datas
 pub mod Valued
+pub mod ValueMaps

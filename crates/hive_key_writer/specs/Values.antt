@@ -11,6 +11,8 @@ use Rattle.hive_records.specs.ValueTexts.{Fits}
 use Rattle.hive_records.specs.KeyTexts.{Written}
 use Rattle.hive_records.specs.Wholes.{IsWritten}
 use Rattle.hive_records.specs.Values.{values_at}
+use Rattle.std.specs.FinMap as finite
+use Rattle.reg_names.specs.Names.{folded}
 use Rattle.reg_tree_parts.specs.Rows.{ValueMap}
 use Rattle.hive_key_writer.specs.Making.{Adds, Lists}
 
@@ -67,3 +69,30 @@ pub record ValueAt (at : ℕ) (value : Value) (before after : Cells) : Type 0 wh
 pub record CanPut (value : Value) : Type 0 where
   pub fits : Fits value
   pub few : length value.«data» < 2 ^ 29
+
+-- values that can be put: each of them, under its own name, and no more than a record can count
+pub record CanPutAll (values : ValueMap) : Type 0 where
+  pub each : AllByRecursion CanPut (finite.values values)
+  pub filed : AllByRecursion (λ (entry : List ℕ × Value). let value = entry.1 in folded value.name ≡ entry.0) (finite.entries values)
+  pub few : finite.len values < 2 ^ 32
+
+abbrev pub IsValue : Cells → Written → Type 0
+IsValue cells v = IsWritten true cells v
+
+abbrev pub value_own : Written → List ℕ
+value_own v = v.own
+
+-- values are written one after another, their records at places
+pub record ListedValues (places : List ℕ) (values : List Value) (before after : Cells) : Type 0 where
+  pub written : List Written
+  pub listed : Lists IsValue value_own written before after
+  pub at : map (λ (v : Written). v.at) written ≡ places
+  pub its : map (λ (v : Written). v.value) written ≡ values
+  pub near : AreOffsets places
+
+-- a key's values read back from the list at an offset, which hangs on cells that were not there
+pub record ValuesAt (list : ℕ) (values : ValueMap) (before after : Cells) : Type 0 where
+  pub own : List ℕ
+  pub near : list < 2 ^ 32
+  pub adds : Adds before after own
+  pub gives : Gives (values_at true (finite.len values) list) after own [] values

@@ -5,6 +5,11 @@ ghost use Rattle.hive_key_writer.specs.Making.{Makes, Opens, Puts, Uses, Stops, 
 use hive_cells::Image;
 use refusals::Refusal;
 
+/// The offset of none.
+pub const NOWHERE: u32 = 0xffff_ffff;
+
+const _: () = prove!(NOWHERE == 0xffff_ffff);
+
 /// A new cell with room for data of a length.
 ///
 /// Refused with `NoMemory`, and else only where the image has no free cell that is as long, or has several.

@@ -7,4 +7,5 @@ mod cells;
 mod data;
 mod values;
 
-pub use cells::{fill, new_cell, put_cell};
+pub use cells::{NOWHERE, fill, new_cell, put_cell};
+pub use values::put_values;
