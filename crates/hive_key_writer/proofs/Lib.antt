@@ -3,3 +3,4 @@ pub mod Makings
 pub mod Datas
 pub mod Valued
 pub mod ValueMaps
+pub mod Leaves

@@ -5,7 +5,9 @@
 
 mod cells;
 mod data;
+mod lists;
 mod values;
 
 pub use cells::{NOWHERE, fill, new_cell, put_cell};
+pub use lists::{LEAF_MOST, put_kids};
 pub use values::put_values;
