@@ -1,4 +1,9 @@
 //! Security cells: one for each distinct descriptor of a tree.
+ghost use Rattle.std.specs.Prelude.{◌≡◌, ◌⊎◌, ◌^◌, ◌<◌, ◌≤◌, [], length, map, OnOk, IfOk};
+ghost use Rattle.std.specs.List.{AllByRecursion};
+ghost use Rattle.hive_cells.specs.Bins.{Cells, Shows};
+ghost use Rattle.hive_emit.specs.Emitting.{Has, IsOffsetOf, AreHeld, AreShort, AreCounted, Keeps, descriptors};
+
 use hive_cells::Image;
 use hive_key_writer::{NOWHERE, fill, put_cell};
 use hive_records::put_security;
@@ -6,6 +11,7 @@ use refusals::Refusal;
 use reg_tree_parts::{Data, Node};
 use std::alloc::{AllocError, Global};
 use std::collections::BTreeMap;
+use std::marker::Model;
 
 /// A security cell: its descriptor, how many keys name it, and its offset once it is put.
 #[derive(Drop)]
@@ -19,10 +25,21 @@ pub(crate) struct Security {
 }
 
 /// The security cells of a tree, with the place of each by its descriptor.
+///
+/// Contracts see them as the list of their cells.
 #[derive(Drop)]
 pub(crate) struct Securities {
     cells: Vec<Security>,
     places: BTreeMap<Vec<u8>, usize>,
+}
+
+impl Model for Securities {
+    ghost use Rattle.std.specs.Prelude.{List};
+    ghost use Rattle.hive_emit.specs.declared.security.Security.{Security};
+
+    ghost Value = { List Security };
+
+    ghost view = { λ inside. inside.cells.items };
 }
 
 impl Securities {
@@ -43,7 +60,10 @@ impl Securities {
     }
 
     // counts a key with a descriptor, which isn't empty
-    fn count(&mut self, alloc: Global, descriptor: &Data) -> Result<(), AllocError> {
+    fn count(&mut self, alloc: Global, descriptor: &Data) -> Result<(), AllocError>
+        ensures counted { OnOk result (Has self.new descriptor.now) }
+        ensures keeps { OnOk result (Keeps self.old self.new) }
+    {
         if let Some(place) = self.place(descriptor.bytes()) {
             if place < self.cells.len() && self.cells[place].descriptor.bytes() == descriptor.bytes() {
                 self.cells[place].count = self.cells[place].count.saturating_add(1);
@@ -61,7 +81,10 @@ impl Securities {
     }
 
     /// Counts a key and all below it.
-    pub(crate) fn count_all(&mut self, alloc: Global, node: &Node) -> Result<(), AllocError> {
+    pub(crate) fn count_all(&mut self, alloc: Global, node: &Node) -> Result<(), AllocError>
+        ensures counted { OnOk result (AreCounted self.new node.now) }
+        ensures keeps { OnOk result (Keeps self.old self.new) }
+    {
         let descriptor = node.key().descriptor();
         if !descriptor.bytes().is_empty() {
             self.count(alloc, descriptor)?;
@@ -70,6 +93,69 @@ impl Securities {
             if let Some(subkey) = node.subkey_at(index) {
                 self.count_all(alloc, subkey)?;
             }
+        }
+        Ok(())
+    }
+
+    /// The offset of the cell of a descriptor that was counted and put; that of none for an empty one.
+    pub(crate) fn offset(&self, descriptor: &[u8]) -> u32
+        requires { (descriptor.now ≡ []) ⊎ Has self.now descriptor.now }
+        ensures { IsOffsetOf self.now descriptor.now result }
+    {
+        if descriptor.is_empty() {
+            return NOWHERE;
+        }
+        if let Some(place) = self.place(descriptor) {
+            if place < self.cells.len() && self.cells[place].descriptor.bytes() == descriptor {
+                return self.cells[place].at;
+            }
+        }
+        for security in &self.cells {
+            if security.descriptor.bytes() == descriptor {
+                return security.at;
+            }
+        }
+        unreachable!()
+    }
+
+    /// Puts the cells, each linked with those before and behind it in a ring.
+    pub(crate) fn put(&mut self, image: &mut Image, text: &mut Vec<u8>) -> Result<(), Refusal>
+        requires { AreShort self.old }
+        ensures same { OnOk result (descriptors self.new ≡ descriptors self.old) }
+        ensures held { OnOk result ((cells : Cells) → Shows image.new.bytes cells
+            → AreHeld self.new cells) }
+        ensures longer { OnOk result (length image.old.bytes ≤ length image.new.bytes) }
+    {
+        let mut previous = NOWHERE;
+        for index in 0..self.cells.len() {
+            let security = &self.cells[index];
+            text.clear();
+            put_security(text, NOWHERE, previous, security.count, security.descriptor.bytes())?;
+            let at = match put_cell(image, text, text.len()) {
+                Ok(at) => at,
+                Err(why) => return Err(why),
+            };
+            self.cells[index].at = at;
+            previous = at;
+        }
+        self.link(image, text)
+    }
+
+    // links the cells, which are put, in a ring
+    fn link(&self, image: &mut Image, text: &mut Vec<u8>) -> Result<(), Refusal>
+        requires { (cells : Cells) → Shows image.old.bytes cells → AreHeld self.now cells }
+        ensures held { OnOk result ((cells : Cells) → Shows image.new.bytes cells
+            → AreHeld self.now cells) }
+        ensures same { OnOk result (length image.new.bytes ≡ length image.old.bytes) }
+    {
+        let count = self.cells.len();
+        for index in 0..count {
+            let security = &self.cells[index];
+            let next = self.cells[(index + 1) % count].at;
+            let previous = self.cells[(index + count - 1) % count].at;
+            text.clear();
+            put_security(text, next, previous, security.count, security.descriptor.bytes())?;
+            fill(image, security.at, text);
         }
         Ok(())
     }

@@ -1,0 +1,3 @@
+pub mod Owns
+pub mod KeyProofs
+pub mod Securing
