@@ -95,13 +95,13 @@ once_sorted [] h = tt
 once_sorted (k ∷ ks) h = (apart_below k.0 ks (front_of (below_all name_order k.0 ks) (is_sorted name_order ks) h), once_sorted ks (back_of (below_all name_order k.0 ks) (is_sorted name_order ks) h))
 
 -- what holds of all entries holds of those of subkeys
-all_parts : {A : Type 0} (P : A → Type 0) (xs ys : List A) → AllByRecursion P (xs ++ ys) → AllByRecursion P xs × AllByRecursion P ys
+pub all_parts : {A : Type 0} (P : A → Type 0) (xs ys : List A) → AllByRecursion P (xs ++ ys) → AllByRecursion P xs × AllByRecursion P ys
 all_parts P [] ys h = (tt, h)
 all_parts P (x ∷ xs) ys h = let rest = all_parts P xs ys h.1 in ((h.0, rest.0), rest.1)
 
 can_below : (n : List ℕ) (es : Entries) → CanPutKeys (below n es) → CanPutKeys es
 can_below n [] h = tt
-can_below n (e ∷ es) h = (record { fits = h.0.fits; values = h.0.values; named = λ some. h.0.named (omega arith) }, can_below n es h.1)
+can_below n (e ∷ es) h = (record { fits = h.0.fits; values = h.0.values; named = λ some. h.0.named (omega arith); short = h.0.short }, can_below n es h.1)
 
 pub can_kid : (ks : List (List ℕ × Entries)) (i : ℕ) (es : Entries) → Some es ≡ slice_get (map (λ k. k.1) ks) i → CanPutKeys (all_below ks) → CanPutKeys es
 can_kid [] i es e h = absurd (let no : ⊥ = cc in no)
@@ -186,6 +186,7 @@ pub record Filling (at len security class values kids : ℕ) (row : Row) (its : 
   pub has : HasSubkeys entries (subkeys_of entries)
   pub here : row_at entries [] ≡ Some row
   pub can : CanPutKeys entries
+  pub time : row.time < 2 ^ 64
   pub said : NodePlaces its row (length (subkeys_of entries)) security class values kids
   pub offset : IsOffsetOf securities row.descriptor security
 
@@ -254,7 +255,7 @@ at_end securities at len security class values kids row its entries places x0 x1
       class = (let e = f.said.class_is in let n = own.class_near in omega (arith, e, n));
     }
     read : keys_in true x4 at ≡ Ok parts
-    read = key_again true x4 at row its own.class_own lends.lent own.values_own own.kids_own places can.0.fits near holds class_now security_now values_now kids_now
+    read = key_again true x4 at row its own.class_own lends.lent own.values_own own.kids_own places (can.0.fits f.time) near holds class_now security_now values_now kids_now
     names_are : map (λ (k : List ℕ × Entries). k.0) (subkeys_of entries) ≡ names k.keys
     names_are = listed_names (subkeys_of entries) k.keys k.listed
     once_names : Once (names k.keys)

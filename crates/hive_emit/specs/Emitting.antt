@@ -44,12 +44,13 @@ pub record Has (securities : List Security) (descriptor : List ℕ) : Type 0 whe
   pub is : slice_get securities place ≡ Some security
   pub same : security.descriptor ≡ descriptor
 
--- a key that can be put, at its path: its row can be written, its descriptor is empty or counted, and none but the root
--- has an empty name
+-- a key that can be put, at its path: its row can be written, where its moment is a number of 64 bits, and none but the
+-- root has an empty name
 pub record CanPutKey (path : List (List ℕ)) (row : Row) : Type 0 where
-  pub fits : RowFits row
+  pub fits : row.time < 2 ^ 64 → RowFits row
   pub values : CanPutAll row.values
   pub named : 0 < length path → 0 < length row.name
+  pub short : length row.descriptor < 2 ^ 32
 
 abbrev pub CanPutKeys : Entries → Type 0
 CanPutKeys entries = AllByRecursion (λ (e : List (List ℕ) × Row). CanPutKey e.0 e.1) entries
@@ -126,12 +127,13 @@ pub record IsCellOf (securities : List Security) (descriptor : List ℕ) (at : �
 abbrev pub IsOffsetOf : List Security → List ℕ → ℕ → Type 0
 IsOffsetOf securities descriptor at = ((descriptor ≡ []) × (at ≡ nowhere)) ⊎ IsCellOf securities descriptor at
 
-abbrev pub descriptors : List Security → List (List ℕ)
-descriptors securities = map (λ (s : Security). s.descriptor) securities
-
 abbrev pub AreShort : List Security → Type 0
 AreShort securities = AllByRecursion (λ (s : Security). length s.descriptor < 2 ^ 32) securities
 
--- descriptors that were there stay in their places, and others come behind them
+-- descriptors that were there are there
 abbrev pub Keeps : List Security → List Security → Type 0
-Keeps old new = (more : List (List ℕ)) × (descriptors new ≡ descriptors old ++ more)
+Keeps old new = (descriptor : List ℕ) → Has old descriptor → Has new descriptor
+
+-- the cells are held that securities have
+abbrev pub Holding : List Security → Cells → Cells → Type 0
+Holding securities before after = AreHeld securities after

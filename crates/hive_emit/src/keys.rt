@@ -132,8 +132,10 @@ fn fill_key(
     requires can { CanPutKeys node.now }
     requires long { (row : Row) → row_at node.now [] ≡ Some row →
         IsLongCell image.old.bytes at (76 + length (name_text row.name)) }
-    ensures { OnOk result ((row : Row) → row_at node.now [] ≡ Some row →
+    ensures filled { OnOk result ((row : Row) → row_at node.now [] ≡ Some row →
         Fills image.old.bytes image.new.bytes at (key_text row its.now)) }
+    ensures time { OnOk result ((row : Row) → row_at node.now [] ≡ Some row →
+        row.time < 2 ^ 64) }
 {
     let key = node.key();
     text.clear();

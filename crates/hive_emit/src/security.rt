@@ -1,14 +1,13 @@
 //! Security cells: one for each distinct descriptor of a tree.
-ghost use Rattle.std.specs.Prelude.{◌≡◌, ◌⊎◌, ◌^◌, ◌<◌, ◌≤◌, [], length, map, OnOk, IfOk};
-ghost use Rattle.std.specs.List.{AllByRecursion};
-ghost use Rattle.hive_cells.specs.Bins.{Cells, Shows};
-ghost use Rattle.hive_emit.specs.Emitting.{Has, IsOffsetOf, AreHeld, AreShort, AreCounted, Keeps, descriptors};
+ghost use Rattle.std.specs.Prelude.{◌≡◌, ◌⊎◌, ◌^◌, ◌<◌, [], length, IsTrue, OnOk};
+ghost use Rattle.hive_key_writer.specs.Making.{Makes};
+ghost use Rattle.hive_emit.specs.Emitting.{Has, IsOffsetOf, AreShort, IsCounted, AreCounted, CanPutKeys, Keeps, Holding};
 
 use hive_cells::Image;
-use hive_key_writer::{NOWHERE, fill, put_cell};
+use hive_key_writer::{NOWHERE, put_cell};
 use hive_records::put_security;
 use refusals::Refusal;
-use reg_tree_parts::{Data, Node};
+use reg_tree_parts::{Data, Key, Node};
 use std::alloc::{AllocError, Global};
 use std::collections::BTreeMap;
 use std::marker::Model;
@@ -59,17 +58,22 @@ impl Securities {
         }
     }
 
-    // counts a key with a descriptor, which isn't empty
-    fn count(&mut self, alloc: Global, descriptor: &Data) -> Result<(), AllocError>
+    // counts a key with a descriptor that is kept at a place
+    fn count_again(&mut self, place: usize)
+        requires { place < length self.old }
+        ensures keeps { Keeps self.old self.new }
+        ensures short { AreShort self.old → AreShort self.new }
+    {
+        self.cells[place].count = self.cells[place].count.saturating_add(1);
+    }
+
+    // keeps a descriptor that a first key has
+    fn add(&mut self, alloc: Global, descriptor: &Data) -> Result<(), AllocError>
         ensures counted { OnOk result (Has self.new descriptor.now) }
         ensures keeps { OnOk result (Keeps self.old self.new) }
+        ensures short { OnOk result (length descriptor.now < 2 ^ 32 → AreShort self.old
+            → AreShort self.new) }
     {
-        if let Some(place) = self.place(descriptor.bytes()) {
-            if place < self.cells.len() && self.cells[place].descriptor.bytes() == descriptor.bytes() {
-                self.cells[place].count = self.cells[place].count.saturating_add(1);
-                return Ok(());
-            }
-        }
         let bytes = Vec::from_slice(alloc, descriptor.bytes())?;
         self.places.insert(bytes, self.cells.len())?;
         self.cells.push(Security {
@@ -80,19 +84,57 @@ impl Securities {
         Ok(())
     }
 
+    // whether a descriptor is kept at a place
+    fn is_at(&self, place: usize, descriptor: &[u8]) -> bool
+        ensures { IsTrue result → Has self.now descriptor.now × (place < length self.now) }
+    {
+        place < self.cells.len() && self.cells[place].descriptor.bytes() == descriptor
+    }
+
+    // counts a key with a descriptor
+    fn count(&mut self, alloc: Global, descriptor: &Data) -> Result<(), AllocError>
+        ensures counted { OnOk result (Has self.new descriptor.now) }
+        ensures keeps { OnOk result (Keeps self.old self.new) }
+        ensures short { OnOk result (length descriptor.now < 2 ^ 32 → AreShort self.old
+            → AreShort self.new) }
+    {
+        if let Some(place) = self.place(descriptor.bytes()) {
+            if self.is_at(place, descriptor.bytes()) {
+                self.count_again(place);
+                return Ok(());
+            }
+        }
+        self.add(alloc, descriptor)?;
+        Ok(())
+    }
+
+    // counts a key
+    fn count_key(&mut self, alloc: Global, key: &Key) -> Result<(), AllocError>
+        ensures counted { OnOk result (IsCounted self.new key.now) }
+        ensures keeps { OnOk result (Keeps self.old self.new) }
+        ensures short { OnOk result (length key.now.descriptor < 2 ^ 32 → AreShort self.old
+            → AreShort self.new) }
+    {
+        if key.descriptor().bytes().is_empty() {
+            return Ok(());
+        }
+        self.count(alloc, key.descriptor())?;
+        Ok(())
+    }
+
     /// Counts a key and all below it.
     pub(crate) fn count_all(&mut self, alloc: Global, node: &Node) -> Result<(), AllocError>
+        requires can { CanPutKeys node.now }
         ensures counted { OnOk result (AreCounted self.new node.now) }
         ensures keeps { OnOk result (Keeps self.old self.new) }
+        ensures short { OnOk result (AreShort self.old → AreShort self.new) }
     {
-        let descriptor = node.key().descriptor();
-        if !descriptor.bytes().is_empty() {
-            self.count(alloc, descriptor)?;
-        }
+        self.count_key(alloc, node.key())?;
         for index in 0..node.subkey_count() {
-            if let Some(subkey) = node.subkey_at(index) {
-                self.count_all(alloc, subkey)?;
-            }
+            let Some(subkey) = node.subkey_at(index) else {
+                unreachable!();
+            };
+            self.count_all(alloc, subkey)?;
         }
         Ok(())
     }
@@ -118,19 +160,30 @@ impl Securities {
         unreachable!()
     }
 
-    /// Puts the cells, each linked with those before and behind it in a ring.
+    /// How many bytes all the cells have.
+    pub(crate) fn bytes(&self) -> u32 {
+        let mut sum = 0u32;
+        for security in &self.cells {
+            sum = sum.wrapping_add(cell_len(security));
+        }
+        sum
+    }
+
+    /// Puts the cells one behind the other, each linked with those before and behind it in a ring. The links are right
+    /// where the image is new and has room for all cells in its first bin; they are not read.
     pub(crate) fn put(&mut self, image: &mut Image, text: &mut Vec<u8>) -> Result<(), Refusal>
         requires { AreShort self.old }
-        ensures same { OnOk result (descriptors self.new ≡ descriptors self.old) }
-        ensures held { OnOk result ((cells : Cells) → Shows image.new.bytes cells
-            → AreHeld self.new cells) }
-        ensures longer { OnOk result (length image.old.bytes ≤ length image.new.bytes) }
+        ensures held { OnOk result (Makes image.old.bytes image.new.bytes (Holding self.new)) }
+        ensures keeps { OnOk result (Keeps self.old self.new) }
     {
-        let mut previous = NOWHERE;
-        for index in 0..self.cells.len() {
+        let count = self.cells.len();
+        let mut previous = self.last_at();
+        let mut next = FIRST;
+        for index in 0..count {
+            next = self.next_at(index, next);
             let security = &self.cells[index];
             text.clear();
-            put_security(text, NOWHERE, previous, security.count, security.descriptor.bytes())?;
+            put_security(text, next, previous, security.count, security.descriptor.bytes())?;
             let at = match put_cell(image, text, text.len()) {
                 Ok(at) => at,
                 Err(why) => return Err(why),
@@ -138,25 +191,40 @@ impl Securities {
             self.cells[index].at = at;
             previous = at;
         }
-        self.link(image, text)
-    }
-
-    // links the cells, which are put, in a ring
-    fn link(&self, image: &mut Image, text: &mut Vec<u8>) -> Result<(), Refusal>
-        requires { (cells : Cells) → Shows image.old.bytes cells → AreHeld self.now cells }
-        ensures held { OnOk result ((cells : Cells) → Shows image.new.bytes cells
-            → AreHeld self.now cells) }
-        ensures same { OnOk result (length image.new.bytes ≡ length image.old.bytes) }
-    {
-        let count = self.cells.len();
-        for index in 0..count {
-            let security = &self.cells[index];
-            let next = self.cells[(index + 1) % count].at;
-            let previous = self.cells[(index + count - 1) % count].at;
-            text.clear();
-            put_security(text, next, previous, security.count, security.descriptor.bytes())?;
-            fill(image, security.at, text);
-        }
         Ok(())
     }
+
+    // where the last cell is to be
+    fn last_at(&self) -> u32 {
+        match self.cells.last() {
+            Some(last) => FIRST.wrapping_add(self.bytes()).wrapping_sub(cell_len(last)),
+            None => NOWHERE,
+        }
+    }
+
+    // where the cell behind the one at an index is to be, from where that is; the first one is behind the last
+    fn next_at(&self, index: usize, at: u32) -> u32 {
+        match self.cells.get(index) {
+            Some(security) => {
+                if index.wrapping_add(1) == self.cells.len() {
+                    FIRST
+                } else {
+                    at.wrapping_add(cell_len(security))
+                }
+            }
+            None => FIRST,
+        }
+    }
+}
+
+// the bytes of a security cell before its descriptor, its size included
+const BEFORE: u32 = 24;
+
+// where the first cell of an image is
+const FIRST: u32 = 32;
+
+// how many bytes a security cell has
+fn cell_len(security: &Security) -> u32 {
+    let len = security.descriptor.bytes().len() as u32;
+    len.wrapping_add(BEFORE).wrapping_add(7) / 8 * 8
 }

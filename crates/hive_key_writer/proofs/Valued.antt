@@ -15,19 +15,19 @@ use Rattle.hive_key_writer.specs.Making.{Makes, Adds, Puts, Lists}
 use Rattle.hive_key_writer.specs.Values.{IsSegment, segment_own, InCell, InBig, DataAt, ValueAt, CanPut}
 use Rattle.hive_key_writer.proofs.Makings.{made_then, made_as, holds_grown, adds_ahead, all_as}
 
-pub small_made : (a b : List ℕ) (at : ℕ) (value : Value) → CanPut value → length value.«data» ≤ 4 → Makes a b (Puts at (small_value value)) → Makes a b (ValueAt at value)
-small_made a b at value can few m = made_as a b (Puts at (small_value value)) (ValueAt at value) m (λ x y g p. record {
+pub small_made : (a b : List ℕ) (at : ℕ) (value : Value) → CanPut value → value.kind < 2 ^ 32 → length value.«data» ≤ 4 → Makes a b (Puts at (small_value value)) → Makes a b (ValueAt at value)
+small_made a b at value can kind few m = made_as a b (Puts at (small_value value)) (ValueAt at value) m (λ x y g p. record {
   own = at ∷ [];
   near = let near : at < nowhere = p.near in omega arith;
-  is = (can.fits, inl (record { few = few; own = refl; text = p.holds }));
+  is = (can.fits kind, inl (record { few = few; own = refl; text = p.holds }));
   adds = p.adds;
 })
 
-large_at : (at to : ℕ) (value : Value) (x y z : Cells) → CanPut value → 4 < length value.«data» → Grows x y → Grows y z → DataAt to value.«data» x y → Puts at (large_value value to) y z → ValueAt at value x z
-large_at at to value x y z can some g h d p = record {
+large_at : (at to : ℕ) (value : Value) (x y z : Cells) → CanPut value → value.kind < 2 ^ 32 → 4 < length value.«data» → Grows x y → Grows y z → DataAt to value.«data» x y → Puts at (large_value value to) y z → ValueAt at value x z
+large_at at to value x y z can kind some g h d p = record {
   own = at ∷ d.own;
   near = let near : at < nowhere = p.near in omega arith;
-  is = (can.fits, inr (elim d.lies [
+  is = (can.fits kind, inr (elim d.lies [
     | inl c ↦ inl (record {
       to = to;
       near = d.near;
@@ -61,8 +61,8 @@ large_at at to value x y z can some g h d p = record {
   adds = adds_ahead x y z d.own (at ∷ []) g h d.adds p.adds;
 }
 
-pub large_made : (a b c : List ℕ) (at to : ℕ) (value : Value) → CanPut value → 4 < length value.«data» → Makes a b (DataAt to value.«data») → Makes b c (Puts at (large_value value to)) → Makes a c (ValueAt at value)
-large_made a b c at to value can some m n = made_then a b c (DataAt to value.«data») (Puts at (large_value value to)) (ValueAt at value) m n (λ x y z g h d p. large_at at to value x y z can some g h d p)
+pub large_made : (a b c : List ℕ) (at to : ℕ) (value : Value) → CanPut value → value.kind < 2 ^ 32 → 4 < length value.«data» → Makes a b (DataAt to value.«data») → Makes b c (Puts at (large_value value to)) → Makes a c (ValueAt at value)
+large_made a b c at to value can kind some m n = made_then a b c (DataAt to value.«data») (Puts at (large_value value to)) (ValueAt at value) m n (λ x y z g h d p. large_at at to value x y z can kind some g h d p)
 
 -- a value that is written stays so
 pub written_grown : (y z : Cells) (v : Written) → Grows y z → IsWritten true y v → IsWritten true z v

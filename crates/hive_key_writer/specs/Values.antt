@@ -65,9 +65,10 @@ pub record ValueAt (at : ℕ) (value : Value) (before after : Cells) : Type 0 wh
   pub is : IsWritten true after (record { at = at; own = own; value = value })
   pub adds : Adds before after own
 
--- a value that can be put: it can be written, and its data have so many segments as a record can count
+-- a value that can be put: it can be written, where its type is a number of 32 bits, and its data have so many segments as
+-- a record can count
 pub record CanPut (value : Value) : Type 0 where
-  pub fits : Fits value
+  pub fits : value.kind < 2 ^ 32 → Fits value
   pub few : length value.«data» < 2 ^ 29
 
 -- values that can be put: each of them, under its own name, and no more than a record can count

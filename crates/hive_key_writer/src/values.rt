@@ -23,6 +23,7 @@ fn put_small(image: &mut Image, text: &mut Vec<u8>, value: &Value) -> Result<u32
     requires few { length value.now.data ≤ 4 }
     ensures { IfOk result (λ at. Makes image.old.bytes image.new.bytes (ValueAt at value.now)) }
 {
+    let _kind = value.kind;
     text.clear();
     put_small_value(text, value)?;
     match put_cell(image, text, text.len()) {
@@ -42,6 +43,7 @@ fn put_large(
     requires some { 4 < length value.now.data }
     ensures { IfOk result (λ at. Makes image.old.bytes image.new.bytes (ValueAt at value.now)) }
 {
+    let _kind = value.kind;
     let to = match put_data(alloc, image, text, value.data.bytes()) {
         Ok(to) => to,
         Err(why) => return Err(why),
