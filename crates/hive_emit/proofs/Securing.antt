@@ -13,7 +13,7 @@ use Rattle.hive_records.specs.Fields.{Holds}
 use Rattle.hive_records.specs.KeyTexts.{security_text}
 use Rattle.hive_key_writer.specs.Making.{Makes, Puts}
 use Rattle.hive_key_writer.proofs.Makings.{made_then, made_none, all_push}
-use Rattle.hive_key_writer.proofs.ValueMaps.{take_next}
+use Rattle.hive_key_writer.proofs.ValueMaps.{take_next, all_at}
 use Rattle.hive_emit.proofs.KeyProofs.{all_parts, found_kid, held_grown}
 use Rattle.hive_emit.specs.Emitting.{Has, IsCellOf, IsOffsetOf, IsCounted, AreCounted, IsHeld, Holding}
 
@@ -118,3 +118,19 @@ one_held a b c securities i next previous count at new inside at_is few m n =
       count = count;
       text = subst (λ n. Holds z n (security_text next previous count new.descriptor)) (sym at_is) p.holds;
     })))
+
+pub same_read : (cells : List Security) (place : ℕ) (a b : Security) → place < length cells → a ≡ get_or cells place a → b ≡ get_or cells place b → a ≡ b
+same_read cells place a b inside a_is b_is = some_same a b (sym (slice_get_read cells (length cells) place a refl inside a_is) ∙ slice_get_read cells (length cells) place b refl inside b_is)
+
+pub short_at : (cells : List Security) (place : ℕ) (a : Security) → AllByRecursion (λ (s : Security). length s.descriptor < 2 ^ 32) cells → place < length cells → a ≡ get_or cells place a → length a.descriptor < 2 ^ 32
+short_at cells place a short inside a_is = all_at (λ (s : Security). length s.descriptor < 2 ^ 32) cells place a short (slice_get_read cells (length cells) place a refl inside a_is)
+
+pub short_set : (cells : List Security) (place : ℕ) (new : Security) → AllByRecursion (λ (s : Security). length s.descriptor < 2 ^ 32) cells → length new.descriptor < 2 ^ 32 → AllByRecursion (λ (s : Security). length s.descriptor < 2 ^ 32) (slice_set cells place new)
+short_set [] place new short few = tt
+short_set (c ∷ cells) zero new short few = (few, short.1)
+short_set (c ∷ cells) (suc place) new short few = (short.0, short_set cells place new short.1 few)
+
+pub long_set : (cells : List Security) (place : ℕ) (new : Security) → length (slice_set cells place new) ≡ length cells
+long_set [] place new = refl
+long_set (c ∷ cells) zero new = refl
+long_set (c ∷ cells) (suc place) new = ap suc (long_set cells place new)

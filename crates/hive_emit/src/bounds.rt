@@ -17,8 +17,8 @@ pub(crate) struct Bounds {
     pub value_data: u32,
 }
 
-// a length as a number of 32 bits, or the greatest
-fn clamped(len: usize) -> u32 {
+/// A length as a number of 32 bits, or the greatest such number.
+pub(crate) fn clamped(len: usize) -> u32 {
     u32::try_from(len).unwrap_or(u32::MAX)
 }
 

@@ -138,9 +138,10 @@ fn fill_key(
         row.time < 2 ^ 64) }
 {
     let key = node.key();
+    let time = key.time();
     text.clear();
     let class = key.class().bytes().len() as u16;
-    put_key_node(text, key.name().units(), key.flags(), key.time(), class, its)?;
+    put_key_node(text, key.name().units(), key.flags(), time, class, its)?;
     fill(image, at, text);
     Ok(())
 }
@@ -208,6 +209,7 @@ pub(crate) fn put_key(
         (PutsKey securities.now at node.now)) }
 {
     let key = node.key();
+    let _time = key.time();
     let at = match new_cell(image, record_len(key.name().units())) {
         Ok(at) => at,
         Err(why) => return Err(why),

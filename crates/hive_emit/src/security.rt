@@ -3,6 +3,7 @@ ghost use Rattle.std.specs.Prelude.{◌≡◌, ◌⊎◌, ◌^◌, ◌<◌, [], 
 ghost use Rattle.hive_key_writer.specs.Making.{Makes};
 ghost use Rattle.hive_emit.specs.Emitting.{Has, IsOffsetOf, AreShort, IsCounted, AreCounted, CanPutKeys, Keeps, Holding};
 
+use crate::bounds::clamped;
 use hive_cells::Image;
 use hive_key_writer::{NOWHERE, put_cell};
 use hive_records::put_security;
@@ -225,6 +226,6 @@ const FIRST: u32 = 32;
 
 // how many bytes a security cell has
 fn cell_len(security: &Security) -> u32 {
-    let len = security.descriptor.bytes().len() as u32;
+    let len = clamped(security.descriptor.bytes().len());
     len.wrapping_add(BEFORE).wrapping_add(7) / 8 * 8
 }

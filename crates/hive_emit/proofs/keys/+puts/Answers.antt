@@ -6,7 +6,7 @@ use Rattle.hive_records.specs.ListTexts.{AreOffsets}
 use Rattle.hive_key_writer.specs.Making.{Makes, IsLongCell}
 use Rattle.hive_key_writer.proofs.Makings.{all_push}
 use Rattle.hive_emit.specs.Emitting.{PutsKids, IsOffsetOf, OwnAt}
-use Rattle.hive_emit.proofs.Owns.{row_same}
+use Rattle.hive_emit.proofs.Owns.{row_same, own_can}
 use Rattle.hive_emit.proofs.KeyProofs.{no_kids_done, kids_next, kids_can, can_kid, counted_kid, counted_parts, key_made, long_stays, kid_there, kids_few, both_made, Filling}
 use Rattle.hive_emit.proofs.keys.+puts.Goals as goal
 
@@ -35,6 +35,9 @@ put_subkeys-loop-index-preserved t c = record {
   count = omega (arith, ap length c.in_ok-push.ensures.items, length-append c.loop-index.places.items (c.in-Ok.at ∷ []), c.loop-index.invariant.count);
   near = subst AreOffsets (sym c.in_ok-push.ensures.items) (all_push (λ at. at < 2 ^ 32) c.loop-index.places.items c.in-Ok.at c.loop-index.invariant.near (omega arith));
 }
+
+pub put_key-record_len-requires : goal.put_key-record_len-requires
+put_key-record_len-requires t c = let few = ((own_can c.args.node.now c.key-key.result.now c.key-key.ensures.node c.key-key.ensures.here c.requires.can).fits (omega (arith, c.time-time.ensures))).name in subst (λ n. length (name_text n) < 2 ^ 16) (sym (c.units.ensures ∙ c.name.ensures)) few
 
 pub put_key-put_own-requires-clause-few : goal.put_key-put_own-requires-clause-few
 put_key-put_own-requires-clause-few t c = omega (arith, ap length c.deref.ensures.value, c.in-Ok-put_subkeys.ensures.count, kids_few c.args.node.now c.key-key.result.now c.in-Ok-put_subkeys.ensures.has c.key-key.ensures.here, c.requires.few)
