@@ -66,9 +66,12 @@ pub fn emit(alloc: Global, tree: &Tree, least_size: u32) -> Result<Emitted, Refu
     securities.count_all(alloc, root)?;
     let mut text = Vec::new(alloc);
     let mut image = room(alloc, tree.weight(), securities.bytes().max(least_size))?;
+    image.tiles(0);
     securities.put(&mut image, &mut text)?;
-    match put_key(alloc, &mut image, &mut text, &securities, root, NOWHERE) {
-        Ok(root) => Ok(Emitted { image, root }),
-        Err(why) => Err(why),
-    }
+    let at = match put_key(alloc, &mut image, &mut text, &securities, root, NOWHERE) {
+        Ok(at) => at,
+        Err(why) => return Err(why),
+    };
+    image.tiles(0);
+    Ok(Emitted { image, root: at })
 }

@@ -44,7 +44,9 @@ impl Model for Securities {
 
 impl Securities {
     /// None.
-    pub(crate) fn new(alloc: Global) -> Securities {
+    pub(crate) fn new(alloc: Global) -> Securities
+        ensures { result ≡ [] }
+    {
         Securities {
             cells: Vec::new(alloc),
             places: BTreeMap::new(alloc),
