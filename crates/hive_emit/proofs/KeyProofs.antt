@@ -1,22 +1,22 @@
 -- A key and all below it, written.
-use Rattle.std.proofs.Common.{◌≡◌, ◌≢◌, ◌⊎◌, inl, inr, ℕ, zero, suc, ◌+◌, ◌*◌, ◌<◌, ◌≤◌, ◌^◌, Bool, true, false, T, List, [], ◌∷◌, ◌++◌, length, map, take, slice_get, refl, sym, ◌∙◌, ap, subst, arith, Option, Some, None, IsSome, is_some, Ok, MatchOption, length-append}
+use Rattle.std.proofs.Common.{◌≡◌, ◌⊎◌, inl, inr, ℕ, zero, suc, ◌+◌, ◌<◌, ◌≤◌, ◌^◌, true, T, List, [], ◌∷◌, ◌++◌, length, map, take, slice_get, refl, sym, ◌∙◌, ap, subst, arith, Option, Some, None, IsSome, is_some, Ok, MatchOption, length-append}
 use Rattle.std.specs.List.{AllByRecursion}
 use Rattle.std.specs.FinMap as finite
 use Rattle.std.specs.FinMap.Entries.{is_sorted, below_all}
 use Rattle.std.specs.Ordering.{is_lt}
 use Rattle.std.specs.Cmp.{tied_itself}
-use Rattle.std.specs.declared.cmp.Ordering.TheVariants.{Less, Equal, Greater}
+use Rattle.std.specs.declared.cmp.Ordering.TheVariants.{Less, Equal}
 use Rattle.reg_names.specs.Names.{folded}
-use Rattle.hive_cells.specs.Tiles.{Tiles, IsAllocatedCell, cell_data, cell_size}
+use Rattle.hive_cells.specs.Tiles.{Tiles, IsAllocatedCell, cell_data}
 use Rattle.hive_cells.specs.Bins.{Cells, Shows}
 use Rattle.hive_shape.specs.Lists.{IsIn, Once}
-use Rattle.hive_shape.specs.Keys.{Parts, Keys, none, key, names, offsets, own_cells, lent_cells}
-use Rattle.hive_shape.specs.Cells.{Grows, AreNew, SameBut, LentThere, Written, Writing}
+use Rattle.hive_shape.specs.Keys.{Parts, Keys, none, key, names, lent_cells}
+use Rattle.hive_shape.specs.Cells.{Grows, SameBut}
 use Rattle.hive_shape.specs.Loads.{with_last}
 use Rattle.hive_shape.proofs.Basics.{in_either, in_front, in_back}
 use Rattle.hive_shape.proofs.Loading.{offsets_last}
 use Rattle.hive_shape.proofs.Writings.{writes_none, writes_on, writes_filled}
-use Rattle.reg_tree_parts.specs.Orders.{name_order, path_order}
+use Rattle.reg_tree_parts.specs.Orders.{name_order}
 use Rattle.reg_tree_parts.specs.Rows.{Row}
 use Rattle.reg_tree_parts.specs.Nodes.{Entries, below, all_below, entries_of, row_at, root_name, subkeys_of, HasSubkeys, IsNode, AreNodes}
 use Rattle.reg_tree_parts.proofs.Keys.{names_total}
@@ -27,23 +27,22 @@ use Rattle.hive_records.specs.KeyNodes.{keys_in, class_at, descriptor_at}
 use Rattle.hive_records.specs.Values.{values_at}
 use Rattle.hive_records.specs.Lists.{kids_at}
 use Rattle.hive_records.specs.ListTexts.{AreOffsets}
-use Rattle.hive_records.specs.KeyTexts.{key_text, security_text, RowFits, KeyPlacesFit}
+use Rattle.hive_records.specs.KeyTexts.{key_text, security_text, KeyPlacesFit}
 use Rattle.hive_records.specs.Nodes.{IsNodeOf}
 use Rattle.hive_records.specs.declared.key_places.KeyPlaces.{KeyPlaces}
-use Rattle.hive_records.proofs.Local.{Local}
 use Rattle.hive_records.proofs.Keys.{keys_local, keys_there, local_values, local_kids, local_class}
 use Rattle.hive_records.proofs.KeysAgain.{security_again, no_security}
 use Rattle.hive_records.proofs.NodesAgain.{key_again}
 use Rattle.hive_records.proofs.NodesOf.{node_of}
 use Rattle.hive_keys.specs.Nodes.{AreListed}
 use Rattle.hive_keys.proofs.Listed.{listed_rows, listed_more, listed_names}
-use Rattle.hive_key_writer.specs.Making.{Makes, Adds, Opens, Puts, Fills, IsLongCell}
+use Rattle.hive_key_writer.specs.Making.{Makes, Opens, Fills, IsLongCell}
 use Rattle.hive_key_writer.proofs.Makings.{made_then, made_none, holds_grown, grows_on, all_push, all_as, some_not}
 use Rattle.hive_key_writer.proofs.ValueMaps.{take_next}
 use Rattle.hive_key_writer.proofs.NewCells.{data_long}
 use Rattle.hive_emit.specs.declared.security.Security.{Security}
-use Rattle.hive_emit.specs.Emitting.{IsHeld, AreHeld, security_cells, Has, CanPutKey, CanPutKeys, IsCounted, AreCounted, KeyAt, PutsKey, KidsDone, PutsKids, OwnAt, NodePlaces, IsCellOf, IsOffsetOf}
-use Rattle.hive_emit.proofs.Owns.{gives_stays, row_same, own_can}
+use Rattle.hive_emit.specs.Emitting.{IsHeld, AreHeld, security_cells, CanPutKey, CanPutKeys, IsCounted, AreCounted, KeyAt, PutsKey, KidsDone, PutsKids, OwnAt, NodePlaces, IsOffsetOf}
+use Rattle.hive_emit.proofs.Owns.{gives_stays}
 
 -- security cells stay held
 pub held_grown : (securities : List Security) (y z : Cells) → Grows y z → AreHeld securities y → AreHeld securities z
@@ -205,46 +204,60 @@ kids_can entries row has here can = (below_can entries row has here can).1
 at_end : (securities : List Security) (at len security class values kids : ℕ) (row : Row) (its : KeyPlaces) (entries : Entries) (places : List ℕ) (x0 x1 x2 x3 x4 : Cells) → Filling at len security class values kids row its securities entries places
     → Grows x0 x1 → Grows x1 x2 → Grows x2 x3 → SameBut at x3 x4 → Opens at len x0 x1 → KidsDone securities places (subkeys_of entries) x1 x2 → OwnAt class values kids row places x2 x3 → Holds x4 at (key_text row its) → AreHeld securities x0 → KeyAt securities at entries x0 x4
 at_end securities at len security class values kids row its entries places x0 x1 x2 x3 x4 f g01 g12 g23 same o k own holds held = record {
-    parts = parts;
-    below = k.keys;
-    written = writes_filled (keys_in true) (keys_local true) (keys_there true) x0 x1 x2 x3 x4 at parts k.keys rest g01 gone here k.writing g23 same read refl own.adds.once own.adds.fresh (λ cell i. held_there securities x0 held cell (k.lent cell i)) k.at once_names some_names;
-    node = subst (λ (es : Entries). IsNodeOf es parts k.keys) (sym whole) (node_of parts k.keys (subkeys_of entries) f.has.rises (listed_rows (subkeys_of entries) k.keys k.listed));
-    name = ap root_name whole;
-    near = f.near_at;
-    lent = λ cell i. elim (in_either cell lends.lent (lent_cells k.keys) i) [ inl j ↦ lends.among cell j | inr j ↦ k.lent cell j ];
-  }
+  parts = parts;
+  below = k.keys;
+  written = writes_filled (keys_in true) (keys_local true) (keys_there true) x0 x1 x2 x3 x4 at parts k.keys rest g01 gone here k.writing g23 same read refl own.adds.once own.adds.fresh (λ cell i. held_there securities x0 held cell (k.lent cell i)) k.at once_names some_names;
+  node = subst (λ (es : Entries). IsNodeOf es parts k.keys) (sym whole) (node_of parts k.keys (subkeys_of entries) f.has.rises (listed_rows (subkeys_of entries) k.keys k.listed));
+  name = ap root_name whole;
+  near = f.near_at;
+  lent = λ cell i. elim (in_either cell lends.lent (lent_cells k.keys) i) [ inl j ↦ lends.among cell j | inr j ↦ k.lent cell j ];
+}
   where
     whole : entries ≡ entries_of row (subkeys_of entries)
     whole = f.has.whole row f.here
+
     gone : x0 at ≡ None
     gone = o.adds.fresh at (inl refl)
+
     here : IsSome (x1 at)
     here = o.adds.there at (inl refl)
+
     mid : IsSome (x2 at)
     mid = ap is_some (g12 at here) ∙ here
+
     rest : List ℕ
     rest = own.class_own ++ (own.values_own ++ own.kids_own)
+
     not_at : (cell : ℕ) → IsIn cell rest → cell ≡ at → ⊥
     not_at cell i e = some_not (x2 at) mid (ap x2 (sym e) ∙ own.adds.fresh cell i)
+
     grown : Grows x0 x4
     grown cell there = same cell (λ e. some_not (x0 cell) there (ap x0 e ∙ gone)) ∙ grows_on x0 x2 x3 (grows_on x0 x1 x2 g01 g12) g23 cell there
+
     lends : Lent securities x4 security row.descriptor
     lends = lent_of securities x4 security row.descriptor (held_grown securities x0 x4 grown held) f.offset
+
     parts : Parts Row
     parts = record { name = folded row.name; row = row; kids = places; own = at ∷ rest; lent = lends.lent }
+
     class_now : Gives (class_at (length row.class) its.class) x4 own.class_own [] row.class
     class_now = subst (λ (n : ℕ). Gives (class_at (length row.class) n) x4 own.class_own [] row.class) (sym f.said.class_is)
         (gives_stays (class_at (length row.class) class) x3 x4 own.class_own [] row.class (local_class (length row.class) class) own.class_gives (λ cell i. same cell (λ e. not_at cell (in_front cell own.class_own (own.values_own ++ own.kids_own) i) e)) (λ cell i. absurd i))
+
     values_now : Gives (values_at true its.value_count its.values) x4 own.values_own [] row.values
     values_now = subst (λ (n : ℕ). Gives (values_at true n its.values) x4 own.values_own [] row.values) (sym f.said.value_count_is) (subst (λ (n : ℕ). Gives (values_at true (finite.len row.values) n) x4 own.values_own [] row.values) (sym f.said.values_is)
         (gives_stays (values_at true (finite.len row.values) values) x3 x4 own.values_own [] row.values (local_values true (finite.len row.values) values) own.values_gives (λ cell i. same cell (λ e. not_at cell (in_back cell own.class_own (own.values_own ++ own.kids_own) (in_front cell own.values_own own.kids_own i)) e)) (λ cell i. absurd i)))
+
     kids_now : Gives (kids_at its.kid_count its.kids) x4 own.kids_own [] places
     kids_now = subst (λ (n : ℕ). Gives (kids_at n its.kids) x4 own.kids_own [] places) (f.count ∙ sym f.said.kid_count_is) (subst (λ (n : ℕ). Gives (kids_at (length places) n) x4 own.kids_own [] places) (sym f.said.kids_is)
         (gives_stays (kids_at (length places) kids) x3 x4 own.kids_own [] places (local_kids (length places) kids) own.kids_gives (λ cell i. same cell (λ e. not_at cell (in_back cell own.class_own (own.values_own ++ own.kids_own) (in_back cell own.values_own own.kids_own i)) e)) (λ cell i. absurd i)))
+
     security_now : Gives (descriptor_at its.security) x4 [] lends.lent row.descriptor
     security_now = subst (λ (n : ℕ). Gives (descriptor_at n) x4 [] lends.lent row.descriptor) (sym f.said.security_is) lends.gives
+
     can : CanPutKey [] row × CanPutKeys (all_below (subkeys_of entries))
     can = below_can entries row f.has f.here f.can
+
     near : KeyPlacesFit its
     near = record {
       kid_count = (let e = f.said.kid_count_is in let few = f.few in omega (arith, e, few));
@@ -254,12 +267,16 @@ at_end securities at len security class values kids row its entries places x0 x1
       security = (let e = f.said.security_is in let n = f.security_near in omega (arith, e, n));
       class = (let e = f.said.class_is in let n = own.class_near in omega (arith, e, n));
     }
+
     read : keys_in true x4 at ≡ Ok parts
     read = key_again true x4 at row its own.class_own lends.lent own.values_own own.kids_own places (can.0.fits f.time) near holds class_now security_now values_now kids_now
+
     names_are : map (λ (k : List ℕ × Entries). k.0) (subkeys_of entries) ≡ names k.keys
     names_are = listed_names (subkeys_of entries) k.keys k.listed
+
     once_names : Once (names k.keys)
     once_names = subst Once names_are (once_sorted (subkeys_of entries) f.has.rises)
+
     some_names : IsIn [] (names k.keys) → ⊥
     some_names i = some_named (subkeys_of entries) f.has.nodes f.has.named can.1 (subst (λ (ns : List (List ℕ)). IsIn [] ns) (sym names_are) i)
 

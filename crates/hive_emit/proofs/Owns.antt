@@ -1,26 +1,26 @@
 -- A key's own cells, one after another.
-use Rattle.std.proofs.Common.{◌≡◌, ◌⊎◌, inl, inr, ℕ, zero, suc, ◌+◌, ◌*◌, ◌<◌, ◌≤◌, ◌^◌, Bool, true, false, cond, eqb, List, [], ◌∷◌, ◌++◌, length, refl, sym, ◌∙◌, ap, subst, arith, Some, IsSome, is_some, Ok}
+use Rattle.std.proofs.Common.{◌≡◌, ℕ, ◌*◌, ◌<◌, Bool, true, false, cond, List, [], ◌∷◌, ◌++◌, length, refl, sym, ◌∙◌, ap, subst, arith, Some}
 use Rattle.std.specs.FinMap as finite
-use Rattle.hive_cells.specs.Bins.{Cells, Shows}
-use Rattle.hive_shape.specs.Lists.{IsIn, Once}
-use Rattle.hive_shape.specs.Cells.{Grows, AreNew, SameBut}
+use Rattle.hive_cells.specs.Bins.{Cells}
+use Rattle.hive_shape.specs.Lists.{IsIn}
+use Rattle.hive_shape.specs.Cells.{Grows}
 use Rattle.reg_tree_parts.specs.Rows.{Row}
-use Rattle.reg_tree_parts.specs.Nodes.{Entries, row_at, subkeys_of, IsNode}
+use Rattle.reg_tree_parts.specs.Nodes.{Entries, row_at, IsNode}
 use Rattle.hive_records.specs.Readers.{Reader}
 use Rattle.hive_records.specs.Numbers.{nowhere}
-use Rattle.hive_records.specs.Fields.{Gives, Holds}
+use Rattle.hive_records.specs.Fields.{Gives}
 use Rattle.hive_records.specs.KeyNodes.{class_at}
 use Rattle.hive_records.specs.Values.{values_at}
 use Rattle.hive_records.specs.Lists.{kids_at}
 use Rattle.hive_records.specs.ListTexts.{AreOffsets, places}
 use Rattle.hive_records.specs.Spellings.{is_latin, name_text, spelled}
 use Rattle.hive_records.proofs.Local.{Local}
-use Rattle.hive_records.proofs.Keys.{local_values, local_kids, local_class}
+use Rattle.hive_records.proofs.Keys.{local_values, local_class}
 use Rattle.hive_records.proofs.KeysAgain.{class_again, no_class}
 use Rattle.hive_key_writer.specs.Making.{Makes, Adds, Puts}
 use Rattle.hive_key_writer.specs.Values.{ValuesAt}
 use Rattle.hive_key_writer.specs.KeyLists.{placed, KidsAt}
-use Rattle.hive_key_writer.proofs.Makings.{made_then, made_as, made_none, holds_grown, adds_none, adds_then}
+use Rattle.hive_key_writer.proofs.Makings.{made_then, made_as, made_none, adds_none, adds_then}
 use Rattle.hive_key_writer.proofs.Leaves.{kids_read, placed_places, placed_long}
 use Rattle.hive_emit.specs.Emitting.{CanPutKey, CanPutKeys, ClassAt, OwnAt}
 

@@ -1,5 +1,5 @@
 -- Where security cells are, found by their descriptors.
-use Rattle.std.proofs.Common.{◌≡◌, ◌⊎◌, inl, inr, ℕ, zero, suc, ◌+◌, ◌<◌, ◌≤◌, ◌^◌, Bool, true, false, eqb, List, [], ◌∷◌, ◌++◌, length, map, take, slice_get, get_or, refl, sym, ◌∙◌, ap, subst, arith, Some, None, Option}
+use Rattle.std.proofs.Common.{◌≡◌, ◌⊎◌, inl, inr, ℕ, zero, suc, ◌+◌, ◌<◌, ◌≤◌, ◌^◌, true, false, eqb, List, [], ◌∷◌, ◌++◌, length, map, take, slice_get, get_or, refl, sym, ◌∙◌, ap, subst, arith, Some}
 use Rattle.std.specs.Prelude.{slice_set}
 use Rattle.std.specs.List.{AllByRecursion}
 use Rattle.std.proofs.lemmas.Bool.{cases_lt, cases_eq}
@@ -7,7 +7,6 @@ use Rattle.std.proofs.lemmas.Option.{slice_get_read, slice_get_within}
 use Rattle.hive_emit.specs.declared.security.Security.{Security}
 use Rattle.reg_tree_parts.specs.Rows.{Row}
 use Rattle.reg_tree_parts.specs.Nodes.{Entries, below, all_below, row_at, root_name, subkeys_of, HasSubkeys}
-use Rattle.hive_cells.specs.Bins.{Cells}
 use Rattle.hive_records.specs.Numbers.{nowhere}
 use Rattle.hive_records.specs.Fields.{Holds}
 use Rattle.hive_records.specs.KeyTexts.{security_text}
@@ -15,7 +14,7 @@ use Rattle.hive_key_writer.specs.Making.{Makes, Puts}
 use Rattle.hive_key_writer.proofs.Makings.{made_then, made_none, all_push}
 use Rattle.hive_key_writer.proofs.ValueMaps.{take_next, all_at}
 use Rattle.hive_emit.proofs.KeyProofs.{all_parts, found_kid, held_grown}
-use Rattle.hive_emit.specs.Emitting.{Has, IsCellOf, IsOffsetOf, IsCounted, AreCounted, IsHeld, Holding}
+use Rattle.hive_emit.specs.Emitting.{Has, IsOffsetOf, IsCounted, AreCounted, IsHeld, Holding}
 
 some_same : {A : Type 0} (x y : A) → Some x ≡ Some y → x ≡ y
 some_same x y e = cc

@@ -1,7 +1,7 @@
 -- A tree that a hive file can spell, within the weight, can be put; and what was put stands for it.
-use Rattle.std.proofs.Common.{◌≡◌, ◌≢◌, ◌⊎◌, inl, inr, ℕ, zero, suc, ◌+◌, ◌*◌, ◌/◌, ◌%◌, ◌<◌, ◌≤◌, ◌^◌, Bool, true, false, cond, eqb, ne_eqb, ◌||◌, T, List, [], ◌∷◌, ◌++◌, length, map, sum_by, refl, sym, ◌∙◌, ap, subst, arith, Option, Some, None, IsSome, is_some, le-leb}
-use Rattle.std.specs.Prelude.{bit_and, nat_lt}
-use Rattle.std.specs.List.{AllByRecursion, list_any, list_all}
+use Rattle.std.proofs.Common.{◌≡◌, ◌≢◌, inl, inr, ℕ, ◌+◌, ◌*◌, ◌/◌, ◌%◌, ◌<◌, ◌≤◌, ◌^◌, Bool, true, false, cond, eqb, ne_eqb, ◌||◌, T, List, [], ◌∷◌, length, map, sum_by, refl, sym, ◌∙◌, ap, subst, arith, Some, None, IsSome, is_some, le-leb}
+use Rattle.std.specs.Prelude.{bit_and}
+use Rattle.std.specs.List.{AllByRecursion, list_any}
 use Rattle.std.specs.FinMap as finite
 use Rattle.std.specs.FinMap.{get-from_sorted, entries_sorted, entries-from_sorted, same_entries_map, len-entries}
 use Rattle.std.specs.FinMap.Entries.{find, is_sorted, below_all}
@@ -17,16 +17,13 @@ use Rattle.reg_tree_parts.specs.declared.value.Value.{Value}
 use Rattle.reg_tree_parts.specs.Orders.{name_order, path_order}
 use Rattle.reg_tree_parts.specs.Weights.{value_weight}
 use Rattle.reg_tree_parts.specs.Rows.{Row, ValueMap, row_weight}
-use Rattle.reg_tree_parts.specs.Nodes.{Entries, row_at, entries_weight, IsNode}
+use Rattle.reg_tree_parts.specs.Nodes.{Entries, entries_weight, IsNode}
 use Rattle.reg_tree_parts.proofs.Keys.{names_total, names_apart, paths_total, paths_apart}
 use Rattle.reg_tree_parts.proofs.SortedLists.{front_of, back_of, less_of}
 use Rattle.reg_tree.specs.Maps.{TreeMap, weight}
-use Rattle.reg_tree.specs.Spellable.{IsSpellable, IsSpellableAt, IsSpellableRow, IsSpellableValue, IsSpellableName, stored_len}
-use Rattle.hive_shape.proofs.Basics.{yes_if, no_if, decided}
-use Rattle.hive_records.specs.Names.{has_flag}
+use Rattle.reg_tree.specs.Spellable.{IsSpellable, IsSpellableAt, IsSpellableRow, IsSpellableValue, stored_len}
+use Rattle.hive_shape.proofs.Basics.{decided}
 use Rattle.hive_records.specs.Spellings.{is_latin, name_text}
-use Rattle.hive_records.specs.ValueTexts.{Fits}
-use Rattle.hive_records.specs.KeyTexts.{RowFits}
 use Rattle.hive_key_writer.specs.Values.{CanPut, CanPutAll}
 use Rattle.hive_cells.specs.Tiles.{Tiles}
 use Rattle.hive_cells.specs.Bins.{Cells, Shows}
@@ -106,7 +103,7 @@ found_in values q =
 values_can : (row : Row) → IsSpellableRow row → row_weight row ≤ 16_777_216 → CanPutAll row.values
 values_can row is few =
     let spelled : AllByRecursion (λ (e : List ℕ × Value). IsSpellableValue e.0 e.1) (finite.entries row.values) =
-        all_found name_order (tied_itself names_total) names_apart (λ n v. IsSpellableValue n v) (finite.entries row.values) (entries_sorted row.values) (λ n v found. is.values n v (found_in row.values n ∙ found)) in
+    all_found name_order (tied_itself names_total) names_apart (λ n v. IsSpellableValue n v) (finite.entries row.values) (entries_sorted row.values) (λ n v found. is.values n v (found_in row.values n ∙ found)) in
     let sum : sum_by value_weight (finite.values row.values) ≤ 16_777_216 = omega arith in
     record {
       each = both_can (finite.entries row.values) spelled (weigh_all (finite.values row.values) 16_777_216 sum);

@@ -1,9 +1,9 @@
 -- Keys that are written with all that is below them, beside the security cells that they name.
-use Rattle.std.specs.Prelude.{◌≡◌, ◌⊎◌, ℕ, ◌<◌, ◌^◌, Bool, true, List, [], ◌∷◌, ◌++◌, length, map, slice_get, Some}
+use Rattle.std.specs.Prelude.{◌≡◌, ◌⊎◌, ℕ, ◌<◌, ◌^◌, true, List, [], ◌++◌, length, map, slice_get, Some}
 use Rattle.std.specs.List.{AllByRecursion}
 use Rattle.std.specs.FinMap as finite
 use Rattle.reg_tree_parts.specs.Rows.{Row}
-use Rattle.reg_tree_parts.specs.Nodes.{Entries, root_name, subkeys_of}
+use Rattle.reg_tree_parts.specs.Nodes.{Entries, root_name}
 use Rattle.hive_cells.specs.Bins.{Cells}
 use Rattle.hive_shape.specs.Lists.{IsIn}
 use Rattle.hive_shape.specs.Keys.{Parts, Keys, offsets, lent_cells}

@@ -186,7 +186,13 @@ impl Securities {
             next = self.next_at(index, next);
             let security = &self.cells[index];
             text.clear();
-            put_security(text, next, previous, security.count, security.descriptor.bytes())?;
+            put_security(
+                text,
+                next,
+                previous,
+                security.count,
+                security.descriptor.bytes(),
+            )?;
             let at = match put_cell(image, text, text.len()) {
                 Ok(at) => at,
                 Err(why) => return Err(why),
@@ -200,7 +206,9 @@ impl Securities {
     // where the last cell is to be
     fn last_at(&self) -> u32 {
         match self.cells.last() {
-            Some(last) => FIRST.wrapping_add(self.bytes()).wrapping_sub(cell_len(last)),
+            Some(last) => FIRST
+                .wrapping_add(self.bytes())
+                .wrapping_sub(cell_len(last)),
             None => NOWHERE,
         }
     }

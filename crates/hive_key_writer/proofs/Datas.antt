@@ -1,19 +1,19 @@
 -- Data in segments, one after another.
-use Rattle.std.proofs.Common.{◌≡◌, ◌≢◌, ◌⊎◌, inl, inr, ℕ, ◌+◌, ◌-◌, ◌*◌, ◌/◌, ◌<◌, ◌≤◌, ◌^◌, List, [], ◌∷◌, ◌++◌, length, map, flat_map, take, drop, refl, sym, ◌∙◌, ap, subst, arith, append-nil, length-take, length-drop}
+use Rattle.std.proofs.Common.{◌≡◌, inl, inr, ℕ, ◌+◌, ◌-◌, ◌*◌, ◌<◌, ◌≤◌, ◌^◌, List, [], ◌∷◌, ◌++◌, length, take, drop, refl, sym, ◌∙◌, ap, subst, arith, length-drop}
 use Rattle.std.specs.Prelude.{slice_range}
 use Rattle.std.specs.List.{AllByRecursion}
 use Rattle.std.proofs.lemmas.List.{map-append, length-map, take_all, take-append-drop}
 use Rattle.std.proofs.lemmas.List.Concat.{flat_map_single}
 use Rattle.std.proofs.Math.Seq.{take-add}
-use Rattle.hive_cells.specs.Bins.{Cells, Shows}
+use Rattle.hive_cells.specs.Bins.{Cells}
 use Rattle.hive_shape.specs.Cells.{Grows}
 use Rattle.hive_records.specs.Fields.{Holds, half, word}
 use Rattle.hive_records.specs.Numbers.{nowhere}
-use Rattle.hive_records.specs.BigTexts.{Segment, big_text, segment_places, together, AreFull}
+use Rattle.hive_records.specs.BigTexts.{Segment, segment_places, together, AreFull}
 use Rattle.hive_records.specs.ListTexts.{offsets_text, AreOffsets}
-use Rattle.hive_key_writer.specs.Making.{Makes, Adds, Puts, Lists}
-use Rattle.hive_key_writer.specs.Values.{IsSegment, segment_own, InSegments, InCell, InBig, DataAt}
-use Rattle.hive_key_writer.proofs.Makings.{made_then, made_as, made_none, holds_grown, adds_then, adds_ahead, all_push, all_as, flat_push, lists_none, lists_more}
+use Rattle.hive_key_writer.specs.Making.{Makes, Adds, Puts}
+use Rattle.hive_key_writer.specs.Values.{IsSegment, segment_own, InSegments, DataAt}
+use Rattle.hive_key_writer.proofs.Makings.{made_then, made_as, made_none, holds_grown, adds_ahead, all_push, all_as, flat_push, lists_none, lists_more}
 
 abbrev pub AllFull : List Segment → Type 0
 AllFull segments = AllByRecursion (λ (s : Segment). length s.text ≡ 16_344) segments

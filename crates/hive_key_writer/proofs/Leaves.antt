@@ -1,7 +1,6 @@
 -- Leaves of subkeys, and lists of leaves.
-use Rattle.std.proofs.Common.{◌≡◌, ◌⊎◌, inl, inr, ℕ, zero, suc, ◌+◌, ◌-◌, ◌*◌, ◌/◌, ◌<◌, ◌≤◌, ◌^◌, Bool, true, false, List, [], ◌∷◌, ◌++◌, length, map, flat_map, take, drop, slice_get, get_or, eqb, min, refl, sym, ◌∙◌, ap, subst, arith, append-nil, append_assoc, length-take, length-drop, Option, Some, None}
+use Rattle.std.proofs.Common.{◌≡◌, ◌⊎◌, inl, inr, ℕ, zero, suc, ◌+◌, ◌-◌, ◌*◌, ◌<◌, ◌≤◌, ◌^◌, Bool, true, false, List, [], ◌∷◌, ◌++◌, length, map, flat_map, take, drop, slice_get, get_or, eqb, min, refl, sym, ◌∙◌, ap, subst, arith, append-nil, append_assoc, length-take, length-drop, Some}
 use Rattle.std.specs.List.{AllByRecursion}
-use Rattle.std.specs.Prelude.{slice_range}
 use Rattle.std.proofs.Math.Seq.{take-add}
 use Rattle.std.proofs.lemmas.List.{map-append, length-map, take_all}
 use Rattle.std.proofs.lemmas.Bool.{cases_lt, eqb-true}
@@ -14,15 +13,15 @@ use Rattle.hive_shape.specs.Cells.{Grows}
 use Rattle.hive_records.specs.Numbers.{nowhere}
 use Rattle.hive_records.specs.Lists.{kids_at, leaf_at}
 use Rattle.hive_records.specs.Fields.{Gives, Holds}
-use Rattle.hive_records.specs.ListTexts.{Kid, plain_leaf, hashed_leaf, hashed, indirect, places, AreOffsets}
+use Rattle.hive_records.specs.ListTexts.{Kid, hashed, indirect, places, AreOffsets}
 use Rattle.hive_records.specs.KeyTexts.{Leaf}
 use Rattle.hive_records.proofs.ListsAgain.{plain_again, hashed_again, one_plain, one_hashed}
 use Rattle.hive_records.proofs.ManyAgain.{indirect_back}
 use Rattle.hive_records.proofs.WholesAgain.{no_kids}
-use Rattle.hive_key_writer.specs.Making.{Makes, Adds, Puts, Lists}
-use Rattle.hive_key_writer.specs.KeyLists.{leaf_text, placed, KidLeaf, leaf_own, leaf_places, IsLeaf, HasLeaf, HasLeaves, HasNone, IsListed, ListedLeaves, KidsAt}
+use Rattle.hive_key_writer.specs.Making.{Makes, Adds, Puts}
+use Rattle.hive_key_writer.specs.KeyLists.{leaf_text, placed, KidLeaf, leaf_own, leaf_places, IsLeaf, IsListed, ListedLeaves, KidsAt}
 use Rattle.hive_key_writer.proofs.ValueMaps.{take_next}
-use Rattle.hive_key_writer.proofs.Makings.{made_then, made_as, made_none, holds_grown, adds_none, adds_ahead, all_push, all_as, flat_push, lists_none, lists_more}
+use Rattle.hive_key_writer.proofs.Makings.{made_then, made_as, made_none, holds_grown, adds_none, adds_ahead, all_push, all_as, lists_none, lists_more}
 
 -- subkeys with their cells
 pub placed_at : (offsets : List ℕ) (subkeys : List (List ℕ × Entries)) (i at : ℕ) (k : List ℕ × Entries) → slice_get offsets i ≡ Some at → slice_get subkeys i ≡ Some k → slice_get (placed offsets subkeys) i ≡ Some (record { at = at; name = k.0 })
@@ -145,8 +144,8 @@ kids_read cells list plain kids own near (inr (inr h)) =
     let long : length (flat_map (λ (l : Leaf). l.kids) leaves) ≡ length kids = ap length all ∙ length-map kids (λ (k : Kid). k.at) in
     let at : map (λ (l : Leaf). l.at) leaves ≡ leaf_places h.leaves = leaves_at_are h.leaves in
     let read : Gives (kids_at (length (flat_map (λ (l : Leaf). l.kids) leaves)) list) cells (list ∷ map (λ (l : Leaf). l.at) leaves) [] (flat_map (λ (l : Leaf). l.kids) leaves) =
-        indirect_back cells list leaves (omega (arith, long, many)) (let count : length h.leaves < 2 ^ 16 = h.count in omega (arith, count, length-map {B = Leaf} h.leaves (λ (l : KidLeaf). record { at = l.at; kids = places l.kids }))) (subst AreOffsets (sym at) h.near)
-        (leaves_read plain cells h.leaves (subst AreOffsets (ap places (sym h.its)) near) h.each) (subst (λ os. Holds cells list (indirect os)) (sym at) h.held) in
+    indirect_back cells list leaves (omega (arith, long, many)) (let count : length h.leaves < 2 ^ 16 = h.count in omega (arith, count, length-map {B = Leaf} h.leaves (λ (l : KidLeaf). record { at = l.at; kids = places l.kids }))) (subst AreOffsets (sym at) h.near)
+    (leaves_read plain cells h.leaves (subst AreOffsets (ap places (sym h.its)) near) h.each) (subst (λ os. Holds cells list (indirect os)) (sym at) h.held) in
     subst (λ (o : List ℕ). Gives (kids_at (length kids) list) cells o [] (places kids)) (ap (λ os. list ∷ os) at ∙ sym h.its_own)
     (subst (λ (ks : List ℕ). Gives (kids_at (length kids) list) cells (list ∷ map (λ (l : Leaf). l.at) leaves) [] ks) all
     (subst (λ (n : ℕ). Gives (kids_at n list) cells (list ∷ map (λ (l : Leaf). l.at) leaves) [] (flat_map (λ (l : Leaf). l.kids) leaves)) long read))

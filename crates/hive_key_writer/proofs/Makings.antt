@@ -1,13 +1,13 @@
 -- What writing makes, one thing after another.
-use Rattle.std.proofs.Common.{◌≡◌, ◌≢◌, ◌⊎◌, inl, inr, ℕ, ◌+◌, ◌≤◌, List, [], ◌∷◌, ◌++◌, length, flat_map, refl, sym, ◌∙◌, ap, subst, arith, append-nil, Option, Some, None, IsSome, is_some}
+use Rattle.std.proofs.Common.{◌≡◌, inl, inr, ℕ, ◌≤◌, List, [], ◌∷◌, ◌++◌, length, flat_map, refl, sym, ◌∙◌, ap, subst, arith, append-nil, Option, Some, None, IsSome, is_some}
 use Rattle.std.specs.List.{AllByRecursion}
 use Rattle.std.proofs.lemmas.Grind.{flat_map-append}
-use Rattle.hive_cells.specs.Bins.{Cells, Shows}
-use Rattle.hive_shape.specs.Lists.{IsIn, Once}
-use Rattle.hive_shape.specs.Cells.{Grows, AreNew}
-use Rattle.hive_shape.proofs.Basics.{in_either, in_front, in_back, once_joined}
+use Rattle.hive_cells.specs.Bins.{Cells}
+use Rattle.hive_shape.specs.Lists.{IsIn}
+use Rattle.hive_shape.specs.Cells.{Grows}
+use Rattle.hive_shape.proofs.Basics.{in_either, once_joined}
 use Rattle.hive_records.specs.Fields.{Holds}
-use Rattle.hive_key_writer.specs.Making.{Makes, Adds, Puts, Lists}
+use Rattle.hive_key_writer.specs.Making.{Makes, Adds, Lists}
 
 pub some_not : {A : Type 0} (o : Option (List ℕ)) → IsSome o → o ≡ None → A
 some_not None h e = absurd (let no : ⊥ = cc in no)

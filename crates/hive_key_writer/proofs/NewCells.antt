@@ -1,19 +1,16 @@
 -- Cells that are allocated and written, as a function of offsets.
-use Rattle.std.proofs.Common.{◌≡◌, ◌≢◌, ◌⊎◌, inl, inr, ℕ, ◌+◌, ◌-◌, ◌*◌, ◌/◌, ◌%◌, ◌<◌, ◌≤◌, ◌^◌, Bool, true, false, cond, eqb, List, [], ◌∷◌, ◌++◌, length, take, drop, refl, sym, ◌∙◌, ap, subst, arith, Option, Some, None, IsSome, is_some, MatchOption, length-take, length-drop, Ok, Err, Result}
-use Rattle.std.specs.Prelude.{slice_range, MatchResult}
+use Rattle.std.proofs.Common.{◌≡◌, ◌≢◌, inl, inr, ℕ, ◌+◌, ◌-◌, ◌%◌, ◌<◌, ◌≤◌, ◌^◌, cond, eqb, List, ◌++◌, length, take, drop, refl, sym, ◌∙◌, ap, subst, arith, Option, Some, None, IsSome, is_some, MatchOption, length-take, length-drop}
+use Rattle.std.specs.Prelude.{slice_range}
 use Rattle.std.proofs.Math.Seq.{take-add, drop-drop}
 use Rattle.std.proofs.lemmas.Bool.{cases_eq, cases_lt}
 use Rattle.std.proofs.lemmas.Bool.Decides.{eqb_tells}
 use Rattle.refusals.specs.declared.refusal.Refusal.{Refusal}
 use Rattle.refusals.specs.declared.refusal.Refusal.TheVariants as refusal
-use Rattle.hive_cells.specs.Tiles.{Tiles, BinStart, first_bin, next_bin, IsBin, CellStart, first_cell, next_cell, IsCell, IsAllocatedCell, IsFreeCell, cell_size, cell_data, bin_size}
+use Rattle.hive_cells.specs.Tiles.{Tiles, BinStart, first_bin, next_bin, CellStart, first_cell, next_cell, IsCell, IsAllocatedCell, cell_size, cell_data, bin_size}
 use Rattle.hive_cells.specs.Bins.{Bins, Cells, Shows}
-use Rattle.hive_cells.specs.Changes.{OthersStay, StaysAt, StaysFree, Allocates, Writes, PlaceRefused, least_size}
-use Rattle.hive_shape.specs.Lists.{IsIn, Once}
-use Rattle.hive_shape.specs.Cells.{Grows, AreNew, SameBut}
+use Rattle.hive_cells.specs.Changes.{OthersStay, StaysAt, Allocates, Writes, PlaceRefused, least_size}
 use Rattle.hive_records.specs.Numbers.{nowhere}
-use Rattle.hive_records.specs.Fields.{Holds}
-use Rattle.hive_key_writer.specs.Making.{Makes, Adds, Opens, Puts, Roomy, Uses, Stops, Fills, IsLongCell, cell_cost}
+use Rattle.hive_key_writer.specs.Making.{Makes, Opens, Puts, Roomy, Uses, Stops, Fills, IsLongCell, cell_cost}
 
 -- bins begin at multiples of 4,096, cells at multiples of 8 within the data
 bin_pages : (bytes : List ℕ) (at : ℕ) → BinStart bytes at → at % 4096 ≡ 0
@@ -178,8 +175,8 @@ filled old new at text long w is = record {
   cells = λ before shows.
       let size : cell_size new at ≡ cell_size old at = w.size in
       let its : cell_data new at ≡ text ++ slice_range new (at + 4 + length text) (at + cell_size new at) =
-          part_of new (at + 4) (at + 4 + length text) (at + cell_size new at) (omega arith) (omega (arith, long.1, size))
-          ∙ ap (λ xs. xs ++ slice_range new (at + 4 + length text) (at + cell_size new at)) (subst (λ n. slice_range new n (n + length text) ≡ text) zero_more is) in (
+      part_of new (at + 4) (at + 4 + length text) (at + cell_size new at) (omega arith) (omega (arith, long.1, size))
+      ∙ ap (λ xs. xs ++ slice_range new (at + 4 + length text) (at + cell_size new at)) (subst (λ n. slice_range new n (n + length text) ≡ text) zero_more is) in (
         put_at before at (cell_data new at),
         put_shown old new at before shows w.begins w.others,
         (λ cell apart. put_there before at (cell_data new at) cell apart),

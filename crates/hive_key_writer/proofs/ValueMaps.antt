@@ -1,11 +1,11 @@
 -- A key's values: one after another, and as the map of their folded names.
-use Rattle.std.proofs.Common.{◌≡◌, ◌⊎◌, inl, inr, ℕ, zero, suc, ◌+◌, ◌<◌, ◌≤◌, ◌^◌, List, [], ◌∷◌, ◌++◌, length, map, flat_map, take, get_or, slice_get, true, false, Bool, not, ◌&&◌, ◌||◌, T, refl, sym, ◌∙◌, ap, subst, arith, Option, Some, None}
+use Rattle.std.proofs.Common.{◌≡◌, ℕ, zero, suc, ◌+◌, ◌<◌, ◌^◌, List, [], ◌∷◌, ◌++◌, length, map, flat_map, take, slice_get, true, false, not, ◌&&◌, ◌||◌, T, refl, sym, ◌∙◌, ap, subst, arith, Some, None}
 use Rattle.std.specs.List.{AllByRecursion, list_any}
 use Rattle.std.specs.FinMap as finite
 use Rattle.std.specs.FinMap.{get-from_entries, get-from_sorted, entries-from_sorted, same_map, same_entries_map, entries_sorted, len-entries}
 use Rattle.std.specs.FinMap.Entries.{is_sorted, below_all, find}
 use Rattle.std.specs.Ordering.{eq_by_cmp, is_eq, is_lt}
-use Rattle.std.specs.declared.cmp.Ordering.TheVariants.{Less, Equal, Greater}
+use Rattle.std.specs.declared.cmp.Ordering.TheVariants.{Less}
 use Rattle.std.proofs.lemmas.List.{map-append, take_more, length-map}
 use Rattle.std.proofs.lemmas.Option.{get_or_from_slice_get, slice_get_within}
 use Rattle.reg_names.specs.Names.{folded}
@@ -23,9 +23,9 @@ use Rattle.hive_records.specs.Fields.{Gives, Holds}
 use Rattle.hive_records.specs.ListTexts.{offsets_text, AreOffsets}
 use Rattle.hive_records.specs.KeyTexts.{Written}
 use Rattle.hive_records.proofs.WholesAgain.{all_written, no_values}
-use Rattle.hive_key_writer.specs.Making.{Makes, Adds, Puts, Lists}
-use Rattle.hive_key_writer.specs.Values.{IsValue, value_own, ValueAt, CanPut, CanPutAll, ListedValues, ValuesAt}
-use Rattle.hive_key_writer.proofs.Makings.{made_then, made_as, made_none, holds_grown, adds_none, adds_ahead, all_push, all_as, lists_none, lists_more}
+use Rattle.hive_key_writer.specs.Making.{Makes, Puts}
+use Rattle.hive_key_writer.specs.Values.{IsValue, value_own, ValueAt, CanPutAll, ListedValues, ValuesAt}
+use Rattle.hive_key_writer.proofs.Makings.{made_then, made_none, adds_none, adds_ahead, all_push, all_as, lists_none, lists_more}
 use Rattle.hive_key_writer.proofs.Valued.{written_grown}
 
 -- the element at a place, and those before it
@@ -84,9 +84,9 @@ values_read : (list : ℕ) (places : List ℕ) (values : ValueMap) (x y z : Cell
 values_read list places values x y z can some g h l p =
     let count : length l.written ≡ finite.len values = sym (length-map l.written (λ (w : Written). w.value)) ∙ ap length l.its ∙ length-map (finite.entries values) (λ e. e.1) ∙ sym (len-entries values) in
     let apart : all_apart (map (λ (v : Value). folded v.name) (map (λ (w : Written). w.value) l.written)) ≡ true =
-        ap (λ vs. all_apart (map (λ (v : Value). folded v.name) vs)) l.its ∙ ap all_apart (names_are (finite.entries values) can.filed) ∙ apart_sorted (finite.entries values) (entries_sorted values) in
+    ap (λ vs. all_apart (map (λ (v : Value). folded v.name) vs)) l.its ∙ ap all_apart (names_are (finite.entries values) can.filed) ∙ apart_sorted (finite.entries values) (entries_sorted values) in
     let read : Gives (values_at true (length l.written) list) z (list ∷ flat_map value_own l.written) [] (map_of (map (λ (w : Written). w.value) l.written)) =
-        all_written true z list l.written (omega (arith, count)) (subst AreOffsets (sym l.at) l.near) apart (all_as (IsValue y) (IsValue z) l.written (λ w is. written_grown y z w h is) l.listed.all) (subst (λ ps. Holds z list (offsets_text ps)) (sym l.at) p.holds) in
+    all_written true z list l.written (omega (arith, count)) (subst AreOffsets (sym l.at) l.near) apart (all_as (IsValue y) (IsValue z) l.written (λ w is. written_grown y z w h is) l.listed.all) (subst (λ ps. Holds z list (offsets_text ps)) (sym l.at) p.holds) in
     record {
       own = list ∷ flat_map value_own l.written;
       near = let near : list < nowhere = p.near in omega arith;

@@ -1,9 +1,8 @@
 -- Values that are written into cells that were not there.
-use Rattle.std.specs.Prelude.{◌≡◌, ◌⊎◌, ℕ, ◌+◌, ◌-◌, ◌/◌, ◌<◌, ◌≤◌, ◌^◌, true, List, [], ◌∷◌, length, map}
+use Rattle.std.specs.Prelude.{◌≡◌, ◌⊎◌, ℕ, ◌<◌, ◌≤◌, ◌^◌, true, List, [], ◌∷◌, length, map}
 use Rattle.std.specs.List.{AllByRecursion}
 use Rattle.reg_tree_parts.specs.declared.value.Value.{Value}
 use Rattle.hive_cells.specs.Bins.{Cells}
-use Rattle.hive_records.specs.Numbers.{nowhere}
 use Rattle.hive_records.specs.Fields.{Gives, Holds}
 use Rattle.hive_records.specs.BigTexts.{Segment, big_text, segment_places, together, AreFull}
 use Rattle.hive_records.specs.ListTexts.{offsets_text, AreOffsets}

@@ -1,6 +1,5 @@
-use Rattle.std.proofs.Common.{◌≡◌, ◌≤◌, [], arith, sym, subst, ap, ◌∙◌}
-use Rattle.reg_tree.specs.Maps.{weight}
-use Rattle.hive_emit.specs.Emitting.{AreShort, AreCounted}
+use Rattle.std.proofs.Common.{arith, sym, subst}
+use Rattle.hive_emit.specs.Emitting.{AreShort}
 use Rattle.hive_emit.proofs.Securing.{counted_kept}
 use Rattle.hive_emit.proofs.Wholes.{tree_can, tree_few, stands_at_end}
 use Rattle.hive_emit.proofs.emitting.emit.Goals as goal

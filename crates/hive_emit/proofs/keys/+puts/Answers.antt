@@ -1,4 +1,4 @@
-use Rattle.std.proofs.Common.{◌≡◌, ◌+◌, ◌<◌, ◌^◌, ◌++◌, [], ◌∷◌, length, take, Some, sym, arith, ap, subst, ◌∙◌, refl, length-append}
+use Rattle.std.proofs.Common.{◌≡◌, ◌+◌, ◌<◌, ◌^◌, [], ◌∷◌, length, take, sym, arith, ap, subst, ◌∙◌, length-append}
 use Rattle.reg_tree_parts.specs.Nodes.{subkeys_of}
 use Rattle.reg_tree_parts.specs.Rows.{Row}
 use Rattle.hive_records.specs.Spellings.{name_text}
@@ -7,15 +7,19 @@ use Rattle.hive_key_writer.specs.Making.{Makes, IsLongCell}
 use Rattle.hive_key_writer.proofs.Makings.{all_push}
 use Rattle.hive_emit.specs.Emitting.{PutsKids, IsOffsetOf, OwnAt}
 use Rattle.hive_emit.proofs.Owns.{row_same, own_can}
-use Rattle.hive_emit.proofs.KeyProofs.{no_kids_done, kids_next, kids_can, can_kid, counted_kid, counted_parts, key_made, long_stays, kid_there, kids_few, both_made, Filling}
+use Rattle.hive_emit.proofs.KeyProofs.{no_kids_done, kids_next, kids_can, can_kid, counted_kid, counted_parts, key_made, long_stays, kid_there, kids_few, both_made}
 use Rattle.hive_emit.proofs.keys.+puts.Goals as goal
 
 pub put_subkeys-put_key-requires : goal.put_subkeys-put_key-requires
 put_subkeys-put_key-requires t c = (
   omega (arith, c.decreases, c.in-Some.ensures.smaller),
-  (can_kid (subkeys_of c.args.node.now) c.loop-index.index c.in-Some.subkey.now c.in-Some.ensures.at (kids_can c.args.node.now c.key.result.now c.in-Some.ensures.has c.key.ensures.here c.requires.can),
-  (counted_kid c.args.securities.now (subkeys_of c.args.node.now) c.loop-index.index c.in-Some.subkey.now c.in-Some.ensures.at (counted_parts c.args.securities.now c.args.node.now c.key.result.now c.in-Some.ensures.has c.key.ensures.here c.requires.counted).1,
-  omega (arith, c.in-Some.ensures.smaller, c.requires.few))),
+  (
+    can_kid (subkeys_of c.args.node.now) c.loop-index.index c.in-Some.subkey.now c.in-Some.ensures.at (kids_can c.args.node.now c.key.result.now c.in-Some.ensures.has c.key.ensures.here c.requires.can),
+    (
+      counted_kid c.args.securities.now (subkeys_of c.args.node.now) c.loop-index.index c.in-Some.subkey.now c.in-Some.ensures.at (counted_parts c.args.securities.now c.args.node.now c.key.result.now c.in-Some.ensures.has c.key.ensures.here c.requires.counted).1,
+      omega (arith, c.in-Some.ensures.smaller, c.requires.few),
+    ),
+  ),
 )
 
 pub put_subkeys-loop-index-init : goal.put_subkeys-loop-index-init

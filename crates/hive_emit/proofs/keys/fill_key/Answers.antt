@@ -1,8 +1,5 @@
-use Rattle.std.proofs.Common.{◌≡◌, ◌<◌, ◌^◌, [], length, Some, arith, sym, subst, ap, ◌∙◌}
-use Rattle.reg_tree_parts.specs.Rows.{Row}
-use Rattle.hive_records.specs.Spellings.{name_text}
-use Rattle.hive_records.specs.Names.{has_flag}
-use Rattle.hive_emit.proofs.Owns.{own_can, row_same}
+use Rattle.std.proofs.Common.{length, arith, ap, ◌∙◌}
+use Rattle.hive_emit.proofs.Owns.{own_can}
 use Rattle.hive_emit.proofs.keys.fill_key.Goals as goal
 
 pub overflow_cast-class : goal.overflow_cast-class

@@ -1,4 +1,4 @@
-use Rattle.std.proofs.Common.{◌≡◌, length, sym, arith, ap, subst, ◌∙◌}
+use Rattle.std.proofs.Common.{sym, subst, ◌∙◌}
 use Rattle.reg_tree_parts.specs.Nodes.{subkeys_of}
 use Rattle.reg_tree_parts.specs.Rows.{Row}
 use Rattle.hive_key_writer.specs.Making.{Makes}

@@ -1,4 +1,4 @@
-use Rattle.std.proofs.Common.{length, sym, arith, ap, ◌+◌, ◌∙◌}
+use Rattle.std.proofs.Common.{sym, ap, ◌+◌}
 use Rattle.hive_emit.proofs.Owns.{record_long}
 use Rattle.hive_emit.proofs.keys.record_len.Goals as goal
 

@@ -1,4 +1,4 @@
-use Rattle.std.proofs.Common.{arith, rules}
+use Rattle.std.proofs.Common.{arith}
 use Rattle.hive_key_writer.proofs.NewCells.{opened, long_cell, used, stopped}
 use Rattle.hive_key_writer.proofs.cells.new_cell.Goals as goal
 

@@ -1,4 +1,3 @@
-use Rattle.std.proofs.Common.{length}
 use Rattle.hive_key_writer.proofs.NewCells.{put_made}
 use Rattle.hive_key_writer.proofs.cells.put_cell.Goals as goal
 

@@ -1,4 +1,3 @@
-use Rattle.std.proofs.Common.{arith, refl, ◌∙◌}
 use Rattle.hive_key_writer.proofs.Datas.{one_cell}
 use Rattle.hive_key_writer.proofs.data.put_data.Goals as goal
 

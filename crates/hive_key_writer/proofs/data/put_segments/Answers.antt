@@ -1,4 +1,4 @@
-use Rattle.std.proofs.Common.{◌≡◌, ◌+◌, ◌*◌, ◌≤◌, ◌<◌, ◌-◌, ◌/◌, [], ◌∷◌, ◌++◌, List, ℕ, length, take, drop, refl, sym, ap, ◌∙◌, subst, arith, length-take, length-drop, length-append}
+use Rattle.std.proofs.Common.{◌≡◌, ◌+◌, ◌*◌, ◌-◌, ◌/◌, [], ◌∷◌, ◌++◌, List, ℕ, length, take, drop, sym, ap, subst, arith, length-take, length-drop, length-append}
 use Rattle.std.specs.Prelude.{slice_range}
 use Rattle.hive_key_writer.specs.Making.{Makes}
 use Rattle.hive_key_writer.specs.Values.{InSegments}
@@ -12,7 +12,7 @@ loop-index-init c = record { made = subst (λ ps. Makes c.args.image.now.bytes c
 pub loop-index-preserved : goal.loop-index-preserved
 loop-index-preserved c =
     let long : length (slice_range c.args.content.now (c.loop-index.index * 16_344) (c.loop-index.index * 16_344 + 16_344)) ≡ 16_344 =
-        omega (arith, length-take (c.loop-index.index * 16_344 + 16_344 - c.loop-index.index * 16_344) (drop (c.loop-index.index * 16_344) c.args.content.now), length-drop (c.loop-index.index * 16_344) c.args.content.now) in
+    omega (arith, length-take (c.loop-index.index * 16_344 + 16_344 - c.loop-index.index * 16_344) (drop (c.loop-index.index * 16_344) c.args.content.now), length-drop (c.loop-index.index * 16_344) c.args.content.now) in
     record {
       made = subst (λ ps. Makes c.args.image.now.bytes c.put_cell.new.image.bytes (InSegments AllFull ps (take (16_344 * (c.loop-index.index + 1)) c.args.content.now))) (sym c.in_ok-push.ensures.items)
           (subst (λ t. Makes c.args.image.now.bytes c.put_cell.new.image.bytes (InSegments AllFull (c.loop-index.places.items ++ c.in-Ok.at ∷ []) t)) (full_piece c.args.content.now c.loop-index.index)

@@ -1,6 +1,6 @@
-use Rattle.std.proofs.Common.{◌≡◌, ◌++◌, ◌≤◌, length, take, drop, flat_map, List, ℕ, arith, refl, ◌∙◌, ap, subst, sym, append_assoc, append-nil, length-drop}
+use Rattle.std.proofs.Common.{◌≡◌, ◌++◌, length, drop, flat_map, List, arith, refl, ◌∙◌, ap, sym, append_assoc, length-drop}
 use Rattle.std.proofs.lemmas.List.{take_all}
-use Rattle.reg_tree_parts.specs.Nodes.{subkeys_of, root_name}
+use Rattle.reg_tree_parts.specs.Nodes.{subkeys_of}
 use Rattle.reg_names.specs.Names.{folded}
 use Rattle.hive_records.specs.Fields.{half}
 use Rattle.hive_records.specs.ListTexts.{Kid, hashed}

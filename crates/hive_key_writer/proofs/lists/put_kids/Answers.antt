@@ -1,4 +1,4 @@
-use Rattle.std.proofs.Common.{◌≡◌, ◌<◌, ◌++◌, [], length, drop, arith, refl, ◌∙◌, ap, subst, sym}
+use Rattle.std.proofs.Common.{◌≡◌, ◌++◌, length, arith, ◌∙◌, ap, subst, sym}
 use Rattle.reg_tree_parts.specs.Nodes.{subkeys_of}
 use Rattle.hive_records.specs.ListTexts.{indirect}
 use Rattle.hive_key_writer.specs.Making.{Makes, Puts}
@@ -19,4 +19,4 @@ returns-in-Ok-put_cell c =
     let long = placed_long c.args.places.now (subkeys_of c.args.node.now) (omega (arith, c.requires.all)) in
     let text : c.deref-2.result.now ≡ indirect c.in-Ok-put_leaves.leaves.items = c.deref-2.ensures.value ∙ c.in_ok-put_indirect.ensures ∙ ap (λ xs. xs ++ indirect c.deref.result.now) c.clear.ensures.items ∙ ap indirect c.deref.ensures.value in
     leaves_made c.args.image.now.bytes c.put_leaves.new.image.bytes c.put_cell.new.image.bytes c.args.plain c.in-Ok-put_leaves.leaves.items (placed c.args.places.now (subkeys_of c.args.node.now)) c.in-Ok-put_cell.list (omega (arith, long)) (omega (arith, c.in-Ok-put_leaves.ensures.count, c.requires.few)) c.in-Ok-put_leaves.ensures.made
-        (subst (λ t. Makes c.put_leaves.new.image.bytes c.put_cell.new.image.bytes (Puts c.in-Ok-put_cell.list t)) text c.in-Ok-put_cell.ensures.0)
+    (subst (λ t. Makes c.put_leaves.new.image.bytes c.put_cell.new.image.bytes (Puts c.in-Ok-put_cell.list t)) text c.in-Ok-put_cell.ensures.0)

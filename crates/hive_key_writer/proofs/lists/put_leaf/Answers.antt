@@ -1,4 +1,4 @@
-use Rattle.std.proofs.Common.{◌≡◌, ◌++◌, drop, ◌∙◌, ap, subst}
+use Rattle.std.proofs.Common.{◌++◌, drop, ◌∙◌, ap, subst}
 use Rattle.reg_tree_parts.specs.Nodes.{subkeys_of}
 use Rattle.hive_key_writer.specs.Making.{Makes, Puts}
 use Rattle.hive_key_writer.specs.KeyLists.{leaf_text, placed}

@@ -1,4 +1,4 @@
-use Rattle.std.proofs.Common.{◌≡◌, ◌++◌, ◌∙◌, ap, sym, drop, true, arith, length-drop}
+use Rattle.std.proofs.Common.{◌++◌, ◌∙◌, ap, sym, drop, arith, length-drop}
 use Rattle.reg_tree_parts.specs.Nodes.{subkeys_of}
 use Rattle.hive_records.specs.ListTexts.{plain_leaf}
 use Rattle.hive_key_writer.specs.KeyLists.{leaf_text, placed}

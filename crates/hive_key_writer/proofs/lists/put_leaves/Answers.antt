@@ -1,8 +1,8 @@
-use Rattle.std.proofs.Common.{◌≡◌, ◌+◌, ◌-◌, ◌*◌, ◌<◌, ◌≤◌, ◌++◌, [], ◌∷◌, ℕ, min, length, take, drop, refl, sym, ◌∙◌, ap, subst, arith, length-append}
+use Rattle.std.proofs.Common.{◌≡◌, ◌+◌, ◌-◌, ◌*◌, ◌<◌, ◌++◌, [], ◌∷◌, ℕ, min, length, take, drop, sym, ap, subst, arith, length-append}
 use Rattle.std.proofs.lemmas.List.{take_all}
 use Rattle.reg_tree_parts.specs.Nodes.{subkeys_of}
-use Rattle.hive_key_writer.specs.Making.{Makes, Puts}
-use Rattle.hive_key_writer.specs.KeyLists.{leaf_text, placed, ListedLeaves}
+use Rattle.hive_key_writer.specs.Making.{Makes}
+use Rattle.hive_key_writer.specs.KeyLists.{placed, ListedLeaves}
 use Rattle.hive_key_writer.proofs.Leaves.{no_leaves, one_leaf_more, placed_more, chunk_long}
 use Rattle.hive_key_writer.proofs.lists.put_leaves.Goals as goal
 

@@ -1,4 +1,4 @@
-use Rattle.std.proofs.Common.{◌≡◌, ◌<◌, ◌≤◌, List, ℕ, length, take, Some, subst, sym, ◌∙◌, ap, arith}
+use Rattle.std.proofs.Common.{List, ℕ, take, subst, arith}
 use Rattle.std.proofs.lemmas.List.{take_all}
 use Rattle.reg_tree_parts.specs.Rows.{Row}
 use Rattle.reg_tree_parts.specs.Nodes.{Entries, all_below, subkeys_of}

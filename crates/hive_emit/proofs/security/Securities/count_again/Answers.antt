@@ -1,4 +1,4 @@
-use Rattle.std.proofs.Common.{◌≡◌, ◌<◌, List, length, subst, sym, refl, ap, arith}
+use Rattle.std.proofs.Common.{◌<◌, List, length, subst, sym, refl}
 use Rattle.hive_emit.specs.declared.security.Security.{Security}
 use Rattle.hive_emit.specs.Emitting.{Has}
 use Rattle.hive_emit.proofs.Securing.{set_keeps}

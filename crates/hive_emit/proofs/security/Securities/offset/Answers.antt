@@ -1,7 +1,7 @@
-use Rattle.std.proofs.Common.{◌≡◌, ◌<◌, List, ℕ, length, slice_get, get_or, Some, sym, ap, ◌∙◌, subst, arith}
+use Rattle.std.proofs.Common.{◌≡◌, ◌<◌, List, length, get_or, ap, ◌∙◌, subst, arith}
 use Rattle.std.specs.Cmp.Lexicographic.{same_text, other_text}
 use Rattle.hive_emit.specs.declared.security.Security.{Security}
-use Rattle.hive_emit.specs.Emitting.{IsOffsetOf, Has}
+use Rattle.hive_emit.specs.Emitting.{IsOffsetOf}
 use Rattle.hive_emit.proofs.Securing.{found_cell, scan_more, none_left}
 use Rattle.hive_emit.proofs.security.Securities.offset.Goals as goal
 

@@ -1,4 +1,4 @@
-use Rattle.std.proofs.Common.{◌≡◌, ◌<◌, ◌≤◌, ℕ, slice_get, Some}
+use Rattle.std.proofs.Common.{◌≡◌, ◌<◌, ℕ, slice_get, Some}
 use Rattle.hive_emit.specs.declared.security.Security.{Security}
 use Rattle.hive_emit.proofs.security.Securities.offset.Given as goal
 
