@@ -18,6 +18,15 @@ fn root(emitted: &Emitted) -> Result<KeyNode<'_>, Refusal> {
     KeyNode::read(data(emitted, emitted.root)?)
 }
 
+// the number of four bytes at an offset, or 0 past the end
+fn number(bytes: &[u8], at: usize) -> u32 {
+    if 4 <= bytes.len() && at <= bytes.len() - 4 {
+        word_at(bytes, at)
+    } else {
+        0
+    }
+}
+
 // the letters and the number of elements of the root's list
 fn list_of(emitted: &Emitted) -> Result<(u8, u16), Refusal> {
     let cell = data(emitted, root(emitted)?.subkeys)?;
@@ -28,11 +37,7 @@ fn list_of(emitted: &Emitted) -> Result<(u8, u16), Refusal> {
 // the letters and the number of elements of the leaf at an index of the root's list of lists
 fn leaf_of(emitted: &Emitted, index: usize) -> Result<(u8, u16), Refusal> {
     let list = SubkeyList::read(data(emitted, root(emitted)?.subkeys)?)?;
-    let at = match list.elements.get(4 * index..4 * index + 4) {
-        Some(bytes) => word_at(bytes, 0),
-        None => return Err(Refusal::NotFound),
-    };
-    let cell = data(emitted, at)?;
+    let cell = data(emitted, number(list.elements, index.saturating_mul(4)))?;
     let leaf = SubkeyList::read(cell)?;
     Ok((cell.get(1).copied().unwrap_or(0), leaf.count))
 }
@@ -75,11 +80,7 @@ fn value_for(alloc: Global, len: usize) -> Result<(u32, bool), Refusal> {
     ops.push(set(alloc, b"v", len)?)?;
     let emitted = image_of(alloc, &ops)?;
     let list = data(&emitted, root(&emitted)?.values)?;
-    let at = match list.get(0..4) {
-        Some(bytes) => word_at(bytes, 0),
-        None => return Err(Refusal::NotFound),
-    };
-    let value = ValueRec::read(data(&emitted, at)?)?;
+    let value = ValueRec::read(data(&emitted, number(list, 0))?)?;
     if 0x8000_0000 <= value.size {
         return Ok((value.size, false));
     }
@@ -115,10 +116,7 @@ fn shared(alloc: Global) -> Result<(u32, u32, u32, u32), Refusal> {
     let at = root(&emitted)?.security;
     let cell = data(&emitted, at)?;
     let _ = Security::read(cell)?;
-    match cell.get(4..16) {
-        Some(bytes) => Ok((at, word_at(bytes, 0), word_at(bytes, 4), word_at(bytes, 8))),
-        None => Err(Refusal::NotFound),
-    }
+    Ok((at, number(cell, 4), number(cell, 8), number(cell, 12)))
 }
 
 #[test]
@@ -131,8 +129,13 @@ fn one_descriptor_has_one_cell(rt: HostRuntime) -> Result<(), Fail> {
 fn new_hive(alloc: Global) -> Result<(usize, u16, u32, u32), Refusal> {
     let emitted = image_of(alloc, &[])?;
     let root = root(&emitted)?;
-    let stored = word_at(data(&emitted, emitted.root)?, 0) >> 16;
-    Ok((emitted.image.len(), stored as u16, root.subkey_count, root.value_count))
+    let stored = number(data(&emitted, emitted.root)?, 0) / 0x1_0000;
+    Ok((
+        emitted.image.len(),
+        stored as u16,
+        root.subkey_count,
+        root.value_count,
+    ))
 }
 
 #[test]
