@@ -1,0 +1,8 @@
+//! Tests of images that are made of trees: what lies where, read by the readers of single records, with expected values from
+//! the format's rules.
+#![tactic(auto)]
+
+#[cfg(test)]
+mod images;
+#[cfg(test)]
+mod trees;
