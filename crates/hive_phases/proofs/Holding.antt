@@ -162,6 +162,7 @@ holds_repaired stands memory image v plan c log ready unclean long behind front 
     let is : bins ≡ image = ap (λ (u : Pages). repaired (drop 4096 c) u (page_bytes_in log)) pages ∙ ap (repaired (drop 4096 c) v) f.bytes ∙ ready.log_repairs (drop 4096 c) behind.same in
     let root : (block_of log).root ≡ plan.block.root = ap (λ (b : BaseBlock). b.root) f.block ∙ ready.log_root in
     let minor : (block_of log).minor ≡ plan.block.minor = ap (λ (b : BaseBlock). b.minor) f.block ∙ ready.log_minor in
+    let store : (block_of log).store ≡ plan.block.store = ap (λ (b : BaseBlock). b.store) f.block ∙ ready.log_store in
     record {
       block = block_of log;
       bins = bins;
@@ -173,7 +174,8 @@ holds_repaired stands memory image v plan c log ready unclean long behind front 
       });
       own = λ e. absurd (true_false (is_clean_file c) e unclean);
       sector = λ e. long;
-      tree = ap (tree_under stands (block_of log)) is ∙ ap (λ (r : ℕ). stands image r (block_of log).minor) root
-          ∙ ap (λ (m : ℕ). stands image plan.block.root m) minor ∙ ready.tree;
+      tree = ap (tree_under stands (block_of log)) is ∙ ap (λ (r : ℕ). stands image r (block_of log).minor (block_of log).store) root
+          ∙ ap (λ (m : ℕ). stands image plan.block.root m (block_of log).store) minor
+          ∙ ap (λ (s : List ℕ). stands image plan.block.root plan.block.minor s) store ∙ ready.tree;
       number = ap (λ (b : BaseBlock). b.applied.0) f.block ∙ ready.log_number ∙ ready.number;
     }
