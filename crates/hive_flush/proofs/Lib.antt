@@ -1,0 +1,2 @@
+pub mod Readying
+pub mod Going

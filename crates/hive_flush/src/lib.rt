@@ -1,0 +1,8 @@
+//! The owner of a hive's two files: its tree in memory, the bins data that stand for it, and the steps of flush and repair.
+#![tactic(auto)]
+
+mod file;
+mod hive;
+mod planning;
+
+pub use crate::hive::HiveFile;
