@@ -17,7 +17,7 @@ use Rattle.hive_writer.specs.declared.stage.Stage.{Stage}
 use Rattle.hive_writer.specs.declared.stage.Stage.TheVariants as stage
 use Rattle.base_block.specs.Layout.{sector_of}
 use Rattle.hive_writer.specs.declared.stage.Purpose.TheVariants as purpose
-use Rattle.hive_writer.specs.Writing.{IsAt, IsFlushing, KeepsBlocks, LeadsOn, base_after, choice_at, left_after, now_after, phase_in, plan_of, work_of}
+use Rattle.hive_writer.specs.Writing.{EndsWith, IsAt, IsFlushing, KeepsBlocks, LeadsOn, base_after, choice_at, left_after, now_after, phase_in, plan_of, work_of}
 use Rattle.hive_flush.specs.Planned.{block_again}
 use Rattle.hive_flush.specs.HiveStates.{IsOnBy}
 use Rattle.hive_flush.specs.Standing.{IsRight}
@@ -71,57 +71,56 @@ base_same (Ok progress.More) old not_done = refl
 base_same (Ok progress.Idle) old not_done = refl
 base_same (Err refusal) old not_done = refl
 
-pub went_on : (result : Result Progress Refusal) (old new : HiveWriter) (image : List ℕ) (pages : Pages) (now memory : TreeMap × ℕ) (before after : ℕ → FileState)
-    → IsNotDone result → IsFlushing old.stage → length image ≡ pages.bins_size → KeepsBlocks old new result
-    → ((stands : Standing TreeMap) → LeadsOn stands (plan_of old image pages) image pages result old new before after)
+-- A call leads the files on by the plan that is followed: of a flush that of the writer's blocks, and any that ends with its
+-- block of a repair.
+abbrev pub LeadsBy : HiveWriter → HiveWriter → List ℕ → Pages → Result Progress Refusal → (ℕ → FileState) → (ℕ → FileState) → Type 0
+LeadsBy old new image pages result before after = (stands : Standing TreeMap) (plan : Plan) → EndsWith old.block plan
+    → (IsFlushing old.stage → plan ≡ plan_of old image pages) → LeadsOn stands plan image pages result old new before after
+
+went_on : (result : Result Progress Refusal) (old new : HiveWriter) (image : List ℕ) (pages : Pages) (now memory : TreeMap × ℕ) (before after : ℕ → FileState)
+    → IsNotDone result → (IsFlushing new.stage → IsFlushing old.stage) → length image ≡ pages.bins_size → KeepsBlocks old new result
+    → LeadsBy old new image pages result before after
     → IsOnBy old image pages now memory (before (primary_file old.hive)) (before (log_file old.hive))
     → IsOnBy new image pages now memory (after (primary_file old.hive)) (after (log_file old.hive))
-went_on result old new image pages now memory before after not_done flushing size keeps leads on =
-    let plan = plan_of old image pages in
-    let is : on.plan ≡ plan = on.flush flushing in
-    let ready : IsReady on.stands memory image pages plan = subst (IsReady on.stands memory image pages) is on.ready in
-    let here : IsAt on.stands (work_of plan image pages now memory) old.hive old.stage before = subst (λ (q : Plan). IsAt on.stands (work_of q image pages now memory) old.hive old.stage before) is on.on in
-    let led = leads on.stands now memory pages (sym size) ready here in
-    let there : IsAt on.stands (work_of plan image pages (now_after result now memory) memory) new.hive new.stage after
-    = subst (λ (v : Pages). IsAt on.stands (work_of plan image v (now_after result now memory) memory) new.hive new.stage after) (left_same result pages) led in
-    let still : IsAt on.stands (work_of plan image pages now memory) new.hive new.stage after
-    = subst (λ (n : TreeMap × ℕ). IsAt on.stands (work_of plan image pages n memory) new.hive new.stage after) (now_same result now memory not_done) there in
+went_on result old new image pages now memory before after not_done flushes size keeps leads on =
+    let led = leads on.stands on.plan on.ends on.flush now memory pages (sym size) on.ready on.on in
+    let there : IsAt on.stands (work_of on.plan image pages (now_after result now memory) memory) new.hive new.stage after
+    = subst (λ (v : Pages). IsAt on.stands (work_of on.plan image v (now_after result now memory) memory) new.hive new.stage after) (left_same result pages) led in
+    let still : IsAt on.stands (work_of on.plan image pages now memory) new.hive new.stage after
+    = subst (λ (n : TreeMap × ℕ). IsAt on.stands (work_of on.plan image pages n memory) new.hive new.stage after) (now_same result now memory not_done) there in
     record {
       stands = on.stands;
       right = subst (λ (b : BaseBlock). IsRight b.store on.stands) (sym keeps.block) on.right;
-      plan = plan;
-      ready = ready;
-      ends = record { block = sym keeps.block; final = ap sector_of (sym keeps.block) };
-      flush = λ any. sym (plan_same old new image pages keeps.block (keeps.base ∙ base_same result old not_done));
-      on = subst (λ (h : ℕ). IsAt on.stands (work_of plan image pages now memory) h new.stage after) keeps.hive still;
+      plan = on.plan;
+      ready = on.ready;
+      ends = record { block = on.ends.block ∙ sym keeps.block; final = on.ends.final ∙ ap sector_of (sym keeps.block) };
+      flush = λ f. on.flush (flushes f) ∙ sym (plan_same old new image pages keeps.block (keeps.base ∙ base_same result old not_done));
+      on = subst (λ (h : ℕ). IsAt on.stands (work_of on.plan image pages now memory) h new.stage after) keeps.hive still;
     }
 
 -- ---- the last step
 
-pub done_on : (old new : HiveWriter) (image : List ℕ) (pages clean : Pages) (now memory : TreeMap × ℕ) (before after : ℕ → FileState)
-    → IsFlushing old.stage → clean.bins_size ≡ length image → KeepsBlocks old new (Ok progress.Done) → new.stage ≡ stage.Quiet
-    → ((stands : Standing TreeMap) → LeadsOn stands (plan_of old image pages) image pages (Ok progress.Done) old new before after)
+done_on : (old new : HiveWriter) (image : List ℕ) (pages clean : Pages) (now memory : TreeMap × ℕ) (before after : ℕ → FileState)
+    → clean.bins_size ≡ length image → KeepsBlocks old new (Ok progress.Done) → new.stage ≡ stage.Quiet
+    → LeadsBy old new image pages (Ok progress.Done) before after
     → ((stands : Standing TreeMap) → tree_under stands new.block image ≡ Some memory.0 → new.block.applied.0 ≡ memory.1
         → IsReady stands memory image clean (plan_of (record new { block = block_again new.block }) image clean))
     → IsOnBy old image pages now memory (before (primary_file old.hive)) (before (log_file old.hive))
     → IsOnBy (record new { block = block_again new.block }) image clean memory memory (after (primary_file old.hive)) (after (log_file old.hive))
-done_on old new image pages clean now memory before after flushing size keeps quiet leads fits on =
-    let plan = plan_of old image pages in
+done_on old new image pages clean now memory before after size keeps quiet leads fits on =
     let next = plan_of (record new { block = block_again new.block }) image clean in
-    let is : on.plan ≡ plan = on.flush flushing in
-    let ready : IsReady on.stands memory image pages plan = subst (IsReady on.stands memory image pages) is on.ready in
-    let here : IsAt on.stands (work_of plan image pages now memory) old.hive old.stage before = subst (λ (q : Plan). IsAt on.stands (work_of q image pages now memory) old.hive old.stage before) is on.on in
-    let led : IsAt on.stands (work_of plan image clean memory memory) new.hive new.stage after = leads on.stands now memory clean size ready here in
-    let at_rest : IsAt on.stands (work_of plan image clean memory memory) new.hive stage.Quiet after
-    = subst (λ (q : Stage). IsAt on.stands (work_of plan image clean memory memory) new.hive q after) quiet led in
+    let led : IsAt on.stands (work_of on.plan image clean memory memory) new.hive new.stage after = leads on.stands on.plan on.ends on.flush now memory clean size on.ready on.on in
+    let at_rest : IsAt on.stands (work_of on.plan image clean memory memory) new.hive stage.Quiet after
+    = subst (λ (q : Stage). IsAt on.stands (work_of on.plan image clean memory memory) new.hive q after) quiet led in
     let again : IsAt on.stands (work_of next image clean memory memory) new.hive stage.Quiet after = record { rest = at_rest.rest; clean = at_rest.clean; behind = at_rest.behind } in
     let now_at : IsAt on.stands (work_of next image clean memory memory) new.hive new.stage after
     = subst (λ (q : Stage). IsAt on.stands (work_of next image clean memory memory) new.hive q after) (sym quiet) again in
+    let block : on.plan.block ≡ new.block = on.ends.block ∙ sym keeps.block in
     record {
       stands = on.stands;
       right = subst (λ (b : BaseBlock). IsRight b.store on.stands) (sym keeps.block) on.right;
       plan = next;
-      ready = fits on.stands (subst (λ (b : BaseBlock). tree_under on.stands b image ≡ Some memory.0) (sym keeps.block) ready.tree) (ap (λ (b : BaseBlock). b.applied.0) keeps.block ∙ ready.number);
+      ready = fits on.stands (subst (λ (b : BaseBlock). tree_under on.stands b image ≡ Some memory.0) block on.ready.tree) (sym (ap (λ (b : BaseBlock). b.applied.0) block) ∙ on.ready.number);
       ends = record { block = refl; final = refl };
       flush = λ any. refl;
       on = subst (λ (h : ℕ). IsAt on.stands (work_of next image clean memory memory) h new.stage after) keeps.hive now_at;
@@ -130,30 +129,30 @@ done_on old new image pages clean now memory before after flushing size keeps qu
 -- ---- with the numbers in the writer's blocks
 
 pub went : (result : Result Progress Refusal) (old new : HiveWriter) (image : List ℕ) (pages : Pages) (held tree : TreeMap) (before after : ℕ → FileState)
-    → IsNotDone result → IsFlushing old.stage → length image ≡ pages.bins_size → KeepsBlocks old new result
-    → ((stands : Standing TreeMap) → LeadsOn stands (plan_of old image pages) image pages result old new before after)
+    → IsNotDone result → (IsFlushing new.stage → IsFlushing old.stage) → length image ≡ pages.bins_size → KeepsBlocks old new result
+    → LeadsBy old new image pages result before after
     → IsOnBy old image pages (held, old.base.applied.0) (tree, old.block.applied.0) (before (primary_file old.hive)) (before (log_file old.hive))
     → IsOnBy new image pages (held, new.base.applied.0) (tree, new.block.applied.0) (after (primary_file old.hive)) (after (log_file old.hive))
-went result old new image pages held tree before after not_done flushing size keeps leads on =
+went result old new image pages held tree before after not_done flushes size keeps leads on =
     let p = after (primary_file old.hive) in
     let l = after (log_file old.hive) in
-    let moved = went_on result old new image pages (held, old.base.applied.0) (tree, old.block.applied.0) before after not_done flushing size keeps leads on in
+    let moved = went_on result old new image pages (held, old.base.applied.0) (tree, old.block.applied.0) before after not_done flushes size keeps leads on in
     let base : new.base ≡ old.base = keeps.base ∙ base_same result old not_done in
     subst (λ (b : BaseBlock). IsOnBy new image pages (held, new.base.applied.0) (tree, b.applied.0) p l) (sym keeps.block)
     (subst (λ (b : BaseBlock). IsOnBy new image pages (held, b.applied.0) (tree, old.block.applied.0) p l) (sym base) moved)
 
 pub done : (old new : HiveWriter) (image : List ℕ) (pages clean : Pages) (held tree : TreeMap) (before after : ℕ → FileState)
-    → IsFlushing old.stage → clean.bins_size ≡ length image → KeepsBlocks old new (Ok progress.Done) → new.stage ≡ stage.Quiet
-    → ((stands : Standing TreeMap) → LeadsOn stands (plan_of old image pages) image pages (Ok progress.Done) old new before after)
+    → clean.bins_size ≡ length image → KeepsBlocks old new (Ok progress.Done) → new.stage ≡ stage.Quiet
+    → LeadsBy old new image pages (Ok progress.Done) before after
     → ((stands : Standing TreeMap) (memory : TreeMap × ℕ) → tree_under stands new.block image ≡ Some memory.0 → new.block.applied.0 ≡ memory.1
         → IsReady stands memory image clean (plan_of (record new { block = block_again new.block }) image clean))
     → IsOnBy old image pages (held, old.base.applied.0) (tree, old.block.applied.0) (before (primary_file old.hive)) (before (log_file old.hive))
     → IsOnBy (record new { block = block_again new.block }) image clean (tree, new.base.applied.0) (tree, new.block.applied.0) (after (primary_file old.hive)) (after (log_file old.hive))
-done old new image pages clean held tree before after flushing size keeps quiet leads fits on =
+done old new image pages clean held tree before after size keeps quiet leads fits on =
     let p = after (primary_file old.hive) in
     let l = after (log_file old.hive) in
     let again : HiveWriter = record new { block = block_again new.block } in
-    let moved = done_on old new image pages clean (held, old.base.applied.0) (tree, old.block.applied.0) before after flushing size keeps quiet leads (λ stands. fits stands (tree, old.block.applied.0)) on in
+    let moved = done_on old new image pages clean (held, old.base.applied.0) (tree, old.block.applied.0) before after size keeps quiet leads (λ stands. fits stands (tree, old.block.applied.0)) on in
     subst (λ (b : BaseBlock). IsOnBy again image clean (tree, new.base.applied.0) (tree, b.applied.0) p l) (sym keeps.block)
     (subst (λ (b : BaseBlock). IsOnBy again image clean (tree, b.applied.0) (tree, old.block.applied.0) p l) (sym keeps.base) moved)
 
@@ -192,3 +191,10 @@ files_done old w v kept tree same keeps is k s =
     let again : HiveWriter = record w { block = block_again w.block } in
     ap (λ (x : HiveWriter). choice_by x kept same) is ∙ ap (λ (x : TreeMap). choice_by again x same) k ∙ ap (choice_by again tree) s
     ∙ ap (λ (b : BaseBlock). choice_at w.stage (tree, b.applied.0) (tree, w.block.applied.0)) keeps.base ∙ ap (λ (b : BaseBlock). choice_at w.stage (tree, old.block.applied.0) (tree, b.applied.0)) keeps.block
+
+-- a step of a flush follows its plan
+pub by_plan : (result : Result Progress Refusal) (old new : HiveWriter) (image other : List ℕ) (pages : Pages) (before after : ℕ → FileState) → IsFlushing old.stage → other ≡ image
+    → ((stands : Standing TreeMap) → LeadsOn stands (plan_of old other pages) other pages result old new before after) → LeadsBy old new image pages result before after
+by_plan result old new image other pages before after flushing is led = λ stands plan ends flush.
+    subst (λ (q : Plan). LeadsOn stands q image pages result old new before after) (sym (flush flushing))
+    (subst (λ (l : List ℕ). LeadsOn stands (plan_of old l pages) l pages result old new before after) is (led stands))

@@ -17,6 +17,7 @@ use crate::hive::HiveFile;
 use crate::planning::{next_block, plan_fits};
 use disk_model::Disk;
 use engine_words::Progress;
+use hive_writer::{Purpose, Stage};
 use refusals::Refusal;
 use reg_tree::Tree;
 use std::snapshot::Snapshot;
@@ -72,6 +73,61 @@ impl HiveFile {
     {
         plan_fits(&self.writer, &self.bins, &self.pages);
         match self.writer.step::<D, Tree>(disk, &self.bins, &self.pages) {
+            Ok(Progress::Done) => {
+                self.settle();
+                Ok(Progress::Done)
+            }
+            Ok(Progress::More) => Ok(Progress::More),
+            Ok(Progress::Idle) => unreachable!(),
+            Err(why) => Err(why),
+        }
+    }
+
+    /// Whether no repair is left.
+    pub fn is_whole(&self) -> bool
+        ensures { IsTrue result ↔ IsWhole self.now }
+    {
+        !matches!(
+            self.writer.stage,
+            Stage::Paging(Purpose::Repair, _)
+                | Stage::Paged(Purpose::Repair)
+                | Stage::Finished(Purpose::Repair)
+        )
+    }
+
+    /// One step of the repair of a hive that was opened unclean: at most one device call. `More` where others follow, `Done`
+    /// where it was the last one, and `Idle` where none is left. What the files hold stays the same throughout.
+    ///
+    /// Takes no memory. Refused as [`step`](HiveFile::step) is.
+    pub fn repair_step<D: Disk>(&mut self, disk: &mut D) -> Result<Progress, Refusal>
+        ensures on { D.faithful disk.new → IsOn self.old
+            (D.state_at disk.old (D.clock disk.old) (primary_file (place_of self.old)))
+            (D.state_at disk.old (D.clock disk.old) (log_file (place_of self.old))) →
+            IsOn self.new
+            (D.state_at disk.new (D.clock disk.new) (primary_file (place_of self.old)))
+            (D.state_at disk.new (D.clock disk.new) (log_file (place_of self.old))) }
+        ensures files { files_of self.new ≡ files_of self.old }
+        ensures memory { memory_of self.new ≡ memory_of self.old }
+        ensures place { place_of self.new ≡ place_of self.old }
+        ensures whole { (result ≡ Ok Progress.Done) → IsWhole self.new }
+        ensures idle { (result ≡ Ok Progress.Idle) → IsWhole self.old }
+        ensures ready { IsWhole self.old → (self.new ≡ self.old) × (disk.new ≡ disk.old) }
+        ensures refused { IfErr result (λ why. (why ≡ DiskFault) ⊎ (why ≡ Faulted)) }
+        ensures faulted { (result ≡ Err Faulted) ↔ IsBroken self.old }
+        ensures broken { (result ≡ Err DiskFault) → IsBroken self.new }
+        ensures still { IsBroken self.old → (self.new ≡ self.old) × (disk.new ≡ disk.old) }
+        ensures call { OneCall (IsOfHive (place_of self.old)) (D.state_at disk.old) (D.state_at
+            disk.new) (D.clock disk.old) (D.clock disk.new) }
+        ensures failures { HasFailed result (D.failures disk.old) (D.failures disk.new) }
+        ensures faithful { D.faithful disk.new → D.faithful disk.old }
+    {
+        if self.writer.failed {
+            return Err(Refusal::Faulted);
+        }
+        if self.is_whole() {
+            return Ok(Progress::Idle);
+        }
+        match self.writer.repair_step::<D, Tree>(disk, &self.bins, &self.pages) {
             Ok(Progress::Done) => {
                 self.settle();
                 Ok(Progress::Done)

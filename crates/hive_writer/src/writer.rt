@@ -150,6 +150,7 @@ impl HiveWriter {
         ensures repairing { (result ≡ Ok Progress.Done → ⊥) →
             IsRewriting purpose.Repair self.new.stage }
         ensures done { result ≡ Ok Progress.Done → self.new.stage ≡ stage.Quiet }
+        ensures busy { result ≡ Ok Progress.Idle → ⊥ }
         ensures falls { (total : ℕ) → result ≡ Ok Progress.More →
             calls_left total pages.now self.new.stage < calls_left total pages.now self.old.stage }
         ensures keeps { KeepsBlocks self.old self.new result }

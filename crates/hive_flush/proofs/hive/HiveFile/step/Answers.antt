@@ -13,7 +13,7 @@ use Rattle.hive_flush.specs.Planned.{block_again}
 use Rattle.hive_writer.specs.declared.writer.HiveWriter.{HiveWriter}
 use Rattle.hive_writer.specs.Writing.{KeepsBlocks, LeadsOn, choice_at, now_after, plan_of}
 use Rattle.hive_flush.specs.HiveStates.{files_of, memory_of, now_of}
-use Rattle.hive_flush.proofs.Going.{IsNotDone, went, done, same_on, ready_same, files_done}
+use Rattle.hive_flush.proofs.Going.{IsNotDone, LeadsBy, by_plan, went, done, same_on, ready_same, files_done}
 use Rattle.hive_flush.proofs.hive.HiveFile.step.Goals as goal
 
 pub settle-requires : goal.settle-requires
@@ -34,9 +34,9 @@ returns-in-Ok-Done-clause-on g c = λ faithful on.
     let before : ℕ → FileState = g.D.Disk.state_at c.args.disk.now (g.D.Disk.clock c.args.disk.now) in
     let after : ℕ → FileState = g.D.Disk.state_at c.step.new.disk (g.D.Disk.clock c.step.new.disk) in
     let keeps : KeepsBlocks f.writer w (Ok progress.Done) = subst (λ (p : Progress). KeepsBlocks f.writer w (Ok p)) c.in-Ok-Done.field-0-is c.in-Ok-Done.ensures.keeps in
-    let led : (stands : Standing TreeMap) → LeadsOn stands (plan_of f.writer f.bins.items f.pages) f.bins.items f.pages (Ok progress.Done) f.writer w before after
-    = λ stands. subst (λ (p : Progress). LeadsOn stands (plan_of f.writer f.bins.items f.pages) f.bins.items f.pages (Ok p) f.writer w before after) c.in-Ok-Done.field-0-is
-        (subst (λ (l : List ℕ). LeadsOn stands (plan_of f.writer l f.pages) l f.pages (Ok c.in-Ok-Done.field-0) f.writer w before after) c.deref-2.ensures.value (c.in-Ok-Done.ensures.on faithful stands)) in
+    let led : LeadsBy f.writer w f.bins.items f.pages (Ok progress.Done) before after
+    = subst (λ (p : Progress). LeadsBy f.writer w f.bins.items f.pages (Ok p) before after) c.in-Ok-Done.field-0-is
+        (by_plan (Ok c.in-Ok-Done.field-0) f.writer w f.bins.items c.deref-2.result.now f.pages before after c.requires.whole c.deref-2.ensures.value (c.in-Ok-Done.ensures.on faithful)) in
     let quiet = c.in-Ok-Done.ensures.done (ap (λ (p : Progress). Ok p) c.in-Ok-Done.field-0-is) in
     let again : HiveWriter = record w { block = block_again w.block } in
     let clean = clean_pages f.pages.bins_size in
@@ -44,7 +44,7 @@ returns-in-Ok-Done-clause-on g c = λ faithful on.
     = λ stands memory. ready_same again c.settle.new.self.writer f.bins.items c.settle.new.self.bins.items clean c.settle.new.self.pages memory stands settled_is.writer settled_is.bins settled_is.pages (c.settle.ensures.fits stands memory) in
     same_on again c.settle.new.self.writer f.bins.items c.settle.new.self.bins.items clean c.settle.new.self.pages f.tree c.settle.new.self.held.value f.tree c.settle.new.self.tree _ _
     settled_is.writer settled_is.bins settled_is.pages settled_is.held settled_is.tree
-    (done f.writer w f.bins.items f.pages clean f.held.value f.tree before after c.requires.whole (sym f.sizes) keeps quiet led fits on)
+    (done f.writer w f.bins.items f.pages clean f.held.value f.tree before after (sym f.sizes) keeps quiet led fits on)
 
 pub returns-in-Ok-Done-clause-says : goal.returns-in-Ok-Done-clause-says
 returns-in-Ok-Done-clause-says g c =
@@ -62,8 +62,8 @@ returns-in-Ok-More-clause-on g c = λ faithful on.
     let before : ℕ → FileState = g.D.Disk.state_at c.args.disk.now (g.D.Disk.clock c.args.disk.now) in
     let after : ℕ → FileState = g.D.Disk.state_at c.step.new.disk (g.D.Disk.clock c.step.new.disk) in
     let more : IsNotDone (Ok c.in-Ok-More.field-0) = subst (λ (p : Progress). IsNotDone (Ok p)) (sym c.in-Ok-More.field-0-is) tt in
-    went (Ok c.in-Ok-More.field-0) f.writer c.step.new.self f.bins.items f.pages f.held.value f.tree before after more c.requires.whole f.sizes c.in-Ok-More.ensures.keeps
-    (λ stands. subst (λ (l : List ℕ). LeadsOn stands (plan_of f.writer l f.pages) l f.pages (Ok c.in-Ok-More.field-0) f.writer c.step.new.self before after) c.deref-2.ensures.value (c.in-Ok-More.ensures.on faithful stands))
+    went (Ok c.in-Ok-More.field-0) f.writer c.step.new.self f.bins.items f.pages f.held.value f.tree before after more (λ any. c.requires.whole) f.sizes c.in-Ok-More.ensures.keeps
+    (by_plan (Ok c.in-Ok-More.field-0) f.writer c.step.new.self f.bins.items c.deref-2.result.now f.pages before after c.requires.whole c.deref-2.ensures.value (c.in-Ok-More.ensures.on faithful))
     on
 
 pub returns-in-Err-clause-on : goal.returns-in-Err-clause-on
@@ -71,6 +71,6 @@ returns-in-Err-clause-on g c = λ faithful on.
     let f = c.args.self.now in
     let before : ℕ → FileState = g.D.Disk.state_at c.args.disk.now (g.D.Disk.clock c.args.disk.now) in
     let after : ℕ → FileState = g.D.Disk.state_at c.step.new.disk (g.D.Disk.clock c.step.new.disk) in
-    went (Err c.in-Err.why) f.writer c.step.new.self f.bins.items f.pages f.held.value f.tree before after tt c.requires.whole f.sizes c.in-Err.ensures.keeps
-    (λ stands. subst (λ (l : List ℕ). LeadsOn stands (plan_of f.writer l f.pages) l f.pages (Err c.in-Err.why) f.writer c.step.new.self before after) c.deref-2.ensures.value (c.in-Err.ensures.on faithful stands))
+    went (Err c.in-Err.why) f.writer c.step.new.self f.bins.items f.pages f.held.value f.tree before after tt (λ any. c.requires.whole) f.sizes c.in-Err.ensures.keeps
+    (by_plan (Err c.in-Err.why) f.writer c.step.new.self f.bins.items c.deref-2.result.now f.pages before after c.requires.whole c.deref-2.ensures.value (c.in-Err.ensures.on faithful))
     on
