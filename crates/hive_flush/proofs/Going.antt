@@ -1,5 +1,5 @@
 -- A step's files, from stage to stage.
-use Rattle.std.proofs.Common.{◌≡◌, false, ℕ, List, length, refl, sym, ap, subst, ◌∙◌, Option, Some, Result, Ok, Err}
+use Rattle.std.proofs.Common.{◌≡◌, false, true, ℕ, List, length, refl, sym, ap, subst, ◌∙◌, Option, Some, Result, Ok, Err}
 use Rattle.refusals.specs.declared.refusal.Refusal.{Refusal}
 use Rattle.engine_words.specs.declared.Progress.{Progress}
 use Rattle.engine_words.specs.declared.Progress.TheVariants as progress
@@ -17,7 +17,7 @@ use Rattle.hive_writer.specs.declared.stage.Stage.{Stage}
 use Rattle.hive_writer.specs.declared.stage.Stage.TheVariants as stage
 use Rattle.base_block.specs.Layout.{sector_of}
 use Rattle.hive_writer.specs.declared.stage.Purpose.TheVariants as purpose
-use Rattle.hive_writer.specs.Writing.{EndsWith, IsAt, IsFlushing, KeepsBlocks, LeadsOn, base_after, choice_at, left_after, now_after, phase_in, plan_of, work_of}
+use Rattle.hive_writer.specs.Writing.{EndsWith, IsAt, IsFlushing, IsRewriting, KeepsBlocks, LeadsOn, base_after, choice_at, left_after, now_after, phase_in, plan_of, work_of}
 use Rattle.hive_flush.specs.Planned.{block_again}
 use Rattle.hive_flush.specs.HiveStates.{IsOnBy}
 use Rattle.hive_flush.specs.Standing.{IsRight}
@@ -198,3 +198,19 @@ pub by_plan : (result : Result Progress Refusal) (old new : HiveWriter) (image o
 by_plan result old new image other pages before after flushing is led = λ stands plan ends flush.
     subst (λ (q : Plan). LeadsOn stands q image pages result old new before after) (sym (flush flushing))
     (subst (λ (l : List ℕ). LeadsOn stands (plan_of old l pages) l pages result old new before after) is (led stands))
+
+-- a step of a repair leads on by any plan that ends with the writer's block
+pub by_end : (result : Result Progress Refusal) (old new : HiveWriter) (image other : List ℕ) (pages : Pages) (before after : ℕ → FileState) → other ≡ image
+    → ((stands : Standing TreeMap) (plan : Plan) → EndsWith old.block plan → LeadsOn stands plan other pages result old new before after) → LeadsBy old new image pages result before after
+by_end result old new image other pages before after is led = λ stands plan ends flush.
+    subst (λ (l : List ℕ). LeadsOn stands plan l pages result old new before after) is (led stands plan ends)
+
+-- a repair that goes on is no flush
+pub repairs_on : (at : Stage) → IsRewriting purpose.Repair at → IsFlushing at → ⊥
+repairs_on stage.Quiet r f = elim r [ ]
+repairs_on (stage.Logging k) r f = elim r [ ]
+repairs_on stage.Logged r f = elim r [ ]
+repairs_on stage.Raised r f = elim r [ ]
+repairs_on (stage.Paging whose page) r f = absurd cc
+repairs_on (stage.Paged whose) r f = absurd cc
+repairs_on (stage.Finished whose) r f = absurd cc

@@ -62,6 +62,7 @@ impl HiveFile {
         ensures memory { memory_of self.new ≡ memory_of self.old }
         ensures place { place_of self.new ≡ place_of self.old }
         ensures whole { IsWhole self.new }
+        ensures falls { result ≡ Ok Progress.More → steps_left self.new < steps_left self.old }
         ensures refused { IfErr result (λ why. (why ≡ DiskFault) ⊎ (why ≡ Faulted)) }
         ensures faulted { (result ≡ Err Faulted) ↔ IsBroken self.old }
         ensures broken { (result ≡ Err DiskFault) → IsBroken self.new }
@@ -111,6 +112,7 @@ impl HiveFile {
         ensures place { place_of self.new ≡ place_of self.old }
         ensures whole { (result ≡ Ok Progress.Done) → IsWhole self.new }
         ensures idle { (result ≡ Ok Progress.Idle) → IsWhole self.old }
+        ensures falls { result ≡ Ok Progress.More → steps_left self.new < steps_left self.old }
         ensures ready { IsWhole self.old → (self.new ≡ self.old) × (disk.new ≡ disk.old) }
         ensures refused { IfErr result (λ why. (why ≡ DiskFault) ⊎ (why ≡ Faulted)) }
         ensures faulted { (result ≡ Err Faulted) ↔ IsBroken self.old }
