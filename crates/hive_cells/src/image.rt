@@ -1,5 +1,6 @@
 //! Hive bins data whose bins and cells tile, with its cells by their offsets.
 ghost use Rattle.std.specs.Prelude.{◌≡◌, ◌+◌, ◌-◌, ◌^◌, ◌<◌, ◌*◌, ◌/◌, ◌%◌, ◌≤◌, List, ℕ, MatchResult, IfOk, IsTrue, ◌↔◌, min, length, slice_range};
+ghost use Rattle.std.specs.List.{AllByRecursion};
 ghost use Rattle.std.specs.Vec.{vec_capacity};
 ghost use Rattle.hive_cells.specs.Bins.{Bins, bins_code, Cells, Shows};
 ghost use Rattle.hive_cells.specs.Tiles.{Tiles, LiesInOneTile, DataRefused, IsAllocatedCell, cell_data, cell_size, is_allocated};
@@ -107,13 +108,14 @@ impl Image {
     }
 
     /// The law of every image: bins and cells tile it, each byte lies in the header of one bin or in one cell, and in
-    /// nothing else, and the allocated cells are a function of offsets. Does nothing.
+    /// nothing else, and the allocated cells are a function of offsets. Its bytes are bytes. Does nothing.
     pub fn tiles(&self, at: usize)
         ensures tiles { Tiles self.now.bytes }
+        ensures bytes { AllByRecursion (λ b. b < 0x100) self.now.bytes }
         ensures once { at < length self.now.bytes → LiesInOneTile self.now.bytes at }
         ensures shown { (cells : Cells) × Shows self.now.bytes cells }
     {
-        let _ = &self.bytes;
+        are_bytes(&self.bytes);
     }
 
     /// The bytes of the data.
@@ -264,6 +266,13 @@ fn size_for(len: usize) -> usize
     ensures most { result ≤ MOST_BINS_BYTES + 16 }
 {
     (len + SIZE_BYTES).div_ceil(MARKED_BYTES) * MARKED_BYTES
+}
+
+// the law of bytes: each is below 0x100
+fn are_bytes(bytes: &[u8])
+    ensures { AllByRecursion (λ b. b < 0x100) bytes.now }
+{
+    let _ = bytes;
 }
 
 // writes bytes from an offset on

@@ -1,4 +1,7 @@
 pub mod Looked
+pub mod Kept
+pub mod Spread
+pub mod NoneLent
 pub mod Kit
 pub mod Counted
 pub mod Loops
@@ -8,5 +11,6 @@ pub mod Apart
 pub mod AllValues
 pub mod ListSteps
 pub mod KeySteps
+pub mod Lending
 pub mod KeyTold
 pub mod Listed

@@ -79,3 +79,13 @@ marked_now bytes cells shows at a d e seen eights within is =
 
 pub slot_within : (at bytes seen : ℕ) → at < bytes → bytes ≤ 8 * seen → at / 8 < seen
 slot_within at bytes seen h g = omega (arith, h, g)
+
+-- no other cell is marked
+pub marked_only : (seen : List Bool) (at cell : ℕ) → at % 8 ≡ 0 → marks_of (slice_set seen (at / 8) true) cell ≡ true → (marks_of seen cell ≡ true) ⊎ (cell ≡ at)
+marked_only seen at cell eights h = elim (decided (cell % 8 == 0)) [
+  | inr f ↦ inl (clash false (sym (no_if (cell % 8 == 0) (slice_index_or (slice_set seen (at / 8) true) (cell / 8) false) false f) ∙ h) refl)
+  | inl t ↦ elim (decided (eqb (at / 8) (cell / 8))) [
+    | inl e ↦ inr (same_slot at cell eights (eqb-true (cell % 8) 0 t) (eqb-true (at / 8) (cell / 8) e))
+    | inr n ↦ inl (marked_slot seen cell (eqb-true (cell % 8) 0 t) ∙ sym (set_other seen (at / 8) (cell / 8) (λ g. clash (eqb (at / 8) (cell / 8)) (eq-eqb (at / 8) (cell / 8) g) n)) ∙ sym (marked_slot (slice_set seen (at / 8) true) cell (eqb-true (cell % 8) 0 t)) ∙ h)
+  ]
+]

@@ -1,3 +1,4 @@
 pub mod Reading
 pub mod Nodes
 pub mod Told
+pub mod Descriptors

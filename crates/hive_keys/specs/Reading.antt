@@ -1,9 +1,10 @@
 -- What functions answer that read cells and mark them.
-use Rattle.std.specs.Prelude.{ℕ, ◌+◌, ◌-◌, ◌*◌, ◌/◌, ◌%◌, ◌≤◌, ◌==◌, if◌then◌else◌, Bool, false, List, [], ◌∷◌, slice_index_or, flat_map, map, Result, Ok, Err}
+use Rattle.std.specs.Prelude.{◌≡◌, ◌⊎◌, true, ℕ, ◌+◌, ◌-◌, ◌*◌, ◌/◌, ◌%◌, ◌≤◌, ◌==◌, if◌then◌else◌, Bool, false, List, [], ◌∷◌, slice_index_or, flat_map, map, Result, Ok, Err}
 use Rattle.refusals.specs.declared.refusal.Refusal.{Refusal}
 use Rattle.reg_names.specs.Names.{folded}
 use Rattle.reg_tree_parts.specs.declared.value.Value.{Value}
 use Rattle.hive_shape.specs.Loads.{Marks}
+use Rattle.hive_cells.specs.Tiles.{IsAllocatedCell}
 use Rattle.hive_cells.specs.Bins.{Cells, Shows}
 use Rattle.hive_records.specs.Readers.{Reader, done, each, ◌⟫◌}
 use Rattle.hive_records.specs.Values.{piece}
@@ -26,6 +27,11 @@ Reads view m bytes old new result = (cells : Cells) → Shows bytes cells → Fo
 abbrev pub set_flags : List Bool → ℕ
 set_flags [] = 0
 set_flags (b ∷ flags) = (if b then 1 else 0) + set_flags flags
+
+-- flags were set, none was unset, and each that was set is that of an allocated cell
+pub record Spreads (bytes : List ℕ) (old new : List Bool) : Type 0 where
+  pub more : set_flags old ≤ set_flags new
+  pub cells : (at : ℕ) → marks_of new at ≡ true → (marks_of old at ≡ true) ⊎ IsAllocatedCell bytes at
 
 -- each look but a refused last one set a flag
 abbrev pub Works : {X : Type 0} → ℕ → ℕ → List Bool → List Bool → Result X Refusal → Type 0

@@ -3,7 +3,7 @@ ghost use Rattle.std.specs.Prelude.{◌≡◌, ◌<◌, ◌≤◌, ◌*◌, ◌^
 ghost use Rattle.hive_records.specs.Readers.{each};
 ghost use Rattle.hive_records.specs.Numbers.{words_from};
 ghost use Rattle.hive_records.specs.Values.{piece, piece_sizes, segments_of, big_data};
-ghost use Rattle.hive_keys.specs.Reading.{Reads, Works, joined_pieces, size_at};
+ghost use Rattle.hive_keys.specs.Reading.{Spreads, Reads, Works, joined_pieces, size_at};
 
 use crate::cells::{look_once, piece};
 use hive_cells::{Image, Looks};
@@ -17,6 +17,7 @@ const OFFSET: usize = 4;
 const _: () = prove!(OFFSET == 4);
 
 /// Big data of a size, from their record on.
+#[tactic(auto, using(crate::proofs::Spread::spreads_on))]
 pub(crate) fn big_data(
     alloc: Global,
     image: &Image,
@@ -29,6 +30,7 @@ pub(crate) fn big_data(
     ensures reads { Reads (λ bytes. bytes.items) (big_data size at) image.now.bytes seen.old seen.new
         result }
     ensures covers { length seen.new ≡ length seen.old }
+    ensures spreads { Spreads image.now.bytes seen.old seen.new }
     ensures works { Works looks.old looks.new seen.old seen.new result }
 {
     let cell = match look_once(image, seen, looks, at) {
@@ -50,6 +52,7 @@ pub(crate) fn big_data(
 }
 
 // the segments of data of a size, whose offsets are in a list, one after another
+#[tactic(auto, using(crate::proofs::Spread::spreads_on))]
 fn segments(
     alloc: Global,
     image: &Image,
@@ -64,6 +67,7 @@ fn segments(
         (piece_sizes size (words_from list.now 0 4 (segments_of size)))) image.now.bytes seen.old
         seen.new result }
     ensures covers { length seen.new ≡ length seen.old }
+    ensures spreads { Spreads image.now.bytes seen.old seen.new }
     ensures works { Works looks.old looks.new seen.old seen.new result }
 {
     let count = segment_count(size);

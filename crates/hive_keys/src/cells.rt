@@ -1,8 +1,8 @@
 //! Cells, each looked at once.
-ghost use Rattle.std.specs.Prelude.{◌≡◌, ◌≤◌, ◌*◌, length};
+ghost use Rattle.std.specs.Prelude.{◌≡◌, ◌<◌, ◌≤◌, ◌*◌, length, OnOk};
 ghost use Rattle.hive_records.specs.Readers.{look};
 ghost use Rattle.hive_records.specs.Values.{piece};
-ghost use Rattle.hive_keys.specs.Reading.{Reads, Works};
+ghost use Rattle.hive_keys.specs.Reading.{Spreads, Reads, Works, marks_of, set_flags};
 
 use hive_cells::{Image, Looks};
 use refusals::{Cause, Refusal};
@@ -12,7 +12,22 @@ const FLAGGED_BYTES: usize = 8;
 
 const _: () = prove!(FLAGGED_BYTES == 8);
 
+/// Whether the cell at an offset is marked.
+pub(crate) fn is_marked(seen: &[bool], at: u32) -> bool
+    ensures { result ≡ marks_of seen.now at }
+{
+    let at = at as usize;
+    if at % FLAGGED_BYTES != 0 {
+        return false;
+    }
+    match seen.get(at / FLAGGED_BYTES) {
+        Some(flag) => *flag,
+        None => false,
+    }
+}
+
 /// The data of the allocated cell at an offset, which is marked, and had no mark before.
+#[tactic(auto, using(crate::proofs::Spread::spreads_on))]
 pub(crate) fn look_once<'a>(
     image: &'a Image,
     seen: &mut [bool],
@@ -22,6 +37,8 @@ pub(crate) fn look_once<'a>(
     requires covers { length image.now.bytes ≤ 8 * length seen.old }
     ensures reads { Reads (λ lent. lent.now) (look at) image.now.bytes seen.old seen.new result }
     ensures covers { length seen.new ≡ length seen.old }
+    ensures spreads { Spreads image.now.bytes seen.old seen.new }
+    ensures more { OnOk result (set_flags seen.old < set_flags seen.new) }
     ensures works { Works looks.old looks.new seen.old seen.new result }
 {
     let bytes = match image.cell(at, looks) {
@@ -37,6 +54,7 @@ pub(crate) fn look_once<'a>(
 }
 
 /// The first bytes of the cell at an offset, which has so many.
+#[tactic(auto, using(crate::proofs::Spread::spreads_on))]
 pub(crate) fn piece<'a>(
     image: &'a Image,
     seen: &mut [bool],
@@ -48,6 +66,7 @@ pub(crate) fn piece<'a>(
     ensures reads { Reads (λ lent. lent.now) (piece size at) image.now.bytes seen.old seen.new
         result }
     ensures covers { length seen.new ≡ length seen.old }
+    ensures spreads { Spreads image.now.bytes seen.old seen.new }
     ensures works { Works looks.old looks.new seen.old seen.new result }
 {
     let bytes = match look_once(image, seen, looks, at) {

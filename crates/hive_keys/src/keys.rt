@@ -1,11 +1,14 @@
 //! Keys, each with all that is its own alone.
-ghost use Rattle.std.specs.Prelude.{◌≡◌, ◌≤◌, ◌+◌, ◌*◌, length};
+ghost use Rattle.std.specs.Prelude.{◌≡◌, ◌≢◌, ◌<◌, ◌≤◌, ◌+◌, ◌*◌, length, OnOk};
 ghost use Rattle.hive_cells.specs.Bins.{Cells, Shows};
 ghost use Rattle.hive_shape.specs.Loads.{Marks};
-ghost use Rattle.hive_records.specs.KeyNodes.{class_at, descriptor_at, key_at};
-ghost use Rattle.hive_keys.specs.Reading.{Reads, FollowsIn, Works, KeyWorks};
+ghost use Rattle.hive_records.specs.Numbers.{nowhere};
+ghost use Rattle.hive_records.specs.KeyNodes.{class_at, descriptor_at, key_at, lends_in};
+ghost use Rattle.hive_keys.specs.Descriptors.{AreDescriptors, Keeps, SaysLent};
+ghost use Rattle.hive_keys.specs.Reading.{Spreads, Reads, FollowsIn, Works, KeyWorks, set_flags};
 
 use crate::cells::{look_once, piece};
+use crate::descriptors::Descriptors;
 use crate::lists::kids;
 use crate::names::name_of;
 use crate::values::values;
@@ -21,6 +24,7 @@ const NOWHERE: u32 = 0xffff_ffff;
 const _: () = prove!(NOWHERE == 0xffff_ffff);
 
 // the class of a length
+#[tactic(auto, using(crate::proofs::Spread::spreads_on))]
 fn class(
     alloc: Global,
     image: &Image,
@@ -32,6 +36,7 @@ fn class(
     requires covers { length image.now.bytes ≤ 8 * length seen.old }
     ensures reads { Reads (λ class. class) (class_at len at) image.now.bytes seen.old seen.new result }
     ensures covers { length seen.new ≡ length seen.old }
+    ensures spreads { Spreads image.now.bytes seen.old seen.new }
     ensures works { Works looks.old looks.new seen.old seen.new result }
 {
     if len == 0 {
@@ -44,15 +49,12 @@ fn class(
     Ok(Data::new(alloc, bytes)?)
 }
 
-// the descriptor in a security cell, which is lent and so not marked
-fn descriptor(alloc: Global, image: &Image, looks: &mut Looks, at: u32) -> Result<Data, Refusal>
-    ensures reads { (cells : Cells) → Shows image.now.bytes cells → (marks : Marks) → FollowsIn
-        (λ its. its) (descriptor_at at) cells marks marks result }
+// the descriptor in the security cell at an offset, which is lent and so not marked
+fn security(alloc: Global, image: &Image, looks: &mut Looks, at: u32) -> Result<Data, Refusal>
+    requires { at ≢ nowhere }
+    ensures reads { (cells : Cells) → Shows image.now.bytes cells → SaysLent at cells result }
     ensures look { looks.new ≤ looks.old + 1 }
 {
-    if at == NOWHERE {
-        return Ok(Data::new(alloc, &[])?);
-    }
     let cell = match image.cell(at, looks) {
         Ok(cell) => cell,
         Err(refusal) => return Err(refusal),
@@ -64,23 +66,63 @@ fn descriptor(alloc: Global, image: &Image, looks: &mut Looks, at: u32) -> Resul
     Ok(Data::new(alloc, security.descriptor)?)
 }
 
+// the descriptor that a key names, which is kept where it wasn't before
+fn descriptor(
+    alloc: Global,
+    image: &Image,
+    looks: &mut Looks,
+    known: &mut Descriptors,
+    at: u32,
+) -> Result<Data, Refusal>
+    requires { AreDescriptors image.now.bytes known.old }
+    ensures reads { (cells : Cells) → Shows image.now.bytes cells → (marks : Marks) → FollowsIn
+        (λ its. its) (descriptor_at at) cells marks marks result }
+    ensures known { AreDescriptors image.now.bytes known.new }
+    ensures keeps { (cells : Cells) → Shows image.now.bytes cells →
+        OnOk result (Keeps known.old known.new (descriptor_at at cells).lent) }
+    ensures look { looks.new ≤ looks.old + 1 }
+{
+    if at == NOWHERE {
+        return Ok(Data::new(alloc, &[])?);
+    }
+    if let Some(data) = known.get(at)? {
+        return Ok(data);
+    }
+    let data = match security(alloc, image, looks, at) {
+        Ok(data) => data,
+        Err(refusal) => return Err(refusal),
+    };
+    let kept = data.clone()?;
+    known.keep(at, kept)?;
+    Ok(data)
+}
+
 /// The key at an offset, and its subkeys' offsets in the order of its list. `split` says whether data past 16,344 bytes are in
-/// segments. A flag for each 8 bytes of the bins data says which cells were met before.
+/// segments. A flag for each 8 bytes of the bins data says which cells were met before. A descriptor that is known is
+/// not read again: the key shares it.
 ///
 /// Refused with the cause that the definition of a key gives, with `Shared` at a cell that was met before, and with `NoMemory`.
+#[tactic(auto, using(crate::proofs::Spread::spreads_on))]
 pub fn key(
     alloc: Global,
     image: &Image,
     seen: &mut [bool],
     looks: &mut Looks,
+    known: &mut Descriptors,
     split: bool,
     at: u32,
 ) -> Result<(Key, Vec<u32>), Refusal>
     requires covers { length image.now.bytes ≤ 8 * length seen.old }
+    requires known { AreDescriptors image.now.bytes known.old }
     ensures reads { Reads (λ its. (its.0, its.1.items)) (key_at split at) image.now.bytes seen.old
         seen.new result }
     ensures covers { length seen.new ≡ length seen.old }
+    ensures spreads { Spreads image.now.bytes seen.old seen.new }
     ensures works { KeyWorks looks.old looks.new seen.old seen.new result }
+    ensures more { OnOk result (set_flags seen.old < set_flags seen.new) }
+    ensures known { AreDescriptors image.now.bytes known.new }
+    ensures keeps { (cells : Cells) → Shows image.now.bytes cells →
+        OnOk result (Keeps known.old known.new (lends_in split cells at)) }
 {
     let cell = match look_once(image, seen, looks, at) {
         Ok(cell) => cell,
@@ -94,7 +136,7 @@ pub fn key(
         Ok(class) => class,
         Err(refusal) => return Err(refusal),
     };
-    let descriptor = match descriptor(alloc, image, looks, node.security) {
+    let descriptor = match descriptor(alloc, image, looks, known, node.security) {
         Ok(descriptor) => descriptor,
         Err(refusal) => return Err(refusal),
     };

@@ -8,10 +8,12 @@
 
 mod big;
 mod cells;
+mod descriptors;
 mod keys;
 pub mod laws;
 mod lists;
 mod names;
 mod values;
 
+pub use crate::descriptors::Descriptors;
 pub use crate::keys::key;

@@ -3,7 +3,7 @@ ghost use Rattle.std.specs.Prelude.{◌≡◌, ◌≤◌, ◌*◌, length, IfOk}
 ghost use Rattle.hive_records.specs.Readers.{each};
 ghost use Rattle.hive_records.specs.Lists.{leaf_at, kids_at};
 ghost use Rattle.hive_records.specs.GoesOn.{elements_of, list_from};
-ghost use Rattle.hive_keys.specs.Reading.{Reads, Works, joined_leaves};
+ghost use Rattle.hive_keys.specs.Reading.{Spreads, Reads, Works, joined_leaves};
 
 use crate::cells::look_once;
 use hive_cells::{Image, Looks};
@@ -25,6 +25,7 @@ fn elements(alloc: Global, list: &SubkeyList) -> Result<Vec<u32>, AllocError>
 }
 
 // the subkeys in the list at an offset, which is no list of lists
+#[tactic(auto, using(crate::proofs::Spread::spreads_on))]
 fn leaf(
     alloc: Global,
     image: &Image,
@@ -35,6 +36,7 @@ fn leaf(
     requires covers { length image.now.bytes ≤ 8 * length seen.old }
     ensures reads { Reads (λ kids. kids.items) (leaf_at at) image.now.bytes seen.old seen.new result }
     ensures covers { length seen.new ≡ length seen.old }
+    ensures spreads { Spreads image.now.bytes seen.old seen.new }
     ensures works { Works looks.old looks.new seen.old seen.new result }
 {
     let cell = match look_once(image, seen, looks, at) {
@@ -52,6 +54,7 @@ fn leaf(
 }
 
 // the subkeys in the lists that some offsets lead to, one after another
+#[tactic(auto, using(crate::proofs::Spread::spreads_on))]
 fn leaves(
     alloc: Global,
     image: &Image,
@@ -63,6 +66,7 @@ fn leaves(
     ensures reads { Reads (λ kids. kids.items) (joined_leaves lists.now) image.now.bytes seen.old
         seen.new result }
     ensures covers { length seen.new ≡ length seen.old }
+    ensures spreads { Spreads image.now.bytes seen.old seen.new }
     ensures works { Works looks.old looks.new seen.old seen.new result }
 {
     let mut kids = Vec::new(alloc);
@@ -77,6 +81,7 @@ fn leaves(
 }
 
 // the subkeys that a list leads to
+#[tactic(auto, using(crate::proofs::Spread::spreads_on))]
 fn listed(
     alloc: Global,
     image: &Image,
@@ -90,6 +95,7 @@ fn listed(
     ensures reads { Reads (λ kids. kids.items) (list_from list.now) image.now.bytes seen.old seen.new
         result }
     ensures covers { length seen.new ≡ length seen.old }
+    ensures spreads { Spreads image.now.bytes seen.old seen.new }
     ensures works { Works looks.old looks.new seen.old seen.new result }
 {
     let found = elements(alloc, list)?;
@@ -100,6 +106,7 @@ fn listed(
 }
 
 /// The subkeys of a key that says how many they are and where their list is.
+#[tactic(auto, using(crate::proofs::Spread::spreads_on))]
 pub(crate) fn kids(
     alloc: Global,
     image: &Image,
@@ -112,6 +119,7 @@ pub(crate) fn kids(
     ensures reads { Reads (λ kids. kids.items) (kids_at count at) image.now.bytes seen.old seen.new
         result }
     ensures covers { length seen.new ≡ length seen.old }
+    ensures spreads { Spreads image.now.bytes seen.old seen.new }
     ensures works { Works looks.old looks.new seen.old seen.new result }
 {
     if count == 0 {

@@ -7,7 +7,7 @@ ghost use Rattle.hive_records.specs.Numbers.{words_from};
 ghost use Rattle.hive_records.specs.Names.{all_apart};
 ghost use Rattle.hive_records.specs.GoesOn.{data_from};
 ghost use Rattle.hive_records.specs.Values.{segment_bytes, value_at, values_at, map_of};
-ghost use Rattle.hive_keys.specs.Reading.{Reads, Works, names_in};
+ghost use Rattle.hive_keys.specs.Reading.{Spreads, Reads, Works, names_in};
 
 use crate::big::big_data;
 use crate::cells::{look_once, piece};
@@ -29,6 +29,7 @@ const OFFSET: usize = 4;
 const _: () = prove!(OFFSET == 4);
 
 /// The data of a value, from its record on. Big data lie in segments where `split` says so.
+#[tactic(auto, using(crate::proofs::Spread::spreads_on))]
 fn data_of(
     alloc: Global,
     image: &Image,
@@ -41,6 +42,7 @@ fn data_of(
     ensures reads { Reads (λ its. its) (data_from split value.now.size value.now.offset
         value.now.small.now) image.now.bytes seen.old seen.new result }
     ensures covers { length seen.new ≡ length seen.old }
+    ensures spreads { Spreads image.now.bytes seen.old seen.new }
     ensures works { Works looks.old looks.new seen.old seen.new result }
 {
     if IN_RECORD <= value.size {
@@ -73,6 +75,7 @@ fn is_big(split: bool, size: u32) -> bool
 }
 
 /// The value whose record is at an offset.
+#[tactic(auto, using(crate::proofs::Spread::spreads_on))]
 pub(crate) fn value(
     alloc: Global,
     image: &Image,
@@ -85,6 +88,7 @@ pub(crate) fn value(
     ensures reads { Reads (λ value. value) (value_at split at) image.now.bytes seen.old seen.new
         result }
     ensures covers { length seen.new ≡ length seen.old }
+    ensures spreads { Spreads image.now.bytes seen.old seen.new }
     ensures works { Works looks.old looks.new seen.old seen.new result }
 {
     let cell = match look_once(image, seen, looks, at) {
@@ -108,6 +112,7 @@ pub(crate) fn value(
 }
 
 /// The values of a key that says how many they are and where their list is.
+#[tactic(auto, using(crate::proofs::Spread::spreads_on))]
 pub(crate) fn values(
     alloc: Global,
     image: &Image,
@@ -121,6 +126,7 @@ pub(crate) fn values(
     ensures reads { Reads (λ values. values) (values_at split count at) image.now.bytes seen.old
         seen.new result }
     ensures covers { length seen.new ≡ length seen.old }
+    ensures spreads { Spreads image.now.bytes seen.old seen.new }
     ensures works { Works looks.old looks.new seen.old seen.new result }
 {
     if count == 0 {
@@ -141,6 +147,7 @@ pub(crate) fn values(
 }
 
 // the values whose offsets are in a list, one after another
+#[tactic(auto, using(crate::proofs::Spread::spreads_on))]
 fn listed(
     alloc: Global,
     image: &Image,
@@ -155,6 +162,7 @@ fn listed(
     ensures reads { Reads (λ found. found.items) (each (value_at split)
         (words_from list.now 0 4 count)) image.now.bytes seen.old seen.new result }
     ensures covers { length seen.new ≡ length seen.old }
+    ensures spreads { Spreads image.now.bytes seen.old seen.new }
     ensures works { Works looks.old looks.new seen.old seen.new result }
 {
     let mut found = Vec::new(alloc);

@@ -28,7 +28,7 @@ same_cell bytes at None (Some e) h g = absurd (h g.0)
 same_cell bytes at (Some d) None h g = absurd (g h.0)
 same_cell bytes at (Some d) (Some e) h g = ap Some (h.1 ∙ sym g.1)
 
-same_cells : (bytes : List ℕ) (cells other : Cells) → Shows bytes cells → Shows bytes other → cells ≡ other
+pub same_cells : (bytes : List ℕ) (cells other : Cells) → Shows bytes cells → Shows bytes other → cells ≡ other
 same_cells bytes cells other h g = λ i at. same_cell bytes at (cells at) (other at) (h at) (g at) i
 
 pub one_image : (bytes : List ℕ) (root minor : ℕ) (t u : TreeMap) → StandsFor bytes root minor t → StandsFor bytes root minor u → t ≡ u

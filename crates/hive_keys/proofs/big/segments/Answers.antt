@@ -1,12 +1,13 @@
 use Rattle.std.proofs.Common.{◌≡◌, ◌<◌, ◌≤◌, ℕ, subst, ◌++◌, ◌∷◌, [], ◌∙◌, ap, sym, refl, arith}
 use Rattle.hive_records.specs.Values.{piece, segments_of}
 use Rattle.hive_keys.specs.Reading.{marks_of, size_at}
+use Rattle.hive_keys.proofs.Spread.{spreads_none, spreads_on}
 use Rattle.hive_keys.proofs.BigSteps.{segment_out, segment_next, segments_all, flat_more}
 use Rattle.hive_records.proofs.Each.{each_starts}
 use Rattle.hive_keys.proofs.big.segments.Goals as goal
 
 pub loop-index-init : goal.loop-index-init
-loop-index-init c = record { covers = refl; works = omega arith; reads = λ cells shows. ([], c.new-bytes.ensures.items, each_starts (λ s. piece s.0 s.1) cells (marks_of c.args.seen.now)) }
+loop-index-init c = record { covers = refl; works = omega arith; spreads = spreads_none c.args.image.now.bytes c.args.seen.now; reads = λ cells shows. ([], c.new-bytes.ensures.items, each_starts (λ s. piece s.0 s.1) cells (marks_of c.args.seen.now)) }
 
 pub returns-in-Err-clause-reads : goal.returns-in-Err-clause-reads
 returns-in-Err-clause-reads c = λ cells shows.
@@ -20,6 +21,7 @@ pub loop-index-preserved : goal.loop-index-preserved
 loop-index-preserved c = record {
   covers = c.piece.ensures.covers ∙ c.loop-index.invariant.covers;
   works = omega (arith, c.in-Ok.ensures.works, c.loop-index.invariant.works);
+  spreads = spreads_on c.loop-index.invariant.spreads c.in-Ok.ensures.spreads;
   reads = λ cells shows.
       let inv = c.loop-index.invariant.reads cells shows in (
         inv.0 ++ c.in-Ok.part.now ∷ [],

@@ -1,5 +1,6 @@
-use Rattle.std.proofs.Common.{arith, ◌/◌}
-use Rattle.hive_keys.proofs.Looked.{no_cell, met_again, marked_now, slot_within}
+use Rattle.std.proofs.Common.{arith, ◌/◌, true, slice_set}
+use Rattle.hive_keys.proofs.Looked.{no_cell, met_again, marked_now, marked_only, slot_within}
+use Rattle.hive_keys.proofs.Spread.{spreads_one}
 use Rattle.hive_keys.proofs.Counted.{one_flag}
 use Rattle.hive_keys.proofs.Kit.{err_as}
 use Rattle.hive_records.specs.Readers.{look}
@@ -18,3 +19,10 @@ returns-clause-reads c = λ cells shows. marked_now c.args.image.now.bytes cells
 
 pub returns-clause-works : goal.returns-clause-works
 returns-clause-works c = omega (arith, c.cell.ensures.look, one_flag c.args.seen.now (c.args.at / 8) (slot_within c.args.at _ _ (omega (arith, c.in-Ok.ensures.within, c.in-Ok.ensures.size)) c.requires.covers) c.if-seen-slot.false)
+
+pub returns-clause-spreads : goal.returns-clause-spreads
+returns-clause-spreads c = spreads_one c.args.image.now.bytes c.args.seen.now (slice_set c.args.seen.now (c.args.at / 8) true) c.args.at c.in-Ok.ensures.found.0 (λ cell h. marked_only c.args.seen.now c.args.at cell c.in-Ok.ensures.eights h)
+    (one_flag c.args.seen.now (c.args.at / 8) (slot_within c.args.at _ _ (omega (arith, c.in-Ok.ensures.within, c.in-Ok.ensures.size)) c.requires.covers) c.if-seen-slot.false)
+
+pub returns-clause-more : goal.returns-clause-more
+returns-clause-more c = omega (arith, one_flag c.args.seen.now (c.args.at / 8) (slot_within c.args.at _ _ (omega (arith, c.in-Ok.ensures.within, c.in-Ok.ensures.size)) c.requires.covers) c.if-seen-slot.false)

@@ -6,13 +6,14 @@ use Rattle.hive_records.specs.Follows.{Follows}
 use Rattle.hive_records.proofs.Each.{each_starts}
 use Rattle.hive_records.proofs.Follow.{follows_on, follows_out}
 use Rattle.hive_keys.specs.Reading.{marks_of}
+use Rattle.hive_keys.proofs.Spread.{spreads_none, spreads_on}
 use Rattle.hive_keys.proofs.Kit.{done_follows}
 use Rattle.hive_keys.proofs.BigSteps.{flat_more}
 use Rattle.hive_keys.proofs.Loops.{each_next, each_out}
 use Rattle.hive_keys.proofs.lists.leaves.Goals as goal
 
 pub loop-at-init : goal.loop-at-init
-loop-at-init c = record { covers = refl; works = omega arith; reads = λ cells shows. ([], c.new-kids.ensures.items, each_starts leaf_at cells (marks_of c.args.seen.now)) }
+loop-at-init c = record { covers = refl; works = omega arith; spreads = spreads_none c.args.image.now.bytes c.args.seen.now; reads = λ cells shows. ([], c.new-kids.ensures.items, each_starts leaf_at cells (marks_of c.args.seen.now)) }
 
 pub returns-in-Err-clause-reads : goal.returns-in-Err-clause-reads
 returns-in-Err-clause-reads c = λ cells shows.
@@ -24,6 +25,7 @@ pub loop-at-preserved : goal.loop-at-preserved
 loop-at-preserved c = record {
   covers = c.leaf.ensures.covers ∙ c.loop-at.invariant.covers;
   works = omega (arith, c.in-Ok.ensures.works, c.loop-at.invariant.works);
+  spreads = spreads_on c.loop-at.invariant.spreads c.in-Ok.ensures.spreads;
   reads = λ cells shows.
       let inv = c.loop-at.invariant.reads cells shows in (
         inv.0 ++ c.in-Ok.more.items ∷ [],

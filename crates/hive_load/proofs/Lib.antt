@@ -1,0 +1,5 @@
+pub mod Sorting
+pub mod Shuffled
+pub mod Levels
+pub mod Ends
+pub mod Bound

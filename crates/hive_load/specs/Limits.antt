@@ -1,0 +1,36 @@
+-- Trees within the limits of the project, and why data are refused as one.
+use Rattle.std.specs.Prelude.{◌≡◌, ◌≢◌, ◌⊎◌, ◌<◌, ◌≤◌, ◌+◌, ◌*◌, ℕ, List, length, Some}
+use Rattle.refusals.specs.declared.refusal.Refusal.{Refusal}
+use Rattle.refusals.specs.declared.refusal.Refusal.TheVariants as refusal
+use Rattle.refusals.specs.declared.limits.TheConstants.{MOST_PATH_NAMES, MOST_WEIGHT}
+use Rattle.reg_tree_parts.specs.Rows.{Row}
+use Rattle.reg_tree.specs.Maps.{TreeMap, row, weight}
+use Rattle.hive_cells.specs.Tiles.{IsAllocatedCell}
+use Rattle.hive_cells.specs.Bins.{Cells, Shows}
+use Rattle.hive_shape.specs.Lists.{IsIn}
+use Rattle.hive_shape.specs.Faults.{Deeper}
+use Rattle.hive_records.specs.KeyNodes.{keys_in}
+use Rattle.hive_records.specs.Images.{splits, StandsFor, FaultFor}
+
+-- a tree of at most the greatest weight, in which no path has more names than one may have
+pub record IsWithin (tree : TreeMap) : Type 0 where
+  pub light : weight tree ≤ MOST_WEIGHT
+  pub shallow : (path : List (List ℕ)) (key : Row) → row tree path ≡ Some key → length path ≤ MOST_PATH_NAMES
+
+-- a tree stands that weighs too much; a key that can be read lies too deep
+abbrev pub IsTooHeavy : List ℕ → ℕ → ℕ → Type 0
+IsTooHeavy bytes root minor = (tree : TreeMap) × StandsFor bytes root minor tree × (MOST_WEIGHT < weight tree)
+
+abbrev pub IsTooDeep : List ℕ → ℕ → ℕ → Type 0
+IsTooDeep bytes root minor = (cells : Cells) × Shows bytes cells × Deeper (keys_in (splits minor) cells) root MOST_PATH_NAMES
+
+-- why data are refused: memory was not given, a limit is passed, or a fault stands in them
+abbrev pub LoadRefused : List ℕ → ℕ → ℕ → Refusal → Type 0
+LoadRefused bytes root minor why =
+    (why ≡ refusal.NoMemory)
+    ⊎ (((why ≡ refusal.TooLarge) × (IsTooHeavy bytes root minor ⊎ IsTooDeep bytes root minor))
+    ⊎ FaultFor bytes root minor why)
+
+-- every allocated cell of the data is in the list
+abbrev pub AreAllCells : List ℕ → List ℕ → Type 0
+AreAllCells bytes cells = (at : ℕ) → IsAllocatedCell bytes at → IsIn at cells

@@ -1,0 +1,13 @@
+//! What a refusal says of the image: a law.
+ghost use Rattle.std.specs.Prelude.{◌≡◌, ◌≢◌, ℕ, List};
+ghost use Rattle.refusals.specs.declared.refusal.Refusal.{Refusal};
+ghost use Rattle.refusals.specs.declared.refusal.Refusal.TheVariants.{NoMemory};
+ghost use Rattle.reg_tree.specs.Maps.{TreeMap};
+ghost use Rattle.hive_records.specs.Images.{StandsFor};
+ghost use Rattle.hive_load.specs.Limits.{IsWithin, LoadRefused};
+
+/// An image that is refused, but for want of memory, stands for no tree within the limits.
+pub fn refusals_exclude_trees()
+    ensures { (bytes : List ℕ) (root minor : ℕ) (why : Refusal) → LoadRefused bytes root minor why →
+        why ≢ NoMemory → (tree : TreeMap) → StandsFor bytes root minor tree → IsWithin tree → ⊥ }
+{}

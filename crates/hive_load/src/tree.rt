@@ -1,0 +1,92 @@
+//! The tree of an image.
+ghost use Rattle.std.specs.Prelude.{◌≡◌, ◌≤◌, ◌+◌, ◌*◌, ◌/◌, false, ℕ, List, length, IfOk, IfErr, MatchResult};
+ghost use Rattle.hive_cells.specs.Bins.{Cells, Shows};
+ghost use Rattle.reg_tree_parts.specs.Nodes.{IsNode};
+ghost use Rattle.hive_keys.specs.Reading.{marks_of};
+ghost use Rattle.hive_records.specs.Images.{StandsFor};
+ghost use Rattle.hive_load.specs.Limits.{IsWithin, LoadRefused, AreAllCells};
+ghost use Rattle.hive_load.specs.Roots.{LoadsRoot, RefusesRoot};
+
+use crate::keys::load_key;
+use hive_cells::{Image, Looks};
+use hive_keys::Descriptors;
+use refusals::limits::{MOST_PATH_NAMES, MOST_WEIGHT};
+use refusals::{Cause, Refusal};
+use reg_tree::Tree;
+use reg_tree_parts::Node;
+use std::alloc::{AllocError, Global};
+
+// the least minor version whose big data lie in segments
+const SPLITTING_MINOR: u32 = 4;
+
+const _: () = prove!(SPLITTING_MINOR == 4);
+
+// so many flags as there may be cells in so many bytes, none of them set
+fn flags_for(alloc: Global, bytes: usize) -> Result<Vec<bool>, AllocError>
+    ensures covers { IfOk result (λ seen. bytes ≤ 8 * length seen.items) }
+    ensures unset { IfOk result (λ seen. (at : ℕ) → marks_of seen.items at ≡ false) }
+{
+    vec![in alloc; false; bytes.div_ceil(8)]
+}
+
+// the node of the root, where no cell is marked yet
+fn load_root(
+    alloc: Global,
+    image: &Image,
+    seen: &mut [bool],
+    looks: &mut Looks,
+    split: bool,
+    root: u32,
+) -> Result<Node, Refusal>
+    requires covers { length image.now.bytes ≤ 8 * length seen.old }
+    requires unset { (at : ℕ) → marks_of seen.old at ≡ false }
+    ensures node { IfOk result IsNode }
+    ensures answers { (cells : Cells) → Shows image.now.bytes cells → MatchResult result
+        (λ node. LoadsRoot split cells root node) (λ why. RefusesRoot split cells root why) }
+    ensures looks { (cells : List ℕ) → AreAllCells image.now.bytes cells →
+        looks.new ≤ looks.old + 2 * length cells + 2 }
+{
+    let mut known = Descriptors::new(alloc);
+    let levels = MOST_PATH_NAMES + 1;
+    let node = match load_key(alloc, image, seen, looks, &mut known, split, levels, root) {
+        Ok(node) => node,
+        Err(refusal) => return Err(refusal),
+    };
+    if known.are_apart(seen) {
+        Ok(node)
+    } else {
+        Err(Refusal::from(Cause::Shared))
+    }
+}
+
+/// The registry tree that an image stands for, from the key node at an offset on. Below minor version 4 big data lie in
+/// one cell, from it on in segments. The tree weighs at most 16,777,216, and no path in it has more than 512 names.
+///
+/// Refused with `HiveDamaged` of hive 0 and a cause that stands in the image, or with `Unsupported` for a flag that
+/// does, and so only where the image stands for no tree; with `TooLarge` only where a tree stands that weighs more, or a
+/// key lies deeper; and with `NoMemory`. The count of looks rises by at most two for each allocated cell, and two more.
+pub fn load(
+    alloc: Global,
+    image: &Image,
+    root: u32,
+    minor: u32,
+    looks: &mut Looks,
+) -> Result<Tree, Refusal>
+    ensures stands { IfOk result (λ tree. StandsFor image.now.bytes root minor tree) }
+    ensures within { IfOk result IsWithin }
+    ensures refused { IfErr result (LoadRefused image.now.bytes root minor) }
+    ensures looks { (cells : List ℕ) → AreAllCells image.now.bytes cells →
+        looks.new ≤ looks.old + 2 * length cells + 2 }
+{
+    image.tiles(0);
+    let mut seen = flags_for(alloc, image.len())?;
+    let split = minor >= SPLITTING_MINOR;
+    let node = match load_root(alloc, image, &mut seen, looks, split, root) {
+        Ok(node) => node,
+        Err(refusal) => return Err(refusal),
+    };
+    if node.weight() > MOST_WEIGHT {
+        return Err(Refusal::TooLarge);
+    }
+    Ok(Tree::from_root(alloc, node)?)
+}
