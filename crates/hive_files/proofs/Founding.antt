@@ -17,7 +17,7 @@ use Rattle.dirt_log.specs.WholeLog.{IsWhole, IsCovered, block_of, pages_in, page
 use Rattle.dirt_log.specs.declared.reading.DirtLog.{DirtLog}
 use Rattle.hive_files.specs.Finding.{HasHive, IsByLog, IsFound, IsLogOf, IsLogged, IsPart, TellsOfHive, as_primary}
 use Rattle.hive_files.specs.Frames.{FailsBy}
-use Rattle.hive_files.specs.declared.finding.Found.{Found}
+use Rattle.hive_files.specs.declared.found.Found.{Found}
 
 -- a refusal of a log, among those of a hive
 pub told_of_log : (F S R : Type 0) (why : Refusal) → (S → R) → RefusedFor not_whole S why → FailsBy F (λ w. TellsOfHive w × R) why

@@ -8,7 +8,7 @@ use Rattle.dirty_vector.specs.Pages.{clean_pages}
 use Rattle.dirt_log.specs.WholeLog.{IsWhole, IsCovered, block_of, pages_in, page_bytes_in}
 use Rattle.dirt_log.specs.Held.{is_clean_file, IsOwn, IsRepaired, IsInUse}
 use Rattle.dirt_log.specs.declared.reading.DirtLog.{DirtLog}
-use Rattle.hive_files.specs.declared.finding.Found.{Found}
+use Rattle.hive_files.specs.declared.found.Found.{Found}
 
 -- a log's block as that of a primary file
 abbrev pub as_primary : BaseBlock → BaseBlock

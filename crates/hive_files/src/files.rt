@@ -32,6 +32,7 @@ pub(crate) fn read_part<D: Disk>(
 ) -> Result<Vec<u8>, Refusal>
     ensures bytes { IfOk result (λ bytes. D.faithful disk.new → bytes.items
         ≡ take most (drop offset (D.state_at disk.old (D.clock disk.old) file).seen)) }
+    ensures few { IfOk result (λ bytes. length bytes.items ≤ most) }
     ensures fails { IfErr result (FailsBy (D.failures disk.old < D.failures disk.new) nothing_told) }
     ensures reads { OnlyReads (D.state_at disk.old) (D.state_at disk.new) (D.clock disk.old)
         (D.clock disk.new) }

@@ -1,6 +1,7 @@
 //! What is found in a hive's two files.
 ghost use Rattle.std.specs.Prelude.{◌≡◌, ◌⊎◌, ◌+◌, ◌<◌, ◌≤◌, ℕ, List, length, take, drop, true, false, IfOk, IfErr, IfSome, IfNone};
-ghost use Rattle.base_block.specs.Judgements.{IsPrimary};
+ghost use Rattle.base_block.specs.Judgements.{IsLog, IsPrimary};
+ghost use Rattle.base_block.specs.Layout.{is_clean_block};
 ghost use Rattle.dirt_log.specs.WholeLog.{IsWhole, block_of, not_whole};
 ghost use Rattle.dirty_vector.specs.Pages.{clean_pages};
 ghost use Rattle.disk_model.specs.Call.{Extends};
@@ -11,6 +12,7 @@ ghost use Rattle.hive_files.specs.Frames.{OnlyReads, FailsBy, IsSyncedOrSame};
 ghost use Rattle.refusals.specs.Answers.{RefusedFor};
 
 use crate::files::{log_number, primary_number, read_part};
+use crate::found::Found;
 use base_block::{BaseBlock, FileType};
 use dirt_log::{DirtLog, front_is_read, front_is_repaired};
 use dirty_vector::DirtyVector;
@@ -23,19 +25,6 @@ const BINS_AT: u64 = 4_096;
 
 /// The bytes of a first sector.
 const SECTOR_BYTES: u64 = 512;
-
-/// What two files hold, but for the tree.
-#[derive(Drop)]
-pub struct Found {
-    /// The base block that is in use, as that of a primary file.
-    pub block: BaseBlock,
-    /// The hive bins data that are in use.
-    pub bins: Vec<u8>,
-    /// The pages that a repair has to write: none of a clean primary file.
-    pub pages: DirtyVector,
-    /// Whether the primary file is clean.
-    pub is_clean: bool,
-}
 
 /// The bytes of the longest log that is whole: its first sector, letters and bitmap, in whole sectors, and each page.
 const MOST_LOG_BYTES: u64 = 67_126_272;
@@ -108,6 +97,7 @@ fn find_own<D: Disk>(
     file: u32,
     block: BaseBlock,
 ) -> Result<Found, Refusal>
+    requires clean { is_clean_block block ≡ true }
     ensures judged { IfOk result (λ found. IsPrimary block) }
     ensures found { IfOk result (λ found. (found.block ≡ block)
         × (found.pages ≡ clean_pages block.bins_size) × (found.is_clean ≡ true)) }
@@ -205,6 +195,8 @@ fn read_repaired<D: Disk>(alloc: Global, disk: &mut D, hive: u8) -> Result<Found
 
 // the log whose longest front this is
 fn read_log(alloc: Global, text: &[u8]) -> Result<DirtLog<'_>, Refusal>
+    ensures used { IfOk result (λ log. IsLog log.base
+        × (log.base.bins_size ≡ log.vector.bins_size)) }
     ensures log { IfOk result (λ log. (file : List ℕ) → text.now ≡ take 67126272 file →
         IsLogOf file log) }
     ensures refused { IfErr result (RefusedFor not_whole ((file : List ℕ) →
@@ -220,6 +212,7 @@ fn read_log(alloc: Global, text: &[u8]) -> Result<DirtLog<'_>, Refusal>
 
 // bins data as a log repairs them
 fn repaired(log: DirtLog<'_>, bins: Vec<u8>) -> Result<Found, Refusal>
+    requires used { IsLog log.base × (log.base.bins_size ≡ log.vector.bins_size) }
     ensures found { IfOk result (λ found. (primary file : List ℕ) → IsLogOf file log.entry →
         bins.items ≡ take log.entry.vector.bins_size (drop 4096 primary) →
         IsByLog primary file found) }

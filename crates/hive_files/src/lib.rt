@@ -10,8 +10,10 @@
 
 mod files;
 mod finding;
+mod found;
 mod marking;
 
 pub use crate::files::{log_number, primary_number};
-pub use crate::finding::{Found, find};
+pub use crate::finding::find;
+pub use crate::found::Found;
 pub use crate::marking::mark_changes;

@@ -11,7 +11,7 @@ use Rattle.disk_model.specs.StoreFiles.{primary_file, log_file}
 use Rattle.dirty_vector.specs.Pages.{Pages}
 use Rattle.hive_phases.specs.Holding.{Standing, tree_under}
 use Rattle.hive_phases.specs.Plans.{Plan, IsReady}
-use Rattle.hive_phases.specs.States.{IsQuiet, is_on_in}
+use Rattle.hive_phases.specs.Phases.{choice_in}
 use Rattle.hive_writer.specs.declared.writer.HiveWriter.{HiveWriter}
 use Rattle.hive_writer.specs.declared.stage.Stage.{Stage}
 use Rattle.hive_writer.specs.declared.stage.Stage.TheVariants as stage
@@ -214,3 +214,13 @@ repairs_on stage.Raised r f = elim r [ ]
 repairs_on (stage.Paging whose page) r f = absurd cc
 repairs_on (stage.Paged whose) r f = absurd cc
 repairs_on (stage.Finished whose) r f = absurd cc
+
+-- what stands and is on its way hangs on no length of a log
+pub choice_is : (total : ℕ) (at : Stage) (now memory : TreeMap × ℕ) → choice_in (phase_in total at) now memory ≡ choice_at at now memory
+choice_is total stage.Quiet now memory = refl
+choice_is total (stage.Logging k) now memory = refl
+choice_is total stage.Logged now memory = refl
+choice_is total stage.Raised now memory = refl
+choice_is total (stage.Paging whose page) now memory = refl
+choice_is total (stage.Paged whose) now memory = refl
+choice_is total (stage.Finished whose) now memory = refl

@@ -1,2 +1,4 @@
 pub mod Readying
 pub mod Going
+pub mod Standing
+pub mod Opened

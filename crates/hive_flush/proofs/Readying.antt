@@ -14,3 +14,6 @@ pub raised_reads : (b : BaseBlock) (next : SequenceNumber) (sector : List ℕ) �
     → block_at sector ≡ record b { primary = next; sum_is_right = true } → block_at (sector_of (raised_block b)) ≡ record (raised_block b) { sum_is_right = true }
 unfolding numbered
 raised_reads b next sector is n reads = ap block_at (sym is) ∙ reads ∙ ap (numbered b) n
+
+unfoldable pub right_sum : BaseBlock → BaseBlock
+right_sum b = record b { sum_is_right = true }

@@ -1,18 +1,16 @@
 -- Base blocks with which flushes end.
-use Rattle.std.specs.Prelude.{◌≡◌, ℕ}
+use Rattle.std.specs.Prelude.{◌≡◌, ℕ, List, false}
+use Rattle.base_block.specs.Layout.{sector_of}
+use Rattle.dirt_log.specs.WholeLog.{block_of}
+use Rattle.hive_files.specs.Finding.{as_primary}
+use Rattle.hive_phases.specs.Plans.{Plan, raised_block}
+use Rattle.hive_writer.specs.declared.stage.Purpose.TheVariants as purpose
+use Rattle.hive_writer.specs.declared.stage.Stage.TheVariants as stage
 use Rattle.reg_tree.specs.Maps.{TreeMap}
 use Rattle.hive_writer.specs.declared.writer.HiveWriter.{HiveWriter}
 use Rattle.hive_writer.specs.Writing.{IsFlushing}
 use Rattle.base_block.specs.declared.block.BaseBlock.{BaseBlock}
-use Rattle.base_block.specs.Judgements.{IsPrimary}
 use Rattle.base_block.specs.Numbers.{number_after}
-use Rattle.dirty_vector.specs.Pages.{Pages}
-
--- A block that a flush of pages ends with: one of a primary file, with equal numbers, for bins data of their size.
-pub record IsPlanned (block : BaseBlock) (pages : Pages) : Type 0 where
-  pub own : IsPrimary block
-  pub equal : block.primary.0 ≡ block.secondary.0
-  pub size : block.bins_size ≡ pages.bins_size
 
 -- the block with which the flush after one ends: the numbers are one more, and it is for this root, size, time and number
 abbrev pub block_after : BaseBlock → ℕ → ℕ → ℕ → ℕ → BaseBlock
@@ -32,3 +30,14 @@ block_again block = block_after block block.root block.bins_size block.last_writ
 -- where it isn't a flush that may be on its way, what is repaired is what is in memory
 abbrev pub IsSteady : HiveWriter → TreeMap → TreeMap → Type 0
 IsSteady writer held tree = (IsFlushing writer.stage → ⊥) → (writer.base ≡ writer.block) × (held ≡ tree)
+
+-- the writer of a clean primary file with this block, and of an unclean one whose log has it
+abbrev pub clean_writer : ℕ → BaseBlock → HiveWriter
+clean_writer hive block = record { hive = hive; base = block; block = block_again block; stage = stage.Quiet; failed = false }
+
+abbrev pub unclean_writer : ℕ → BaseBlock → HiveWriter
+unclean_writer hive block = record { hive = hive; base = block; block = block; stage = stage.Paging purpose.Repair 0; failed = false }
+
+-- what a repair by a log writes
+abbrev pub repair_plan : BaseBlock → List ℕ → Plan
+repair_plan block log = record { block = as_primary (block_of log); raised = sector_of (raised_block block); final = sector_of block; text = log }

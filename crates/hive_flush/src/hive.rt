@@ -1,6 +1,7 @@
 //! What a hive in memory has.
 ghost use Rattle.std.specs.Prelude.{◌≡◌, length};
-ghost use Rattle.hive_flush.specs.Planned.{IsPlanned, IsSteady};
+ghost use Rattle.hive_files.specs.Blocks.{IsPlanned};
+ghost use Rattle.hive_flush.specs.Planned.{IsSteady};
 
 use dirty_vector::DirtyVector;
 use hive_writer::HiveWriter;

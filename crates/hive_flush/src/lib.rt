@@ -3,6 +3,8 @@
 
 mod file;
 mod hive;
+pub mod laws;
+mod opening;
 mod planning;
 
 pub use crate::hive::HiveFile;

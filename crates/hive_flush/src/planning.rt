@@ -1,11 +1,14 @@
 //! What a flush writes.
-ghost use Rattle.std.specs.Prelude.{◌≡◌, ◌<◌, ◌^◌, ℕ, length, true, Some};
+ghost use Rattle.std.specs.Prelude.{◌≡◌, ◌<◌, ◌^◌, ℕ, List, length, drop, true, Some};
 ghost use Rattle.reg_tree.specs.Maps.{TreeMap};
 ghost use Rattle.base_block.specs.Layout.{block_at, sector_of};
 ghost use Rattle.hive_phases.specs.Holding.{Standing, tree_under};
-ghost use Rattle.hive_phases.specs.Plans.{IsReady};
+ghost use Rattle.hive_phases.specs.Plans.{IsBehind, IsReady};
+ghost use Rattle.dirt_log.specs.WholeLog.{IsCovered, IsWhole, block_of, page_bytes_in, pages_in, repaired};
+ghost use Rattle.hive_files.specs.Finding.{as_primary};
 ghost use Rattle.hive_writer.specs.Writing.{plan_of};
-ghost use Rattle.hive_flush.specs.Planned.{IsPlanned, block_after};
+ghost use Rattle.hive_files.specs.Blocks.{IsPlanned};
+ghost use Rattle.hive_flush.specs.Planned.{block_after, repair_plan};
 
 use base_block::{AppliedNumber, BaseBlock, FileType, SequenceNumber};
 use dirt_log::write_steps;
@@ -61,6 +64,29 @@ pub(crate) fn plan_fits(writer: &HiveWriter, image: &[u8], pages: &DirtyVector)
     };
     let _ = sector(&log);
     let _ = write_steps(image, pages, &writer.block);
+}
+
+/// A law: what a repair by a whole log writes fits the bins data that it repairs, and the primary file is behind them.
+pub(crate) fn repair_fits(block: &BaseBlock)
+    ensures { (stands : Standing TreeMap) (memory : TreeMap × ℕ) (primary log : List ℕ) →
+        block.now ≡ as_primary (block_of log) → IsWhole log →
+        IsCovered (length (drop 4096 primary)) (pages_in log) →
+        tree_under stands (block_of log)
+        (repaired (drop 4096 primary) (pages_in log) (page_bytes_in log)) ≡ Some memory.0 →
+        (block_of log).applied.0 ≡ memory.1 →
+        IsReady stands memory (repaired (drop 4096 primary) (pages_in log) (page_bytes_in log))
+        (pages_in log) (repair_plan block.now log)
+        × IsBehind (repaired (drop 4096 primary) (pages_in log) (page_bytes_in log))
+        (pages_in log) primary }
+{
+    plans::<Tree>();
+    let number = bounded(block.secondary);
+    let raised = BaseBlock {
+        primary: number.next(),
+        ..*block
+    };
+    let _ = sector(&raised);
+    let _ = sector(block);
 }
 
 // a law: a sequence number has 32 bits

@@ -27,7 +27,7 @@ match_at_true P Q e x = subst (λ (b : Bool). MatchBool b P Q) (sym e) x
 match_at_false : {b : Bool} (P Q : Type 0) → b ≡ false → Q → MatchBool b P Q
 match_at_false P Q e x = subst (λ (b : Bool). MatchBool b P Q) (sym e) x
 
-same_parts : (p l : List ℕ) (b c : BaseBlock) (xs ys : List ℕ) → IsInUse p l b xs → IsInUse p l c ys → (b ≡ c) × (xs ≡ ys)
+pub same_parts : (p l : List ℕ) (b c : BaseBlock) (xs ys : List ℕ) → IsInUse p l b xs → IsInUse p l c ys → (b ≡ c) × (xs ≡ ys)
 same_parts p l b c xs ys h k = elim (cases_Bool (is_clean_file p)) [
   | inl e ↦ own (MatchBool-at_true (IsOwn p b xs) (IsRepaired p l b xs) e h) (MatchBool-at_true (IsOwn p c ys) (IsRepaired p l c ys) e k)
   | inr e ↦ fixed (MatchBool-at_false (IsOwn p b xs) (IsRepaired p l b xs) e h) (MatchBool-at_false (IsOwn p c ys) (IsRepaired p l c ys) e k)

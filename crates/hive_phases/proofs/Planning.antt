@@ -50,7 +50,7 @@ ready stands memory image v old plan size loggable kind tree number fits raised_
 
 -- ---- a repair
 
-repaired_long : (bins : List ℕ) (v : Pages) (bytes : List ℕ) → length (repaired bins v bytes) ≡ v.bins_size
+pub repaired_long : (bins : List ℕ) (v : Pages) (bytes : List ℕ) → length (repaired bins v bytes) ≡ v.bins_size
 unfolding repaired
 repaired_long bins v bytes = length-map-range_with_len (repaired_byte bins v bytes) 0 v.bins_size
 
