@@ -3,10 +3,10 @@ use Rattle.std.proofs.Common.{◌≡◌, ◌≢◌, ℕ, ◌+◌, ◌-◌, ◌*�
 use Rattle.std.specs.Prelude.{slice_index, slice_range, slice_set}
 use Rattle.std.proofs.lemmas.Bool.{cases_eq, cases_lt}
 use Rattle.std.proofs.lemmas.List.{length-set, get_or-set_same, get_or-set_other, get_or_past, get_or-take, get_or-drop}
-use Rattle.hive_cells.specs.Tiles.{BeginsCell, IsFreeCell, cell_size, word_at}
+use Rattle.hive_cells.specs.Tiles.{BeginsCell, IsFreeCell, cell_size}
 use Rattle.hive_cells.specs.Marks.{IsWholeCell}
 use Rattle.hive_cells.specs.Starts.{AreGrouped, AreBounds, AreBoundsBut, Raises, SameCell, OtherCells, bound_at, IsKept}
-use Rattle.hive_cells.proofs.Region.{size_same, kind_same}
+use Rattle.hive_cells.proofs.Region.{free_was}
 use Rattle.hive_cells.proofs.CellChanges.{cell_within}
 
 -- ---- groups of pages
@@ -42,18 +42,6 @@ group_put pages groups page size most end g within end_is all =
     }
 
 -- ---- cells that are the same
-
--- a free cell that is the same was free, with its size
-pub free_was : (old new : List ℕ) (at : ℕ) → SameCell old new at → IsFreeCell new at → IsFreeCell old at × (cell_size new at ≡ cell_size old at)
-free_was old new at s free =
-    let word : word_at new at ≡ word_at old at = s.word (s.began free.0) in
-    ((s.began free.0, sym (kind_same old new at word) ∙ free.1), size_same old new at word)
-
--- and is free, with its size
-pub free_is : (old new : List ℕ) (at : ℕ) → SameCell old new at → IsFreeCell old at → IsFreeCell new at × (cell_size new at ≡ cell_size old at)
-free_is old new at s free =
-    let word : word_at new at ≡ word_at old at = s.word free.0 in
-    ((s.begins free.0, kind_same old new at word ∙ free.1), size_same old new at word)
 
 -- the same bytes have the same cells
 pub same_cell : (bytes : List ℕ) (at : ℕ) → SameCell bytes bytes at

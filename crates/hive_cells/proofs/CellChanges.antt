@@ -4,7 +4,8 @@ use Rattle.std.specs.Prelude.{slice_set, ◌⊎◌}
 use Rattle.std.proofs.lemmas.Bool.{cases_eq, cases_lt, cases_order}
 use Rattle.hive_cells.specs.Tiles.{word_at, cell_size, is_allocated, BeginsCell, IsAllocatedCell, IsFreeCell}
 use Rattle.hive_cells.specs.Marks.{Mark, Inside, Bin, Cell, mark_at, CellMarked, IsMarked, IsCellMarkedAt, IsWholeCell}
-use Rattle.hive_cells.specs.Changes.{OthersStay, AllStay, PutsSize, RewritesWithin, Writes}
+use Rattle.hive_cells.specs.Changes.{OthersStay, AllStay, PutsSize, RewritesWithin, StaysFree, Writes}
+use Rattle.hive_cells.proofs.Region.{free_was, free_is}
 use Rattle.hive_cells.specs.Starts.{IsKept, AreStarts, PutsStart, is_cell_mark, is_start, OtherCells}
 use Rattle.hive_cells.proofs.Reached.{whole_at_mark, starts_at_mark, mark_at_start}
 use Rattle.hive_cells.proofs.Marking.{SetsMark, set_mark}
@@ -490,6 +491,22 @@ were_joined bytes bytes' words words' at next size k f g behind sum_is q put =
       subst (λ (x : ℕ). ¬ BeginsCell bytes' x) (sym next_is) (joined_gone bytes bytes' k.marks (at / 8) a (cell_size bytes next) k.all w.is_cell is_next free next_free first_size next_size puts),
     )
 
+-- what is free stays so where all cells but an allocated one are the same
+free_elsewhere : (old new : List ℕ) (at other : ℕ) → IsAllocatedCell old at → IsAllocatedCell new at → OtherCells old new at at → StaysFree old new other
+free_elsewhere old new at other was is cells = elim (cases_eq other at) [
+  | inl here ↦ record {
+    same = (
+      (λ free. let kind : is_allocated new other ≡ false = free.1 in let no : is_allocated new other ≡ true = ap (is_allocated new) here ∙ is.1 in absurd (let e : ⊥ = cc in e)),
+      (λ free. let kind : is_allocated old other ≡ false = free.1 in let no : is_allocated old other ≡ true = ap (is_allocated old) here ∙ was.1 in absurd (let e : ⊥ = cc in e)),
+    );
+    size = λ free. let kind : is_allocated old other ≡ false = free.1 in let no : is_allocated old other ≡ true = ap (is_allocated old) here ∙ was.1 in absurd (let e : ⊥ = cc in e);
+  }
+  | inr apart ↦ record {
+    same = ((λ free. (free_was old new other (cells other apart apart) free).0), (λ free. (free_is old new other (cells other apart apart) free).0));
+    size = λ free. (free_is old new other (cells other apart apart) free).1;
+  }
+]
+
 -- a cell whose data were written
 pub written : (bytes bytes' words : List ℕ) (at from len : ℕ) → IsKept bytes words → IsAllocatedCell bytes at → at + 4 ≤ from → from + len ≤ at + cell_size bytes at
     → RewritesWithin bytes bytes' from (from + len) → Changed bytes bytes' words (Writes bytes bytes' at from (from + len)) at at
@@ -504,6 +521,7 @@ written bytes bytes' words at from len k found low high r =
         begins = (all.begins, kind_same bytes bytes' at word ∙ found.1);
         size = size_same bytes bytes' at word;
         others = all.stay;
+        free = λ other. free_elsewhere bytes bytes' at other (found.0, found.1) (all.begins, kind_same bytes bytes' at word ∙ found.1) all.cells;
         within = r;
       };
       cells = all.cells;

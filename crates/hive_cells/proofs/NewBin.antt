@@ -10,7 +10,7 @@ use Rattle.hive_cells.specs.Starts.{IsKept, AreBounds, Raises, PutsStart, SameCe
 use Rattle.hive_cells.proofs.Marking.{SetsMark, set_mark, bin_set, cell_set, bin_ended, all_marked}
 use Rattle.hive_cells.proofs.Reached.{LiesInBin, bin_over, starts_at_mark, mark_at_start}
 use Rattle.hive_cells.proofs.Region.{words_same, size_same, kind_same, range_same}
-use Rattle.hive_cells.proofs.Bounds.{free_was}
+use Rattle.hive_cells.proofs.Region.{free_was}
 use Rattle.std.proofs.lemmas.Nat.Bits.{bit_at-zero}
 use Rattle.std.specs.Int.{bit_at}
 

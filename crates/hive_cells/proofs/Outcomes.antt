@@ -9,7 +9,8 @@ use Rattle.hive_cells.specs.Changes.{StaysAt, StaysFree, RewritesWithin, Turns, 
 use Rattle.hive_cells.proofs.CellChanges.{cell_within}
 use Rattle.hive_cells.proofs.Lookups.{begins_apart}
 use Rattle.hive_cells.proofs.Region.{words_same}
-use Rattle.hive_cells.proofs.Bounds.{free_is, free_was, same_cell}
+use Rattle.hive_cells.proofs.Bounds.{same_cell}
+use Rattle.hive_cells.proofs.Region.{free_is, free_was}
 
 -- what stays where nothing changes
 stays_same : (bytes : List ℕ) (at : ℕ) → StaysAt bytes bytes at

@@ -6,7 +6,7 @@ use Rattle.std.proofs.lemmas.Bool.{cases_eq, cases_lt, cases_order}
 use Rattle.hive_cells.specs.Changes.{StaysAt}
 use Rattle.hive_cells.specs.Starts.{SameCell}
 use Rattle.hive_cells.proofs.Reached.{starts_at_mark, mark_at_start}
-use Rattle.hive_cells.specs.Tiles.{BeginsCell, word_at, cell_size, is_allocated, cell_data}
+use Rattle.hive_cells.specs.Tiles.{BeginsCell, IsFreeCell, word_at, cell_size, is_allocated, cell_data}
 use Rattle.hive_cells.specs.Marks.{Mark, Inside, Bin, Cell, mark_at, BinMarked, CellMarked, IsMarkedTo, IsMarked, IsCellMarkedAt}
 
 -- the cells from the slot `from` on, up to the slot `to`, become others; `from` and `to` are in 8 bytes
@@ -39,6 +39,18 @@ size_same bytes bytes' at same = rw same refl
 pub kind_same : (bytes bytes' : List ℕ) (at : ℕ) → word_at bytes' at ≡ word_at bytes at → is_allocated bytes' at ≡ is_allocated bytes at
 unfolding is_allocated
 kind_same bytes bytes' at same = rw same refl
+
+-- a free cell that is the same was free, with its size
+pub free_was : (old new : List ℕ) (at : ℕ) → SameCell old new at → IsFreeCell new at → IsFreeCell old at × (cell_size new at ≡ cell_size old at)
+free_was old new at s free =
+    let word : word_at new at ≡ word_at old at = s.word (s.began free.0) in
+    ((s.began free.0, sym (kind_same old new at word) ∙ free.1), size_same old new at word)
+
+-- and is free, with its size
+pub free_is : (old new : List ℕ) (at : ℕ) → SameCell old new at → IsFreeCell old at → IsFreeCell new at × (cell_size new at ≡ cell_size old at)
+free_is old new at s free =
+    let word : word_at new at ≡ word_at old at = s.word free.0 in
+    ((s.begins free.0, kind_same old new at word ∙ free.1), size_same old new at word)
 
 -- a part of the data that no changed byte is of
 pub range_same : (bytes bytes' : List ℕ) (from to : ℕ) → to ≤ length bytes' → to ≤ length bytes → ((i : ℕ) → from ≤ i → i < to → slice_index bytes' i ≡ slice_index bytes i) → slice_range bytes' from to ≡ slice_range bytes from to

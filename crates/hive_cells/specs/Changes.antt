@@ -238,4 +238,5 @@ pub record Writes (old new : List ℕ) (at from to : ℕ) : Type 0 where
   pub begins : IsAllocatedCell new at
   pub size : cell_size new at ≡ cell_size old at
   pub others : OthersStay old new at
+  pub free : (other : ℕ) → StaysFree old new other
   pub within : RewritesWithin old new from to

@@ -36,7 +36,7 @@ local_data split size bytes = local_choice (nat_le (2 ^ 31) size) (local_bind (l
 local_value : (split : Bool) (at : ℕ) → Local (value_at split at)
 local_value split at = local_bind (local_look _) (λ bytes. local_bind (local_rule _ _) (λ _. local_bind (local_rule _ _) (λ _. local_bind (local_name _ _) (λ name. local_bind (local_data split (word_at bytes 4) bytes) (λ its. (local_done _))))))
 
-local_values : (split : Bool) (count list : ℕ) → Local (values_at split count list)
+pub local_values : (split : Bool) (count list : ℕ) → Local (values_at split count list)
 local_values split count list = local_choice (count == 0) (local_done _) (local_bind (local_look _) (λ bytes. local_bind (local_rule _ _) (λ _. local_bind (local_each (local_value split) _) (λ values. local_bind (local_rule _ _) (λ _. (local_done _))))))
 
 local_offsets : (stride : ℕ) (bytes : List ℕ) → Local (offsets_in stride bytes)
@@ -48,13 +48,13 @@ local_leaf bytes = local_choice (is_plain bytes) (local_offsets 4 bytes) (local_
 local_list : (bytes : List ℕ) → Local (list_in bytes)
 local_list bytes = local_choice (is_indirect bytes) (local_bind (local_offsets 4 bytes) (λ leaves. local_bind (local_each (λ at. local_bind (local_look _) (λ b. local_leaf b)) leaves) (λ lists. (local_done _)))) (local_leaf bytes)
 
-local_kids : (count list : ℕ) → Local (kids_at count list)
+pub local_kids : (count list : ℕ) → Local (kids_at count list)
 local_kids count list = local_choice (count == 0) (local_done _) (local_bind (local_look _) (λ bytes. local_bind (local_list bytes) (λ kids. local_bind (local_rule _ _) (λ _. (local_done _)))))
 
-local_descriptor : (at : ℕ) → Local (descriptor_at at)
+pub local_descriptor : (at : ℕ) → Local (descriptor_at at)
 local_descriptor at = local_choice (at == nowhere) (local_done _) (local_bind (local_look_lent _) (λ bytes. local_bind (local_rule _ _) (λ _. local_bind (local_rule _ _) (λ _. (local_done _)))))
 
-local_class : (size at : ℕ) → Local (class_at size at)
+pub local_class : (size at : ℕ) → Local (class_at size at)
 local_class size at = local_choice (size == 0) (local_done _) (local_piece size at)
 
 pub local_key : (split : Bool) (at : ℕ) → Local (key_at split at)

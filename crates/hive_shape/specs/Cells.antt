@@ -1,7 +1,7 @@
 -- How keys hang on cells. Cells are given by their data at each offset; what is no cell has none.
 use Rattle.std.specs.Prelude.{◌≡◌, ℕ, List, ◌++◌, Option, None, IsSome, Ok}
 use Rattle.hive_shape.specs.Lists.{IsIn, Once}
-use Rattle.hive_shape.specs.Keys.{Parts, Reads, Keys, own_cells}
+use Rattle.hive_shape.specs.Keys.{Parts, Reads, Keys, own_cells, lent_cells}
 use Rattle.hive_shape.specs.Stands.{Fits, Whole}
 use Rattle.hive_shape.specs.Loads.{Inner}
 
@@ -21,6 +21,14 @@ Grows old new = (cell : ℕ) → IsSome (old cell) → new cell ≡ old cell
 -- none of the cells was there
 abbrev pub AreNew : {D : Type 0} → (ℕ → Option D) → List ℕ → Type 0
 AreNew old cells = (cell : ℕ) → IsIn cell cells → old cell ≡ None
+
+-- all cells but one are the same
+abbrev pub SameBut : {D : Type 0} → ℕ → (ℕ → Option D) → (ℕ → Option D) → Type 0
+SameBut at old new = (cell : ℕ) → (cell ≡ at → ⊥) → new cell ≡ old cell
+
+-- the cells that keys name and that other keys may name too are there
+abbrev pub LentThere : {D R : Type 0} → (ℕ → Option D) → Keys R → Type 0
+LentThere cells keys = (cell : ℕ) → IsIn cell (lent_cells keys) → IsSome (cells cell)
 
 -- the key at an offset and all below it were written, into new cells alone
 pub record Written {D R C : Type 0} (read : (ℕ → Option D) → Reads R C) (old new : ℕ → Option D) (at : ℕ) (parts : Parts R) (below : Keys R) : Type 0 where

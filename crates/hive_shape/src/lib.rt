@@ -15,7 +15,7 @@
 //! - `Cells`, `Changes`: how keys hang on cells, and a change of one key and of what is below it.
 #![tactic(auto)]
 
-ghost use Rattle.std.specs.Prelude.{◌≡◌, ◌≢◌, ◌↔◌, ◌<◌, ◌++◌, ◌∷◌, [], ℕ, true, false, List, length, Option, Some, Ok};
+ghost use Rattle.std.specs.Prelude.{◌≡◌, ◌≢◌, ◌↔◌, ◌<◌, ◌++◌, ◌∷◌, [], ℕ, true, false, List, length, Option, Some, None, IsSome, Ok};
 ghost use Rattle.std.specs.FinMap as finite;
 ghost use Rattle.hive_shape.specs.Lists.{IsIn, Once};
 ghost use Rattle.hive_shape.specs.Keys.{Parts, Reads, Keys, none, offsets, names, lent_cells, all_cells};
@@ -23,7 +23,7 @@ ghost use Rattle.hive_shape.specs.Trees.{TreeOf, tree_of};
 ghost use Rattle.hive_shape.specs.Stands.{Whole, Stands, IsKeyTree, NamesBy, LentApart};
 ghost use Rattle.hive_shape.specs.Chains.{Spells};
 ghost use Rattle.hive_shape.specs.Faults.{Unread, Nameless, Alike, IsTrail, Repeats, Shared, IsLentTrail, Lends, Deeper};
-ghost use Rattle.hive_shape.specs.Cells.{IsLocal, IsThere, Grows, AreNew, Written, Writing};
+ghost use Rattle.hive_shape.specs.Cells.{IsLocal, IsThere, Grows, AreNew, SameBut, LentThere, Written, Writing};
 ghost use Rattle.hive_shape.specs.Loads.{Marks, Marked, Loaded, Loading, with_last, Told};
 ghost use Rattle.hive_shape.specs.Changes.{Edits, with_key, rest_of, row_or, below_in};
 
@@ -152,6 +152,7 @@ pub fn loads<R, C>()
 ///
 /// - `begins`, `goes_on`: the first of a key's subkeys are written, and one more.
 /// - `ends`: a key is written where its own cells are, behind its subkeys.
+/// - `filled`: a key is written whose first cell was there ahead of its subkeys, and is filled behind them.
 pub fn writes<D, R, C>()
     ensures begins { (read : (ℕ → Option D) → Reads R C) → IsLocal read → IsThere read →
         (cells : ℕ → Option D) → Writing read cells cells none }
@@ -164,4 +165,11 @@ pub fn writes<D, R, C>()
         Writing read old mid kids → Grows mid new → read new at ≡ Ok parts → Once parts.own →
         AreNew mid parts.own → offsets kids ≡ parts.kids →
         Once (names kids) → (IsIn [] (names kids) → ⊥) → Written read old new at parts kids }
+    ensures filled { (read : (ℕ → Option D) → Reads R C) → IsLocal read → IsThere read →
+        (old start mid full new : ℕ → Option D) (at : ℕ) (parts : Parts R) (kids : Keys R)
+        (rest : List ℕ) → Grows old start → old at ≡ None → IsSome (start at) →
+        Writing read start mid kids → Grows mid full → SameBut at full new →
+        read new at ≡ Ok parts → parts.own ≡ at ∷ rest → Once rest → AreNew mid rest →
+        LentThere old kids → offsets kids ≡ parts.kids → Once (names kids) →
+        (IsIn [] (names kids) → ⊥) → Written read old new at parts kids }
 {}

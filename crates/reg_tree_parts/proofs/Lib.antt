@@ -7,3 +7,4 @@ pub mod Parents
 pub mod NamesBelow
 pub mod NodeLists
 pub mod PathSteps
+pub mod Subkeys

@@ -1,5 +1,6 @@
 -- What a node stands for: the entries of the key and of all keys below it, each a path from it on and a row.
 use Rattle.std.specs.Prelude.{if◌then◌else◌, ◌≡◌, ℕ, min, Bool, true, false, ◌&&◌, Option, Some, None, IsSome, filter, List, [], ◌∷◌, ◌++◌, map, sum_by, T}
+use Rattle.std.specs.List.{AllByRecursion}
 use Rattle.std.specs.FinMap.Entries.{is_sorted, find}
 use Rattle.std.specs.Ordering.{eq_by_cmp}
 use Rattle.std.below.core.specs.declared.int.u64.TheConstants.{MAX}
@@ -107,3 +108,23 @@ branch_row name further descriptor time [] = Some (new_row name descriptor time)
 branch_row name [] descriptor time (m ∷ path) = None
 branch_row name (next ∷ further) descriptor time (m ∷ path) =
     if eq_by_cmp name_order m (folded next) then branch_row next further descriptor time path else None
+
+-- entries below a key by the first names of their paths: one entry more in front, where it stands from that name on
+abbrev pub with_entry : List ℕ → List (List ℕ) × Row → List (List ℕ × Entries) → List (List ℕ × Entries)
+with_entry n entry [] = (n, entry ∷ []) ∷ []
+with_entry n entry (subkey ∷ subkeys) =
+    if eq_by_cmp name_order n subkey.0 then (subkey.0, entry ∷ subkey.1) ∷ subkeys else (n, entry ∷ []) ∷ subkey ∷ subkeys
+
+-- the subkeys of the key whose entries these are, in the order of the entries: each name one level below it, and the
+-- entries from there on
+abbrev pub subkeys_of : Entries → List (List ℕ × Entries)
+subkeys_of [] = []
+subkeys_of (([], row) ∷ entries) = subkeys_of entries
+subkeys_of ((n ∷ path, row) ∷ entries) = with_entry n (path, row) (subkeys_of entries)
+
+-- entries are those of a key with subkeys, which are nodes under their own names, in their order
+pub record HasSubkeys (entries : Entries) (subkeys : List (List ℕ × Entries)) : Type 0 where
+  pub whole : (row : Row) → row_at entries [] ≡ Some row → entries ≡ entries_of row subkeys
+  pub nodes : AreNodes subkeys
+  pub rises : T (is_sorted name_order subkeys)
+  pub named : AllByRecursion (λ (subkey : List ℕ × Entries). root_name subkey.1 ≡ subkey.0) subkeys

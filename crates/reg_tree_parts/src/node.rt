@@ -1,5 +1,5 @@
 //! Nodes: a key with its subkeys, which never changes once it is made.
-ghost use Rattle.std.specs.Prelude.{◌≡◌, ℕ, ◌+◌, ◌<◌, ◌≤◌, T, false, List, [], ◌∷◌, ◌++◌, length, take, IfOk, IfSome, IfNone, min, slice_get};
+ghost use Rattle.std.specs.Prelude.{◌≡◌, ℕ, ◌+◌, ◌<◌, ◌≤◌, T, false, List, [], ◌∷◌, ◌++◌, length, map, take, IfOk, IfSome, IfNone, min, slice_get};
 ghost use Rattle.std.specs.Arc.{arc_value};
 ghost use Rattle.std.specs.FinMap.Entries.{is_sorted};
 ghost use Rattle.std.specs.Ordering.{eq_by_cmp};
@@ -9,7 +9,7 @@ ghost use Rattle.reg_tree_parts.specs.Orders.{name_order};
 ghost use Rattle.reg_tree_parts.specs.Rows.{Row};
 ghost use Rattle.shared_map.specs.Listings.{entries};
 ghost use Rattle.shared_map.specs.Parts.{FitsMap};
-ghost use Rattle.reg_tree_parts.specs.Nodes.{Entries, entries_of, entries_weight, subkey_entries, root_name, row_at, names_below, spelled_root, begins_path, branch_row, IsNode, AreNodes};
+ghost use Rattle.reg_tree_parts.specs.Nodes.{Entries, entries_of, entries_weight, subkey_entries, root_name, row_at, names_below, spelled_root, begins_path, branch_row, subkeys_of, HasSubkeys, IsNode, AreNodes};
 
 use crate::data::Data;
 use crate::key::Key;
@@ -82,9 +82,22 @@ impl Node {
 
     /// How many subkeys the key has.
     pub fn subkey_count(&self) -> usize
-        ensures { result ≡ length (names_below [] self.now) }
+        ensures names { result ≡ length (names_below [] self.now) }
+        ensures subkeys { result ≡ length (subkeys_of self.now) }
+        ensures has { HasSubkeys self.now (subkeys_of self.now) }
     {
         self.subkeys.len()
+    }
+
+    /// The subkey at this index, in the order of names.
+    pub fn subkey_at(&self, index: usize) -> Option<&Node>
+        ensures at { option_copied result
+            ≡ slice_get (map (λ subkey. subkey.1) (subkeys_of self.now)) index }
+        ensures smaller { IfSome result (λ subkey. length subkey.now < length self.now) }
+        ensures has { HasSubkeys self.now (subkeys_of self.now) }
+    {
+        let _ = &self.weight;
+        self.subkeys.at(index)
     }
 
     /// The subkey of this name.

@@ -1,0 +1,4 @@
+pub mod Owns
+pub mod KeyProofs
+pub mod Securing
+pub mod Wholes

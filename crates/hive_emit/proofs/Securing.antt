@@ -1,0 +1,136 @@
+-- Where security cells are, found by their descriptors.
+use Rattle.std.proofs.Common.{◌≡◌, ◌⊎◌, inl, inr, ℕ, zero, suc, ◌+◌, ◌<◌, ◌≤◌, ◌^◌, Bool, true, false, eqb, List, [], ◌∷◌, ◌++◌, length, map, take, slice_get, get_or, refl, sym, ◌∙◌, ap, subst, arith, Some, None, Option}
+use Rattle.std.specs.Prelude.{slice_set}
+use Rattle.std.specs.List.{AllByRecursion}
+use Rattle.std.proofs.lemmas.Bool.{cases_lt, cases_eq}
+use Rattle.std.proofs.lemmas.Option.{slice_get_read, slice_get_within}
+use Rattle.hive_emit.specs.declared.security.Security.{Security}
+use Rattle.reg_tree_parts.specs.Rows.{Row}
+use Rattle.reg_tree_parts.specs.Nodes.{Entries, below, all_below, row_at, root_name, subkeys_of, HasSubkeys}
+use Rattle.hive_cells.specs.Bins.{Cells}
+use Rattle.hive_records.specs.Numbers.{nowhere}
+use Rattle.hive_records.specs.Fields.{Holds}
+use Rattle.hive_records.specs.KeyTexts.{security_text}
+use Rattle.hive_key_writer.specs.Making.{Makes, Puts}
+use Rattle.hive_key_writer.proofs.Makings.{made_then, made_none, all_push}
+use Rattle.hive_key_writer.proofs.ValueMaps.{take_next, all_at}
+use Rattle.hive_emit.proofs.KeyProofs.{all_parts, found_kid, held_grown}
+use Rattle.hive_emit.specs.Emitting.{Has, IsCellOf, IsOffsetOf, IsCounted, AreCounted, IsHeld, Holding}
+
+some_same : {A : Type 0} (x y : A) → Some x ≡ Some y → x ≡ y
+some_same x y e = cc
+
+pub found_cell : (cells : List Security) (place : ℕ) (a b : Security) (bytes d : List ℕ) → place < length cells → a ≡ get_or cells place a → b ≡ get_or cells place b → bytes ≡ a.descriptor → bytes ≡ d → IsOffsetOf cells d b.at
+found_cell cells place a b bytes d inside a_is b_is bytes_are e =
+    let first : slice_get cells place ≡ Some a = slice_get_read cells (length cells) place a refl inside a_is in
+    let second : slice_get cells place ≡ Some b = slice_get_read cells (length cells) place b refl inside b_is in
+    let same : a ≡ b = some_same a b (sym first ∙ second) in
+    inr (record { place = place; security = b; is = second; same = ap (λ (s : Security). s.descriptor) (sym same) ∙ sym bytes_are ∙ e; here = refl })
+
+pub scan_more : (cells : List Security) (d bytes : List ℕ) (item : Security) (index : ℕ) → ((i : ℕ) (s : Security) → i < index → slice_get cells i ≡ Some s → s.descriptor ≡ d → ⊥) → index < length cells → item ≡ get_or cells index item → bytes ≡ item.descriptor → (bytes ≡ d → ⊥)
+    → (i : ℕ) (s : Security) → i < index + 1 → slice_get cells i ≡ Some s → s.descriptor ≡ d → ⊥
+scan_more cells d bytes item index before inside item_is bytes_are no_match i s h e same = elim (cases_lt i index) [
+  | inl low ↦ before i s low e same
+  | inr high ↦
+      let here : i ≡ index = omega arith in
+      let there : slice_get cells index ≡ Some item = slice_get_read cells (length cells) index item refl inside item_is in
+      let it : s ≡ item = some_same s item (sym e ∙ ap (slice_get cells) here ∙ there) in
+      no_match (bytes_are ∙ ap (λ (x : Security). x.descriptor) (sym it) ∙ same)
+]
+
+pub none_left : (cells : List Security) (d : List ℕ) (index : ℕ) → false ≡ eqb (length d) 0 → length cells ≤ index → (d ≡ []) ⊎ Has cells d → ((i : ℕ) (s : Security) → i < index → slice_get cells i ≡ Some s → s.descriptor ≡ d → ⊥) → ⊥
+none_left cells d index some past (inl e) scanned = let zero_long : eqb (length d) 0 ≡ true = ap (λ xs. eqb (length xs) 0) e in let never : ⊥ = cc in never
+none_left cells d index some past (inr has) scanned = scanned has.place has.security (omega (arith, past, slice_get_within cells has.place has.security has.is)) has.is has.same
+
+-- one that is written anew with the same descriptor
+set_here : (cells : List Security) (place : ℕ) (new : Security) → place < length cells → slice_get (slice_set cells place new) place ≡ Some new
+set_here [] place new h = absurd (omega (arith, h))
+set_here (c ∷ cells) zero new h = refl
+set_here (c ∷ cells) (suc place) new h = set_here cells place new (omega (arith, h))
+
+set_there : (cells : List Security) (place i : ℕ) (new : Security) → (i ≡ place → ⊥) → slice_get (slice_set cells place new) i ≡ slice_get cells i
+set_there [] place i new h = refl
+set_there (c ∷ cells) zero zero new h = absurd (h refl)
+set_there (c ∷ cells) zero (suc i) new h = refl
+set_there (c ∷ cells) (suc place) zero new h = refl
+set_there (c ∷ cells) (suc place) (suc i) new h = set_there cells place i new (λ e. h (ap suc e))
+
+pub set_keeps : (cells : List Security) (place : ℕ) (old new : Security) → place < length cells → old ≡ get_or cells place old → new.descriptor ≡ old.descriptor → (d : List ℕ) → Has cells d → Has (slice_set cells place new) d
+set_keeps cells place old new inside old_is same d has =
+    let first : slice_get cells place ≡ Some old = slice_get_read cells (length cells) place old refl inside old_is in
+    elim (cases_eq has.place place) [
+      | inl here ↦
+          let it : has.security ≡ old = some_same has.security old (sym has.is ∙ ap (slice_get cells) here ∙ first) in
+          record { place = place; security = new; is = set_here cells place new inside; same = same ∙ ap (λ (s : Security). s.descriptor) (sym it) ∙ has.same }
+      | inr apart ↦ record { place = has.place; security = has.security; is = set_there cells place has.place new apart ∙ has.is; same = has.same }
+    ]
+
+pub has_at : (cells : List Security) (place : ℕ) (a : Security) (bytes d : List ℕ) → place < length cells → a ≡ get_or cells place a → bytes ≡ a.descriptor → bytes ≡ d → Has cells d
+has_at cells place a bytes d inside a_is bytes_are e = record { place = place; security = a; is = slice_get_read cells (length cells) place a refl inside a_is; same = sym bytes_are ∙ e }
+
+-- counted keys stay so
+pub counted_kept : (old new : List Security) (es : Entries) → ((d : List ℕ) → Has old d → Has new d) → AreCounted old es → AreCounted new es
+counted_kept old new [] keeps h = tt
+counted_kept old new (e ∷ es) keeps h = (elim h.0 [ inl empty ↦ inl empty | inr has ↦ inr (keeps (let row = e.1 in row.descriptor) has) ], counted_kept old new es keeps h.1)
+
+pub row_kept : (old new : List Security) (row : Row) → ((d : List ℕ) → Has old d → Has new d) → IsCounted old row → IsCounted new row
+row_kept old new row keeps (inl empty) = inl empty
+row_kept old new row keeps (inr has) = inr (keeps row.descriptor has)
+
+counted_below : (securities : List Security) (n : List ℕ) (es : Entries) → AreCounted securities es → AreCounted securities (below n es)
+counted_below securities n [] h = tt
+counted_below securities n (e ∷ es) h = (h.0, counted_below securities n es h.1)
+
+counted_both : (securities : List Security) (es fs : Entries) → AreCounted securities es → AreCounted securities fs → AreCounted securities (es ++ fs)
+counted_both securities [] fs h g = g
+counted_both securities (e ∷ es) fs h g = (h.0, counted_both securities es fs h.1 g)
+
+pub counted_push : (securities : List Security) (ks : List (List ℕ × Entries)) (k : List ℕ × Entries) → AreCounted securities (all_below ks) → AreCounted securities k.1 → AreCounted securities (all_below (ks ++ k ∷ []))
+counted_push securities [] k h g = counted_both securities (below k.0 k.1) [] (counted_below securities k.0 k.1 g) tt
+counted_push securities (j ∷ ks) k h g = let parts = all_parts (λ (e : List (List ℕ) × Row). IsCounted securities e.1) (below j.0 j.1) (all_below ks) h in counted_both securities (below j.0 j.1) (all_below (ks ++ k ∷ [])) parts.0 (counted_push securities ks k parts.1 g)
+
+pub counted_next : (securities : List Security) (ks : List (List ℕ × Entries)) (i : ℕ) (es : Entries) → AllByRecursion (λ (k : List ℕ × Entries). root_name k.1 ≡ k.0) ks → Some es ≡ slice_get (map (λ k. k.1) ks) i → AreCounted securities (all_below (take i ks)) → AreCounted securities es → AreCounted securities (all_below (take (i + 1) ks))
+counted_next securities ks i es named e h g =
+    let k = found_kid ks i es named e in
+    subst (λ (kids : List (List ℕ × Entries)). AreCounted securities (all_below kids)) (sym (take_next ks i (k.0, es) k.1)) (counted_push securities (take i ks) (k.0, es) h g)
+
+pub counted_whole : (securities : List Security) (entries : Entries) (row : Row) → HasSubkeys entries (subkeys_of entries) → row_at entries [] ≡ Some row → IsCounted securities row → AreCounted securities (all_below (subkeys_of entries)) → AreCounted securities entries
+counted_whole securities entries row has here own kids = subst (AreCounted securities) (sym (has.whole row here)) (own, kids)
+
+-- held cells, one more
+take_set : (cells : List Security) (i : ℕ) (new : Security) → i < length cells → take (suc i) (slice_set cells i new) ≡ take i cells ++ new ∷ []
+take_set [] i new h = absurd (omega (arith, h))
+take_set (c ∷ cells) zero new h = refl
+take_set (c ∷ cells) (suc i) new h = ap (λ xs. c ∷ xs) (take_set cells i new (omega (arith, h)))
+
+pub none_held : (bytes : List ℕ) (securities : List Security) → Makes bytes bytes (Holding (take 0 securities))
+none_held bytes securities = made_none bytes (Holding (take 0 securities)) (λ x. tt)
+
+pub one_held : (a b c : List ℕ) (securities : List Security) (i next previous count at : ℕ) (new : Security) → i < length securities → new.at ≡ at → length new.descriptor < 2 ^ 32 → Makes a b (Holding (take i securities)) → Makes b c (Puts at (security_text next previous count new.descriptor)) → Makes a c (Holding (take (i + 1) (slice_set securities i new)))
+one_held a b c securities i next previous count at new inside at_is few m n =
+    subst (λ (s : List Security). Makes a c (Holding s)) (sym (ap (λ n. take n (slice_set securities i new)) (let e : i + 1 ≡ suc i = omega arith in e) ∙ take_set securities i new inside))
+    (made_then a b c (Holding (take i securities)) (Puts at (security_text next previous count new.descriptor)) (Holding (take i securities ++ new ∷ [])) m n
+    (λ x y z g h held p. all_push (IsHeld z) (take i securities) new (held_grown (take i securities) y z h held) (record {
+      near = subst (λ n. n < nowhere) (sym at_is) p.near;
+      few = few;
+      next = next;
+      previous = previous;
+      count = count;
+      text = subst (λ n. Holds z n (security_text next previous count new.descriptor)) (sym at_is) p.holds;
+    })))
+
+pub same_read : (cells : List Security) (place : ℕ) (a b : Security) → place < length cells → a ≡ get_or cells place a → b ≡ get_or cells place b → a ≡ b
+same_read cells place a b inside a_is b_is = some_same a b (sym (slice_get_read cells (length cells) place a refl inside a_is) ∙ slice_get_read cells (length cells) place b refl inside b_is)
+
+pub short_at : (cells : List Security) (place : ℕ) (a : Security) → AllByRecursion (λ (s : Security). length s.descriptor < 2 ^ 32) cells → place < length cells → a ≡ get_or cells place a → length a.descriptor < 2 ^ 32
+short_at cells place a short inside a_is = all_at (λ (s : Security). length s.descriptor < 2 ^ 32) cells place a short (slice_get_read cells (length cells) place a refl inside a_is)
+
+pub short_set : (cells : List Security) (place : ℕ) (new : Security) → AllByRecursion (λ (s : Security). length s.descriptor < 2 ^ 32) cells → length new.descriptor < 2 ^ 32 → AllByRecursion (λ (s : Security). length s.descriptor < 2 ^ 32) (slice_set cells place new)
+short_set [] place new short few = tt
+short_set (c ∷ cells) zero new short few = (few, short.1)
+short_set (c ∷ cells) (suc place) new short few = (short.0, short_set cells place new short.1 few)
+
+pub long_set : (cells : List Security) (place : ℕ) (new : Security) → length (slice_set cells place new) ≡ length cells
+long_set [] place new = refl
+long_set (c ∷ cells) zero new = refl
+long_set (c ∷ cells) (suc place) new = ap suc (long_set cells place new)

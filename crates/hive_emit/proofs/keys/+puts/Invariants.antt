@@ -1,0 +1,19 @@
+use Rattle.std.proofs.Common.{◌≡◌, ◌+◌, ◌*◌, length, take}
+use Rattle.reg_tree_parts.specs.Nodes.{subkeys_of}
+use Rattle.hive_records.specs.ListTexts.{AreOffsets}
+use Rattle.hive_key_writer.specs.Making.{Makes}
+use Rattle.hive_emit.specs.Emitting.{PutsKids}
+use Rattle.hive_emit.proofs.keys.+puts.Given as goal
+
+abbrev pub invariant-put_subkeys-loop-index : goal.invariant-put_subkeys-loop-index
+invariant-put_subkeys-loop-index l = record {
+  made : Makes l.fn.image.bytes l.image.bytes (PutsKids l.securities l.places.items (take l.index (subkeys_of l.node)));
+  count : length l.places.items ≡ l.index;
+  near : AreOffsets l.places.items;
+}
+
+abbrev pub decreases-put_key : goal.decreases-put_key
+decreases-put_key l = 2 * length l.node.now + 1
+
+abbrev pub decreases-put_subkeys : goal.decreases-put_subkeys
+decreases-put_subkeys l = 2 * length l.node.now

@@ -1,0 +1,16 @@
+use Rattle.std.proofs.Common.{◌≡◌, [], length, take, Some}
+use Rattle.reg_tree_parts.specs.Rows.{Row}
+use Rattle.reg_tree_parts.specs.Nodes.{all_below, row_at, subkeys_of}
+use Rattle.hive_emit.specs.Emitting.{IsCounted, AreCounted, Keeps, AreShort}
+use Rattle.hive_emit.proofs.security.Securities.+count_all.Given as goal
+
+abbrev pub invariant-loop-index : goal.invariant-loop-index
+invariant-loop-index l = record {
+  own : (row : Row) → row_at l.node [] ≡ Some row → IsCounted l.self row;
+  kids : AreCounted l.self (all_below (take l.index (subkeys_of l.node)));
+  keeps : Keeps l.fn.self l.self;
+  short : AreShort l.fn.self → AreShort l.self;
+}
+
+abbrev pub decreases-count_all : goal.decreases-count_all
+decreases-count_all l = length l.node.now

@@ -1,0 +1,233 @@
+//! Keys with all that is below them.
+ghost use Rattle.std.specs.Prelude.{◌≡◌, ◌<◌, ◌≤◌, ◌+◌, ◌^◌, [], length, IfOk, OnOk, Some};
+ghost use Rattle.std.specs.FinMap as finite;
+ghost use Rattle.reg_tree_parts.specs.Rows.{Row};
+ghost use Rattle.reg_tree_parts.specs.Nodes.{subkeys_of, row_at, HasSubkeys};
+ghost use Rattle.hive_records.specs.ListTexts.{AreOffsets};
+ghost use Rattle.hive_records.specs.KeyTexts.{key_text, RowFits};
+ghost use Rattle.hive_records.specs.Spellings.{name_text};
+ghost use Rattle.hive_key_writer.specs.Making.{Makes, Fills, IsLongCell};
+ghost use Rattle.hive_emit.specs.Emitting.{CanPutKey, CanPutKeys, AreCounted, PutsKey, PutsKids, OwnAt, ClassAt, NodePlaces};
+
+use crate::bounds::{Bounds, bounds_of};
+use crate::security::Securities;
+use hive_cells::Image;
+use hive_key_writer::{NOWHERE, fill, new_cell, put_cell, put_kids, put_values};
+use hive_records::{KeyPlaces, is_latin, put_key_node};
+use refusals::Refusal;
+use reg_tree_parts::Node;
+use std::alloc::Global;
+
+// the bytes of a key's record before its name
+const RECORD_BYTES: usize = 76;
+
+// the last unit that is ASCII
+const LAST_ASCII: u16 = 0x7f;
+
+/// Where a key's own cells are, its record apart.
+#[derive(Drop)]
+struct Own {
+    class: u32,
+    values: u32,
+    kids: u32,
+}
+
+// whether a name has a unit past ASCII
+fn is_past_ascii(name: &[u16]) -> bool {
+    name.iter().any(|unit| LAST_ASCII < *unit)
+}
+
+// whether the list of a key's subkeys has no hashes: where any of their names has a unit past ASCII
+fn is_plain(node: &Node) -> bool {
+    for index in 0..node.subkey_count() {
+        if let Some(subkey) = node.subkey_at(index) {
+            if is_past_ascii(subkey.key().name().units()) {
+                return true;
+            }
+        }
+    }
+    false
+}
+
+// puts a class; answers its cell, or the offset of none where it is empty
+fn put_class(image: &mut Image, class: &[u8]) -> Result<u32, Refusal>
+    ensures { IfOk result (λ at. Makes image.old.bytes image.new.bytes (ClassAt at class.now)) }
+{
+    if class.is_empty() {
+        return Ok(NOWHERE);
+    }
+    match put_cell(image, class, class.len()) {
+        Ok(at) => Ok(at),
+        Err(why) => Err(why),
+    }
+}
+
+// puts the class, the values and the list of subkeys of a key whose subkeys have these cells
+fn put_own(
+    alloc: Global,
+    image: &mut Image,
+    text: &mut Vec<u8>,
+    node: &Node,
+    places: &[u32],
+) -> Result<Own, Refusal>
+    requires can { CanPutKeys node.now }
+    requires all { length places.now ≡ length (subkeys_of node.now) }
+    requires few { length places.now < 2 ^ 24 }
+    requires near { AreOffsets places.now }
+    ensures { IfOk result (λ own. (row : Row) → row_at node.now [] ≡ Some row → Makes
+        image.old.bytes image.new.bytes (OwnAt own.class own.values own.kids row places.now)) }
+{
+    let key = node.key();
+    let class = match put_class(image, key.class().bytes()) {
+        Ok(class) => class,
+        Err(why) => return Err(why),
+    };
+    let values = match put_values(alloc, image, text, key.values()) {
+        Ok(values) => values,
+        Err(why) => return Err(why),
+    };
+    let kids = match put_kids(alloc, image, text, node, places, is_plain(node)) {
+        Ok(kids) => kids,
+        Err(why) => return Err(why),
+    };
+    Ok(Own {
+        class,
+        values,
+        kids,
+    })
+}
+
+// what a key's record says beside its row
+fn key_places(node: &Node, parent: u32, security: u32, own: &Own) -> KeyPlaces
+    requires can { CanPutKeys node.now }
+    requires few { length (subkeys_of node.now) < 2 ^ 24 }
+    ensures { (row : Row) → row_at node.now [] ≡ Some row → NodePlaces result row
+        (length (subkeys_of node.now)) security own.now.class own.now.values own.now.kids }
+{
+    let key = node.key();
+    let bounds = bounds_of(node);
+    KeyPlaces {
+        parent,
+        kid_count: node.subkey_count() as u32,
+        kids: own.kids,
+        value_count: key.values().len() as u32,
+        values: own.values,
+        security,
+        class: own.class,
+        longest_kid: bounds.kid_name,
+        longest_class: bounds.kid_class,
+        longest_value: bounds.value_name,
+        largest_data: bounds.value_data,
+    }
+}
+
+// fills a key's record into its cell
+fn fill_key(
+    image: &mut Image,
+    text: &mut Vec<u8>,
+    node: &Node,
+    at: u32,
+    its: &KeyPlaces,
+) -> Result<(), Refusal>
+    requires can { CanPutKeys node.now }
+    requires long { (row : Row) → row_at node.now [] ≡ Some row →
+        IsLongCell image.old.bytes at (76 + length (name_text row.name)) }
+    ensures filled { OnOk result ((row : Row) → row_at node.now [] ≡ Some row →
+        Fills image.old.bytes image.new.bytes at (key_text row its.now)) }
+    ensures time { OnOk result ((row : Row) → row_at node.now [] ≡ Some row →
+        row.time < 2 ^ 64) }
+{
+    let key = node.key();
+    let time = key.time();
+    text.clear();
+    let class = key.class().bytes().len() as u16;
+    put_key_node(text, key.name().units(), key.flags(), time, class, its)?;
+    fill(image, at, text);
+    Ok(())
+}
+
+// how many bytes a key's record has
+fn record_len(name: &[u16]) -> usize
+    requires { length (name_text name.now) < 2 ^ 16 }
+    ensures { result ≡ 76 + length (name_text name.now) }
+{
+    if is_latin(name) {
+        RECORD_BYTES + name.len()
+    } else {
+        RECORD_BYTES + 2 * name.len()
+    }
+}
+
+// puts all subkeys of a key, whose record is to be in a cell; answers their cells
+#[cycle(puts)]
+fn put_subkeys(
+    alloc: Global,
+    image: &mut Image,
+    text: &mut Vec<u8>,
+    securities: &Securities,
+    node: &Node,
+    parent: u32,
+) -> Result<Vec<u32>, Refusal>
+    requires can { CanPutKeys node.now }
+    requires counted { AreCounted securities.now node.now }
+    requires few { length node.now < 2 ^ 24 }
+    ensures made { IfOk result (λ places. Makes image.old.bytes image.new.bytes
+        (PutsKids securities.now places.items (subkeys_of node.now))) }
+    ensures count { IfOk result (λ places. length places.items ≡ length (subkeys_of node.now)) }
+    ensures near { IfOk result (λ places. AreOffsets places.items) }
+    ensures has { IfOk result (λ places. HasSubkeys node.now (subkeys_of node.now)) }
+{
+    let _ = node.key();
+    let mut places = Vec::new(alloc);
+    for index in 0..node.subkey_count() {
+        let Some(subkey) = node.subkey_at(index) else {
+            unreachable!();
+        };
+        let at = match put_key(alloc, image, text, securities, subkey, parent) {
+            Ok(at) => at,
+            Err(why) => return Err(why),
+        };
+        places.push(at)?;
+    }
+    Ok(places)
+}
+
+/// Puts a key and all keys below it; answers the cell of its record.
+#[cycle(puts)]
+pub(crate) fn put_key(
+    alloc: Global,
+    image: &mut Image,
+    text: &mut Vec<u8>,
+    securities: &Securities,
+    node: &Node,
+    parent: u32,
+) -> Result<u32, Refusal>
+    requires can { CanPutKeys node.now }
+    requires counted { AreCounted securities.now node.now }
+    requires few { length node.now < 2 ^ 24 }
+    ensures { IfOk result (λ at. Makes image.old.bytes image.new.bytes
+        (PutsKey securities.now at node.now)) }
+{
+    let key = node.key();
+    let _time = key.time();
+    let at = match new_cell(image, record_len(key.name().units())) {
+        Ok(at) => at,
+        Err(why) => return Err(why),
+    };
+    image.tiles(0);
+    let places = match put_subkeys(alloc, image, text, securities, node, at) {
+        Ok(places) => places,
+        Err(why) => return Err(why),
+    };
+    let own = match put_own(alloc, image, text, node, &places) {
+        Ok(own) => own,
+        Err(why) => return Err(why),
+    };
+    let security = securities.offset(key.descriptor().bytes());
+    let its = key_places(node, parent, security, &own);
+    image.tiles(0);
+    match fill_key(image, text, node, at, &its) {
+        Ok(()) => Ok(at),
+        Err(why) => Err(why),
+    }
+}

@@ -1,0 +1,6 @@
+pub mod NewCells
+pub mod Makings
+pub mod Datas
+pub mod Valued
+pub mod ValueMaps
+pub mod Leaves
