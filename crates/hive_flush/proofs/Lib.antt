@@ -2,3 +2,4 @@ pub mod Readying
 pub mod Going
 pub mod Standing
 pub mod Opened
+pub mod Adopting

@@ -41,3 +41,7 @@ unclean_writer hive block = record { hive = hive; base = block; block = block; s
 -- what a repair by a log writes
 abbrev pub repair_plan : BaseBlock → List ℕ → Plan
 repair_plan block log = record { block = as_primary (block_of log); raised = sector_of (raised_block block); final = sector_of block; text = log }
+
+-- the block for another image: this root, size, time and number
+abbrev pub block_for : BaseBlock → ℕ → ℕ → ℕ → ℕ → BaseBlock
+block_for block root bins_size time applied = record block { last_written = time; root = root; bins_size = bins_size; applied = record { 0 = applied } }
