@@ -27,7 +27,7 @@ match_at_true P Q e x = subst (λ (b : Bool). MatchBool b P Q) (sym e) x
 match_at_false : {b : Bool} (P Q : Type 0) → b ≡ false → Q → MatchBool b P Q
 match_at_false P Q e x = subst (λ (b : Bool). MatchBool b P Q) (sym e) x
 
-same_parts : (p l : List ℕ) (b c : BaseBlock) (xs ys : List ℕ) → IsInUse p l b xs → IsInUse p l c ys → (b ≡ c) × (xs ≡ ys)
+pub same_parts : (p l : List ℕ) (b c : BaseBlock) (xs ys : List ℕ) → IsInUse p l b xs → IsInUse p l c ys → (b ≡ c) × (xs ≡ ys)
 same_parts p l b c xs ys h k = elim (cases_Bool (is_clean_file p)) [
   | inl e ↦ own (MatchBool-at_true (IsOwn p b xs) (IsRepaired p l b xs) e h) (MatchBool-at_true (IsOwn p c ys) (IsRepaired p l c ys) e k)
   | inr e ↦ fixed (MatchBool-at_false (IsOwn p b xs) (IsRepaired p l b xs) e h) (MatchBool-at_false (IsOwn p c ys) (IsRepaired p l c ys) e k)
@@ -162,6 +162,7 @@ holds_repaired stands memory image v plan c log ready unclean long behind front 
     let is : bins ≡ image = ap (λ (u : Pages). repaired (drop 4096 c) u (page_bytes_in log)) pages ∙ ap (repaired (drop 4096 c) v) f.bytes ∙ ready.log_repairs (drop 4096 c) behind.same in
     let root : (block_of log).root ≡ plan.block.root = ap (λ (b : BaseBlock). b.root) f.block ∙ ready.log_root in
     let minor : (block_of log).minor ≡ plan.block.minor = ap (λ (b : BaseBlock). b.minor) f.block ∙ ready.log_minor in
+    let store : (block_of log).store ≡ plan.block.store = ap (λ (b : BaseBlock). b.store) f.block ∙ ready.log_store in
     record {
       block = block_of log;
       bins = bins;
@@ -173,7 +174,8 @@ holds_repaired stands memory image v plan c log ready unclean long behind front 
       });
       own = λ e. absurd (true_false (is_clean_file c) e unclean);
       sector = λ e. long;
-      tree = ap (tree_under stands (block_of log)) is ∙ ap (λ (r : ℕ). stands image r (block_of log).minor) root
-          ∙ ap (λ (m : ℕ). stands image plan.block.root m) minor ∙ ready.tree;
+      tree = ap (tree_under stands (block_of log)) is ∙ ap (λ (r : ℕ). stands image r (block_of log).minor (block_of log).store) root
+          ∙ ap (λ (m : ℕ). stands image plan.block.root m (block_of log).store) minor
+          ∙ ap (λ (s : List ℕ). stands image plan.block.root plan.block.minor s) store ∙ ready.tree;
       number = ap (λ (b : BaseBlock). b.applied.0) f.block ∙ ready.log_number ∙ ready.number;
     }

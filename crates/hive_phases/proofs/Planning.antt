@@ -42,6 +42,7 @@ ready stands memory image v old plan size loggable kind tree number fits raised_
       log_whole = text.whole;
       log_root = ap (λ (b : BaseBlock). b.root) text.base;
       log_minor = ap (λ (b : BaseBlock). b.minor) text.base;
+      log_store = ap (λ (b : BaseBlock). b.store) text.base;
       log_number = ap (λ (b : BaseBlock). b.applied.0) text.base;
       log_pages = text.marked;
       log_repairs = λ bins same. ap (repaired bins v) text.bytes ∙ repairs image bins v size (omega (arith, whole)) same;
@@ -49,7 +50,7 @@ ready stands memory image v old plan size loggable kind tree number fits raised_
 
 -- ---- a repair
 
-repaired_long : (bins : List ℕ) (v : Pages) (bytes : List ℕ) → length (repaired bins v bytes) ≡ v.bins_size
+pub repaired_long : (bins : List ℕ) (v : Pages) (bytes : List ℕ) → length (repaired bins v bytes) ≡ v.bins_size
 unfolding repaired
 repaired_long bins v bytes = length-map-range_with_len (repaired_byte bins v bytes) 0 v.bins_size
 
@@ -87,6 +88,7 @@ ready_again stands memory old primary log raised final whole covered tree number
         log_whole = whole;
         log_root = refl;
         log_minor = refl;
+        log_store = refl;
         log_number = refl;
         log_pages = refl;
         log_repairs = λ other same. repaired_same other bins v bytes (λ i lt off. same i lt off ∙ repaired_clean bins v bytes i lt off);

@@ -6,14 +6,14 @@ use Rattle.base_block.specs.Judgements.{IsPrimary}
 use Rattle.dirt_log.specs.WholeLog.{block_of}
 use Rattle.dirt_log.specs.Held.{is_clean_file, IsInUse}
 
--- A rule for images: the tree, if any, that bins data stand for, given the offset of their root cell and the minor version
--- by which they are read.
+-- A rule for images: the tree, if any, that bins data stand for, given the offset of their root cell, the minor version by
+-- which they are read, and the store that their hive belongs to.
 abbrev pub Standing : Type 0 → Type 0
-Standing T = List ℕ → ℕ → ℕ → Option T
+Standing T = List ℕ → ℕ → ℕ → List ℕ → Option T
 
 -- the tree that bins data stand for under a base block
 abbrev pub tree_under : {T : Type 0} → Standing T → BaseBlock → List ℕ → Option T
-tree_under stands block bins = stands bins block.root block.minor
+tree_under stands block bins = stands bins block.root block.minor block.store
 
 -- A primary file and its log hold a tree and a number: the block that is in use names the number, and the bins data that are
 -- in use stand for the tree. The block in use is the primary file's own where it is clean, and then that of a primary file;

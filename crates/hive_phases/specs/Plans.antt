@@ -28,7 +28,7 @@ pub record Plan : Type 0 where
   pub text : List ℕ
 
 -- A plan fits an image: image and root stand for the tree in memory; the raised sector is unclean; the last one reads as the
--- block; and the log's text is whole, has the block's root, version and number, marks these pages, and repairs whatever is
+-- block; and the log's text is whole, has the block's root, version, store and number, marks these pages, and repairs whatever is
 -- behind the image to it.
 pub record IsReady {T : Type 0} (stands : Standing T) (memory : T × ℕ) (image : List ℕ) (pages : Pages) (plan : Plan) : Type 0 where
   pub size : length image ≡ pages.bins_size
@@ -44,6 +44,7 @@ pub record IsReady {T : Type 0} (stands : Standing T) (memory : T × ℕ) (image
   pub log_whole : IsWhole plan.text
   pub log_root : (block_of plan.text).root ≡ plan.block.root
   pub log_minor : (block_of plan.text).minor ≡ plan.block.minor
+  pub log_store : (block_of plan.text).store ≡ plan.block.store
   pub log_number : (block_of plan.text).applied.0 ≡ plan.block.applied.0
   pub log_pages : pages_in plan.text ≡ pages
   pub log_repairs : (bins : List ℕ) → SameWhereClean image bins pages → repaired bins pages (page_bytes_in plan.text) ≡ image

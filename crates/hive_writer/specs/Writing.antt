@@ -65,6 +65,17 @@ now_in (stage.Paging purpose page) now memory = now
 now_in (stage.Paged purpose) now memory = now
 now_in (stage.Finished purpose) now memory = now
 
+-- the pages in which the primary file may differ from the image in a stage that a call led to: where the hive is quiet again,
+-- none does, whatever is said to be dirty
+abbrev pub left_in : Stage → Pages → Pages → Pages
+left_in stage.Quiet pages others = others
+left_in (stage.Logging pieces) pages others = pages
+left_in stage.Logged pages others = pages
+left_in stage.Raised pages others = pages
+left_in (stage.Paging purpose page) pages others = pages
+left_in (stage.Paged purpose) pages others = pages
+left_in (stage.Finished purpose) pages others = pages
+
 -- the two files of a hive are as its stage says
 abbrev pub IsAt : {T : Type 0} → Standing T → Work T → ℕ → Stage → (ℕ → FileState) → Type 0
 IsAt stands work hive at states = is_on_in stands work (phase_in (length work.plan.text) at) (states (primary_file hive)) (states (log_file hive))
@@ -72,8 +83,9 @@ IsAt stands work hive at states = is_on_in stands work (phase_in (length work.pl
 -- A call leads from a stage to the next, for whatever stands and is in memory; one that failed leaves the files in theirs.
 abbrev pub Leads : {T : Type 0} → Standing T → Plan → List ℕ → Pages → ℕ → Stage → Result Stage Failed → (ℕ → FileState) → (ℕ → FileState) → Type 0
 Leads {T = T} stands plan image pages hive at result before after =
-    (now memory : T × ℕ) → IsReady stands memory image pages plan → IsAt stands (work_of plan image pages now memory) hive at before
-    → MatchResult result (λ next. IsAt stands (work_of plan image pages (now_in next now memory) memory) hive next after)
+    (now memory : T × ℕ) (others : Pages) → others.bins_size ≡ length image → IsReady stands memory image pages plan
+    → IsAt stands (work_of plan image pages now memory) hive at before
+    → MatchResult result (λ next. IsAt stands (work_of plan image (left_in next pages others) (now_in next now memory) memory) hive next after)
     (λ _. IsAt stands (work_of plan image pages now memory) hive at after)
 
 -- which stage follows one: as many pieces and pages as there are
@@ -137,6 +149,13 @@ now_after (Ok progress.More) now memory = now
 now_after (Ok progress.Idle) now memory = now
 now_after (Err refusal) now memory = now
 
+-- the pages in which the primary file may differ from the image after a step
+abbrev pub left_after : Result Progress Refusal → Pages → Pages → Pages
+left_after (Ok progress.Done) pages others = others
+left_after (Ok progress.More) pages others = pages
+left_after (Ok progress.Idle) pages others = pages
+left_after (Err refusal) pages others = pages
+
 -- a flush begins with the first piece of its log; one that has begun goes on
 abbrev pub BeginsAt : Stage → HiveWriter → HiveWriter → Type 0
 BeginsAt stage.Quiet old new = new ≡ record old { stage = stage.Logging 0 }
@@ -154,11 +173,13 @@ Settles (Ok stage.Quiet) result old new = (result ≡ Ok progress.Done) × (new 
 Settles (Ok next) result old new = (result ≡ Ok progress.More) × (new ≡ record old { stage = next })
 Settles (Err why) result old new = (result ≡ Err DiskFault) × (new ≡ record old { failed = true })
 
--- A step leads a writer's files on, for whatever stands and is in memory.
+-- A step leads a writer's files on, for whatever stands and is in memory; and where it is done, whatever pages are said to be
+-- dirty from then on.
 abbrev pub LeadsOn : {T : Type 0} → Standing T → Plan → List ℕ → Pages → Result Progress Refusal → HiveWriter → HiveWriter → (ℕ → FileState) → (ℕ → FileState) → Type 0
 LeadsOn {T = T} stands plan image pages result old new before after =
-    (now memory : T × ℕ) → IsReady stands memory image pages plan → IsAt stands (work_of plan image pages now memory) old.hive old.stage before
-    → IsAt stands (work_of plan image pages (now_after result now memory) memory) new.hive new.stage after
+    (now memory : T × ℕ) (others : Pages) → others.bins_size ≡ length image → IsReady stands memory image pages plan
+    → IsAt stands (work_of plan image pages now memory) old.hive old.stage before
+    → IsAt stands (work_of plan image (left_after result pages others) (now_after result now memory) memory) new.hive new.stage after
 
 -- the block that a primary file has after a step: where it is done, the one that was to be
 abbrev pub base_after : Result Progress Refusal → HiveWriter → BaseBlock

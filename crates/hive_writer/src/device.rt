@@ -5,20 +5,7 @@ ghost use Rattle.disk_model.specs.FileState.{Writes, MayWrite, Syncs};
 ghost use Rattle.disk_model.specs.StoreFiles.{IsOfHive, primary_file, log_file};
 
 use disk_model::{Disk, Failed};
-
-// the number of a hive's primary file
-fn primary(hive: u8) -> u32
-    ensures { result ≡ primary_file hive }
-{
-    1 + 2 * u32::from(hive)
-}
-
-// the number of its log
-fn log(hive: u8) -> u32
-    ensures { result ≡ log_file hive }
-{
-    2 + 2 * u32::from(hive)
-}
+use hive_files::{log_number, primary_number};
 
 /// Writes into the primary file.
 pub(crate) fn write_primary<D: Disk>(
@@ -40,7 +27,7 @@ pub(crate) fn write_primary<D: Disk>(
     ensures failures { CountsFailure result (D.failures disk.old) (D.failures disk.new) }
     ensures faithful { D.faithful disk.new → D.faithful disk.old }
 {
-    disk.write_at(primary(hive), offset, bytes)
+    disk.write_at(primary_number(hive), offset, bytes)
 }
 
 /// Syncs the primary file.
@@ -58,7 +45,7 @@ pub(crate) fn sync_primary<D: Disk>(disk: &mut D, hive: u8) -> Result<(), Failed
     ensures failures { CountsFailure result (D.failures disk.old) (D.failures disk.new) }
     ensures faithful { D.faithful disk.new → D.faithful disk.old }
 {
-    disk.sync(primary(hive))
+    disk.sync(primary_number(hive))
 }
 
 /// Writes into the log.
@@ -81,7 +68,7 @@ pub(crate) fn write_log<D: Disk>(
     ensures failures { CountsFailure result (D.failures disk.old) (D.failures disk.new) }
     ensures faithful { D.faithful disk.new → D.faithful disk.old }
 {
-    disk.write_at(log(hive), offset, bytes)
+    disk.write_at(log_number(hive), offset, bytes)
 }
 
 /// Syncs the log.
@@ -99,5 +86,5 @@ pub(crate) fn sync_log<D: Disk>(disk: &mut D, hive: u8) -> Result<(), Failed>
     ensures failures { CountsFailure result (D.failures disk.old) (D.failures disk.new) }
     ensures faithful { D.faithful disk.new → D.faithful disk.old }
 {
-    disk.sync(log(hive))
+    disk.sync(log_number(hive))
 }

@@ -106,6 +106,7 @@ impl HiveWriter {
             (choice_at self.old.stage now memory)
             (choice_at self.new.stage (now_after result now memory) memory) }
         ensures flushing { IsFlushing self.new.stage }
+        ensures done { result ≡ Ok Progress.Done → self.new.stage ≡ stage.Quiet }
         ensures falls { result ≡ Ok Progress.More →
             calls_left (length (plan_of self.old image.now pages.now).text) pages.now self.new.stage
             < calls_left (length (plan_of self.old image.now pages.now).text) pages.now
@@ -149,6 +150,7 @@ impl HiveWriter {
         ensures repairing { (result ≡ Ok Progress.Done → ⊥) →
             IsRewriting purpose.Repair self.new.stage }
         ensures done { result ≡ Ok Progress.Done → self.new.stage ≡ stage.Quiet }
+        ensures busy { result ≡ Ok Progress.Idle → ⊥ }
         ensures falls { (total : ℕ) → result ≡ Ok Progress.More →
             calls_left total pages.now self.new.stage < calls_left total pages.now self.old.stage }
         ensures keeps { KeepsBlocks self.old self.new result }

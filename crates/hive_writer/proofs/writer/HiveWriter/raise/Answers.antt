@@ -8,7 +8,7 @@ use Rattle.hive_writer.proofs.Moved.{log_same, raised_is}
 use Rattle.hive_writer.proofs.writer.HiveWriter.raise.Goals as goal
 
 pub returns-in-Ok-clause-leads : goal.returns-in-Ok-clause-leads
-returns-in-Ok-clause-leads g c = λ faithful stands image pages now memory ready on.
+returns-in-Ok-clause-leads g c = λ faithful stands image pages now memory others size ready on.
     let w = work_of (plan_of c.args.self.now image pages) image pages now memory in
     let hive = c.args.self.now.hive in
     let p = g.D.Disk.state_at c.args.disk.now (g.D.Disk.clock c.args.disk.now) (primary_file hive) in
@@ -21,7 +21,7 @@ returns-in-Ok-clause-leads g c = λ faithful stands image pages now memory ready
     log_same stands w Raised p2 l l2 c.write_primary.ensures.other (raised_written stands w p l p2 sound on done)
 
 pub returns-in-Err-clause-leads : goal.returns-in-Err-clause-leads
-returns-in-Err-clause-leads g c = λ faithful stands image pages now memory ready on.
+returns-in-Err-clause-leads g c = λ faithful stands image pages now memory others size ready on.
     let w = work_of (plan_of c.args.self.now image pages) image pages now memory in
     let hive = c.args.self.now.hive in
     let p = g.D.Disk.state_at c.args.disk.now (g.D.Disk.clock c.args.disk.now) (primary_file hive) in

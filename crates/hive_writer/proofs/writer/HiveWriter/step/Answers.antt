@@ -6,7 +6,7 @@ use Rattle.hive_writer.proofs.Stepped.{settled_on, settled_keeps, begun_on, begu
 use Rattle.hive_writer.proofs.writer.HiveWriter.step.Goals as goal
 
 pub returns-clause-on : goal.returns-clause-on
-returns-clause-on g c = λ faithful stands now memory ready on.
+returns-clause-on g c = λ faithful stands now memory others size ready on.
     let old = c.args.self.now in
     let mid = c.begin.new.self in
     let image = c.args.image.now in
@@ -16,7 +16,7 @@ returns-clause-on g c = λ faithful stands now memory ready on.
     let after : ℕ → FileState = g.D.Disk.state_at c.flush-called.new.disk (g.D.Disk.clock c.flush-called.new.disk) in
     let leads = subst (λ (q : Plan). Leads stands q image pages mid.hive mid.stage c.flush-called.result before after) (begun_plan old.stage old mid image pages c.begin.ensures.begins)
     (c.flush-called.ensures.leads faithful stands) in
-    settled_on stands plan image pages before after c.flush-called.result c.settle.result mid c.settle.new.self c.settle.ensures leads now memory ready
+    settled_on stands plan image pages before after c.flush-called.result c.settle.result mid c.settle.new.self c.settle.ensures leads now memory others size ready
     (begun_on stands (work_of plan image pages now memory) before old.stage old mid refl c.begin.ensures.begins ready on)
 
 pub returns-clause-says : goal.returns-clause-says

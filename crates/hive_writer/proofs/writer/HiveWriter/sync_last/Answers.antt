@@ -7,7 +7,7 @@ use Rattle.hive_writer.proofs.Moved.{log_same, primary_same}
 use Rattle.hive_writer.proofs.writer.HiveWriter.sync_last.Goals as goal
 
 pub returns-in-Ok-clause-leads : goal.returns-in-Ok-clause-leads
-returns-in-Ok-clause-leads g c = λ faithful stands plan image pages ends now memory ready on.
+returns-in-Ok-clause-leads g c = λ faithful stands plan image pages ends now memory others size ready on.
     let w = work_of plan image pages now memory in
     let hive = c.args.self.now.hive in
     let p = g.D.Disk.state_at c.args.disk.now (g.D.Disk.clock c.args.disk.now) (primary_file hive) in
@@ -15,11 +15,11 @@ returns-in-Ok-clause-leads g c = λ faithful stands plan image pages ends now me
     let p2 = g.D.Disk.state_at c.sync_primary.new.disk (g.D.Disk.clock c.sync_primary.new.disk) (primary_file hive) in
     let l2 = g.D.Disk.state_at c.sync_primary.new.disk (g.D.Disk.clock c.sync_primary.new.disk) (log_file hive) in
     let sound = g.met.D.Disk.sound c.args.disk.now (g.D.Disk.clock c.args.disk.now) (primary_file hive) (c.sync_primary.ensures.faithful faithful) (omega arith) in
-    let quiet = final_synced stands w pages p l p2 sound on (sym ready.size) (c.in-Ok.ensures.done faithful) in
+    let quiet = final_synced stands w others p l p2 sound on size (c.in-Ok.ensures.done faithful) in
     record { rest = quiet.rest; clean = quiet.clean; behind = quiet.behind }
 
 pub returns-in-Err-clause-leads : goal.returns-in-Err-clause-leads
-returns-in-Err-clause-leads g c = λ faithful stands plan image pages ends now memory ready on.
+returns-in-Err-clause-leads g c = λ faithful stands plan image pages ends now memory others size ready on.
     let w = work_of plan image pages now memory in
     let hive = c.args.self.now.hive in
     let p = g.D.Disk.state_at c.args.disk.now (g.D.Disk.clock c.args.disk.now) (primary_file hive) in

@@ -6,7 +6,7 @@ use Rattle.hive_writer.proofs.Moved.{log_same, primary_same, all_synced}
 use Rattle.hive_writer.proofs.writer.HiveWriter.sync_log.Goals as goal
 
 pub returns-in-Ok-clause-leads : goal.returns-in-Ok-clause-leads
-returns-in-Ok-clause-leads g c = λ faithful stands image pages all now memory ready on.
+returns-in-Ok-clause-leads g c = λ faithful stands image pages all now memory others size ready on.
     let w = work_of (plan_of c.args.self.now image pages) image pages now memory in
     let hive = c.args.self.now.hive in
     let p = g.D.Disk.state_at c.args.disk.now (g.D.Disk.clock c.args.disk.now) (primary_file hive) in
@@ -16,7 +16,7 @@ returns-in-Ok-clause-leads g c = λ faithful stands image pages all now memory r
     primary_same stands w Logged p p2 l2 c.sync_log.ensures.other (all_synced stands w c.args.index p l l2 all on (c.in-Ok.ensures.done faithful))
 
 pub returns-in-Err-clause-leads : goal.returns-in-Err-clause-leads
-returns-in-Err-clause-leads g c = λ faithful stands image pages all now memory ready on.
+returns-in-Err-clause-leads g c = λ faithful stands image pages all now memory others size ready on.
     let w = work_of (plan_of c.args.self.now image pages) image pages now memory in
     let hive = c.args.self.now.hive in
     let p = g.D.Disk.state_at c.args.disk.now (g.D.Disk.clock c.args.disk.now) (primary_file hive) in

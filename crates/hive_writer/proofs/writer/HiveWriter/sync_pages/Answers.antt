@@ -6,7 +6,7 @@ use Rattle.hive_writer.proofs.Moved.{log_same, primary_same, none_left}
 use Rattle.hive_writer.proofs.writer.HiveWriter.sync_pages.Goals as goal
 
 pub returns-in-Ok-clause-leads : goal.returns-in-Ok-clause-leads
-returns-in-Ok-clause-leads g c = λ faithful stands plan image pages ends none now memory ready on.
+returns-in-Ok-clause-leads g c = λ faithful stands plan image pages ends none now memory others size ready on.
     let w = work_of plan image pages now memory in
     let hive = c.args.self.now.hive in
     let p = g.D.Disk.state_at c.args.disk.now (g.D.Disk.clock c.args.disk.now) (primary_file hive) in
@@ -17,7 +17,7 @@ returns-in-Ok-clause-leads g c = λ faithful stands plan image pages ends none n
     log_same stands w (Paged (purpose_in c.args.purpose)) p2 l l2 c.sync_primary.ensures.other (none_left stands w c.args.from p l p2 sound none on (c.in-Ok.ensures.done faithful))
 
 pub returns-in-Err-clause-leads : goal.returns-in-Err-clause-leads
-returns-in-Err-clause-leads g c = λ faithful stands plan image pages ends none now memory ready on.
+returns-in-Err-clause-leads g c = λ faithful stands plan image pages ends none now memory others size ready on.
     let w = work_of plan image pages now memory in
     let hive = c.args.self.now.hive in
     let p = g.D.Disk.state_at c.args.disk.now (g.D.Disk.clock c.args.disk.now) (primary_file hive) in

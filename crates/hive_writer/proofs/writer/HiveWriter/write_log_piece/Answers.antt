@@ -7,7 +7,7 @@ use Rattle.hive_writer.proofs.Moved.{primary_same, piece_written, piece_failed}
 use Rattle.hive_writer.proofs.writer.HiveWriter.write_log_piece.Goals as goal
 
 pub returns-in-Ok-clause-leads : goal.returns-in-Ok-clause-leads
-returns-in-Ok-clause-leads g c = λ faithful stands now memory ready on.
+returns-in-Ok-clause-leads g c = λ faithful stands now memory others size ready on.
     let w = work_of (plan_of c.args.self.now c.args.image.now c.args.pages.now) c.args.image.now c.args.pages.now now memory in
     let hive = c.args.self.now.hive in
     let p = g.D.Disk.state_at c.args.disk.now (g.D.Disk.clock c.args.disk.now) (primary_file hive) in
@@ -18,7 +18,7 @@ returns-in-Ok-clause-leads g c = λ faithful stands now memory ready on.
     (piece_written stands w c.args.index c.args.piece.now p l l2 c.requires.piece c.requires.some on (subst (λ (n : ℕ). Writes (65536 * n) c.args.piece.now l l2) c.from.ensures (c.in-Ok.ensures.done faithful)))
 
 pub returns-in-Err-clause-leads : goal.returns-in-Err-clause-leads
-returns-in-Err-clause-leads g c = λ faithful stands now memory ready on.
+returns-in-Err-clause-leads g c = λ faithful stands now memory others size ready on.
     let w = work_of (plan_of c.args.self.now c.args.image.now c.args.pages.now) c.args.image.now c.args.pages.now now memory in
     let hive = c.args.self.now.hive in
     let p = g.D.Disk.state_at c.args.disk.now (g.D.Disk.clock c.args.disk.now) (primary_file hive) in

@@ -6,7 +6,7 @@ use Rattle.hive_writer.proofs.Moved.{log_same, run_written, run_failed, run_fall
 use Rattle.hive_writer.proofs.writer.HiveWriter.write_pages.Goals as goal
 
 pub returns-in-Ok-clause-leads : goal.returns-in-Ok-clause-leads
-returns-in-Ok-clause-leads g c = λ faithful stands plan ends now memory ready on.
+returns-in-Ok-clause-leads g c = λ faithful stands plan ends now memory others size ready on.
     let w = work_of plan c.args.image.now c.args.pages.now now memory in
     let hive = c.args.self.now.hive in
     let p = g.D.Disk.state_at c.args.disk.now (g.D.Disk.clock c.args.disk.now) (primary_file hive) in
@@ -22,7 +22,7 @@ returns-in-Ok-clause-leads g c = λ faithful stands plan ends now memory ready o
     (run_written stands w c.args.from run.start run.end last p l p2 (take (512 * last - 512 * run.start) (drop (512 * run.start) c.args.image.now)) sound c.requires.size c.requires.run some le refl on (c.in-Ok.ensures.done faithful))
 
 pub returns-in-Err-clause-leads : goal.returns-in-Err-clause-leads
-returns-in-Err-clause-leads g c = λ faithful stands plan ends now memory ready on.
+returns-in-Err-clause-leads g c = λ faithful stands plan ends now memory others size ready on.
     let w = work_of plan c.args.image.now c.args.pages.now now memory in
     let hive = c.args.self.now.hive in
     let p = g.D.Disk.state_at c.args.disk.now (g.D.Disk.clock c.args.disk.now) (primary_file hive) in

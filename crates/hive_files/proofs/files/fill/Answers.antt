@@ -1,0 +1,36 @@
+use Rattle.std.proofs.Common.{◌≡◌, ℕ, ◌+◌, ◌-◌, ◌≤◌, ◌++◌, List, length, take, drop, sym, ap, subst, ◌∙◌, arith, rules}
+use Rattle.std.proofs.lemmas.Slice.{take-put_mid}
+use Rattle.std.proofs.lemmas.List.{drop-drop, length-take, length-drop}
+use Rattle.std.proofs.Math.Seq.{take-add}
+use Rattle.disk_model.specs.FileState.{FileState}
+use Rattle.hive_files.proofs.Frames.{reads_on}
+use Rattle.hive_files.proofs.files.fill.Goals as goal
+
+pub pieces-preserved : goal.pieces-preserved
+pieces-preserved g c =
+    let old = g.D.Disk.state_at c.args.disk.now (g.D.Disk.clock c.args.disk.now) c.args.file in
+    let mid = g.D.Disk.state_at c.pieces.disk (g.D.Disk.clock c.pieces.disk) c.args.file in
+    let at = c.pieces.at in
+    let n = c.min.result in
+    let rest = drop c.args.offset old.seen in
+    let same : mid.seen ≡ old.seen = ap (λ (s : FileState). s.seen) (c.pieces.invariant.reads.same c.args.file) in
+    record {
+      size = search rules;
+      within = search rules;
+      bytes = λ faithful whole.
+          let mid_faithful = c.in_ok-read_piece.ensures.faithful faithful in
+          let part = take (at + n - at) (drop at c.pieces.bytes) in
+          let long : length part ≡ n = omega (arith, length-take (at + n - at) (drop at c.pieces.bytes), length-drop at c.pieces.bytes, c.min.ensures, c.pieces.invariant.size, c.pieces.invariant.within) in
+          let size : length c.read_piece.new.piece ≡ n = c.in_ok-read_piece.ensures.size ∙ long in
+          let inside : c.args.offset + at + length part ≤ length mid.seen = omega (arith, long, whole, ap (λ (l : List ℕ). length l) same, c.min.ensures, c.pieces.invariant.size, c.pieces.invariant.within) in
+          let piece : c.read_piece.new.piece ≡ take n (drop (c.args.offset + at) old.seen) =
+              c.in_ok-read_piece.ensures.bytes faithful inside
+              ∙ ap (λ (k : ℕ). take k (drop (c.args.offset + at) mid.seen)) long ∙ ap (λ (l : List ℕ). take n (drop (c.args.offset + at) l)) same in
+          take-put_mid at (at + n - at) c.pieces.bytes c.read_piece.new.piece (at + n) (omega (arith, size)) (omega (arith, c.pieces.invariant.size, c.pieces.invariant.within))
+          ∙ ap (λ (l : List ℕ). l ++ c.read_piece.new.piece) (c.pieces.invariant.bytes mid_faithful whole)
+          ∙ ap (λ (l : List ℕ). take at rest ++ l) (piece ∙ ap (λ (l : List ℕ). take n l) (sym (drop-drop at c.args.offset old.seen)))
+          ∙ sym (take-add at n rest);
+      reads = reads_on _ _ _ _ _ _ c.pieces.invariant.reads c.in_ok-read_piece.ensures.reads;
+      failures = omega (arith, c.pieces.invariant.failures, c.in_ok-read_piece.ensures.failures);
+      faithful = λ faithful. c.pieces.invariant.faithful (c.in_ok-read_piece.ensures.faithful faithful);
+    }

@@ -1,0 +1,18 @@
+use Rattle.std.proofs.Common.{◌≡◌, ◌-◌, ◌+◌, ◌≤◌, ℕ, length, take, drop}
+use Rattle.hive_files.specs.Frames.{OnlyReads}
+use Rattle.hive_files.proofs.files.fill.Given as goal
+
+abbrev pub invariant-pieces : goal.invariant-pieces
+invariant-pieces g l =
+    let seen = (g.D.Disk.state_at l.fn.disk (g.D.Disk.clock l.fn.disk) l.fn.file).seen in
+    record {
+      size : length l.bytes ≡ length l.fn.bytes;
+      within : l.at ≤ length l.fn.bytes;
+      bytes : g.D.Disk.faithful l.disk → l.fn.offset + length l.fn.bytes ≤ length seen → take l.at l.bytes ≡ take l.at (drop l.fn.offset seen);
+      reads : OnlyReads (g.D.Disk.state_at l.fn.disk) (g.D.Disk.state_at l.disk) (g.D.Disk.clock l.fn.disk) (g.D.Disk.clock l.disk);
+      failures : g.D.Disk.failures l.fn.disk ≤ g.D.Disk.failures l.disk;
+      faithful : g.D.Disk.faithful l.disk → g.D.Disk.faithful l.fn.disk;
+    }
+
+abbrev pub decreases-pieces : goal.decreases-pieces
+decreases-pieces g l = length l.initial.bytes - l.at

@@ -1,0 +1,95 @@
+use Rattle.std.proofs.Common.{◌≡◌, ◌≢◌, ℕ, ◌+◌, ◌≤◌, Bool, true, false, List, length, take, drop, length-take, inl, inr, refl, sym, ap, subst, ◌∙◌, arith}
+use Rattle.std.proofs.lemmas.Result.{IfOk-weaker, IfErr-weaker}
+use Rattle.refusals.specs.declared.refusal.Refusal.{Refusal}
+use Rattle.base_block.specs.declared.block.BaseBlock.{BaseBlock}
+use Rattle.base_block.specs.Judgements.{IsPrimary}
+use Rattle.disk_model.specs.FileState.{FileState}
+use Rattle.disk_model.specs.StoreFiles.{primary_file, log_file}
+use Rattle.dirty_vector.specs.Pages.{clean_pages}
+use Rattle.hive_files.specs.Finding.{IsByLog, IsLogged, IsPart, TellsOfHive}
+use Rattle.hive_files.proofs.Founding.{sector_tells, short_has_none, clean_found, unclean_found, clean_has_none, unclean_has_none, told_on}
+use Rattle.hive_files.proofs.Frames.{ok_joined, ok_of_three}
+use Rattle.base_block.specs.Layout.{is_clean_block}
+use Rattle.dirt_log.specs.Held.{is_clean_file}
+use Rattle.dirt_log.specs.WholeLog.{block_of}
+use Rattle.hive_files.proofs.finding.find.Goals as goal
+
+pub returns-in-None-clause-fails : goal.returns-in-None-clause-fails
+returns-in-None-clause-fails g c = inr (inr (subst (λ (r : Refusal). TellsOfHive r) (sym c.from.ensures) refl, λ faithful has.
+    let old = g.D.Disk.state_at c.args.disk.now (g.D.Disk.clock c.args.disk.now) in
+    let mid = g.D.Disk.state_at c.sync.new.self (g.D.Disk.clock c.sync.new.self) in
+    let primary = (old (primary_file c.args.hive)).seen in
+    let number : c.primary_number-primary.result ≡ primary_file c.args.hive = c.primary_number-primary.ensures in
+    let shown : (mid c.primary_number-primary.result).seen ≡ primary = ap (λ (s : FileState). s.seen) (c.in_ok-sync.ensures.synced (c.in-Ok.ensures.faithful faithful)) ∙ ap (λ (f : ℕ). (old f).seen) number in
+    let sector : c.in-Ok.sector.items ≡ take 512 primary = c.in-Ok.ensures.bytes faithful ∙ ap (λ (l : List ℕ). take 512 l) shown in
+    short_has_none primary _ (omega (arith, c.in-None.ensures.none, ap (λ (l : List ℕ). length l) (c.deref.ensures.value ∙ sector), length-take 512 primary)) has))
+
+pub returns-then-is_clean-clause-found : goal.returns-then-is_clean-clause-found
+returns-then-is_clean-clause-found g c = ok_of_three c.find_own.result _ _ _ _ (λ found bins judged says faithful.
+    let old = g.D.Disk.state_at c.args.disk.now (g.D.Disk.clock c.args.disk.now) in
+    let mid = g.D.Disk.state_at c.sync.new.self (g.D.Disk.clock c.sync.new.self) in
+    let late = g.D.Disk.state_at c.read_part.new.disk (g.D.Disk.clock c.read_part.new.disk) in
+    let primary = (old (primary_file c.args.hive)).seen in
+    let log = (old (log_file c.args.hive)).seen in
+    let read = c.find_own.ensures.faithful faithful in
+    let number : c.primary_number-primary.result ≡ primary_file c.args.hive = c.primary_number-primary.ensures in
+    let shown : (mid c.primary_number-primary.result).seen ≡ primary = ap (λ (s : FileState). s.seen) (c.in_ok-sync.ensures.synced (c.in-Ok.ensures.faithful read)) ∙ ap (λ (f : ℕ). (old f).seen) number in
+    let sector : c.deref.result.now ≡ take 512 primary = c.deref.ensures.value ∙ c.in-Ok.ensures.bytes read ∙ ap (λ (l : List ℕ). take 512 l) shown in
+    let tells : (c.in-Some.block ≡ block_of primary) × (512 ≤ length primary) × (is_clean_file primary ≡ is_clean_block c.in-Some.block) = sector_tells primary c.deref.result.now c.in-Some.block sector c.in-Some.ensures.some.0 c.in-Some.ensures.some.1 in
+    let clean : is_clean_file primary ≡ true = tells.2 ∙ sym c.is_clean.ensures ∙ c.if-is_clean.true in
+    let there : (late c.primary_number-primary.result).seen ≡ primary = ap (λ (s : FileState). s.seen) (c.in-Ok.ensures.reads.same c.primary_number-primary.result) ∙ shown in
+    clean_found primary log found clean says.2 (says.0 ∙ tells.0) (subst (λ (b : BaseBlock). IsPrimary b) (sym says.0) judged)
+    (subst (λ (b : BaseBlock). IsPart primary b.bins_size found.bins.items) (sym says.0) (subst (λ (p : List ℕ). IsPart p c.in-Some.block.bins_size found.bins.items) there (bins faithful)))
+    (says.1 ∙ ap (λ (b : BaseBlock). clean_pages b.bins_size) (sym says.0))) c.find_own.ensures.bins c.find_own.ensures.judged c.find_own.ensures.found
+
+pub returns-then-is_clean-clause-fails : goal.returns-then-is_clean-clause-fails
+returns-then-is_clean-clause-fails g c = IfErr-weaker c.find_own.result _ _ (λ why fails. told_on _ _ _ _ why (λ f. omega (arith, f, c.in-Ok.ensures.failures, c.in_ok-sync.ensures.failures)) (λ none faithful.
+    let old = g.D.Disk.state_at c.args.disk.now (g.D.Disk.clock c.args.disk.now) in
+    let mid = g.D.Disk.state_at c.sync.new.self (g.D.Disk.clock c.sync.new.self) in
+    let late = g.D.Disk.state_at c.read_part.new.disk (g.D.Disk.clock c.read_part.new.disk) in
+    let primary = (old (primary_file c.args.hive)).seen in
+    let log = (old (log_file c.args.hive)).seen in
+    let read = c.find_own.ensures.faithful faithful in
+    let number : c.primary_number-primary.result ≡ primary_file c.args.hive = c.primary_number-primary.ensures in
+    let shown : (mid c.primary_number-primary.result).seen ≡ primary = ap (λ (s : FileState). s.seen) (c.in_ok-sync.ensures.synced (c.in-Ok.ensures.faithful read)) ∙ ap (λ (f : ℕ). (old f).seen) number in
+    let sector : c.deref.result.now ≡ take 512 primary = c.deref.ensures.value ∙ c.in-Ok.ensures.bytes read ∙ ap (λ (l : List ℕ). take 512 l) shown in
+    let tells : (c.in-Some.block ≡ block_of primary) × (512 ≤ length primary) × (is_clean_file primary ≡ is_clean_block c.in-Some.block) = sector_tells primary c.deref.result.now c.in-Some.block sector c.in-Some.ensures.some.0 c.in-Some.ensures.some.1 in
+    let clean : is_clean_file primary ≡ true = tells.2 ∙ sym c.is_clean.ensures ∙ c.if-is_clean.true in
+    let there : (late c.primary_number-primary.result).seen ≡ primary = ap (λ (s : FileState). s.seen) (c.in-Ok.ensures.reads.same c.primary_number-primary.result) ∙ shown in
+    clean_has_none primary log c.in-Some.block clean tells.0 (λ judged long. none faithful judged (subst (λ (l : List ℕ). 4096 + c.in-Some.block.bins_size ≤ length l) (sym there) long))) fails) c.find_own.ensures.fails
+
+pub returns-clause-found : goal.returns-clause-found
+returns-clause-found g c = ok_joined c.find_repaired.result _ _ _ (λ found by says faithful.
+    let old = g.D.Disk.state_at c.args.disk.now (g.D.Disk.clock c.args.disk.now) in
+    let mid = g.D.Disk.state_at c.sync.new.self (g.D.Disk.clock c.sync.new.self) in
+    let late = g.D.Disk.state_at c.read_part.new.disk (g.D.Disk.clock c.read_part.new.disk) in
+    let primary = (old (primary_file c.args.hive)).seen in
+    let log = (old (log_file c.args.hive)).seen in
+    let read = c.find_repaired.ensures.faithful faithful in
+    let number : c.primary_number-primary.result ≡ primary_file c.args.hive = c.primary_number-primary.ensures in
+    let shown : (mid c.primary_number-primary.result).seen ≡ primary = ap (λ (s : FileState). s.seen) (c.in_ok-sync.ensures.synced (c.in-Ok.ensures.faithful read)) ∙ ap (λ (f : ℕ). (old f).seen) number in
+    let sector : c.deref.result.now ≡ take 512 primary = c.deref.ensures.value ∙ c.in-Ok.ensures.bytes read ∙ ap (λ (l : List ℕ). take 512 l) shown in
+    let tells : (c.in-Some.block ≡ block_of primary) × (512 ≤ length primary) × (is_clean_file primary ≡ is_clean_block c.in-Some.block) = sector_tells primary c.deref.result.now c.in-Some.block sector c.in-Some.ensures.some.0 c.in-Some.ensures.some.1 in
+    let clean : is_clean_file primary ≡ false = tells.2 ∙ sym c.is_clean.ensures ∙ c.if-is_clean.false in
+    let there : (late (primary_file c.args.hive)).seen ≡ primary = ap (λ (f : ℕ). (late f).seen) (sym number) ∙ ap (λ (s : FileState). s.seen) (c.in-Ok.ensures.reads.same c.primary_number-primary.result) ∙ shown in
+    let apart : log_file c.args.hive ≢ c.primary_number-primary.result = λ same. omega (arith, same, number) in
+    let behind : (late (log_file c.args.hive)).seen ≡ log = ap (λ (s : FileState). s.seen) (c.in-Ok.ensures.reads.same (log_file c.args.hive) ∙ c.in_ok-sync.ensures.others (log_file c.args.hive) apart) in
+    unclean_found primary log found clean says tells.1 (subst (λ (l : List ℕ). IsByLog primary l found) behind (subst (λ (p : List ℕ). IsByLog p (late (log_file c.args.hive)).seen found) there (by faithful)))) c.find_repaired.ensures.found c.find_repaired.ensures.clean
+
+pub returns-clause-fails : goal.returns-clause-fails
+returns-clause-fails g c = IfErr-weaker c.find_repaired.result _ _ (λ why fails. told_on _ _ _ _ why (λ f. omega (arith, f, c.in-Ok.ensures.failures, c.in_ok-sync.ensures.failures)) (λ none faithful.
+    let old = g.D.Disk.state_at c.args.disk.now (g.D.Disk.clock c.args.disk.now) in
+    let mid = g.D.Disk.state_at c.sync.new.self (g.D.Disk.clock c.sync.new.self) in
+    let late = g.D.Disk.state_at c.read_part.new.disk (g.D.Disk.clock c.read_part.new.disk) in
+    let primary = (old (primary_file c.args.hive)).seen in
+    let log = (old (log_file c.args.hive)).seen in
+    let read = c.find_repaired.ensures.faithful faithful in
+    let number : c.primary_number-primary.result ≡ primary_file c.args.hive = c.primary_number-primary.ensures in
+    let shown : (mid c.primary_number-primary.result).seen ≡ primary = ap (λ (s : FileState). s.seen) (c.in_ok-sync.ensures.synced (c.in-Ok.ensures.faithful read)) ∙ ap (λ (f : ℕ). (old f).seen) number in
+    let sector : c.deref.result.now ≡ take 512 primary = c.deref.ensures.value ∙ c.in-Ok.ensures.bytes read ∙ ap (λ (l : List ℕ). take 512 l) shown in
+    let tells : (c.in-Some.block ≡ block_of primary) × (512 ≤ length primary) × (is_clean_file primary ≡ is_clean_block c.in-Some.block) = sector_tells primary c.deref.result.now c.in-Some.block sector c.in-Some.ensures.some.0 c.in-Some.ensures.some.1 in
+    let clean : is_clean_file primary ≡ false = tells.2 ∙ sym c.is_clean.ensures ∙ c.if-is_clean.false in
+    let there : (late (primary_file c.args.hive)).seen ≡ primary = ap (λ (f : ℕ). (late f).seen) (sym number) ∙ ap (λ (s : FileState). s.seen) (c.in-Ok.ensures.reads.same c.primary_number-primary.result) ∙ shown in
+    let apart : log_file c.args.hive ≢ c.primary_number-primary.result = λ same. omega (arith, same, number) in
+    let behind : (late (log_file c.args.hive)).seen ≡ log = ap (λ (s : FileState). s.seen) (c.in-Ok.ensures.reads.same (log_file c.args.hive) ∙ c.in_ok-sync.ensures.others (log_file c.args.hive) apart) in
+    unclean_has_none primary log clean (λ logged. none faithful (subst (λ (l : List ℕ). IsLogged (late (primary_file c.args.hive)).seen l) (sym behind) (subst (λ (p : List ℕ). IsLogged p log) (sym there) logged)))) fails) c.find_repaired.ensures.fails

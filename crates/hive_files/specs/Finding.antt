@@ -1,0 +1,73 @@
+-- What is found in a hive's two files: the base block and the bins data that are in use, and what a repair is to write.
+use Rattle.std.specs.Prelude.{◌≡◌, ℕ, ◌+◌, ◌≤◌, true, false, List, length, take, drop, MatchBool}
+use Rattle.refusals.specs.declared.refusal.Refusal.{Refusal}
+use Rattle.refusals.specs.declared.refusal.Refusal.TheVariants as refusal
+use Rattle.base_block.specs.declared.block.BaseBlock.{BaseBlock}
+use Rattle.base_block.specs.Judgements.{IsPrimary}
+use Rattle.dirty_vector.specs.Pages.{clean_pages}
+use Rattle.dirt_log.specs.WholeLog.{IsWhole, IsCovered, block_of, pages_in, page_bytes_in}
+use Rattle.dirt_log.specs.Held.{is_clean_file, IsOwn, IsRepaired, IsInUse}
+use Rattle.dirt_log.specs.declared.reading.DirtLog.{DirtLog}
+use Rattle.hive_files.specs.declared.found.Found.{Found}
+
+-- a log's block as that of a primary file
+abbrev pub as_primary : BaseBlock → BaseBlock
+as_primary block = record block { file_type = record { 0 = 0 } }
+
+-- of a clean primary file: its own block, which may be used, and bins data, and no page to write
+pub record IsFoundClean (primary : List ℕ) (found : Found) : Type 0 where
+  pub own : IsOwn primary found.block found.bins.items
+  pub judged : IsPrimary found.block
+  pub pages : found.pages ≡ clean_pages found.block.bins_size
+
+-- bins data of a size are there, behind the base block
+pub record IsPart (primary : List ℕ) (size : ℕ) (bins : List ℕ) : Type 0 where
+  pub long : 4096 + size ≤ length primary
+  pub part : bins ≡ take size (drop 4096 primary)
+
+-- a log is whole, and has each page that the primary file lacks
+pub record IsLogged (primary log : List ℕ) : Type 0 where
+  pub whole : IsWhole log
+  pub covered : IsCovered (length (drop 4096 primary)) (pages_in log)
+
+-- the file of a log is whole, and the log is what it says
+pub record IsLogOf (file : List ℕ) (log : DirtLog) : Type 0 where
+  pub whole : IsWhole file
+  pub base : log.base ≡ block_of file
+  pub marked : log.vector ≡ pages_in file
+  pub pages : log.pages.now ≡ page_bytes_in file
+
+-- by a log: its block, and the bins data that it repairs, with the pages that it marks
+pub record IsByLog (primary log : List ℕ) (found : Found) : Type 0 where
+  pub repaired : IsRepaired primary log (block_of log) found.bins.items
+  pub block : found.block ≡ as_primary (block_of log)
+  pub pages : found.pages ≡ pages_in log
+
+-- of an unclean one, whose first sector is there: what its log holds
+pub record IsFoundUnclean (primary log : List ℕ) (found : Found) : Type 0 where
+  pub sector : 512 ≤ length primary
+  pub by_log : IsByLog primary log found
+
+pub record IsFound (primary log : List ℕ) (found : Found) : Type 0 where
+  pub clean : found.is_clean ≡ is_clean_file primary
+  pub parts : MatchBool found.is_clean (IsFoundClean primary found) (IsFoundUnclean primary log found)
+
+-- A primary file and its log have a block and bins data that may be used: its own, that of a primary file, where it is clean;
+-- else, where its first sector is there, those that the log repairs.
+pub record HasHive (primary log : List ℕ) : Type 0 where
+  pub block : BaseBlock
+  pub bins : List ℕ
+  pub in_use : IsInUse primary log block bins
+  pub own : is_clean_file primary ≡ true → IsPrimary block
+  pub sector : is_clean_file primary ≡ false → 512 ≤ length primary
+
+-- a refusal of a hive's bytes, by a cause of its own or by a limit or a version
+abbrev pub TellsOfHive : Refusal → Type 0
+TellsOfHive (refusal.HiveDamaged hive cause) = hive ≡ 0
+TellsOfHive refusal.TooLarge = Unit {0}
+TellsOfHive refusal.Unsupported = Unit {0}
+TellsOfHive _ = ⊥
+
+-- the refusal tells of the hive, in which nothing stands that may be used, where the device has answered as it should
+abbrev pub NothingThere : Type 0 → List ℕ → List ℕ → Refusal → Type 0
+NothingThere faithful primary log why = TellsOfHive why × (faithful → HasHive primary log → ⊥)

@@ -1,0 +1,92 @@
+//! The device's calls on files that are read whole.
+ghost use Rattle.std.specs.Prelude.{◌≡◌, ◌⊎◌, ◌+◌, ◌<◌, ◌≤◌, ◌^◌, ℕ, length, take, drop, IfOk, IfErr, OnOk};
+ghost use Rattle.disk_model.specs.StoreFiles.{primary_file, log_file};
+ghost use Rattle.hive_files.specs.Frames.{OnlyReads, FailsBy, nothing_told};
+
+use dirt_log::PIECE_BYTES;
+use disk_model::{Disk, Failed};
+use refusals::Refusal;
+use std::alloc::Global;
+
+/// The number of a hive's primary file in its store.
+pub fn primary_number(hive: u8) -> u32
+    ensures { result ≡ primary_file hive }
+{
+    1 + 2 * u32::from(hive)
+}
+
+/// The number of a hive's log in its store.
+pub fn log_number(hive: u8) -> u32
+    ensures { result ≡ log_file hive }
+{
+    2 + 2 * u32::from(hive)
+}
+
+/// The bytes of a file from an offset on: so many as there are, up to `most`. They are read in pieces.
+pub(crate) fn read_part<D: Disk>(
+    alloc: Global,
+    disk: &mut D,
+    file: u32,
+    offset: u64,
+    most: u64,
+) -> Result<Vec<u8>, Refusal>
+    ensures bytes { IfOk result (λ bytes. D.faithful disk.new → bytes.items
+        ≡ take most (drop offset (D.state_at disk.old (D.clock disk.old) file).seen)) }
+    ensures few { IfOk result (λ bytes. length bytes.items ≤ most) }
+    ensures fails { IfErr result (FailsBy (D.failures disk.old < D.failures disk.new) nothing_told) }
+    ensures reads { OnlyReads (D.state_at disk.old) (D.state_at disk.new) (D.clock disk.old)
+        (D.clock disk.new) }
+    ensures failures { D.failures disk.old ≤ D.failures disk.new }
+    ensures faithful { D.faithful disk.new → D.faithful disk.old }
+{
+    let len = disk.len(file)?;
+    let count = len.saturating_sub(offset).min(most) as usize;
+    let mut bytes = vec![in alloc; 0u8; count]?;
+    if count > 0 {
+        fill(disk, file, offset, &mut bytes)?;
+    }
+    Ok(bytes)
+}
+
+// reads so many bytes as the buffer has, which are in the file
+fn fill<D: Disk>(disk: &mut D, file: u32, offset: u64, bytes: &mut [u8]) -> Result<(), Failed>
+    requires near { offset + length bytes.old < 2 ^ 64 }
+    ensures size { length bytes.new ≡ length bytes.old }
+    ensures bytes { OnOk result (D.faithful disk.new → offset + length bytes.old
+        ≤ length (D.state_at disk.old (D.clock disk.old) file).seen → bytes.new
+        ≡ take (length bytes.old) (drop offset (D.state_at disk.old (D.clock disk.old) file).seen)) }
+    ensures fails { IfErr result (λ _. D.failures disk.old < D.failures disk.new) }
+    ensures reads { OnlyReads (D.state_at disk.old) (D.state_at disk.new) (D.clock disk.old)
+        (D.clock disk.new) }
+    ensures failures { D.failures disk.old ≤ D.failures disk.new }
+    ensures faithful { D.faithful disk.new → D.faithful disk.old }
+{
+    let mut at = 0;
+    'pieces: while at < bytes.len() {
+        let end = at + (bytes.len() - at).min(PIECE_BYTES);
+        read_piece(disk, file, offset + at as u64, &mut bytes[at..end])?;
+        at = end;
+    }
+    Ok(())
+}
+
+// reads so many bytes as the buffer has, in one call
+fn read_piece<D: Disk>(
+    disk: &mut D,
+    file: u32,
+    offset: u64,
+    piece: &mut [u8],
+) -> Result<(), Failed>
+    ensures size { length piece.new ≡ length piece.old }
+    ensures bytes { OnOk result (D.faithful disk.new → offset + length piece.old
+        ≤ length (D.state_at disk.old (D.clock disk.old) file).seen → piece.new
+        ≡ take (length piece.old) (drop offset (D.state_at disk.old (D.clock disk.old) file).seen)) }
+    ensures fails { IfErr result (λ _. D.failures disk.old < D.failures disk.new) }
+    ensures reads { OnlyReads (D.state_at disk.old) (D.state_at disk.new) (D.clock disk.old)
+        (D.clock disk.new) }
+    ensures failures { D.failures disk.old ≤ D.failures disk.new }
+    ensures faithful { D.faithful disk.new → D.faithful disk.old }
+{
+    disk.read(file, offset, piece)?;
+    Ok(())
+}

@@ -1,0 +1,246 @@
+//! What is found in a hive's two files.
+ghost use Rattle.std.specs.Prelude.{◌≡◌, ◌⊎◌, ◌+◌, ◌<◌, ◌≤◌, ℕ, List, length, take, drop, true, false, IfOk, IfErr, IfSome, IfNone};
+ghost use Rattle.base_block.specs.Judgements.{IsLog, IsPrimary};
+ghost use Rattle.base_block.specs.Layout.{is_clean_block};
+ghost use Rattle.dirt_log.specs.WholeLog.{IsWhole, block_of, not_whole};
+ghost use Rattle.dirty_vector.specs.Pages.{clean_pages};
+ghost use Rattle.disk_model.specs.Call.{Extends};
+ghost use Rattle.disk_model.specs.FileState.{at_rest};
+ghost use Rattle.disk_model.specs.StoreFiles.{IsOfHive, primary_file, log_file};
+ghost use Rattle.hive_files.specs.Finding.{IsByLog, IsFound, IsLogOf, IsLogged, IsPart, NothingThere, TellsOfHive, as_primary};
+ghost use Rattle.hive_files.specs.Frames.{OnlyReads, FailsBy, IsSyncedOrSame};
+ghost use Rattle.refusals.specs.Answers.{RefusedFor};
+
+use crate::files::{log_number, primary_number, read_part};
+use crate::found::Found;
+use base_block::{BaseBlock, FileType};
+use dirt_log::{DirtLog, front_is_read, front_is_repaired};
+use dirty_vector::DirtyVector;
+use disk_model::Disk;
+use refusals::{Cause, Refusal};
+use std::alloc::Global;
+
+/// Where the bins data begin in a primary file.
+const BINS_AT: u64 = 4_096;
+
+/// The bytes of a first sector.
+const SECTOR_BYTES: u64 = 512;
+
+/// The bytes of the longest log that is whole: its first sector, letters and bitmap, in whole sectors, and each page.
+const MOST_LOG_BYTES: u64 = 67_126_272;
+
+/// Finds what is in use in a hive's two files. The primary file is synced first; and so is the log, but where the primary file
+/// is clean: then it isn't looked at.
+///
+/// Refused with `DiskFault` where the device failed, with `NoMemory`, and only where nothing that may be used stands in the
+/// files with a cause of hive 0, `Unsupported` or `TooLarge`: a clean primary file with that of its base block, or with
+/// `Truncated` where it is shorter than its bins data; an unclean one with `BadLog`, also where it has no first sector. No file
+/// changes but by its sync.
+pub fn find<D: Disk>(alloc: Global, disk: &mut D, hive: u8) -> Result<Found, Refusal>
+    ensures found { IfOk result (λ found. D.faithful disk.new → IsFound
+        (D.state_at disk.old (D.clock disk.old) (primary_file hive)).seen
+        (D.state_at disk.old (D.clock disk.old) (log_file hive)).seen found) }
+    ensures rest { IfOk result (λ found. D.faithful disk.new →
+        D.state_at disk.new (D.clock disk.new) (primary_file hive)
+        ≡ at_rest (D.state_at disk.old (D.clock disk.old) (primary_file hive)).seen) }
+    ensures log_rest { IfOk result (λ found. D.faithful disk.new → found.is_clean ≡ false →
+        D.state_at disk.new (D.clock disk.new) (log_file hive)
+        ≡ at_rest (D.state_at disk.old (D.clock disk.old) (log_file hive)).seen) }
+    ensures fails { IfErr result (FailsBy (D.failures disk.old < D.failures disk.new)
+        (NothingThere (D.faithful disk.new)
+        (D.state_at disk.old (D.clock disk.old) (primary_file hive)).seen
+        (D.state_at disk.old (D.clock disk.old) (log_file hive)).seen)) }
+    ensures synced { D.faithful disk.new → (f : ℕ) → IsOfHive hive f → IsSyncedOrSame
+        (D.state_at disk.old (D.clock disk.old) f) (D.state_at disk.new (D.clock disk.new) f) }
+    ensures others { (f : ℕ) → ¬ (IsOfHive hive f) →
+        D.state_at disk.new (D.clock disk.new) f ≡ D.state_at disk.old (D.clock disk.old) f }
+    ensures time { Extends (D.state_at disk.old) (D.state_at disk.new) (D.clock disk.old)
+        (D.clock disk.new) }
+    ensures failures { D.failures disk.old ≤ D.failures disk.new }
+    ensures faithful { D.faithful disk.new → D.faithful disk.old }
+{
+    let primary = primary_number(hive);
+    disk.sync(primary)?;
+    let sector = match read_part(alloc, disk, primary, 0, SECTOR_BYTES) {
+        Ok(sector) => sector,
+        Err(why) => return Err(why),
+    };
+    match block_in(&sector) {
+        None => Err(Refusal::from(Cause::BadLog)),
+        Some(block) => {
+            if block.is_clean() {
+                find_own(alloc, disk, primary, block)
+            } else {
+                find_repaired(alloc, disk, hive)
+            }
+        }
+    }
+}
+
+// the block of a first sector, where there is one
+fn block_in(sector: &[u8]) -> Option<BaseBlock>
+    ensures some { IfSome result (λ block. (block ≡ block_of sector.now) × (512 ≤ length sector.now)) }
+    ensures none { IfNone result (length sector.now < 512) }
+{
+    if sector.len() < SECTOR_BYTES as usize {
+        return None;
+    }
+    let mut first = [0; 512];
+    first.copy_from_slice(&sector[..512]);
+    Some(BaseBlock::read(&first))
+}
+
+// what a clean primary file holds, whose block this is
+fn find_own<D: Disk>(
+    alloc: Global,
+    disk: &mut D,
+    file: u32,
+    block: BaseBlock,
+) -> Result<Found, Refusal>
+    requires clean { is_clean_block block ≡ true }
+    ensures judged { IfOk result (λ found. IsPrimary block) }
+    ensures found { IfOk result (λ found. (found.block ≡ block)
+        × (found.pages ≡ clean_pages block.bins_size) × (found.is_clean ≡ true)) }
+    ensures bins { IfOk result (λ found. D.faithful disk.new → IsPart
+        (D.state_at disk.old (D.clock disk.old) file).seen block.bins_size found.bins.items) }
+    ensures fails { IfErr result (FailsBy (D.failures disk.old < D.failures disk.new)
+        (λ why. TellsOfHive why × (D.faithful disk.new → IsPrimary block →
+        4096 + block.bins_size ≤ length (D.state_at disk.old (D.clock disk.old) file).seen → ⊥))) }
+    ensures reads { OnlyReads (D.state_at disk.old) (D.state_at disk.new) (D.clock disk.old)
+        (D.clock disk.new) }
+    ensures failures { D.failures disk.old ≤ D.failures disk.new }
+    ensures faithful { D.faithful disk.new → D.faithful disk.old }
+{
+    match block.judge_primary() {
+        Ok(()) => {}
+        Err(why) => return Err(why),
+    }
+    let size = block.bins_size as usize;
+    let bins = match read_part(alloc, disk, file, BINS_AT, size as u64) {
+        Ok(bins) => bins,
+        Err(why) => return Err(why),
+    };
+    if bins.len() < size {
+        return Err(Refusal::from(Cause::Truncated));
+    }
+    let pages = match DirtyVector::new(alloc, size) {
+        Ok(pages) => pages,
+        Err(why) => return Err(why),
+    };
+    Ok(Found {
+        block,
+        bins,
+        pages,
+        is_clean: true,
+    })
+}
+
+// what an unclean primary file holds by its log, which is synced first
+fn find_repaired<D: Disk>(alloc: Global, disk: &mut D, hive: u8) -> Result<Found, Refusal>
+    ensures found { IfOk result (λ found. D.faithful disk.new → IsByLog
+        (D.state_at disk.old (D.clock disk.old) (primary_file hive)).seen
+        (D.state_at disk.old (D.clock disk.old) (log_file hive)).seen found) }
+    ensures clean { IfOk result (λ found. found.is_clean ≡ false) }
+    ensures rest { IfOk result (λ found. D.faithful disk.new →
+        D.state_at disk.new (D.clock disk.new) (log_file hive)
+        ≡ at_rest (D.state_at disk.old (D.clock disk.old) (log_file hive)).seen) }
+    ensures fails { IfErr result (FailsBy (D.failures disk.old < D.failures disk.new)
+        (λ why. TellsOfHive why × (D.faithful disk.new → IsLogged
+        (D.state_at disk.old (D.clock disk.old) (primary_file hive)).seen
+        (D.state_at disk.old (D.clock disk.old) (log_file hive)).seen → ⊥))) }
+    ensures synced { D.faithful disk.new → IsSyncedOrSame
+        (D.state_at disk.old (D.clock disk.old) (log_file hive))
+        (D.state_at disk.new (D.clock disk.new) (log_file hive)) }
+    ensures others { (f : ℕ) → ¬ (f ≡ log_file hive) →
+        D.state_at disk.new (D.clock disk.new) f ≡ D.state_at disk.old (D.clock disk.old) f }
+    ensures time { Extends (D.state_at disk.old) (D.state_at disk.new) (D.clock disk.old)
+        (D.clock disk.new) }
+    ensures failures { D.failures disk.old ≤ D.failures disk.new }
+    ensures faithful { D.faithful disk.new → D.faithful disk.old }
+{
+    disk.sync(log_number(hive))?;
+    read_repaired(alloc, disk, hive)
+}
+
+// the same where the log is synced
+fn read_repaired<D: Disk>(alloc: Global, disk: &mut D, hive: u8) -> Result<Found, Refusal>
+    ensures found { IfOk result (λ found. D.faithful disk.new → IsByLog
+        (D.state_at disk.old (D.clock disk.old) (primary_file hive)).seen
+        (D.state_at disk.old (D.clock disk.old) (log_file hive)).seen found) }
+    ensures clean { IfOk result (λ found. found.is_clean ≡ false) }
+    ensures fails { IfErr result (FailsBy (D.failures disk.old < D.failures disk.new)
+        (λ why. TellsOfHive why × (D.faithful disk.new → IsLogged
+        (D.state_at disk.old (D.clock disk.old) (primary_file hive)).seen
+        (D.state_at disk.old (D.clock disk.old) (log_file hive)).seen → ⊥))) }
+    ensures reads { OnlyReads (D.state_at disk.old) (D.state_at disk.new) (D.clock disk.old)
+        (D.clock disk.new) }
+    ensures failures { D.failures disk.old ≤ D.failures disk.new }
+    ensures faithful { D.faithful disk.new → D.faithful disk.old }
+{
+    let text = match read_part(alloc, disk, log_number(hive), 0, MOST_LOG_BYTES) {
+        Ok(text) => text,
+        Err(why) => return Err(why),
+    };
+    let log = match read_log(alloc, &text) {
+        Ok(log) => log,
+        Err(why) => return Err(why),
+    };
+    let size = log.vector.bins_size() as u64;
+    let bins = match read_part(alloc, disk, primary_number(hive), BINS_AT, size) {
+        Ok(bins) => bins,
+        Err(why) => return Err(why),
+    };
+    repaired(log, bins)
+}
+
+// the log whose longest front this is
+fn read_log(alloc: Global, text: &[u8]) -> Result<DirtLog<'_>, Refusal>
+    ensures used { IfOk result (λ log. IsLog log.base
+        × (log.base.bins_size ≡ log.vector.bins_size)) }
+    ensures log { IfOk result (λ log. (file : List ℕ) → text.now ≡ take 67126272 file →
+        IsLogOf file log) }
+    ensures refused { IfErr result (RefusedFor not_whole ((file : List ℕ) →
+        text.now ≡ take 67126272 file → IsWhole file → ⊥)) }
+{
+    // a law: it does nothing
+    front_is_read();
+    match dirt_log::read(alloc, text) {
+        Ok(log) => Ok(log),
+        Err(why) => Err(why),
+    }
+}
+
+// bins data as a log repairs them
+fn repaired(log: DirtLog<'_>, bins: Vec<u8>) -> Result<Found, Refusal>
+    requires used { IsLog log.base × (log.base.bins_size ≡ log.vector.bins_size) }
+    ensures found { IfOk result (λ found. (primary file : List ℕ) → IsLogOf file log.entry →
+        bins.items ≡ take log.entry.vector.bins_size (drop 4096 primary) →
+        IsByLog primary file found) }
+    ensures clean { IfOk result (λ found. found.is_clean ≡ false) }
+    ensures fails { IfErr result (RefusedFor not_whole ((primary file : List ℕ) →
+        IsLogOf file log.entry →
+        bins.items ≡ take log.entry.vector.bins_size (drop 4096 primary) →
+        IsLogged primary file → ⊥)) }
+{
+    // a law: it does nothing
+    front_is_repaired();
+    let mut bins = bins;
+    match log.apply_to(&mut bins) {
+        Ok(()) => {}
+        Err(why) => return Err(why),
+    }
+    let DirtLog {
+        base,
+        vector,
+        pages: _,
+    } = log;
+    Ok(Found {
+        block: BaseBlock {
+            file_type: FileType::PRIMARY,
+            ..base
+        },
+        bins,
+        pages: vector,
+        is_clean: false,
+    })
+}

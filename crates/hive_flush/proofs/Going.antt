@@ -1,0 +1,226 @@
+-- A step's files, from stage to stage.
+use Rattle.std.proofs.Common.{◌≡◌, false, true, ℕ, List, length, refl, sym, ap, subst, ◌∙◌, Option, Some, Result, Ok, Err}
+use Rattle.refusals.specs.declared.refusal.Refusal.{Refusal}
+use Rattle.engine_words.specs.declared.Progress.{Progress}
+use Rattle.engine_words.specs.declared.Progress.TheVariants as progress
+use Rattle.prefix_law.specs.Promises.{Choice, settled, under_way}
+use Rattle.reg_tree.specs.Maps.{TreeMap}
+use Rattle.base_block.specs.declared.block.BaseBlock.{BaseBlock}
+use Rattle.disk_model.specs.FileState.{FileState}
+use Rattle.disk_model.specs.StoreFiles.{primary_file, log_file}
+use Rattle.dirty_vector.specs.Pages.{Pages}
+use Rattle.hive_phases.specs.Holding.{Standing, tree_under}
+use Rattle.hive_phases.specs.Plans.{Plan, IsReady}
+use Rattle.hive_phases.specs.Phases.{choice_in}
+use Rattle.hive_writer.specs.declared.writer.HiveWriter.{HiveWriter}
+use Rattle.hive_writer.specs.declared.stage.Stage.{Stage}
+use Rattle.hive_writer.specs.declared.stage.Stage.TheVariants as stage
+use Rattle.base_block.specs.Layout.{sector_of}
+use Rattle.hive_writer.specs.declared.stage.Purpose.TheVariants as purpose
+use Rattle.hive_writer.specs.Writing.{EndsWith, IsAt, IsFlushing, IsRewriting, KeepsBlocks, LeadsOn, base_after, choice_at, left_after, now_after, phase_in, plan_of, work_of}
+use Rattle.hive_flush.specs.Planned.{block_again}
+use Rattle.hive_flush.specs.HiveStates.{IsOnBy}
+use Rattle.hive_flush.specs.Standing.{IsRight}
+
+-- ---- what surely stands
+
+-- of a flush, or where what is in memory is what stands
+pub now_stands : (at : Stage) (now memory : TreeMap × ℕ) → ((IsFlushing at → ⊥) → now ≡ memory) → (choice_at at now memory).now ≡ now
+now_stands stage.Quiet now memory same = refl
+now_stands (stage.Logging k) now memory same = refl
+now_stands stage.Logged now memory same = refl
+now_stands stage.Raised now memory same = refl
+now_stands (stage.Paging purpose.Flush page) now memory same = refl
+now_stands (stage.Paging purpose.Repair page) now memory same = sym (same (λ e. absurd cc))
+now_stands (stage.Paged purpose.Flush) now memory same = refl
+now_stands (stage.Paged purpose.Repair) now memory same = sym (same (λ e. absurd cc))
+now_stands (stage.Finished purpose.Flush) now memory same = refl
+now_stands (stage.Finished purpose.Repair) now memory same = sym (same (λ e. absurd cc))
+
+-- ---- a step that was not the last one
+
+-- the plan that a writer follows hangs on its blocks
+made : List ℕ → Pages → BaseBlock → BaseBlock → Plan
+made image pages block base = plan_of (record { hive = 0; base = base; block = block; stage = stage.Quiet; failed = false }) image pages
+
+plan_same : (old new : HiveWriter) (image : List ℕ) (pages : Pages) → new.block ≡ old.block → new.base ≡ old.base → plan_of new image pages ≡ plan_of old image pages
+unfolding made
+plan_same old new image pages block base = ap (λ (b : BaseBlock). made image pages b new.base) block ∙ ap (made image pages old.block) base
+
+abbrev pub IsNotDone : Result Progress Refusal → Type 0
+IsNotDone (Ok progress.Done) = ⊥
+IsNotDone (Ok progress.More) = Unit {0}
+IsNotDone (Ok progress.Idle) = Unit {0}
+IsNotDone (Err refusal) = Unit {0}
+
+left_same : (result : Result Progress Refusal) (pages : Pages) → left_after result pages pages ≡ pages
+left_same (Ok progress.Done) pages = refl
+left_same (Ok progress.More) pages = refl
+left_same (Ok progress.Idle) pages = refl
+left_same (Err refusal) pages = refl
+
+now_same : (result : Result Progress Refusal) (now memory : TreeMap × ℕ) → IsNotDone result → now_after result now memory ≡ now
+now_same (Ok progress.Done) now memory not_done = elim not_done [ ]
+now_same (Ok progress.More) now memory not_done = refl
+now_same (Ok progress.Idle) now memory not_done = refl
+now_same (Err refusal) now memory not_done = refl
+
+base_same : (result : Result Progress Refusal) (old : HiveWriter) → IsNotDone result → base_after result old ≡ old.base
+base_same (Ok progress.Done) old not_done = elim not_done [ ]
+base_same (Ok progress.More) old not_done = refl
+base_same (Ok progress.Idle) old not_done = refl
+base_same (Err refusal) old not_done = refl
+
+-- A call leads the files on by the plan that is followed: of a flush that of the writer's blocks, and any that ends with its
+-- block of a repair.
+abbrev pub LeadsBy : HiveWriter → HiveWriter → List ℕ → Pages → Result Progress Refusal → (ℕ → FileState) → (ℕ → FileState) → Type 0
+LeadsBy old new image pages result before after = (stands : Standing TreeMap) (plan : Plan) → EndsWith old.block plan
+    → (IsFlushing old.stage → plan ≡ plan_of old image pages) → LeadsOn stands plan image pages result old new before after
+
+went_on : (result : Result Progress Refusal) (old new : HiveWriter) (image : List ℕ) (pages : Pages) (now memory : TreeMap × ℕ) (before after : ℕ → FileState)
+    → IsNotDone result → (IsFlushing new.stage → IsFlushing old.stage) → length image ≡ pages.bins_size → KeepsBlocks old new result
+    → LeadsBy old new image pages result before after
+    → IsOnBy old image pages now memory (before (primary_file old.hive)) (before (log_file old.hive))
+    → IsOnBy new image pages now memory (after (primary_file old.hive)) (after (log_file old.hive))
+went_on result old new image pages now memory before after not_done flushes size keeps leads on =
+    let led = leads on.stands on.plan on.ends on.flush now memory pages (sym size) on.ready on.on in
+    let there : IsAt on.stands (work_of on.plan image pages (now_after result now memory) memory) new.hive new.stage after
+    = subst (λ (v : Pages). IsAt on.stands (work_of on.plan image v (now_after result now memory) memory) new.hive new.stage after) (left_same result pages) led in
+    let still : IsAt on.stands (work_of on.plan image pages now memory) new.hive new.stage after
+    = subst (λ (n : TreeMap × ℕ). IsAt on.stands (work_of on.plan image pages n memory) new.hive new.stage after) (now_same result now memory not_done) there in
+    record {
+      stands = on.stands;
+      right = subst (λ (b : BaseBlock). IsRight b.store on.stands) (sym keeps.block) on.right;
+      plan = on.plan;
+      ready = on.ready;
+      ends = record { block = on.ends.block ∙ sym keeps.block; final = on.ends.final ∙ ap sector_of (sym keeps.block) };
+      flush = λ f. on.flush (flushes f) ∙ sym (plan_same old new image pages keeps.block (keeps.base ∙ base_same result old not_done));
+      on = subst (λ (h : ℕ). IsAt on.stands (work_of on.plan image pages now memory) h new.stage after) keeps.hive still;
+    }
+
+-- ---- the last step
+
+done_on : (old new : HiveWriter) (image : List ℕ) (pages clean : Pages) (now memory : TreeMap × ℕ) (before after : ℕ → FileState)
+    → clean.bins_size ≡ length image → KeepsBlocks old new (Ok progress.Done) → new.stage ≡ stage.Quiet
+    → LeadsBy old new image pages (Ok progress.Done) before after
+    → ((stands : Standing TreeMap) → tree_under stands new.block image ≡ Some memory.0 → new.block.applied.0 ≡ memory.1
+        → IsReady stands memory image clean (plan_of (record new { block = block_again new.block }) image clean))
+    → IsOnBy old image pages now memory (before (primary_file old.hive)) (before (log_file old.hive))
+    → IsOnBy (record new { block = block_again new.block }) image clean memory memory (after (primary_file old.hive)) (after (log_file old.hive))
+done_on old new image pages clean now memory before after size keeps quiet leads fits on =
+    let next = plan_of (record new { block = block_again new.block }) image clean in
+    let led : IsAt on.stands (work_of on.plan image clean memory memory) new.hive new.stage after = leads on.stands on.plan on.ends on.flush now memory clean size on.ready on.on in
+    let at_rest : IsAt on.stands (work_of on.plan image clean memory memory) new.hive stage.Quiet after
+    = subst (λ (q : Stage). IsAt on.stands (work_of on.plan image clean memory memory) new.hive q after) quiet led in
+    let again : IsAt on.stands (work_of next image clean memory memory) new.hive stage.Quiet after = record { rest = at_rest.rest; clean = at_rest.clean; behind = at_rest.behind } in
+    let now_at : IsAt on.stands (work_of next image clean memory memory) new.hive new.stage after
+    = subst (λ (q : Stage). IsAt on.stands (work_of next image clean memory memory) new.hive q after) (sym quiet) again in
+    let block : on.plan.block ≡ new.block = on.ends.block ∙ sym keeps.block in
+    record {
+      stands = on.stands;
+      right = subst (λ (b : BaseBlock). IsRight b.store on.stands) (sym keeps.block) on.right;
+      plan = next;
+      ready = fits on.stands (subst (λ (b : BaseBlock). tree_under on.stands b image ≡ Some memory.0) block on.ready.tree) (sym (ap (λ (b : BaseBlock). b.applied.0) block) ∙ on.ready.number);
+      ends = record { block = refl; final = refl };
+      flush = λ any. refl;
+      on = subst (λ (h : ℕ). IsAt on.stands (work_of next image clean memory memory) h new.stage after) keeps.hive now_at;
+    }
+
+-- ---- with the numbers in the writer's blocks
+
+pub went : (result : Result Progress Refusal) (old new : HiveWriter) (image : List ℕ) (pages : Pages) (held tree : TreeMap) (before after : ℕ → FileState)
+    → IsNotDone result → (IsFlushing new.stage → IsFlushing old.stage) → length image ≡ pages.bins_size → KeepsBlocks old new result
+    → LeadsBy old new image pages result before after
+    → IsOnBy old image pages (held, old.base.applied.0) (tree, old.block.applied.0) (before (primary_file old.hive)) (before (log_file old.hive))
+    → IsOnBy new image pages (held, new.base.applied.0) (tree, new.block.applied.0) (after (primary_file old.hive)) (after (log_file old.hive))
+went result old new image pages held tree before after not_done flushes size keeps leads on =
+    let p = after (primary_file old.hive) in
+    let l = after (log_file old.hive) in
+    let moved = went_on result old new image pages (held, old.base.applied.0) (tree, old.block.applied.0) before after not_done flushes size keeps leads on in
+    let base : new.base ≡ old.base = keeps.base ∙ base_same result old not_done in
+    subst (λ (b : BaseBlock). IsOnBy new image pages (held, new.base.applied.0) (tree, b.applied.0) p l) (sym keeps.block)
+    (subst (λ (b : BaseBlock). IsOnBy new image pages (held, b.applied.0) (tree, old.block.applied.0) p l) (sym base) moved)
+
+pub done : (old new : HiveWriter) (image : List ℕ) (pages clean : Pages) (held tree : TreeMap) (before after : ℕ → FileState)
+    → clean.bins_size ≡ length image → KeepsBlocks old new (Ok progress.Done) → new.stage ≡ stage.Quiet
+    → LeadsBy old new image pages (Ok progress.Done) before after
+    → ((stands : Standing TreeMap) (memory : TreeMap × ℕ) → tree_under stands new.block image ≡ Some memory.0 → new.block.applied.0 ≡ memory.1
+        → IsReady stands memory image clean (plan_of (record new { block = block_again new.block }) image clean))
+    → IsOnBy old image pages (held, old.base.applied.0) (tree, old.block.applied.0) (before (primary_file old.hive)) (before (log_file old.hive))
+    → IsOnBy (record new { block = block_again new.block }) image clean (tree, new.base.applied.0) (tree, new.block.applied.0) (after (primary_file old.hive)) (after (log_file old.hive))
+done old new image pages clean held tree before after size keeps quiet leads fits on =
+    let p = after (primary_file old.hive) in
+    let l = after (log_file old.hive) in
+    let again : HiveWriter = record new { block = block_again new.block } in
+    let moved = done_on old new image pages clean (held, old.base.applied.0) (tree, old.block.applied.0) before after size keeps quiet leads (λ stands. fits stands (tree, old.block.applied.0)) on in
+    subst (λ (b : BaseBlock). IsOnBy again image clean (tree, new.base.applied.0) (tree, b.applied.0) p l) (sym keeps.block)
+    (subst (λ (b : BaseBlock). IsOnBy again image clean (tree, b.applied.0) (tree, old.block.applied.0) p l) (sym keeps.base) moved)
+
+-- ---- the same by parts that are equal
+
+pub same_on : (w v : HiveWriter) (image other : List ℕ) (pages left : Pages) (held kept tree same : TreeMap) (primary log : FileState)
+    → v ≡ w → other ≡ image → left ≡ pages → kept ≡ held → same ≡ tree
+    → IsOnBy w image pages (held, w.base.applied.0) (tree, w.block.applied.0) primary log
+    → IsOnBy v other left (kept, v.base.applied.0) (same, v.block.applied.0) primary log
+same_on w v image other pages left held kept tree same primary log vw oi lp kh st on =
+    let first = subst (λ (x : HiveWriter). IsOnBy x image pages (held, x.base.applied.0) (tree, x.block.applied.0) primary log) (sym vw) on in
+    let second = subst (λ (x : List ℕ). IsOnBy v x pages (held, v.base.applied.0) (tree, v.block.applied.0) primary log) (sym oi) first in
+    let third = subst (λ (x : Pages). IsOnBy v other x (held, v.base.applied.0) (tree, v.block.applied.0) primary log) (sym lp) second in
+    let fourth = subst (λ (x : TreeMap). IsOnBy v other left (x, v.base.applied.0) (tree, v.block.applied.0) primary log) (sym kh) third in
+    subst (λ (x : TreeMap). IsOnBy v other left (kept, v.base.applied.0) (x, v.block.applied.0) primary log) (sym st) fourth
+
+pub same_pair : (held tree : TreeMap) (base block : BaseBlock) → held ≡ tree → base ≡ block → ◌≡◌ {A = TreeMap × ℕ} (held, base.applied.0) (tree, block.applied.0)
+same_pair held tree base block h b = ap (λ (x : TreeMap). (x, base.applied.0)) h ∙ ap (λ (x : BaseBlock). (tree, x.applied.0)) b
+
+pub ready_same : (w v : HiveWriter) (image other : List ℕ) (pages left : Pages) (memory : TreeMap × ℕ) (stands : Standing TreeMap) → v ≡ w → other ≡ image → left ≡ pages
+    → (tree_under stands v.block other ≡ Some memory.0 → v.block.applied.0 ≡ memory.1 → IsReady stands memory other left (plan_of v other left))
+    → tree_under stands w.block image ≡ Some memory.0 → w.block.applied.0 ≡ memory.1 → IsReady stands memory image pages (plan_of w image pages)
+ready_same w v image other pages left memory stands vw oi lp fits =
+    let first = subst (λ (x : HiveWriter). tree_under stands x.block other ≡ Some memory.0 → x.block.applied.0 ≡ memory.1 → IsReady stands memory other left (plan_of x other left)) vw fits in
+    let second = subst (λ (x : List ℕ). tree_under stands w.block x ≡ Some memory.0 → w.block.applied.0 ≡ memory.1 → IsReady stands memory x left (plan_of w x left)) oi first in
+    subst (λ (x : Pages). tree_under stands w.block image ≡ Some memory.0 → w.block.applied.0 ≡ memory.1 → IsReady stands memory image x (plan_of w image x)) lp second
+
+choice_by : HiveWriter → TreeMap → TreeMap → Choice (TreeMap × ℕ)
+choice_by w held tree = choice_at w.stage (held, w.base.applied.0) (tree, w.block.applied.0)
+
+-- what surely stands once it is done
+pub files_done : (old w v : HiveWriter) (kept tree same : TreeMap) → KeepsBlocks old w (Ok progress.Done) → v ≡ record w { block = block_again w.block } → kept ≡ tree → same ≡ tree
+    → choice_at v.stage (kept, v.base.applied.0) (same, v.block.applied.0) ≡ choice_at w.stage (tree, old.block.applied.0) (tree, old.block.applied.0)
+unfolding choice_by
+files_done old w v kept tree same keeps is k s =
+    let again : HiveWriter = record w { block = block_again w.block } in
+    ap (λ (x : HiveWriter). choice_by x kept same) is ∙ ap (λ (x : TreeMap). choice_by again x same) k ∙ ap (choice_by again tree) s
+    ∙ ap (λ (b : BaseBlock). choice_at w.stage (tree, b.applied.0) (tree, w.block.applied.0)) keeps.base ∙ ap (λ (b : BaseBlock). choice_at w.stage (tree, old.block.applied.0) (tree, b.applied.0)) keeps.block
+
+-- a step of a flush follows its plan
+pub by_plan : (result : Result Progress Refusal) (old new : HiveWriter) (image other : List ℕ) (pages : Pages) (before after : ℕ → FileState) → IsFlushing old.stage → other ≡ image
+    → ((stands : Standing TreeMap) → LeadsOn stands (plan_of old other pages) other pages result old new before after) → LeadsBy old new image pages result before after
+by_plan result old new image other pages before after flushing is led = λ stands plan ends flush.
+    subst (λ (q : Plan). LeadsOn stands q image pages result old new before after) (sym (flush flushing))
+    (subst (λ (l : List ℕ). LeadsOn stands (plan_of old l pages) l pages result old new before after) is (led stands))
+
+-- a step of a repair leads on by any plan that ends with the writer's block
+pub by_end : (result : Result Progress Refusal) (old new : HiveWriter) (image other : List ℕ) (pages : Pages) (before after : ℕ → FileState) → other ≡ image
+    → ((stands : Standing TreeMap) (plan : Plan) → EndsWith old.block plan → LeadsOn stands plan other pages result old new before after) → LeadsBy old new image pages result before after
+by_end result old new image other pages before after is led = λ stands plan ends flush.
+    subst (λ (l : List ℕ). LeadsOn stands plan l pages result old new before after) is (led stands plan ends)
+
+-- a repair that goes on is no flush
+pub repairs_on : (at : Stage) → IsRewriting purpose.Repair at → IsFlushing at → ⊥
+repairs_on stage.Quiet r f = elim r [ ]
+repairs_on (stage.Logging k) r f = elim r [ ]
+repairs_on stage.Logged r f = elim r [ ]
+repairs_on stage.Raised r f = elim r [ ]
+repairs_on (stage.Paging whose page) r f = absurd cc
+repairs_on (stage.Paged whose) r f = absurd cc
+repairs_on (stage.Finished whose) r f = absurd cc
+
+-- what stands and is on its way hangs on no length of a log
+pub choice_is : (total : ℕ) (at : Stage) (now memory : TreeMap × ℕ) → choice_in (phase_in total at) now memory ≡ choice_at at now memory
+choice_is total stage.Quiet now memory = refl
+choice_is total (stage.Logging k) now memory = refl
+choice_is total stage.Logged now memory = refl
+choice_is total stage.Raised now memory = refl
+choice_is total (stage.Paging whose page) now memory = refl
+choice_is total (stage.Paged whose) now memory = refl
+choice_is total (stage.Finished whose) now memory = refl

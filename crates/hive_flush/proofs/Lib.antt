@@ -1,0 +1,5 @@
+pub mod Readying
+pub mod Going
+pub mod Standing
+pub mod Opened
+pub mod Adopting

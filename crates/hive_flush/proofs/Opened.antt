@@ -1,0 +1,246 @@
+-- What was found in a hive's files, as a hive in memory.
+use Rattle.std.proofs.Common.{◌≡◌, ◌≢◌, ◌⊎◌, inl, inr, ⊎_elim, ℕ, ◌+◌, ◌*◌, ◌/◌, ◌<◌, ◌≤◌, List, Bool, true, false, length, take, drop, get_or, refl, sym, ap, subst, ◌∙◌, Some, arith}
+use Rattle.std.proofs.lemmas.Bool.{cases_Bool, MatchBool-at_true, MatchBool-at_false}
+use Rattle.std.proofs.lemmas.List.{get_or-take, length-drop}
+use Rattle.std.specs.Bool.{MatchBool}
+use Rattle.refusals.specs.declared.refusal.Refusal.{Refusal}
+use Rattle.refusals.specs.declared.refusal.Refusal.TheVariants.{NoMemory, TooLarge}
+use Rattle.hive_records.specs.Images.{StandsFor, FaultFor}
+use Rattle.hive_load.specs.Limits.{IsWithin, LoadRefused}
+use Rattle.reg_tree.specs.Maps.{TreeMap}
+use Rattle.base_block.specs.declared.block.BaseBlock.{BaseBlock}
+use Rattle.base_block.specs.Judgements.{IsPrimary}
+use Rattle.dirty_vector.specs.Pages.{Pages, clean_pages, is_dirty}
+use Rattle.disk_model.specs.FileState.{FileState, at_rest}
+use Rattle.dirt_log.specs.WholeLog.{IsCovered, IsWhole, block_of, page_bytes_in, pages_in, repaired}
+use Rattle.dirt_log.specs.Held.{IsInUse, IsOwn, IsRepaired, SameWhereClean, is_clean_file}
+use Rattle.hive_files.specs.Finding.{HasHive, IsFound, IsFoundClean, IsFoundUnclean, as_primary}
+use Rattle.hive_files.specs.declared.found.Found.{Found}
+use Rattle.hive_phases.proofs.Holding.{same_parts}
+use Rattle.hive_phases.proofs.Moving.{repair_begins}
+use Rattle.std.proofs.Math.Seq.{take-length}
+use Rattle.hive_phases.specs.Holding.{Standing, tree_under}
+use Rattle.hive_phases.specs.Plans.{IsBehind, IsReady, Plan}
+use Rattle.hive_phases.specs.States.{is_on_in}
+use Rattle.hive_phases.specs.Phases.{Phase.Paging, Phase.Quiet, Purpose.Repair}
+use Rattle.hive_writer.specs.declared.writer.HiveWriter.{HiveWriter}
+use Rattle.hive_writer.specs.declared.stage.Stage.TheVariants as stage
+use Rattle.hive_writer.specs.declared.stage.Purpose.TheVariants as purpose
+use Rattle.hive_writer.specs.Writing.{EndsWith, IsFlushing, plan_of, work_of}
+use Rattle.hive_flush.specs.HiveStates.{IsOnBy}
+use Rattle.hive_files.specs.Blocks.{IsPlanned}
+use Rattle.hive_flush.specs.Planned.{block_again, clean_writer, unclean_writer, repair_plan}
+use Rattle.hive_flush.specs.Standing.{HoldsUnder, IsRight, StandsWithin, no_tree, with_tree}
+use Rattle.hive_flush.proofs.Standing.{gives, gives_right}
+
+match_at_true : {b : Bool} (P Q : Type 0) → b ≡ true → P → MatchBool b P Q
+match_at_true P Q e x = subst (λ (b : Bool). MatchBool b P Q) (sym e) x
+
+match_at_false : {b : Bool} (P Q : Type 0) → b ≡ false → Q → MatchBool b P Q
+match_at_false P Q e x = subst (λ (b : Bool). MatchBool b P Q) (sym e) x
+
+-- ---- what is in use is what was found
+
+-- the block in use, but perhaps for its type and its sum, is the one that was found
+record InUse (primary log : List ℕ) (found : Found) : Type 0 where
+  pub block : BaseBlock
+  pub in_use : IsInUse primary log block found.bins.items
+  pub root : block.root ≡ found.block.root
+  pub minor : block.minor ≡ found.block.minor
+  pub store : block.store ≡ found.block.store
+  pub applied : block.applied.0 ≡ found.block.applied.0
+  pub own : is_clean_file primary ≡ true → IsPrimary block
+  pub sector : is_clean_file primary ≡ false → 512 ≤ length primary
+
+pub true_false : (b : Bool) → b ≡ true → b ≡ false → ⊥
+true_false b t f = absurd cc
+
+in_use : (primary log : List ℕ) (found : Found) → IsFound primary log found → InUse primary log found
+in_use primary log found f = elim (cases_Bool found.is_clean) [
+  | inl clean ↦
+      let x : IsFoundClean primary found = MatchBool-at_true _ _ clean f.parts in
+      let file : is_clean_file primary ≡ true = sym f.clean ∙ clean in
+      record { block = found.block; in_use = match_at_true _ _ file x.own; root = refl; minor = refl; store = refl; applied = refl; own = λ any. x.judged; sector = λ other. absurd (true_false (is_clean_file primary) file other) }
+  | inr unclean ↦
+      let x : IsFoundUnclean primary log found = MatchBool-at_false _ _ unclean f.parts in
+      let file : is_clean_file primary ≡ false = sym f.clean ∙ unclean in
+      let is : found.block ≡ as_primary (block_of log) = x.by_log.block in
+      record {
+        block = block_of log;
+        in_use = match_at_false _ _ file x.by_log.repaired;
+        root = sym (ap (λ (b : BaseBlock). b.root) is);
+        minor = sym (ap (λ (b : BaseBlock). b.minor) is);
+        store = sym (ap (λ (b : BaseBlock). b.store) is);
+        applied = sym (ap (λ (b : BaseBlock). b.applied.0) is);
+        own = λ other. absurd (true_false (is_clean_file primary) other file);
+        sector = λ any. x.sector;
+      }
+]
+
+-- what files hold is of the store that was found, and stands in what was found
+pub found_agrees : (primary log : List ℕ) (found : Found) (store : List ℕ) (held : TreeMap × ℕ) → IsFound primary log found → HoldsUnder store primary log held
+    → (found.block.store ≡ store) × StandsWithin found.bins.items found.block.root found.block.minor held.0
+found_agrees primary log found store held f h =
+    let u = in_use primary log found f in
+    let same = same_parts primary log h.block u.block h.bins found.bins.items h.in_use u.in_use in
+    let root : h.block.root ≡ found.block.root = ap (λ (b : BaseBlock). b.root) same.0 ∙ u.root in
+    let minor : h.block.minor ≡ found.block.minor = ap (λ (b : BaseBlock). b.minor) same.0 ∙ u.minor in
+    (sym u.store ∙ sym (ap (λ (b : BaseBlock). b.store) same.0) ∙ h.store_is,
+     subst (λ (n : ℕ). StandsWithin found.bins.items found.block.root n held.0) minor
+     (subst (λ (n : ℕ). StandsWithin found.bins.items n h.block.minor held.0) root
+     (subst (λ (l : List ℕ). StandsWithin l h.block.root h.block.minor held.0) same.1 h.tree)))
+
+-- and what stands in it the files hold
+pub found_holds : (primary log : List ℕ) (found : Found) (store : List ℕ) (tree : TreeMap) (n : ℕ) → IsFound primary log found → found.block.store ≡ store
+    → StandsWithin found.bins.items found.block.root found.block.minor tree → found.block.applied.0 ≡ n → HoldsUnder store primary log (tree, n)
+found_holds primary log found store tree n f is within number =
+    let u = in_use primary log found f in
+    record {
+      block = u.block;
+      bins = found.bins.items;
+      in_use = u.in_use;
+      own = u.own;
+      sector = u.sector;
+      store_is = u.store ∙ is;
+      tree = subst (λ (m : ℕ). StandsWithin found.bins.items u.block.root m tree) (sym u.minor) (subst (λ (r : ℕ). StandsWithin found.bins.items r found.block.minor tree) (sym u.root) within);
+      number = u.applied ∙ number;
+    }
+
+-- ---- the files are as the stage says
+
+rule : List ℕ → BaseBlock → TreeMap → Standing TreeMap
+rule bins block tree = with_tree no_tree bins block.root block.minor block.store tree
+
+rule_right : (bins : List ℕ) (block : BaseBlock) (tree : TreeMap) → StandsWithin bins block.root block.minor tree → IsRight block.store (rule bins block tree)
+unfolding rule
+rule_right bins block tree within = gives_right no_tree bins block.root block.minor block.store tree block.store (λ b r m s t e. absurd cc) refl within
+
+rule_gives : (bins : List ℕ) (block : BaseBlock) (tree : TreeMap) → tree_under (rule bins block tree) block bins ≡ Some tree
+unfolding rule
+rule_gives bins block tree = gives no_tree bins block.root block.minor block.store tree
+
+-- a clean primary file is behind its own bins data
+behind_own : (primary : List ℕ) (bins : List ℕ) (size : ℕ) → 4096 + size ≤ length primary → bins ≡ take size (drop 4096 primary) → IsBehind bins (clean_pages size) primary
+behind_own primary bins size long part = record {
+  same = λ i lt clean. sym (ap (λ (l : List ℕ). get_or l i 0) part ∙ get_or-take size (drop 4096 primary) i 0 lt);
+  covered = λ page lt clean. omega (arith, lt, long, length-drop 4096 primary);
+}
+
+pub clean_on : (hive : ℕ) (primary : List ℕ) (found : Found) (tree : TreeMap) (log : FileState) → is_clean_file primary ≡ true → IsFoundClean primary found
+    → StandsWithin found.bins.items found.block.root found.block.minor tree
+    → ((stands : Standing TreeMap) → tree_under stands (clean_writer hive found.block).block found.bins.items ≡ Some tree
+        → IsReady stands (tree, found.block.applied.0) found.bins.items found.pages (plan_of (clean_writer hive found.block) found.bins.items found.pages))
+    → IsOnBy (clean_writer hive found.block) found.bins.items found.pages (tree, found.block.applied.0) (tree, found.block.applied.0) (at_rest primary) log
+clean_on hive primary found tree log clean x within ready =
+    let stands = rule found.bins.items found.block tree in
+    let size = found.block.bins_size in
+    record {
+      stands = stands;
+      right = rule_right found.bins.items found.block tree within;
+      plan = plan_of (clean_writer hive found.block) found.bins.items found.pages;
+      ready = ready stands (rule_gives found.bins.items found.block tree);
+      ends = record { block = refl; final = refl };
+      flush = λ any. refl;
+      on = record {
+        rest = refl;
+        clean = record {
+          clean = clean;
+          own = subst (λ (b : BaseBlock). IsPrimary b) x.own.read x.judged;
+          long = subst (λ (b : BaseBlock). 4096 + b.bins_size ≤ length primary) x.own.read x.own.long;
+          tree = subst (λ (b : BaseBlock). tree_under stands b (take b.bins_size (drop 4096 primary)) ≡ Some tree) x.own.read
+              (subst (λ (l : List ℕ). tree_under stands found.block l ≡ Some tree) x.own.part (rule_gives found.bins.items found.block tree));
+          number = ap (λ (b : BaseBlock). b.applied.0) (sym x.own.read);
+        };
+        behind = subst (λ (v : Pages). IsBehind found.bins.items v primary) (sym x.pages) (behind_own primary found.bins.items size x.own.long x.own.part);
+      };
+    }
+
+pub unclean_on : (hive : ℕ) (primary log : List ℕ) (found : Found) (tree : TreeMap) → is_clean_file primary ≡ false → IsFoundUnclean primary log found
+    → StandsWithin found.bins.items found.block.root found.block.minor tree
+    → ((stands : Standing TreeMap) (memory : TreeMap × ℕ) → found.block ≡ as_primary (block_of log) → IsWhole log → IsCovered (length (drop 4096 primary)) (pages_in log)
+        → tree_under stands (block_of log) (repaired (drop 4096 primary) (pages_in log) (page_bytes_in log)) ≡ Some memory.0 → (block_of log).applied.0 ≡ memory.1
+        → IsReady stands memory (repaired (drop 4096 primary) (pages_in log) (page_bytes_in log)) (pages_in log) (repair_plan found.block log)
+        × IsBehind (repaired (drop 4096 primary) (pages_in log) (page_bytes_in log)) (pages_in log) primary)
+    → IsOnBy (unclean_writer hive found.block) found.bins.items found.pages (tree, found.block.applied.0) (tree, found.block.applied.0) (at_rest primary) (at_rest log)
+unclean_on hive primary log found tree clean x within fits =
+    let stands = rule found.bins.items found.block tree in
+    let block = found.block in
+    let is : block ≡ as_primary (block_of log) = x.by_log.block in
+    let by = x.by_log.repaired in
+    let plan = repair_plan block log in
+    let root : block.root ≡ (block_of log).root = ap (λ (b : BaseBlock). b.root) is in
+    let given : tree_under stands (block_of log) found.bins.items ≡ Some tree =
+        sym (ap (λ (n : ℕ). stands found.bins.items n block.minor block.store) root ∙ ap (λ (n : ℕ). stands found.bins.items (block_of log).root n block.store) (ap (λ (b : BaseBlock). b.minor) is)
+            ∙ ap (stands found.bins.items (block_of log).root (block_of log).minor) (ap (λ (b : BaseBlock). b.store) is)) ∙ rule_gives found.bins.items block tree in
+    let made = fits stands (tree, block.applied.0) is by.whole by.covered (subst (λ (l : List ℕ). tree_under stands (block_of log) l ≡ Some tree) by.image given) (sym (ap (λ (b : BaseBlock). b.applied.0) is)) in
+    let ready : IsReady stands (tree, block.applied.0) found.bins.items found.pages plan =
+        subst (λ (v : Pages). IsReady stands (tree, block.applied.0) found.bins.items v plan) (sym x.by_log.pages)
+        (subst (λ (l : List ℕ). IsReady stands (tree, block.applied.0) l (pages_in log) plan) (sym by.image) made.0) in
+    let behind : IsBehind found.bins.items found.pages primary =
+        subst (λ (v : Pages). IsBehind found.bins.items v primary) (sym x.by_log.pages) (subst (λ (l : List ℕ). IsBehind l (pages_in log) primary) (sym by.image) made.1) in
+    record {
+      stands = stands;
+      right = rule_right found.bins.items block tree within;
+      plan = plan;
+      ready = ready;
+      ends = record { block = sym is; final = refl };
+      flush = λ not. absurd cc;
+      on = repair_begins stands (work_of plan found.bins.items found.pages (tree, block.applied.0) (tree, block.applied.0)) (at_rest primary) (at_rest log) ready refl clean x.sector behind
+          (record { rest = refl; front = take-length log });
+    }
+
+-- ---- a refusal to load
+
+pub none_stands : (bytes : List ℕ) (root minor : ℕ) (why : Refusal)
+    → ((b : List ℕ) (r m : ℕ) (w : Refusal) → LoadRefused b r m w → w ≢ NoMemory → (tree : TreeMap) → StandsFor b r m tree → IsWithin tree → ⊥)
+    → ((b : List ℕ) (r m : ℕ) (tree : TreeMap) (w : Refusal) → FaultFor b r m w → StandsFor b r m tree → ⊥)
+    → LoadRefused bytes root minor why → (why ≡ NoMemory) ⊎ ((tree : TreeMap) → StandsWithin bytes root minor tree → ⊥)
+none_stands bytes root minor why limits faults refused = ⊎_elim (λ none. inl none) (λ rest. inr (λ tree stands. ⊎_elim
+    (λ large. limits bytes root minor why refused (λ none. absurd (large_differs (sym large.0 ∙ none))) tree stands.0 stands.1)
+    (λ fault. faults bytes root minor tree why fault stands.0) rest)) refused
+  where
+    large_differs : TooLarge ≡ NoMemory → ⊥
+    large_differs e = absurd cc
+
+-- ---- the writer
+
+pub planned_again : (block : BaseBlock) (pages : Pages) → IsPlanned block pages → IsPlanned (block_again block) pages
+planned_again block pages p = record {
+  own = (record { signature = p.own.0.signature; bins_size = p.own.0.bins_size; within = p.own.0.within }, p.own.1, p.own.2);
+  equal = refl;
+  size = p.size;
+}
+
+pub record IsWriterFor (writer : HiveWriter) (hive : ℕ) (block : BaseBlock) (is_clean : Bool) : Type 0 where
+  pub clean : is_clean ≡ true → writer ≡ clean_writer hive block
+  pub unclean : is_clean ≡ false → writer ≡ unclean_writer hive block
+
+pub writer_planned : (writer : HiveWriter) (hive : ℕ) (block : BaseBlock) (is_clean : Bool) (pages : Pages) → IsWriterFor writer hive block is_clean → IsPlanned block pages → IsPlanned writer.block pages
+writer_planned writer hive block is_clean pages w p = elim (cases_Bool is_clean) [
+  | inl e ↦ subst (λ (x : HiveWriter). IsPlanned x.block pages) (sym (w.clean e)) (planned_again block pages p)
+  | inr e ↦ subst (λ (x : HiveWriter). IsPlanned x.block pages) (sym (w.unclean e)) p
+]
+
+pub writer_steady : (writer : HiveWriter) (hive : ℕ) (block : BaseBlock) (is_clean : Bool) → IsWriterFor writer hive block is_clean → (IsFlushing writer.stage → ⊥) → writer.base ≡ writer.block
+writer_steady writer hive block is_clean w not = elim (cases_Bool is_clean) [
+  | inl e ↦ absurd (subst (λ (x : HiveWriter). IsFlushing x.stage → ⊥) (w.clean e) not tt)
+  | inr e ↦ subst (λ (x : HiveWriter). x.base ≡ x.block) (sym (w.unclean e)) refl
+]
+
+pub writer_number : (writer : HiveWriter) (hive : ℕ) (block : BaseBlock) (is_clean : Bool) → IsWriterFor writer hive block is_clean → block.applied.0 ≡ writer.block.applied.0
+writer_number writer hive block is_clean w = elim (cases_Bool is_clean) [
+  | inl e ↦ ap (λ (x : HiveWriter). x.block.applied.0) (sym (w.clean e))
+  | inr e ↦ ap (λ (x : HiveWriter). x.block.applied.0) (sym (w.unclean e))
+]
+
+pub clean_ready : (writer : HiveWriter) (hive : ℕ) (block : BaseBlock) (image bins : List ℕ) (pages : Pages) (tree : TreeMap) (stands : Standing TreeMap) → writer ≡ clean_writer hive block → image ≡ bins
+    → ((s : Standing TreeMap) (memory : TreeMap × ℕ) → tree_under s writer.block image ≡ Some memory.0 → writer.block.applied.0 ≡ memory.1 → IsReady s memory image pages (plan_of writer image pages))
+    → tree_under stands (clean_writer hive block).block bins ≡ Some tree → IsReady stands (tree, block.applied.0) bins pages (plan_of (clean_writer hive block) bins pages)
+clean_ready writer hive block image bins pages tree stands is same ready given =
+    let first = subst (λ (w : HiveWriter). (s : Standing TreeMap) (memory : TreeMap × ℕ) → tree_under s w.block image ≡ Some memory.0 → w.block.applied.0 ≡ memory.1 → IsReady s memory image pages (plan_of w image pages)) is ready in
+    let second = subst (λ (l : List ℕ). (s : Standing TreeMap) (memory : TreeMap × ℕ) → tree_under s (clean_writer hive block).block l ≡ Some memory.0 → block.applied.0 ≡ memory.1
+        → IsReady s memory l pages (plan_of (clean_writer hive block) l pages)) same first in
+    second stands (tree, block.applied.0) given refl
+
+pub has_hive : (store primary log : List ℕ) (held : TreeMap × ℕ) → HoldsUnder store primary log held → HasHive primary log
+has_hive store primary log held h = record { block = h.block; bins = h.bins; in_use = h.in_use; own = h.own; sector = h.sector }

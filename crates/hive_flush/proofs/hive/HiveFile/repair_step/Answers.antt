@@ -1,0 +1,59 @@
+use Rattle.std.proofs.Common.{◌≡◌, ℕ, List, length, refl, sym, ap, subst, ◌∙◌, Some, Result, Ok, Err, arith}
+use Rattle.refusals.specs.declared.refusal.Refusal.{Refusal}
+use Rattle.engine_words.specs.declared.Progress.{Progress}
+use Rattle.engine_words.specs.declared.Progress.TheVariants as progress
+use Rattle.engine_words.specs.Steps.{Says}
+use Rattle.prefix_law.specs.Promises.{Ends, HiveSays}
+use Rattle.reg_tree.specs.Maps.{TreeMap}
+use Rattle.disk_model.specs.FileState.{FileState}
+use Rattle.hive_phases.specs.Holding.{Standing, tree_under}
+use Rattle.hive_phases.specs.Plans.{IsReady}
+use Rattle.dirty_vector.specs.Pages.{clean_pages}
+use Rattle.hive_flush.specs.Planned.{block_again}
+use Rattle.hive_writer.specs.declared.writer.HiveWriter.{HiveWriter}
+use Rattle.hive_writer.specs.Writing.{KeepsBlocks, LeadsOn, choice_at, now_after, plan_of}
+use Rattle.hive_flush.specs.HiveStates.{files_of, memory_of, now_of}
+use Rattle.hive_flush.proofs.Going.{IsNotDone, LeadsBy, by_end, repairs_on, went, done, same_on, ready_same}
+use Rattle.hive_flush.proofs.hive.HiveFile.repair_step.Goals as goal
+
+pub unreachable-requires : goal.unreachable-requires
+unreachable-requires g c = c.in-Ok-Idle.ensures.busy (ap (λ (p : Progress). Ok p) c.in-Ok-Idle.field-0-is)
+
+pub returns-in-Ok-Done-clause-on : goal.returns-in-Ok-Done-clause-on
+returns-in-Ok-Done-clause-on g c = λ faithful on.
+    let f = c.args.self.now in
+    let w = c.repair_step.new.self in
+    let settled_is = c.settle.ensures.settled in
+    let before : ℕ → FileState = g.D.Disk.state_at c.args.disk.now (g.D.Disk.clock c.args.disk.now) in
+    let after : ℕ → FileState = g.D.Disk.state_at c.repair_step.new.disk (g.D.Disk.clock c.repair_step.new.disk) in
+    let keeps : KeepsBlocks f.writer w (Ok progress.Done) = subst (λ (p : Progress). KeepsBlocks f.writer w (Ok p)) c.in-Ok-Done.field-0-is c.in-Ok-Done.ensures.keeps in
+    let led : LeadsBy f.writer w f.bins.items f.pages (Ok progress.Done) before after
+    = subst (λ (p : Progress). LeadsBy f.writer w f.bins.items f.pages (Ok p) before after) c.in-Ok-Done.field-0-is
+        (by_end (Ok c.in-Ok-Done.field-0) f.writer w f.bins.items c.deref.result.now f.pages before after c.deref.ensures.value (c.in-Ok-Done.ensures.on faithful)) in
+    let quiet = c.in-Ok-Done.ensures.done (ap (λ (p : Progress). Ok p) c.in-Ok-Done.field-0-is) in
+    let again : HiveWriter = record w { block = block_again w.block } in
+    let clean = clean_pages f.pages.bins_size in
+    let fits : (stands : Standing TreeMap) (memory : TreeMap × ℕ) → tree_under stands w.block f.bins.items ≡ Some memory.0 → w.block.applied.0 ≡ memory.1 → IsReady stands memory f.bins.items clean (plan_of again f.bins.items clean)
+    = λ stands memory. ready_same again c.settle.new.self.writer f.bins.items c.settle.new.self.bins.items clean c.settle.new.self.pages memory stands settled_is.writer settled_is.bins settled_is.pages (c.settle.ensures.fits stands memory) in
+    same_on again c.settle.new.self.writer f.bins.items c.settle.new.self.bins.items clean c.settle.new.self.pages f.tree c.settle.new.self.held.value f.tree c.settle.new.self.tree _ _
+    settled_is.writer settled_is.bins settled_is.pages settled_is.held settled_is.tree
+    (done f.writer w f.bins.items f.pages clean f.held.value f.tree before after (sym f.sizes) keeps quiet led fits on)
+
+pub returns-in-Ok-More-clause-on : goal.returns-in-Ok-More-clause-on
+returns-in-Ok-More-clause-on g c = λ faithful on.
+    let f = c.args.self.now in
+    let before : ℕ → FileState = g.D.Disk.state_at c.args.disk.now (g.D.Disk.clock c.args.disk.now) in
+    let after : ℕ → FileState = g.D.Disk.state_at c.repair_step.new.disk (g.D.Disk.clock c.repair_step.new.disk) in
+    let more : IsNotDone (Ok c.in-Ok-More.field-0) = subst (λ (p : Progress). IsNotDone (Ok p)) (sym c.in-Ok-More.field-0-is) tt in
+    went (Ok c.in-Ok-More.field-0) f.writer c.repair_step.new.self f.bins.items f.pages f.held.value f.tree before after more (λ any. absurd (repairs_on c.repair_step.new.self.stage (c.in-Ok-More.ensures.repairing (λ e. absurd cc)) any)) f.sizes c.in-Ok-More.ensures.keeps
+    (by_end (Ok c.in-Ok-More.field-0) f.writer c.repair_step.new.self f.bins.items c.deref.result.now f.pages before after c.deref.ensures.value (c.in-Ok-More.ensures.on faithful))
+    on
+
+pub returns-in-Err-clause-on : goal.returns-in-Err-clause-on
+returns-in-Err-clause-on g c = λ faithful on.
+    let f = c.args.self.now in
+    let before : ℕ → FileState = g.D.Disk.state_at c.args.disk.now (g.D.Disk.clock c.args.disk.now) in
+    let after : ℕ → FileState = g.D.Disk.state_at c.repair_step.new.disk (g.D.Disk.clock c.repair_step.new.disk) in
+    went (Err c.in-Err.why) f.writer c.repair_step.new.self f.bins.items f.pages f.held.value f.tree before after tt (λ any. absurd (repairs_on c.repair_step.new.self.stage (c.in-Err.ensures.repairing (λ e. absurd cc)) any)) f.sizes c.in-Err.ensures.keeps
+    (by_end (Err c.in-Err.why) f.writer c.repair_step.new.self f.bins.items c.deref.result.now f.pages before after c.deref.ensures.value (c.in-Err.ensures.on faithful))
+    on

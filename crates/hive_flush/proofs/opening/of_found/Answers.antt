@@ -1,0 +1,70 @@
+use Rattle.std.proofs.Common.{◌≡◌, inl, inr, ⊎_elim, ℕ, List, length, true, false, refl, sym, ap, subst, ◌∙◌, Some}
+use Rattle.std.proofs.lemmas.Bool.{cases_Bool, not-false, not-true, MatchBool-at_true, MatchBool-at_false}
+use Rattle.std.proofs.lemmas.Slice.Eq.{bytes_eq-Decides}
+use Rattle.reg_tree.specs.Maps.{TreeMap}
+use Rattle.disk_model.specs.FileState.{FileState, at_rest}
+use Rattle.hive_phases.specs.Holding.{Standing, tree_under}
+use Rattle.hive_phases.specs.Plans.{IsReady}
+use Rattle.hive_writer.specs.declared.writer.HiveWriter.{HiveWriter}
+use Rattle.hive_writer.specs.Writing.{plan_of}
+use Rattle.hive_flush.specs.HiveStates.{IsOnBy}
+use Rattle.hive_flush.specs.Planned.{clean_writer, unclean_writer}
+use Rattle.hive_flush.specs.Standing.{StandsWithin}
+use Rattle.hive_flush.proofs.Going.{same_on}
+use Rattle.hive_flush.proofs.Opened.{IsWriterFor, clean_ready, found_agrees, found_holds, clean_on, unclean_on, true_false, writer_number, writer_planned, writer_steady}
+use Rattle.hive_flush.proofs.opening.of_found.Goals as goal
+
+pub returns-then-ne-clause-fails : goal.returns-then-ne-clause-fails
+returns-then-ne-clause-fails c = inr (refl, λ primary log f held h.
+    let same = (found_agrees primary log c.args.found c.args.store held f h).0 in
+    true_false _ ((bytes_eq-Decides c.args.found.block.store c.args.store).1 same) (not-true _ (sym c.if-ne.ensures)))
+
+pub returns-in-Err-clause-fails : goal.returns-in-Err-clause-fails
+returns-in-Err-clause-fails c = ⊎_elim (λ none. inl (c.told.ensures.memory none))
+    (λ nothing. ⊎_elim (λ none. inl none) (λ is. inr (is, λ primary log f held h. nothing held.0 (found_agrees primary log c.args.found c.args.store held f h).1)) c.told.ensures.told)
+    c.in-Err.ensures.fails
+
+pub plan_fits-requires-clause-size : goal.plan_fits-requires-clause-size
+plan_fits-requires-clause-size c = ap (λ (l : List ℕ). length l) (c.deref.ensures.value ∙ c.in-Ok.ensures.same) ∙ c.args.found.sizes
+
+pub plan_fits-requires-clause-planned : goal.plan_fits-requires-clause-planned
+plan_fits-requires-clause-planned c = writer_planned c.writer_for-writer.result c.args.hive c.args.found.block c.args.found.is_clean c.args.found.pages
+    (record { clean = c.writer_for-writer.ensures.clean; unclean = c.writer_for-writer.ensures.unclean }) c.args.found.planned
+
+pub invariant_of-result : goal.invariant_of-result
+invariant_of-result c =
+    let w : IsWriterFor c.writer_for-writer.result c.args.hive c.args.found.block c.args.found.is_clean = record { clean = c.writer_for-writer.ensures.clean; unclean = c.writer_for-writer.ensures.unclean } in
+    record {
+      sizes = ap (λ (l : List ℕ). length l) c.in-Ok.ensures.same ∙ c.args.found.sizes;
+      planned = writer_planned c.writer_for-writer.result c.args.hive c.args.found.block c.args.found.is_clean c.args.found.pages w c.args.found.planned;
+      steady = λ not. (writer_steady c.writer_for-writer.result c.args.hive c.args.found.block c.args.found.is_clean w not, c.of-held.ensures);
+    }
+
+pub returns-clause-held : goal.returns-clause-held
+returns-clause-held c = λ primary log f.
+    let w : IsWriterFor c.writer_for-writer.result c.args.hive c.args.found.block c.args.found.is_clean = record { clean = c.writer_for-writer.ensures.clean; unclean = c.writer_for-writer.ensures.unclean } in
+    found_holds primary log c.args.found c.args.store c.in-Ok.loaded.0 c.writer_for-writer.result.block.applied.0 f ((bytes_eq-Decides _ _).0 (not-false _ (sym c.if-ne.ensures))) c.in-Ok.ensures.stands
+    (writer_number c.writer_for-writer.result c.args.hive c.args.found.block c.args.found.is_clean w)
+
+pub returns-clause-on : goal.returns-clause-on
+returns-clause-on c = λ primary log p l f p_is l_is.
+    let found = c.args.found in
+    let writer = c.writer_for-writer.result in
+    let hive = c.args.hive in
+    let tree = c.in-Ok.loaded.0 in
+    let held = c.of-held.result.value in
+    let bins = c.in-Ok.loaded.1.items in
+    let image : c.deref.result.now ≡ found.bins.items = c.deref.ensures.value ∙ c.in-Ok.ensures.same in
+    let done : (w : HiveWriter) → writer ≡ w → IsOnBy w found.bins.items found.pages (tree, w.base.applied.0) (tree, w.block.applied.0) p l
+        → IsOnBy writer bins found.pages (held, writer.base.applied.0) (tree, writer.block.applied.0) p l
+    = λ w is on. same_on w writer found.bins.items bins found.pages found.pages tree held tree tree p l is c.in-Ok.ensures.same refl c.of-held.ensures refl on in
+    elim (cases_Bool found.is_clean) [
+      | inl clean ↦ done (clean_writer hive found.block) (c.writer_for-writer.ensures.clean clean)
+          (subst (λ (s : FileState). IsOnBy (clean_writer hive found.block) found.bins.items found.pages (tree, found.block.applied.0) (tree, found.block.applied.0) s l) (sym p_is)
+          (clean_on hive primary found tree l (sym f.clean ∙ clean) (MatchBool-at_true _ _ clean f.parts) c.in-Ok.ensures.stands
+          (λ stands given. clean_ready writer hive found.block c.deref.result.now found.bins.items found.pages tree stands (c.writer_for-writer.ensures.clean clean) image c.plan_fits.ensures.ready given)))
+      | inr unclean ↦ done (unclean_writer hive found.block) (c.writer_for-writer.ensures.unclean unclean)
+          (subst (λ (s : FileState). IsOnBy (unclean_writer hive found.block) found.bins.items found.pages (tree, found.block.applied.0) (tree, found.block.applied.0) s l) (sym p_is)
+          (subst (λ (s : FileState). IsOnBy (unclean_writer hive found.block) found.bins.items found.pages (tree, found.block.applied.0) (tree, found.block.applied.0) (at_rest primary) s) (sym (l_is unclean))
+          (unclean_on hive primary log found tree (sym f.clean ∙ unclean) (MatchBool-at_false _ _ unclean f.parts) c.in-Ok.ensures.stands (λ stands memory. c.repair_fits.ensures stands memory primary log))))
+    ]

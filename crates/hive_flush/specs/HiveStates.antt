@@ -1,0 +1,70 @@
+-- What contracts see of a hive's files and memory.
+use Rattle.std.specs.Prelude.{◌≡◌, ℕ, true, List, length}
+use Rattle.prefix_law.specs.Promises.{Choice}
+use Rattle.reg_tree.specs.Maps.{TreeMap}
+use Rattle.disk_model.specs.FileState.{FileState}
+use Rattle.hive_phases.specs.Holding.{Standing}
+use Rattle.hive_phases.specs.Plans.{Plan, IsReady}
+use Rattle.hive_phases.specs.States.{is_on_in}
+use Rattle.dirty_vector.specs.Pages.{Pages, clean_pages}
+use Rattle.hive_writer.specs.declared.writer.HiveWriter.{HiveWriter}
+use Rattle.hive_writer.specs.Writing.{EndsWith, IsFlushing, calls_left, choice_at, phase_in, plan_of, work_of}
+use Rattle.hive_flush.specs.Standing.{IsRight}
+use Rattle.hive_flush.specs.Planned.{block_again}
+use Rattle.hive_flush.specs.declared.hive.HiveFile.{HiveFile}
+
+-- the tree in memory, and the number of the last change in it
+abbrev pub memory_of : HiveFile → TreeMap × ℕ
+memory_of file = (file.tree, file.writer.block.applied.0)
+
+-- the tree and number that surely stand
+abbrev pub now_of : HiveFile → TreeMap × ℕ
+now_of file = (file.held.value, file.writer.base.applied.0)
+
+-- what surely stands in the files, and what may be on its way
+abbrev pub files_of : HiveFile → Choice (TreeMap × ℕ)
+files_of file = choice_at file.writer.stage (now_of file) (memory_of file)
+
+-- the number of the hive in its store, and the store
+abbrev pub place_of : HiveFile → ℕ
+place_of file = file.writer.hive
+
+abbrev pub store_of : HiveFile → List ℕ
+store_of file = file.writer.block.store
+
+-- no repair is left
+abbrev pub IsWhole : HiveFile → Type 0
+IsWhole file = IsFlushing file.writer.stage
+
+-- The primary file and the log are as a writer's stage says, for an image, its pages, and what surely stands and is in memory:
+-- for some rule that is right in the store, and a plan by it that the image fits and that is, of a flush, the one that the
+-- writer follows.
+pub record IsOnBy (writer : HiveWriter) (image : List ℕ) (pages : Pages) (now memory : TreeMap × ℕ) (primary log : FileState) : Type 0 where
+  pub stands : Standing TreeMap
+  pub right : IsRight writer.block.store stands
+  pub plan : Plan
+  pub ready : IsReady stands memory image pages plan
+  pub ends : EndsWith writer.block plan
+  pub flush : IsFlushing writer.stage → plan ≡ plan_of writer image pages
+  pub on : is_on_in stands (work_of plan image pages now memory) (phase_in (length plan.text) writer.stage) primary log
+
+-- the primary file and the log are as the hive's stage says
+abbrev pub IsOn : HiveFile → FileState → FileState → Type 0
+IsOn file primary log = IsOnBy file.writer file.bins.items file.pages (now_of file) (memory_of file) primary log
+
+-- The device has failed in a step.
+abbrev pub IsBroken : HiveFile → Type 0
+IsBroken file = file.writer.failed ≡ true
+
+-- What was in memory stands, no page differs, and the next flush ends with the next numbers, the rest of the block being as
+-- it was.
+pub record Settled (old new : HiveFile) : Type 0 where
+  pub held : new.held.value ≡ old.tree
+  pub tree : new.tree ≡ old.tree
+  pub bins : new.bins.items ≡ old.bins.items
+  pub pages : new.pages ≡ clean_pages old.pages.bins_size
+  pub writer : new.writer ≡ record old.writer { block = block_again old.writer.block }
+
+-- a flush's calls that are left, or those of a whole one
+abbrev pub steps_left : HiveFile → ℕ
+steps_left file = calls_left (length (plan_of file.writer file.bins.items file.pages).text) file.pages file.writer.stage

@@ -1,0 +1,55 @@
+-- What a hive's two files hold in a store.
+use Rattle.std.specs.Prelude.{◌≡◌, ℕ, ◌≤◌, nat_eq, ◌&&◌, ◌==◌, if◌then◌else◌, true, false, List, length, Some, None}
+use Rattle.std.specs.Cmp.Lexicographic.{pointwise}
+use Rattle.refusals.specs.declared.refusal.Refusal.{Refusal}
+use Rattle.refusals.specs.declared.refusal.Refusal.TheVariants as refusal
+use Rattle.reg_tree.specs.Maps.{TreeMap}
+use Rattle.base_block.specs.declared.block.BaseBlock.{BaseBlock}
+use Rattle.base_block.specs.Judgements.{IsPrimary}
+use Rattle.dirt_log.specs.Held.{is_clean_file, IsInUse}
+use Rattle.hive_records.specs.Images.{StandsFor}
+use Rattle.hive_load.specs.Limits.{IsWithin}
+use Rattle.hive_phases.specs.Holding.{Standing}
+
+-- the bins data stand for the tree, from the root's offset on, and it is within what a hive may hold
+abbrev pub StandsWithin : List ℕ → ℕ → ℕ → TreeMap → Type 0
+StandsWithin bytes root minor tree = StandsFor bytes root minor tree × IsWithin tree
+
+-- A primary file and its log hold a tree and a number, as a hive of this store: the block that is in use, that of a primary
+-- file where it is its own, is of the store and has the number, and the bins data that are in use stand for the tree. An
+-- unclean primary file without a first sector holds nothing.
+pub record HoldsUnder (store primary log : List ℕ) (held : TreeMap × ℕ) : Type 0 where
+  pub block : BaseBlock
+  pub bins : List ℕ
+  pub in_use : IsInUse primary log block bins
+  pub own : is_clean_file primary ≡ true → IsPrimary block
+  pub sector : is_clean_file primary ≡ false → 512 ≤ length primary
+  pub store_is : block.store ≡ store
+  pub tree : StandsWithin bins block.root block.minor held.0
+  pub number : block.applied.0 ≡ held.1
+
+-- A rule for images is right in a store: the tree that it gives for bins data of this store stands in them; for others
+-- it gives none.
+abbrev pub IsRight : List ℕ → Standing TreeMap → Type 0
+IsRight store stands = (bytes : List ℕ) (root minor : ℕ) (id : List ℕ) (tree : TreeMap) → stands bytes root minor id ≡ Some tree
+    → (id ≡ store) × StandsWithin bytes root minor tree
+
+-- The rule that gives this tree for these bins data, root, minor version and store, and is as another for all else.
+abbrev pub with_tree : Standing TreeMap → List ℕ → ℕ → ℕ → List ℕ → TreeMap → Standing TreeMap
+with_tree stands bytes root minor store tree b r m s =
+    if pointwise nat_eq b bytes && (pointwise nat_eq s store && ((r == root) && (m == minor))) then Some tree else stands b r m s
+
+-- the rule that gives none
+abbrev pub no_tree : Standing TreeMap
+no_tree b r m s = None
+
+-- a refusal tells of a hive with its number, or of a version that isn't known
+abbrev pub IsOfHive : ℕ → Refusal → Type 0
+IsOfHive hive (refusal.HiveDamaged of cause) = of ≡ hive
+IsOfHive hive refusal.Unsupported = Unit {0}
+IsOfHive hive _ = ⊥
+
+-- why two files are refused as a hive of a store: it is told of the hive, and they hold nothing, where the device has answered as
+-- it should
+abbrev pub NothingHeld : Type 0 → ℕ → List ℕ → List ℕ → List ℕ → Refusal → Type 0
+NothingHeld faithful hive store primary log why = IsOfHive hive why × (faithful → (held : TreeMap × ℕ) → HoldsUnder store primary log held → ⊥)

@@ -1,0 +1,165 @@
+//! The steps of a hive's flush and repair.
+ghost use Rattle.std.specs.Prelude.{◌≡◌, ◌↔◌, ◌⊎◌, ◌<◌, ℕ, length, Ok, Err, IfErr, IsTrue, Some};
+ghost use Rattle.prefix_law.specs.Promises.{HiveSays};
+ghost use Rattle.engine_words.specs.Steps.{Says};
+ghost use Rattle.engine_words.specs.declared.Progress.TheVariants as Progress;
+ghost use Rattle.reg_tree.specs.Maps.{TreeMap};
+ghost use Rattle.refusals.specs.declared.refusal.Refusal.TheVariants.{DiskFault, Faulted};
+ghost use Rattle.disk_model.specs.Call.{OneCall, HasFailed};
+ghost use Rattle.disk_model.specs.StoreFiles.{IsOfHive, primary_file, log_file};
+ghost use Rattle.hive_phases.specs.Holding.{Standing, tree_under};
+ghost use Rattle.hive_phases.specs.Plans.{IsReady};
+ghost use Rattle.hive_writer.specs.Writing.{plan_of};
+ghost use Rattle.hive_writer.specs.declared.stage.Stage.TheVariants as stage;
+ghost use Rattle.hive_flush.specs.HiveStates.{IsBroken, IsOn, IsWhole, Settled, files_of, memory_of, place_of, steps_left};
+
+use crate::hive::HiveFile;
+use crate::planning::{next_block, plan_fits};
+use disk_model::Disk;
+use engine_words::Progress;
+use hive_writer::{Purpose, Stage};
+use refusals::Refusal;
+use reg_tree::Tree;
+use std::snapshot::Snapshot;
+
+impl HiveFile {
+    /// The tree in memory.
+    pub fn tree(&self) -> &Tree
+        ensures { result.now ≡ (memory_of self.now).0 }
+    {
+        &self.tree
+    }
+
+    /// The number of the last change that the tree in memory has.
+    pub fn number(&self) -> u64
+        ensures { result ≡ (memory_of self.now).1 }
+    {
+        self.writer.block.applied.0
+    }
+
+    /// The number of the last change that surely stands in the files.
+    pub fn applied(&self) -> u64
+        ensures { result ≡ (files_of self.now).now.1 }
+    {
+        self.writer.base.applied.0
+    }
+
+    /// One step of a flush of what is in memory, which begins where none is on its way: at most one device call. `More` where
+    /// others follow, and `Done` where it was the last one: then what was in memory stands.
+    ///
+    /// Takes no memory. Refused with `DiskFault` where the device failed in the call, and with `Faulted` exactly where it had
+    /// failed in an earlier one: nothing is done then.
+    pub fn step<D: Disk>(&mut self, disk: &mut D) -> Result<Progress, Refusal>
+        requires whole { IsWhole self.old }
+        ensures on { D.faithful disk.new → IsOn self.old
+            (D.state_at disk.old (D.clock disk.old) (primary_file (place_of self.old)))
+            (D.state_at disk.old (D.clock disk.old) (log_file (place_of self.old))) →
+            IsOn self.new
+            (D.state_at disk.new (D.clock disk.new) (primary_file (place_of self.old)))
+            (D.state_at disk.new (D.clock disk.new) (log_file (place_of self.old))) }
+        ensures says { Says (HiveSays (memory_of self.old)) result (files_of self.old) (files_of
+            self.new) }
+        ensures memory { memory_of self.new ≡ memory_of self.old }
+        ensures place { place_of self.new ≡ place_of self.old }
+        ensures whole { IsWhole self.new }
+        ensures falls { result ≡ Ok Progress.More → steps_left self.new < steps_left self.old }
+        ensures refused { IfErr result (λ why. (why ≡ DiskFault) ⊎ (why ≡ Faulted)) }
+        ensures faulted { (result ≡ Err Faulted) ↔ IsBroken self.old }
+        ensures broken { (result ≡ Err DiskFault) → IsBroken self.new }
+        ensures still { IsBroken self.old → (self.new ≡ self.old) × (disk.new ≡ disk.old) }
+        ensures call { OneCall (IsOfHive (place_of self.old)) (D.state_at disk.old) (D.state_at
+            disk.new) (D.clock disk.old) (D.clock disk.new) }
+        ensures failures { HasFailed result (D.failures disk.old) (D.failures disk.new) }
+        ensures faithful { D.faithful disk.new → D.faithful disk.old }
+    {
+        plan_fits(&self.writer, &self.bins, &self.pages);
+        match self.writer.step::<D, Tree>(disk, &self.bins, &self.pages) {
+            Ok(Progress::Done) => {
+                self.settle();
+                Ok(Progress::Done)
+            }
+            Ok(Progress::More) => Ok(Progress::More),
+            Ok(Progress::Idle) => unreachable!(),
+            Err(why) => Err(why),
+        }
+    }
+
+    /// Whether no repair is left.
+    pub fn is_whole(&self) -> bool
+        ensures { IsTrue result ↔ IsWhole self.now }
+    {
+        !matches!(
+            self.writer.stage,
+            Stage::Paging(Purpose::Repair, _)
+                | Stage::Paged(Purpose::Repair)
+                | Stage::Finished(Purpose::Repair)
+        )
+    }
+
+    /// One step of the repair of a hive that was opened unclean: at most one device call. `More` where others follow, `Done`
+    /// where it was the last one, and `Idle` where none is left. What the files hold stays the same throughout.
+    ///
+    /// Takes no memory. Refused as [`step`](HiveFile::step) is.
+    pub fn repair_step<D: Disk>(&mut self, disk: &mut D) -> Result<Progress, Refusal>
+        ensures on { D.faithful disk.new → IsOn self.old
+            (D.state_at disk.old (D.clock disk.old) (primary_file (place_of self.old)))
+            (D.state_at disk.old (D.clock disk.old) (log_file (place_of self.old))) →
+            IsOn self.new
+            (D.state_at disk.new (D.clock disk.new) (primary_file (place_of self.old)))
+            (D.state_at disk.new (D.clock disk.new) (log_file (place_of self.old))) }
+        ensures files { files_of self.new ≡ files_of self.old }
+        ensures memory { memory_of self.new ≡ memory_of self.old }
+        ensures place { place_of self.new ≡ place_of self.old }
+        ensures whole { (result ≡ Ok Progress.Done) → IsWhole self.new }
+        ensures idle { (result ≡ Ok Progress.Idle) → IsWhole self.old }
+        ensures falls { result ≡ Ok Progress.More → steps_left self.new < steps_left self.old }
+        ensures ready { IsWhole self.old → (self.new ≡ self.old) × (disk.new ≡ disk.old) }
+        ensures refused { IfErr result (λ why. (why ≡ DiskFault) ⊎ (why ≡ Faulted)) }
+        ensures faulted { (result ≡ Err Faulted) ↔ IsBroken self.old }
+        ensures broken { (result ≡ Err DiskFault) → IsBroken self.new }
+        ensures still { IsBroken self.old → (self.new ≡ self.old) × (disk.new ≡ disk.old) }
+        ensures call { OneCall (IsOfHive (place_of self.old)) (D.state_at disk.old) (D.state_at
+            disk.new) (D.clock disk.old) (D.clock disk.new) }
+        ensures failures { HasFailed result (D.failures disk.old) (D.failures disk.new) }
+        ensures faithful { D.faithful disk.new → D.faithful disk.old }
+    {
+        if self.writer.failed {
+            return Err(Refusal::Faulted);
+        }
+        if self.is_whole() {
+            return Ok(Progress::Idle);
+        }
+        match self.writer.repair_step::<D, Tree>(disk, &self.bins, &self.pages) {
+            Ok(Progress::Done) => {
+                self.settle();
+                Ok(Progress::Done)
+            }
+            Ok(Progress::More) => Ok(Progress::More),
+            Ok(Progress::Idle) => unreachable!(),
+            Err(why) => Err(why),
+        }
+    }
+
+    // what was in memory stands: no page differs, and the next flush is planned
+    fn settle(&mut self)
+        requires quiet { self.old.writer.stage ≡ stage.Quiet }
+        ensures settled { Settled self.old self.new }
+        ensures fits { (stands : Standing TreeMap) (memory : TreeMap × ℕ) →
+            tree_under stands self.new.writer.block self.new.bins.items ≡ Some memory.0 →
+            self.new.writer.block.applied.0 ≡ memory.1 →
+            IsReady stands memory self.new.bins.items self.new.pages
+            (plan_of self.new.writer self.new.bins.items self.new.pages) }
+    {
+        self.held = Snapshot::of(&self.tree);
+        self.pages.clear();
+        let block = self.writer.block;
+        self.writer.plan(next_block(
+            &block,
+            block.root,
+            block.bins_size,
+            block.last_written,
+            block.applied.0,
+        ));
+        plan_fits(&self.writer, &self.bins, &self.pages);
+    }
+}

@@ -1,0 +1,24 @@
+//! What a hive in memory has.
+ghost use Rattle.std.specs.Prelude.{◌≡◌, length};
+ghost use Rattle.hive_files.specs.Blocks.{IsPlanned};
+ghost use Rattle.hive_flush.specs.Planned.{IsSteady};
+
+use dirty_vector::DirtyVector;
+use hive_writer::HiveWriter;
+use reg_tree::Tree;
+use std::snapshot::Snapshot;
+
+/// A hive of a store: its tree in memory, the hive bins data that stand for it, and the pages in which the primary file may
+/// differ from them.
+#[derive(Drop)]
+pub struct HiveFile {
+    /// What surely stands in the files: known to contracts alone.
+    pub(crate) held: Snapshot<Tree>,
+    pub(crate) tree: Tree,
+    pub(crate) bins: Vec<u8>,
+    pub(crate) pages: DirtyVector,
+    pub(crate) writer: HiveWriter,
+    ghost sizes: { length bins.items ≡ pages.bins_size },
+    ghost planned: { IsPlanned writer.block pages },
+    ghost steady: { IsSteady writer held.value tree },
+}

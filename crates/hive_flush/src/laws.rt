@@ -1,0 +1,30 @@
+//! What a hive's files hold, whatever a crash leaves of them: a law.
+ghost use Rattle.std.specs.Prelude.{◌≡◌, List, ℕ};
+ghost use Rattle.prefix_law.specs.Promises.{HiveOn};
+ghost use Rattle.reg_tree.specs.Maps.{TreeMap};
+ghost use Rattle.disk_model.specs.FileState.{FileState, Leaves};
+ghost use Rattle.disk_model.specs.Sector.{IsHonest};
+ghost use Rattle.hive_flush.specs.Standing.{HoldsUnder};
+ghost use Rattle.hive_flush.specs.HiveStates.{IsOn, files_of, store_of};
+ghost use Rattle.hive_flush.specs.declared.hive.HiveFile.{HiveFile};
+
+use hive_phases::laws::on_leaves;
+use reg_tree::Tree;
+
+/// A law: where the two files are as a hive's stage says, whatever a crash may leave of both, with an honest first sector of
+/// the primary file, holds what surely stands or what is on its way, as a hive of its store.
+pub fn files_hold()
+    ensures { (file : HiveFile) (primary log : FileState) → IsOn file primary log →
+        HiveOn (HoldsUnder (store_of file)) (files_of file)
+        (λ c. Leaves primary c × IsHonest primary c) (Leaves log) }
+{
+    on_leaves::<Tree>();
+}
+
+/// A law: two files hold at most one tree and number as a hive of a store.
+pub fn one_is_held()
+    ensures { (store primary log : List ℕ) (x y : TreeMap × ℕ) →
+        HoldsUnder store primary log x → HoldsUnder store primary log y → x ≡ y }
+{
+    hive_records::one_tree();
+}

@@ -1,0 +1,11 @@
+//! The owner of a hive's two files: its tree in memory, the bins data that stand for it, and the steps of flush and repair.
+#![tactic(auto)]
+
+mod absorbing;
+mod file;
+mod hive;
+pub mod laws;
+mod opening;
+mod planning;
+
+pub use crate::hive::HiveFile;

@@ -1,0 +1,191 @@
+//! Opening a hive: what its two files hold.
+ghost use Rattle.std.specs.Prelude.{◌≡◌, ◌⊎◌, ◌<◌, ◌≤◌, false, true, ℕ, List, IfOk, IfErr};
+ghost use Rattle.prefix_law.specs.Promises.{settled};
+ghost use Rattle.reg_tree.specs.Maps.{TreeMap};
+ghost use Rattle.refusals.specs.declared.refusal.Refusal.TheVariants.{DiskFault, NoMemory};
+ghost use Rattle.disk_model.specs.Call.{Extends};
+ghost use Rattle.disk_model.specs.FileState.{FileState, at_rest};
+ghost use Rattle.disk_model.specs.StoreFiles.{IsOfHive as IsFileOf, primary_file, log_file};
+ghost use Rattle.hive_files.specs.Finding.{IsFound};
+ghost use Rattle.hive_files.specs.Frames.{FailsBy, IsSyncedOrSame};
+ghost use Rattle.hive_flush.specs.Standing.{HoldsUnder, IsOfHive, NothingHeld, StandsWithin};
+ghost use Rattle.hive_flush.specs.Planned.{clean_writer, unclean_writer};
+ghost use Rattle.hive_flush.specs.HiveStates.{IsBroken, IsOn, files_of, memory_of, place_of, store_of};
+
+use crate::hive::HiveFile;
+use crate::planning::{next_block, plan_fits, repair_fits};
+use base_block::BaseBlock;
+use disk_model::Disk;
+use hive_cells::{Image, Looks};
+use hive_files::{Found, find};
+use hive_load::laws::refusals_exclude_trees;
+use hive_load::load;
+use hive_records::one_tree;
+use hive_writer::HiveWriter;
+use refusals::{Cause, Refusal};
+use reg_tree::Tree;
+use std::alloc::Global;
+use std::snapshot::Snapshot;
+use uuid::Uuid;
+
+impl HiveFile {
+    /// Opens a hive of a store, by its number: the tree and the number that its two files hold. Where the primary file is
+    /// unclean its repair is to be made before anything else.
+    ///
+    /// The primary file is synced before it is read; and so is the log, but where the primary file is clean: then it isn't
+    /// looked at. Both are read in pieces.
+    ///
+    /// Refused only where the files hold nothing in this store, with `HiveDamaged` of this hive or `Unsupported`; with
+    /// `DiskFault` where the device failed; and with `NoMemory`. No file changes but by its sync.
+    pub fn open<D: Disk>(
+        alloc: Global,
+        disk: &mut D,
+        hive: u8,
+        store: Uuid,
+    ) -> Result<HiveFile, Refusal>
+        ensures held { IfOk result (λ file. D.faithful disk.new → HoldsUnder store
+            (D.state_at disk.old (D.clock disk.old) (primary_file hive)).seen
+            (D.state_at disk.old (D.clock disk.old) (log_file hive)).seen (memory_of file)) }
+        ensures settled { IfOk result (λ file. files_of file ≡ settled (memory_of file)) }
+        ensures on { IfOk result (λ file. D.faithful disk.new → IsOn file
+            (D.state_at disk.new (D.clock disk.new) (primary_file hive))
+            (D.state_at disk.new (D.clock disk.new) (log_file hive))) }
+        ensures place { IfOk result (λ file. place_of file ≡ hive) }
+        ensures store { IfOk result (λ file. store_of file ≡ store) }
+        ensures sound { IfOk result (λ file. IsBroken file → ⊥) }
+        ensures fails { IfErr result (FailsBy (D.failures disk.old < D.failures disk.new)
+            (NothingHeld (D.faithful disk.new) hive store
+            (D.state_at disk.old (D.clock disk.old) (primary_file hive)).seen
+            (D.state_at disk.old (D.clock disk.old) (log_file hive)).seen)) }
+        ensures synced { D.faithful disk.new → (f : ℕ) → IsFileOf hive f → IsSyncedOrSame
+            (D.state_at disk.old (D.clock disk.old) f)
+            (D.state_at disk.new (D.clock disk.new) f) }
+        ensures others { (f : ℕ) → ¬ (IsFileOf hive f) →
+            D.state_at disk.new (D.clock disk.new) f ≡ D.state_at disk.old (D.clock disk.old) f }
+        ensures time { Extends (D.state_at disk.old) (D.state_at disk.new) (D.clock disk.old)
+            (D.clock disk.new) }
+        ensures failures { D.failures disk.old ≤ D.failures disk.new }
+        ensures faithful { D.faithful disk.new → D.faithful disk.old }
+    {
+        match find(alloc, disk, hive) {
+            Ok(found) => of_found(alloc, found, hive, store),
+            Err(why) => Err(found_told(why, hive)),
+        }
+    }
+}
+
+// a refusal of a hive's files: that of the device stays
+fn found_told(why: Refusal, hive: u8) -> Refusal
+    ensures fault { why ≡ DiskFault → result ≡ DiskFault }
+    ensures memory { why ≡ NoMemory → result ≡ NoMemory }
+    ensures told { (why ≡ DiskFault → ⊥) → (result ≡ NoMemory) ⊎ IsOfHive hive result }
+{
+    if why == Refusal::DiskFault {
+        return why;
+    }
+    told(why, hive)
+}
+
+// a refusal that tells of a hive, with its number
+fn told(why: Refusal, hive: u8) -> Refusal
+    ensures memory { why ≡ NoMemory → result ≡ NoMemory }
+    ensures told { (result ≡ NoMemory) ⊎ IsOfHive hive result }
+{
+    match why {
+        Refusal::NoMemory => Refusal::NoMemory,
+        Refusal::HiveDamaged { hive: _, cause } => Refusal::HiveDamaged { hive, cause },
+        Refusal::TooLarge => Refusal::HiveDamaged {
+            hive,
+            cause: Cause::TooLarge,
+        },
+        _ => Refusal::Unsupported,
+    }
+}
+
+// the hive of what was found in its files
+fn of_found(alloc: Global, found: Found, hive: u8, store: Uuid) -> Result<HiveFile, Refusal>
+    ensures held { IfOk result (λ file. (primary log : List ℕ) → IsFound primary log found →
+        HoldsUnder store primary log (memory_of file)) }
+    ensures settled { IfOk result (λ file. files_of file ≡ settled (memory_of file)) }
+    ensures on { IfOk result (λ file. (primary log : List ℕ) (p l : FileState) →
+        IsFound primary log found → p ≡ at_rest primary →
+        (found.is_clean ≡ false → l ≡ at_rest log) → IsOn file p l) }
+    ensures place { IfOk result (λ file. place_of file ≡ hive) }
+    ensures store { IfOk result (λ file. store_of file ≡ store) }
+    ensures sound { IfOk result (λ file. IsBroken file → ⊥) }
+    ensures fails { IfErr result (λ why. (why ≡ NoMemory) ⊎ (IsOfHive hive why
+        × ((primary log : List ℕ) → IsFound primary log found → (held : TreeMap × ℕ) →
+        HoldsUnder store primary log held → ⊥))) }
+{
+    if found.block.store != store {
+        return Err(Refusal::HiveDamaged {
+            hive,
+            cause: Cause::BadStore,
+        });
+    }
+    let Found {
+        block,
+        bins,
+        pages,
+        is_clean,
+    } = found;
+    let (tree, bins) = match loaded(alloc, block.root, block.minor, bins) {
+        Ok(loaded) => loaded,
+        Err(why) => return Err(told(why, hive)),
+    };
+    let held = Snapshot::of(&tree);
+    let writer = writer_for(block, hive, is_clean);
+    plan_fits(&writer, &bins, &pages);
+    repair_fits(&block);
+    Ok(HiveFile {
+        held,
+        tree,
+        bins,
+        pages,
+        writer,
+    })
+}
+
+// the writer of files whose block in use this is, clean or unclean
+fn writer_for(block: BaseBlock, hive: u8, is_clean: bool) -> HiveWriter
+    ensures clean { is_clean ≡ true → result ≡ clean_writer hive block }
+    ensures unclean { is_clean ≡ false → result ≡ unclean_writer hive block }
+{
+    if !is_clean {
+        return HiveWriter::of_unclean(hive, block);
+    }
+    let mut writer = HiveWriter::of_clean(hive, block);
+    writer.plan(next_block(
+        &block,
+        block.root,
+        block.bins_size,
+        block.last_written,
+        block.applied.0,
+    ));
+    writer
+}
+
+// the tree that bins data stand for, with the data
+fn loaded(
+    alloc: Global,
+    root: u32,
+    minor: u32,
+    bins: Vec<u8>,
+) -> Result<(Tree, Vec<u8>), Refusal>
+    ensures same { IfOk result (λ it. it.1.items ≡ bins.items) }
+    ensures stands { IfOk result (λ it. StandsWithin bins.items root minor it.0) }
+    ensures fails { IfErr result (λ why. (why ≡ NoMemory) ⊎ ((tree : TreeMap) →
+        StandsWithin bins.items root minor tree → ⊥)) }
+{
+    refusals_exclude_trees();
+    one_tree();
+    let image = match Image::open(alloc, bins) {
+        Ok(image) => image,
+        Err(unopened) => return Err(unopened.refusal),
+    };
+    let mut looks = Looks::new();
+    match load(alloc, &image, root, minor, &mut looks) {
+        Ok(tree) => Ok((tree, image.into_bytes())),
+        Err(why) => Err(why),
+    }
+}
