@@ -1,5 +1,5 @@
 -- Pages in which two images are alike.
-use Rattle.std.proofs.Common.{◌≡◌, ℕ, ◌+◌, ◌*◌, ◌/◌, ◌%◌, ◌<◌, ◌≤◌, List, length, take, drop, get_or, sym, ap, ◌∙◌, arith}
+use Rattle.std.proofs.Common.{◌≡◌, ℕ, ◌+◌, ◌*◌, ◌/◌, ◌%◌, ◌<◌, List, take, drop, get_or, sym, ap, ◌∙◌, arith}
 use Rattle.std.proofs.lemmas.List.{get_or-take, get_or-drop}
 
 -- a byte of a page that is alike
@@ -9,5 +9,5 @@ alike_in_page old new page i here same =
     let below : k < 512 = omega arith in
     let place : i ≡ 512 * page + k = omega (arith, here) in
     let of : (l : List ℕ) → get_or (take 512 (drop (512 * page) l)) k 0 ≡ get_or l i 0 =
-        λ l. get_or-take 512 (drop (512 * page) l) k 0 below ∙ get_or-drop (512 * page) l k 0 ∙ ap (λ (n : ℕ). get_or l n 0) (sym place) in
+    λ l. get_or-take 512 (drop (512 * page) l) k 0 below ∙ get_or-drop (512 * page) l k 0 ∙ ap (λ (n : ℕ). get_or l n 0) (sym place) in
     sym (of new) ∙ ap (λ (l : List ℕ). get_or l k 0) same ∙ of old

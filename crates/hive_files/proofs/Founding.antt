@@ -1,5 +1,5 @@
 -- What is found, from what was read.
-use Rattle.std.proofs.Common.{◌≡◌, ◌↔◌, ◌⊎◌, inl, inr, ⊎_elim, ℕ, ◌+◌, ◌*◌, ◌/◌, ◌<◌, ◌≤◌, Bool, cond, true, false, List, length, take, drop, sym, ap, ◌∙◌, subst, refl, arith, length-take}
+use Rattle.std.proofs.Common.{◌≡◌, inl, inr, ⊎_elim, ℕ, ◌+◌, ◌*◌, ◌<◌, ◌≤◌, Bool, cond, true, false, List, length, take, drop, sym, ap, ◌∙◌, subst, refl, arith, length-take}
 use Rattle.std.specs.Prelude.{◌&&◌}
 use Rattle.std.specs.Bool.{MatchBool}
 use Rattle.std.proofs.lemmas.Bool.{cases_eq, eq-eqb, ne_eqb, le-leb, lt-leb, MatchBool-at_true, MatchBool-at_false}
@@ -15,7 +15,7 @@ use Rattle.dirt_log.specs.Held.{is_clean_file, IsOwn, IsRepaired}
 use Rattle.dirt_log.specs.LogText.{bitmap_end, pages_at}
 use Rattle.dirt_log.specs.WholeLog.{IsWhole, IsCovered, block_of, pages_in, page_bytes_in, log_end, not_whole, repaired}
 use Rattle.dirt_log.specs.declared.reading.DirtLog.{DirtLog}
-use Rattle.hive_files.specs.Finding.{HasHive, IsByLog, IsFound, IsLogOf, IsLogged, IsPart, TellsOfHive, as_primary}
+use Rattle.hive_files.specs.Finding.{HasHive, IsByLog, IsFound, IsLogOf, IsLogged, IsPart, TellsOfHive}
 use Rattle.hive_files.specs.Frames.{FailsBy}
 use Rattle.hive_files.specs.declared.found.Found.{Found}
 

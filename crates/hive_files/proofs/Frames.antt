@@ -1,5 +1,5 @@
 -- Calls one after another.
-use Rattle.std.proofs.Common.{◌≡◌, ℕ, ◌≤◌, ◌∙◌, inl, inr, ⊎_elim, arith, Result, Ok, Err, IfOk}
+use Rattle.std.proofs.Common.{ℕ, ◌∙◌, inl, inr, ⊎_elim, arith, Result, Ok, Err, IfOk}
 use Rattle.refusals.specs.declared.refusal.Refusal.{Refusal}
 use Rattle.disk_model.specs.FileState.{FileState}
 use Rattle.disk_model.specs.Call.{Extends}

@@ -71,12 +71,7 @@ fn fill<D: Disk>(disk: &mut D, file: u32, offset: u64, bytes: &mut [u8]) -> Resu
 }
 
 // reads so many bytes as the buffer has, in one call
-fn read_piece<D: Disk>(
-    disk: &mut D,
-    file: u32,
-    offset: u64,
-    piece: &mut [u8],
-) -> Result<(), Failed>
+fn read_piece<D: Disk>(disk: &mut D, file: u32, offset: u64, piece: &mut [u8]) -> Result<(), Failed>
     ensures size { length piece.new ≡ length piece.old }
     ensures bytes { OnOk result (D.faithful disk.new → offset + length piece.old
         ≤ length (D.state_at disk.old (D.clock disk.old) file).seen → piece.new

@@ -1,7 +1,6 @@
 -- A quiet hive that takes another image into memory.
-use Rattle.std.proofs.Common.{◌≡◌, ℕ, ◌+◌, ◌≤◌, List, length, take, drop, refl, sym, ap, subst, ◌∙◌, Some}
+use Rattle.std.proofs.Common.{◌≡◌, ℕ, List, length, take, drop, refl, sym, subst, Some}
 use Rattle.reg_tree.specs.Maps.{TreeMap}
-use Rattle.base_block.specs.declared.block.BaseBlock.{BaseBlock}
 use Rattle.dirty_vector.specs.Pages.{Pages}
 use Rattle.dirt_log.specs.WholeLog.{block_of}
 use Rattle.disk_model.specs.FileState.{FileState}
@@ -16,7 +15,7 @@ use Rattle.hive_writer.specs.declared.stage.Stage.TheVariants as stage
 use Rattle.hive_writer.specs.Writing.{phase_in, plan_of, work_of}
 use Rattle.hive_flush.specs.HiveStates.{IsOnBy}
 use Rattle.hive_flush.specs.Planned.{block_for}
-use Rattle.hive_flush.specs.Standing.{IsRight, StandsWithin, with_tree}
+use Rattle.hive_flush.specs.Standing.{StandsWithin, with_tree}
 use Rattle.hive_flush.proofs.Standing.{gives, gives_right, gives_still}
 
 -- one tree at most stands for bins data
@@ -26,7 +25,7 @@ IsOne = (bytes : List ℕ) (root minor : ℕ) (t u : TreeMap) → StandsFor byte
 pub adopted : (w : HiveWriter) (image bins : List ℕ) (pages left : Pages) (now memory : TreeMap × ℕ) (tree : TreeMap) (root size time number : ℕ) (primary log : FileState)
     → IsOne → w.stage ≡ stage.Quiet → StandsWithin bins root w.block.minor tree → Marks image pages bins left
     → ((stands : Standing TreeMap) → tree_under stands (block_for w.block root size time number) bins ≡ Some tree
-        → IsReady stands (tree, number) bins left (plan_of (record w { block = block_for w.block root size time number }) bins left))
+    → IsReady stands (tree, number) bins left (plan_of (record w { block = block_for w.block root size time number }) bins left))
     → IsOnBy w image pages now memory primary log → IsOnBy (record w { block = block_for w.block root size time number }) bins left now (tree, number) primary log
 adopted w image bins pages left now memory tree root size time number primary log one quiet within marks ready on =
     let block = block_for w.block root size time number in
@@ -37,8 +36,8 @@ adopted w image bins pages left now memory tree root size time number primary lo
     let own = block_of primary.synced in
     let part = take own.bins_size (drop 4096 primary.synced) in
     let same : part ≡ bins → own.root ≡ root → own.minor ≡ w.block.minor → tree ≡ now.0 = λ b r m.
-        let told = on.right part own.root own.minor own.store now.0 rest.clean.tree in
-        one bins root w.block.minor tree now.0 within.0 (subst (λ (n : ℕ). StandsFor bins root n now.0) m (subst (λ (n : ℕ). StandsFor bins n own.minor now.0) r (subst (λ (x : List ℕ). StandsFor x own.root own.minor now.0) b told.1.0))) in
+    let told = on.right part own.root own.minor own.store now.0 rest.clean.tree in
+    one bins root w.block.minor tree now.0 within.0 (subst (λ (n : ℕ). StandsFor bins root n now.0) m (subst (λ (n : ℕ). StandsFor bins n own.minor now.0) r (subst (λ (x : List ℕ). StandsFor x own.root own.minor now.0) b told.1.0))) in
     let still : IsQuiet stands (work_of next bins left now (tree, number)) primary = record {
       rest = rest.rest;
       clean = record {

@@ -1,9 +1,9 @@
 -- A step's files, from stage to stage.
-use Rattle.std.proofs.Common.{◌≡◌, false, true, ℕ, List, length, refl, sym, ap, subst, ◌∙◌, Option, Some, Result, Ok, Err}
+use Rattle.std.proofs.Common.{◌≡◌, false, ℕ, List, length, refl, sym, ap, subst, ◌∙◌, Some, Result, Ok, Err}
 use Rattle.refusals.specs.declared.refusal.Refusal.{Refusal}
 use Rattle.engine_words.specs.declared.Progress.{Progress}
 use Rattle.engine_words.specs.declared.Progress.TheVariants as progress
-use Rattle.prefix_law.specs.Promises.{Choice, settled, under_way}
+use Rattle.prefix_law.specs.Promises.{Choice}
 use Rattle.reg_tree.specs.Maps.{TreeMap}
 use Rattle.base_block.specs.declared.block.BaseBlock.{BaseBlock}
 use Rattle.disk_model.specs.FileState.{FileState}
@@ -104,7 +104,7 @@ done_on : (old new : HiveWriter) (image : List ℕ) (pages clean : Pages) (now m
     → clean.bins_size ≡ length image → KeepsBlocks old new (Ok progress.Done) → new.stage ≡ stage.Quiet
     → LeadsBy old new image pages (Ok progress.Done) before after
     → ((stands : Standing TreeMap) → tree_under stands new.block image ≡ Some memory.0 → new.block.applied.0 ≡ memory.1
-        → IsReady stands memory image clean (plan_of (record new { block = block_again new.block }) image clean))
+    → IsReady stands memory image clean (plan_of (record new { block = block_again new.block }) image clean))
     → IsOnBy old image pages now memory (before (primary_file old.hive)) (before (log_file old.hive))
     → IsOnBy (record new { block = block_again new.block }) image clean memory memory (after (primary_file old.hive)) (after (log_file old.hive))
 done_on old new image pages clean now memory before after size keeps quiet leads fits on =
@@ -145,7 +145,7 @@ pub done : (old new : HiveWriter) (image : List ℕ) (pages clean : Pages) (held
     → clean.bins_size ≡ length image → KeepsBlocks old new (Ok progress.Done) → new.stage ≡ stage.Quiet
     → LeadsBy old new image pages (Ok progress.Done) before after
     → ((stands : Standing TreeMap) (memory : TreeMap × ℕ) → tree_under stands new.block image ≡ Some memory.0 → new.block.applied.0 ≡ memory.1
-        → IsReady stands memory image clean (plan_of (record new { block = block_again new.block }) image clean))
+    → IsReady stands memory image clean (plan_of (record new { block = block_again new.block }) image clean))
     → IsOnBy old image pages (held, old.base.applied.0) (tree, old.block.applied.0) (before (primary_file old.hive)) (before (log_file old.hive))
     → IsOnBy (record new { block = block_again new.block }) image clean (tree, new.base.applied.0) (tree, new.block.applied.0) (after (primary_file old.hive)) (after (log_file old.hive))
 done old new image pages clean held tree before after size keeps quiet leads fits on =

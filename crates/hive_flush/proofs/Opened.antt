@@ -1,5 +1,5 @@
 -- What was found in a hive's files, as a hive in memory.
-use Rattle.std.proofs.Common.{◌≡◌, ◌≢◌, ◌⊎◌, inl, inr, ⊎_elim, ℕ, ◌+◌, ◌*◌, ◌/◌, ◌<◌, ◌≤◌, List, Bool, true, false, length, take, drop, get_or, refl, sym, ap, subst, ◌∙◌, Some, arith}
+use Rattle.std.proofs.Common.{◌≡◌, ◌≢◌, ◌⊎◌, inl, inr, ⊎_elim, ℕ, ◌+◌, ◌≤◌, List, Bool, true, false, length, take, drop, get_or, refl, sym, ap, subst, ◌∙◌, Some, arith}
 use Rattle.std.proofs.lemmas.Bool.{cases_Bool, MatchBool-at_true, MatchBool-at_false}
 use Rattle.std.proofs.lemmas.List.{get_or-take, length-drop}
 use Rattle.std.specs.Bool.{MatchBool}
@@ -10,23 +10,19 @@ use Rattle.hive_load.specs.Limits.{IsWithin, LoadRefused}
 use Rattle.reg_tree.specs.Maps.{TreeMap}
 use Rattle.base_block.specs.declared.block.BaseBlock.{BaseBlock}
 use Rattle.base_block.specs.Judgements.{IsPrimary}
-use Rattle.dirty_vector.specs.Pages.{Pages, clean_pages, is_dirty}
+use Rattle.dirty_vector.specs.Pages.{Pages, clean_pages}
 use Rattle.disk_model.specs.FileState.{FileState, at_rest}
 use Rattle.dirt_log.specs.WholeLog.{IsCovered, IsWhole, block_of, page_bytes_in, pages_in, repaired}
-use Rattle.dirt_log.specs.Held.{IsInUse, IsOwn, IsRepaired, SameWhereClean, is_clean_file}
+use Rattle.dirt_log.specs.Held.{IsInUse, is_clean_file}
 use Rattle.hive_files.specs.Finding.{HasHive, IsFound, IsFoundClean, IsFoundUnclean, as_primary}
 use Rattle.hive_files.specs.declared.found.Found.{Found}
 use Rattle.hive_phases.proofs.Holding.{same_parts}
 use Rattle.hive_phases.proofs.Moving.{repair_begins}
 use Rattle.std.proofs.Math.Seq.{take-length}
 use Rattle.hive_phases.specs.Holding.{Standing, tree_under}
-use Rattle.hive_phases.specs.Plans.{IsBehind, IsReady, Plan}
-use Rattle.hive_phases.specs.States.{is_on_in}
-use Rattle.hive_phases.specs.Phases.{Phase.Paging, Phase.Quiet, Purpose.Repair}
+use Rattle.hive_phases.specs.Plans.{IsBehind, IsReady}
 use Rattle.hive_writer.specs.declared.writer.HiveWriter.{HiveWriter}
-use Rattle.hive_writer.specs.declared.stage.Stage.TheVariants as stage
-use Rattle.hive_writer.specs.declared.stage.Purpose.TheVariants as purpose
-use Rattle.hive_writer.specs.Writing.{EndsWith, IsFlushing, plan_of, work_of}
+use Rattle.hive_writer.specs.Writing.{IsFlushing, plan_of, work_of}
 use Rattle.hive_flush.specs.HiveStates.{IsOnBy}
 use Rattle.hive_files.specs.Blocks.{IsPlanned}
 use Rattle.hive_flush.specs.Planned.{block_again, clean_writer, unclean_writer, repair_plan}
@@ -84,11 +80,12 @@ found_agrees primary log found store held f h =
     let u = in_use primary log found f in
     let same = same_parts primary log h.block u.block h.bins found.bins.items h.in_use u.in_use in
     let root : h.block.root ≡ found.block.root = ap (λ (b : BaseBlock). b.root) same.0 ∙ u.root in
-    let minor : h.block.minor ≡ found.block.minor = ap (λ (b : BaseBlock). b.minor) same.0 ∙ u.minor in
-    (sym u.store ∙ sym (ap (λ (b : BaseBlock). b.store) same.0) ∙ h.store_is,
-     subst (λ (n : ℕ). StandsWithin found.bins.items found.block.root n held.0) minor
-     (subst (λ (n : ℕ). StandsWithin found.bins.items n h.block.minor held.0) root
-     (subst (λ (l : List ℕ). StandsWithin l h.block.root h.block.minor held.0) same.1 h.tree)))
+    let minor : h.block.minor ≡ found.block.minor = ap (λ (b : BaseBlock). b.minor) same.0 ∙ u.minor in (
+      sym u.store ∙ sym (ap (λ (b : BaseBlock). b.store) same.0) ∙ h.store_is,
+      subst (λ (n : ℕ). StandsWithin found.bins.items found.block.root n held.0) minor
+          (subst (λ (n : ℕ). StandsWithin found.bins.items n h.block.minor held.0) root
+          (subst (λ (l : List ℕ). StandsWithin l h.block.root h.block.minor held.0) same.1 h.tree)),
+    )
 
 -- and what stands in it the files hold
 pub found_holds : (primary log : List ℕ) (found : Found) (store : List ℕ) (tree : TreeMap) (n : ℕ) → IsFound primary log found → found.block.store ≡ store
@@ -129,7 +126,7 @@ behind_own primary bins size long part = record {
 pub clean_on : (hive : ℕ) (primary : List ℕ) (found : Found) (tree : TreeMap) (log : FileState) → is_clean_file primary ≡ true → IsFoundClean primary found
     → StandsWithin found.bins.items found.block.root found.block.minor tree
     → ((stands : Standing TreeMap) → tree_under stands (clean_writer hive found.block).block found.bins.items ≡ Some tree
-        → IsReady stands (tree, found.block.applied.0) found.bins.items found.pages (plan_of (clean_writer hive found.block) found.bins.items found.pages))
+    → IsReady stands (tree, found.block.applied.0) found.bins.items found.pages (plan_of (clean_writer hive found.block) found.bins.items found.pages))
     → IsOnBy (clean_writer hive found.block) found.bins.items found.pages (tree, found.block.applied.0) (tree, found.block.applied.0) (at_rest primary) log
 clean_on hive primary found tree log clean x within ready =
     let stands = rule found.bins.items found.block tree in
@@ -158,9 +155,9 @@ clean_on hive primary found tree log clean x within ready =
 pub unclean_on : (hive : ℕ) (primary log : List ℕ) (found : Found) (tree : TreeMap) → is_clean_file primary ≡ false → IsFoundUnclean primary log found
     → StandsWithin found.bins.items found.block.root found.block.minor tree
     → ((stands : Standing TreeMap) (memory : TreeMap × ℕ) → found.block ≡ as_primary (block_of log) → IsWhole log → IsCovered (length (drop 4096 primary)) (pages_in log)
-        → tree_under stands (block_of log) (repaired (drop 4096 primary) (pages_in log) (page_bytes_in log)) ≡ Some memory.0 → (block_of log).applied.0 ≡ memory.1
-        → IsReady stands memory (repaired (drop 4096 primary) (pages_in log) (page_bytes_in log)) (pages_in log) (repair_plan found.block log)
-        × IsBehind (repaired (drop 4096 primary) (pages_in log) (page_bytes_in log)) (pages_in log) primary)
+    → tree_under stands (block_of log) (repaired (drop 4096 primary) (pages_in log) (page_bytes_in log)) ≡ Some memory.0 → (block_of log).applied.0 ≡ memory.1
+    → IsReady stands memory (repaired (drop 4096 primary) (pages_in log) (page_bytes_in log)) (pages_in log) (repair_plan found.block log)
+    × IsBehind (repaired (drop 4096 primary) (pages_in log) (page_bytes_in log)) (pages_in log) primary)
     → IsOnBy (unclean_writer hive found.block) found.bins.items found.pages (tree, found.block.applied.0) (tree, found.block.applied.0) (at_rest primary) (at_rest log)
 unclean_on hive primary log found tree clean x within fits =
     let stands = rule found.bins.items found.block tree in
@@ -170,14 +167,14 @@ unclean_on hive primary log found tree clean x within fits =
     let plan = repair_plan block log in
     let root : block.root ≡ (block_of log).root = ap (λ (b : BaseBlock). b.root) is in
     let given : tree_under stands (block_of log) found.bins.items ≡ Some tree =
-        sym (ap (λ (n : ℕ). stands found.bins.items n block.minor block.store) root ∙ ap (λ (n : ℕ). stands found.bins.items (block_of log).root n block.store) (ap (λ (b : BaseBlock). b.minor) is)
-            ∙ ap (stands found.bins.items (block_of log).root (block_of log).minor) (ap (λ (b : BaseBlock). b.store) is)) ∙ rule_gives found.bins.items block tree in
+    sym (ap (λ (n : ℕ). stands found.bins.items n block.minor block.store) root ∙ ap (λ (n : ℕ). stands found.bins.items (block_of log).root n block.store) (ap (λ (b : BaseBlock). b.minor) is)
+    ∙ ap (stands found.bins.items (block_of log).root (block_of log).minor) (ap (λ (b : BaseBlock). b.store) is)) ∙ rule_gives found.bins.items block tree in
     let made = fits stands (tree, block.applied.0) is by.whole by.covered (subst (λ (l : List ℕ). tree_under stands (block_of log) l ≡ Some tree) by.image given) (sym (ap (λ (b : BaseBlock). b.applied.0) is)) in
     let ready : IsReady stands (tree, block.applied.0) found.bins.items found.pages plan =
-        subst (λ (v : Pages). IsReady stands (tree, block.applied.0) found.bins.items v plan) (sym x.by_log.pages)
-        (subst (λ (l : List ℕ). IsReady stands (tree, block.applied.0) l (pages_in log) plan) (sym by.image) made.0) in
+    subst (λ (v : Pages). IsReady stands (tree, block.applied.0) found.bins.items v plan) (sym x.by_log.pages)
+    (subst (λ (l : List ℕ). IsReady stands (tree, block.applied.0) l (pages_in log) plan) (sym by.image) made.0) in
     let behind : IsBehind found.bins.items found.pages primary =
-        subst (λ (v : Pages). IsBehind found.bins.items v primary) (sym x.by_log.pages) (subst (λ (l : List ℕ). IsBehind l (pages_in log) primary) (sym by.image) made.1) in
+    subst (λ (v : Pages). IsBehind found.bins.items v primary) (sym x.by_log.pages) (subst (λ (l : List ℕ). IsBehind l (pages_in log) primary) (sym by.image) made.1) in
     record {
       stands = stands;
       right = rule_right found.bins.items block tree within;
@@ -239,7 +236,7 @@ pub clean_ready : (writer : HiveWriter) (hive : ℕ) (block : BaseBlock) (image 
 clean_ready writer hive block image bins pages tree stands is same ready given =
     let first = subst (λ (w : HiveWriter). (s : Standing TreeMap) (memory : TreeMap × ℕ) → tree_under s w.block image ≡ Some memory.0 → w.block.applied.0 ≡ memory.1 → IsReady s memory image pages (plan_of w image pages)) is ready in
     let second = subst (λ (l : List ℕ). (s : Standing TreeMap) (memory : TreeMap × ℕ) → tree_under s (clean_writer hive block).block l ≡ Some memory.0 → block.applied.0 ≡ memory.1
-        → IsReady s memory l pages (plan_of (clean_writer hive block) l pages)) same first in
+    → IsReady s memory l pages (plan_of (clean_writer hive block) l pages)) same first in
     second stands (tree, block.applied.0) given refl
 
 pub has_hive : (store primary log : List ℕ) (held : TreeMap × ℕ) → HoldsUnder store primary log held → HasHive primary log

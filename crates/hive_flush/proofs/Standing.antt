@@ -1,12 +1,11 @@
 -- Rules that are right in a store.
-use Rattle.std.proofs.Common.{◌≡◌, inl, inr, ⊎_elim, ℕ, List, Bool, true, false, cond, refl, sym, ap, subst, ◌∙◌, Some, None}
+use Rattle.std.proofs.Common.{◌≡◌, inl, inr, ℕ, List, Bool, true, refl, sym, ap, subst, ◌∙◌, Some}
 use Rattle.std.specs.Prelude.{nat_eq, ◌&&◌, ◌==◌, if◌then◌else◌}
 use Rattle.std.specs.Cmp.Lexicographic.{pointwise}
-use Rattle.std.proofs.lemmas.Bool.{cases_Bool, eqb-true, eq-eqb, and_from, and_parts, and_right}
+use Rattle.std.proofs.lemmas.Bool.{cases_Bool, eqb-true, eq-eqb, and_from, and_parts}
 use Rattle.std.proofs.lemmas.Slice.Eq.{bytes_eq-Decides}
 use Rattle.std.proofs.lemmas.Option.{same_Some}
 use Rattle.reg_tree.specs.Maps.{TreeMap}
-use Rattle.prefix_law.specs.Promises.{Choice, HiveOn}
 use Rattle.hive_phases.specs.Holding.{Standing, Holds}
 use Rattle.hive_flush.specs.Standing.{HoldsUnder, IsRight, StandsWithin, with_tree}
 
@@ -25,7 +24,7 @@ pub gives : (stands : Standing TreeMap) (bytes : List ℕ) (root minor : ℕ) (s
 unfolding same_for
 gives stands bytes root minor store tree =
     let it : same_for bytes root minor store bytes root minor store ≡ true =
-        and_from _ _ ((bytes_eq-Decides bytes bytes).1 refl) (and_from _ _ ((bytes_eq-Decides store store).1 refl) (and_from _ _ (eq-eqb root root refl) (eq-eqb minor minor refl))) in
+    and_from _ _ ((bytes_eq-Decides bytes bytes).1 refl) (and_from _ _ ((bytes_eq-Decides store store).1 refl) (and_from _ _ (eq-eqb root root refl) (eq-eqb minor minor refl))) in
     ap (λ (t : Bool). if t then Some tree else stands bytes root minor store) it
 
 pub gives_right : (stands : Standing TreeMap) (bytes : List ℕ) (root minor : ℕ) (store : List ℕ) (tree : TreeMap) (of : List ℕ) → IsRight of stands → store ≡ of → StandsWithin bytes root minor tree
@@ -40,9 +39,11 @@ gives_right stands bytes root minor store tree of right is within b r m s t e = 
       let s_is : s ≡ store = (bytes_eq-Decides s store).0 more.0 in
       let r_is : r ≡ root = eqb-true r root rest.0 in
       let m_is : m ≡ minor = eqb-true m minor rest.1 in
-      let t_is : tree ≡ t = same_Some tree t (sym (ap (λ (q : Bool). if q then Some tree else stands b r m s) it) ∙ e) in
-      (s_is ∙ is, subst (λ (u : TreeMap). StandsWithin b r m u) t_is (subst (λ (n : ℕ). StandsWithin b r n tree) (sym m_is) (subst (λ (n : ℕ). StandsWithin b n minor tree) (sym r_is)
-          (subst (λ (l : List ℕ). StandsWithin l root minor tree) (sym b_is) within))))
+      let t_is : tree ≡ t = same_Some tree t (sym (ap (λ (q : Bool). if q then Some tree else stands b r m s) it) ∙ e) in (
+        s_is ∙ is,
+        subst (λ (u : TreeMap). StandsWithin b r m u) t_is (subst (λ (n : ℕ). StandsWithin b r n tree) (sym m_is) (subst (λ (n : ℕ). StandsWithin b n minor tree) (sym r_is)
+            (subst (λ (l : List ℕ). StandsWithin l root minor tree) (sym b_is) within))),
+      )
   | inr other ↦ right b r m s t (sym (ap (λ (q : Bool). if q then Some tree else stands b r m s) other) ∙ e)
 ]
 

@@ -129,7 +129,10 @@ impl HiveFile {
         if self.is_whole() {
             return Ok(Progress::Idle);
         }
-        match self.writer.repair_step::<D, Tree>(disk, &self.bins, &self.pages) {
+        match self
+            .writer
+            .repair_step::<D, Tree>(disk, &self.bins, &self.pages)
+        {
             Ok(Progress::Done) => {
                 self.settle();
                 Ok(Progress::Done)

@@ -166,12 +166,7 @@ fn writer_for(block: BaseBlock, hive: u8, is_clean: bool) -> HiveWriter
 }
 
 // the tree that bins data stand for, with the data
-fn loaded(
-    alloc: Global,
-    root: u32,
-    minor: u32,
-    bins: Vec<u8>,
-) -> Result<(Tree, Vec<u8>), Refusal>
+fn loaded(alloc: Global, root: u32, minor: u32, bins: Vec<u8>) -> Result<(Tree, Vec<u8>), Refusal>
     ensures same { IfOk result (λ it. it.1.items ≡ bins.items) }
     ensures stands { IfOk result (λ it. StandsWithin bins.items root minor it.0) }
     ensures fails { IfErr result (λ why. (why ≡ NoMemory) ⊎ ((tree : TreeMap) →

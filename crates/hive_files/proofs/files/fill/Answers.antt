@@ -1,4 +1,4 @@
-use Rattle.std.proofs.Common.{◌≡◌, ℕ, ◌+◌, ◌-◌, ◌≤◌, ◌++◌, List, length, take, drop, sym, ap, subst, ◌∙◌, arith, rules}
+use Rattle.std.proofs.Common.{◌≡◌, ℕ, ◌+◌, ◌-◌, ◌≤◌, ◌++◌, List, length, take, drop, sym, ap, ◌∙◌, arith, rules}
 use Rattle.std.proofs.lemmas.Slice.{take-put_mid}
 use Rattle.std.proofs.lemmas.List.{drop-drop, length-take, length-drop}
 use Rattle.std.proofs.Math.Seq.{take-add}
@@ -24,8 +24,8 @@ pieces-preserved g c =
           let size : length c.read_piece.new.piece ≡ n = c.in_ok-read_piece.ensures.size ∙ long in
           let inside : c.args.offset + at + length part ≤ length mid.seen = omega (arith, long, whole, ap (λ (l : List ℕ). length l) same, c.min.ensures, c.pieces.invariant.size, c.pieces.invariant.within) in
           let piece : c.read_piece.new.piece ≡ take n (drop (c.args.offset + at) old.seen) =
-              c.in_ok-read_piece.ensures.bytes faithful inside
-              ∙ ap (λ (k : ℕ). take k (drop (c.args.offset + at) mid.seen)) long ∙ ap (λ (l : List ℕ). take n (drop (c.args.offset + at) l)) same in
+          c.in_ok-read_piece.ensures.bytes faithful inside
+          ∙ ap (λ (k : ℕ). take k (drop (c.args.offset + at) mid.seen)) long ∙ ap (λ (l : List ℕ). take n (drop (c.args.offset + at) l)) same in
           take-put_mid at (at + n - at) c.pieces.bytes c.read_piece.new.piece (at + n) (omega (arith, size)) (omega (arith, c.pieces.invariant.size, c.pieces.invariant.within))
           ∙ ap (λ (l : List ℕ). l ++ c.read_piece.new.piece) (c.pieces.invariant.bytes mid_faithful whole)
           ∙ ap (λ (l : List ℕ). take at rest ++ l) (piece ∙ ap (λ (l : List ℕ). take n l) (sym (drop-drop at c.args.offset old.seen)))

@@ -1,4 +1,4 @@
-use Rattle.std.proofs.Common.{◌≡◌, ◌-◌, ◌+◌, ◌≤◌, ℕ, length, take, drop}
+use Rattle.std.proofs.Common.{◌≡◌, ◌-◌, ◌+◌, ◌≤◌, length, take, drop}
 use Rattle.hive_files.specs.Frames.{OnlyReads}
 use Rattle.hive_files.proofs.files.fill.Given as goal
 

@@ -1,5 +1,5 @@
-use Rattle.std.proofs.Common.{◌≡◌, ◌≢◌, ℕ, ◌+◌, ◌≤◌, Bool, true, false, List, length, take, drop, length-take, inl, inr, refl, sym, ap, subst, ◌∙◌, arith}
-use Rattle.std.proofs.lemmas.Result.{IfOk-weaker, IfErr-weaker}
+use Rattle.std.proofs.Common.{◌≡◌, ◌≢◌, ℕ, ◌+◌, ◌≤◌, true, false, List, length, take, length-take, inr, refl, sym, ap, subst, ◌∙◌, arith}
+use Rattle.std.proofs.lemmas.Result.{IfErr-weaker}
 use Rattle.refusals.specs.declared.refusal.Refusal.{Refusal}
 use Rattle.base_block.specs.declared.block.BaseBlock.{BaseBlock}
 use Rattle.base_block.specs.Judgements.{IsPrimary}
@@ -15,14 +15,17 @@ use Rattle.dirt_log.specs.WholeLog.{block_of}
 use Rattle.hive_files.proofs.finding.find.Goals as goal
 
 pub returns-in-None-clause-fails : goal.returns-in-None-clause-fails
-returns-in-None-clause-fails g c = inr (inr (subst (λ (r : Refusal). TellsOfHive r) (sym c.from.ensures) refl, λ faithful has.
-    let old = g.D.Disk.state_at c.args.disk.now (g.D.Disk.clock c.args.disk.now) in
-    let mid = g.D.Disk.state_at c.sync.new.self (g.D.Disk.clock c.sync.new.self) in
-    let primary = (old (primary_file c.args.hive)).seen in
-    let number : c.primary_number-primary.result ≡ primary_file c.args.hive = c.primary_number-primary.ensures in
-    let shown : (mid c.primary_number-primary.result).seen ≡ primary = ap (λ (s : FileState). s.seen) (c.in_ok-sync.ensures.synced (c.in-Ok.ensures.faithful faithful)) ∙ ap (λ (f : ℕ). (old f).seen) number in
-    let sector : c.in-Ok.sector.items ≡ take 512 primary = c.in-Ok.ensures.bytes faithful ∙ ap (λ (l : List ℕ). take 512 l) shown in
-    short_has_none primary _ (omega (arith, c.in-None.ensures.none, ap (λ (l : List ℕ). length l) (c.deref.ensures.value ∙ sector), length-take 512 primary)) has))
+returns-in-None-clause-fails g c = inr (inr (
+  subst (λ (r : Refusal). TellsOfHive r) (sym c.from.ensures) refl,
+  λ faithful has.
+      let old = g.D.Disk.state_at c.args.disk.now (g.D.Disk.clock c.args.disk.now) in
+      let mid = g.D.Disk.state_at c.sync.new.self (g.D.Disk.clock c.sync.new.self) in
+      let primary = (old (primary_file c.args.hive)).seen in
+      let number : c.primary_number-primary.result ≡ primary_file c.args.hive = c.primary_number-primary.ensures in
+      let shown : (mid c.primary_number-primary.result).seen ≡ primary = ap (λ (s : FileState). s.seen) (c.in_ok-sync.ensures.synced (c.in-Ok.ensures.faithful faithful)) ∙ ap (λ (f : ℕ). (old f).seen) number in
+      let sector : c.in-Ok.sector.items ≡ take 512 primary = c.in-Ok.ensures.bytes faithful ∙ ap (λ (l : List ℕ). take 512 l) shown in
+      short_has_none primary _ (omega (arith, c.in-None.ensures.none, ap (λ (l : List ℕ). length l) (c.deref.ensures.value ∙ sector), length-take 512 primary)) has,
+))
 
 pub returns-then-is_clean-clause-found : goal.returns-then-is_clean-clause-found
 returns-then-is_clean-clause-found g c = ok_of_three c.find_own.result _ _ _ _ (λ found bins judged says faithful.

@@ -1,15 +1,18 @@
-use Rattle.std.proofs.Common.{◌≡◌, ℕ, ◌+◌, ◌≤◌, ◌<◌, List, length, take, drop, inl, inr, refl, sym, ap, subst, ◌∙◌, arith, rules}
+use Rattle.std.proofs.Common.{ℕ, List, length, drop, inr, refl, sym, ap, subst, arith, rules}
 use Rattle.std.proofs.lemmas.List.{length-take, length-drop}
 use Rattle.refusals.specs.declared.refusal.Refusal.{Refusal}
 use Rattle.hive_files.specs.Finding.{TellsOfHive}
 use Rattle.hive_files.proofs.finding.find_own.Goals as goal
 
 pub returns-then-len-size-clause-fails : goal.returns-then-len-size-clause-fails
-returns-then-len-size-clause-fails g c = inr (inr (subst (λ (r : Refusal). TellsOfHive r) (sym c.from.ensures) refl, λ faithful judged long.
-    let seen = (g.D.Disk.state_at c.args.disk.now (g.D.Disk.clock c.args.disk.now) c.args.file).seen in
-    let size = c.args.block.bins_size in
-    let bytes = ap (λ (l : List ℕ). length l) (c.in-Ok-read_part.ensures.bytes faithful) in
-    omega (arith, bytes, length-take size (drop 4096 seen), length-drop 4096 seen, c.len.ensures, c.if-len-size.true, long)))
+returns-then-len-size-clause-fails g c = inr (inr (
+  subst (λ (r : Refusal). TellsOfHive r) (sym c.from.ensures) refl,
+  λ faithful judged long.
+      let seen = (g.D.Disk.state_at c.args.disk.now (g.D.Disk.clock c.args.disk.now) c.args.file).seen in
+      let size = c.args.block.bins_size in
+      let bytes = ap (λ (l : List ℕ). length l) (c.in-Ok-read_part.ensures.bytes faithful) in
+      omega (arith, bytes, length-take size (drop 4096 seen), length-drop 4096 seen, c.len.ensures, c.if-len-size.true, long),
+))
 
 pub returns-clause-bins : goal.returns-clause-bins
 returns-clause-bins g c = λ faithful.

@@ -1,6 +1,6 @@
-use Rattle.std.proofs.Common.{◌≡◌, ◌↔◌, ◌≤◌, ℕ, List, take, inl, inr, sym, ap, subst, ◌∙◌, arith, ⊎_elim}
+use Rattle.std.proofs.Common.{◌≡◌, ◌≤◌, ℕ, take, inl, inr, sym, ap, subst, ◌∙◌, arith, ⊎_elim}
 use Rattle.base_block.specs.declared.block.BaseBlock.{BaseBlock}
-use Rattle.dirt_log.specs.WholeLog.{IsWhole, block_of, pages_in, page_bytes_in, log_end}
+use Rattle.dirt_log.specs.WholeLog.{IsWhole, block_of, pages_in, page_bytes_in}
 use Rattle.dirt_log.specs.LogText.{bitmap_end}
 use Rattle.hive_files.proofs.Founding.{front_long, whole_front}
 use Rattle.hive_files.proofs.finding.read_log.Goals as goal

@@ -1,6 +1,5 @@
-use Rattle.std.proofs.Common.{◌≡◌, ℕ, List, take, drop, length, inl, inr, refl, sym, ap, subst, ◌∙◌, arith, ⊎_elim}
+use Rattle.std.proofs.Common.{ℕ, List, drop, length, inl, inr, refl, sym, ap, subst, ◌∙◌, arith, ⊎_elim}
 use Rattle.std.proofs.lemmas.Bool.{eqb-true, and_parts}
-use Rattle.base_block.specs.declared.block.BaseBlock.{BaseBlock}
 use Rattle.dirty_vector.specs.Pages.{Pages}
 use Rattle.dirt_log.specs.WholeLog.{IsCovered, repaired}
 use Rattle.hive_files.specs.Finding.{as_primary}
@@ -10,9 +9,12 @@ use Rattle.hive_files.proofs.finding.repaired.Goals as goal
 
 pub returns-in-Err-clause-fails : goal.returns-in-Err-clause-fails
 returns-in-Err-clause-fails c = ⊎_elim
-    (λ not. inl (not.0, λ primary file log part logged. not.1 (subst (λ (l : List ℕ). IsCovered (length l) c.args.log.vector) (sym part)
-        ((c.front_is_repaired.ensures.covered (drop 4096 primary) c.args.log.vector c.args.log.vector.bins_size (omega arith)).1
-            (subst (λ (v : Pages). IsCovered (length (drop 4096 primary)) v) (sym log.marked) logged.covered)))))
+    (λ not. inl (
+      not.0,
+      λ primary file log part logged. not.1 (subst (λ (l : List ℕ). IsCovered (length l) c.args.log.vector) (sym part)
+          ((c.front_is_repaired.ensures.covered (drop 4096 primary) c.args.log.vector c.args.log.vector.bins_size (omega arith)).1
+          (subst (λ (v : Pages). IsCovered (length (drop 4096 primary)) v) (sym log.marked) logged.covered))),
+    ))
     (λ none. inr none) c.in-Err.ensures.refused
 
 pub invariant_of-result : goal.invariant_of-result

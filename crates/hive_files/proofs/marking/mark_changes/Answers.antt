@@ -1,4 +1,4 @@
-use Rattle.std.proofs.Common.{◌≡◌, ℕ, ◌*◌, ◌/◌, ◌%◌, ◌<◌, ◌≤◌, true, false, inl, inr, ⊎_elim, subst, arith, rules, ap, ◌∙◌, sym, refl, length}
+use Rattle.std.proofs.Common.{◌≡◌, ◌*◌, ◌/◌, ◌%◌, inl, inr, ⊎_elim, arith, refl, length}
 use Rattle.std.proofs.lemmas.Bool.{cases_lt, false_from_ne_true, eqb-true, and_parts}
 use Rattle.dirty_vector.specs.Pages.{is_dirty}
 use Rattle.hive_phases.proofs.Holding.{true_false}

@@ -1,6 +1,4 @@
-use Rattle.std.proofs.Common.{◌≡◌, inl, inr, ⊎_elim, List, ℕ, subst, sym, ap, ◌∙◌}
-use Rattle.refusals.specs.declared.refusal.Refusal.{Refusal}
-use Rattle.refusals.specs.declared.refusal.Refusal.TheVariants.{NoMemory, TooLarge}
+use Rattle.std.proofs.Common.{◌≡◌, List, ℕ, subst, ap}
 use Rattle.hive_cells.specs.Bins.{Bins}
 use Rattle.hive_load.specs.Limits.{LoadRefused}
 use Rattle.hive_flush.proofs.Opened.{none_stands}

@@ -1,23 +1,21 @@
-use Rattle.std.proofs.Common.{◌≡◌, inl, inr, ⊎_elim, ℕ, List, length, true, false, refl, sym, ap, subst, ◌∙◌, Some}
+use Rattle.std.proofs.Common.{◌≡◌, inl, inr, ⊎_elim, ℕ, List, length, refl, sym, ap, subst, ◌∙◌}
 use Rattle.std.proofs.lemmas.Bool.{cases_Bool, not-false, not-true, MatchBool-at_true, MatchBool-at_false}
 use Rattle.std.proofs.lemmas.Slice.Eq.{bytes_eq-Decides}
-use Rattle.reg_tree.specs.Maps.{TreeMap}
 use Rattle.disk_model.specs.FileState.{FileState, at_rest}
-use Rattle.hive_phases.specs.Holding.{Standing, tree_under}
-use Rattle.hive_phases.specs.Plans.{IsReady}
 use Rattle.hive_writer.specs.declared.writer.HiveWriter.{HiveWriter}
-use Rattle.hive_writer.specs.Writing.{plan_of}
 use Rattle.hive_flush.specs.HiveStates.{IsOnBy}
 use Rattle.hive_flush.specs.Planned.{clean_writer, unclean_writer}
-use Rattle.hive_flush.specs.Standing.{StandsWithin}
 use Rattle.hive_flush.proofs.Going.{same_on}
 use Rattle.hive_flush.proofs.Opened.{IsWriterFor, clean_ready, found_agrees, found_holds, clean_on, unclean_on, true_false, writer_number, writer_planned, writer_steady}
 use Rattle.hive_flush.proofs.opening.of_found.Goals as goal
 
 pub returns-then-ne-clause-fails : goal.returns-then-ne-clause-fails
-returns-then-ne-clause-fails c = inr (refl, λ primary log f held h.
-    let same = (found_agrees primary log c.args.found c.args.store held f h).0 in
-    true_false _ ((bytes_eq-Decides c.args.found.block.store c.args.store).1 same) (not-true _ (sym c.if-ne.ensures)))
+returns-then-ne-clause-fails c = inr (
+  refl,
+  λ primary log f held h.
+      let same = (found_agrees primary log c.args.found c.args.store held f h).0 in
+      true_false _ ((bytes_eq-Decides c.args.found.block.store c.args.store).1 same) (not-true _ (sym c.if-ne.ensures)),
+)
 
 pub returns-in-Err-clause-fails : goal.returns-in-Err-clause-fails
 returns-in-Err-clause-fails c = ⊎_elim (λ none. inl (c.told.ensures.memory none))
@@ -56,7 +54,7 @@ returns-clause-on c = λ primary log p l f p_is l_is.
     let bins = c.in-Ok.loaded.1.items in
     let image : c.deref.result.now ≡ found.bins.items = c.deref.ensures.value ∙ c.in-Ok.ensures.same in
     let done : (w : HiveWriter) → writer ≡ w → IsOnBy w found.bins.items found.pages (tree, w.base.applied.0) (tree, w.block.applied.0) p l
-        → IsOnBy writer bins found.pages (held, writer.base.applied.0) (tree, writer.block.applied.0) p l
+    → IsOnBy writer bins found.pages (held, writer.base.applied.0) (tree, writer.block.applied.0) p l
     = λ w is on. same_on w writer found.bins.items bins found.pages found.pages tree held tree tree p l is c.in-Ok.ensures.same refl c.of-held.ensures refl on in
     elim (cases_Bool found.is_clean) [
       | inl clean ↦ done (clean_writer hive found.block) (c.writer_for-writer.ensures.clean clean)

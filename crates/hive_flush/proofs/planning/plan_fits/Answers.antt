@@ -1,10 +1,8 @@
-use Rattle.std.proofs.Common.{◌≡◌, ◌+◌, ◌*◌, ◌/◌, ◌<◌, ◌≤◌, ◌^◌, ℕ, List, length, refl, sym, ap, subst, ◌∙◌, arith}
-use Rattle.base_block.specs.declared.block.BaseBlock.{BaseBlock}
+use Rattle.std.proofs.Common.{◌≡◌, ℕ, List, length, sym, ap, subst, ◌∙◌, arith}
 use Rattle.base_block.specs.declared.fields.SequenceNumber.{SequenceNumber}
 use Rattle.base_block.specs.Layout.{block_at, sector_of}
 use Rattle.base_block.specs.Numbers.{number_after}
-use Rattle.dirty_vector.specs.Pages.{Pages, dirty_count}
-use Rattle.dirt_log.specs.LogText.{log_text, log_block, text_behind, pages_at, pages_from}
+use Rattle.dirt_log.specs.LogText.{log_block, pages_from}
 use Rattle.dirt_log.specs.WholeLog.{IsLoggable, ReadsAs, block_as_read}
 use Rattle.dirt_log.proofs.PageBytes.{length_log, few_dirty}
 use Rattle.hive_phases.specs.Plans.{raised_block}

@@ -1,5 +1,4 @@
-use Rattle.std.proofs.Common.{◌≡◌, ℕ, List, length, true, refl, sym, ap, subst, ◌∙◌}
-use Rattle.base_block.specs.declared.block.BaseBlock.{BaseBlock}
+use Rattle.std.proofs.Common.{◌≡◌, ℕ, List, length, sym, ap, subst, ◌∙◌}
 use Rattle.base_block.specs.declared.fields.SequenceNumber.{SequenceNumber}
 use Rattle.base_block.specs.Layout.{block_at, sector_of}
 use Rattle.base_block.specs.Numbers.{number_after}

@@ -1,4 +1,4 @@
-use Rattle.std.proofs.Common.{◌≡◌, ℕ, sym, ap, ◌∙◌}
+use Rattle.std.proofs.Common.{ℕ, sym, ap}
 use Rattle.reg_tree.specs.Maps.{TreeMap}
 use Rattle.hive_flush.specs.HiveStates.{now_of, memory_of}
 use Rattle.hive_flush.proofs.Going.{now_stands, same_pair}

@@ -1,11 +1,8 @@
-use Rattle.std.proofs.Common.{◌≡◌, ℕ, List, false, inl, inr, ⊎_elim, sym, ap, subst, ◌∙◌}
+use Rattle.std.proofs.Common.{inl, inr, ⊎_elim, subst}
 use Rattle.std.proofs.lemmas.Result.{IfOk-weaker, IfErr-weaker}
 use Rattle.refusals.specs.declared.refusal.Refusal.{Refusal}
-use Rattle.refusals.specs.declared.refusal.Refusal.TheVariants.{DiskFault, NoMemory}
-use Rattle.reg_tree.specs.Maps.{TreeMap}
 use Rattle.disk_model.specs.StoreFiles.{primary_file, log_file}
 use Rattle.hive_files.specs.Finding.{TellsOfHive}
-use Rattle.hive_flush.specs.Standing.{HoldsUnder, IsOfHive}
 use Rattle.hive_flush.proofs.Opened.{has_hive}
 use Rattle.hive_flush.proofs.hive.HiveFile.open.Goals as goal
 
@@ -15,11 +12,14 @@ returns-in-Ok-clause-on g c = IfOk-weaker c.of_found.result _ _ (λ file on fait
     on (old (primary_file c.args.hive)).seen (old (log_file c.args.hive)).seen _ _ (c.in-Ok.ensures.found faithful) (c.in-Ok.ensures.rest faithful) (c.in-Ok.ensures.log_rest faithful)) c.of_found.ensures.on
 
 pub returns-in-Ok-clause-fails : goal.returns-in-Ok-clause-fails
-returns-in-Ok-clause-fails g c = IfErr-weaker c.of_found.result _ _ (λ why fails. ⊎_elim (λ none. inl none) (λ told. inr (inr (told.0, λ faithful held h.
-    let old = g.D.Disk.state_at c.args.disk.now (g.D.Disk.clock c.args.disk.now) in
-    told.1 (old (primary_file c.args.hive)).seen (old (log_file c.args.hive)).seen (c.in-Ok.ensures.found faithful) held h))) fails) c.of_found.ensures.fails
+returns-in-Ok-clause-fails g c = IfErr-weaker c.of_found.result _ _ (λ why fails. ⊎_elim (λ none. inl none) (λ told. inr (inr (
+  told.0,
+  λ faithful held h.
+      let old = g.D.Disk.state_at c.args.disk.now (g.D.Disk.clock c.args.disk.now) in
+      told.1 (old (primary_file c.args.hive)).seen (old (log_file c.args.hive)).seen (c.in-Ok.ensures.found faithful) held h,
+))) fails) c.of_found.ensures.fails
 
 pub returns-in-Err-clause-fails : goal.returns-in-Err-clause-fails
 returns-in-Err-clause-fails g c = ⊎_elim (λ none. inl (c.found_told.ensures.memory none)) (λ other. ⊎_elim (λ fault. inr (inl (c.found_told.ensures.fault fault.0, fault.1)))
     (λ nothing. ⊎_elim (λ none. inl none) (λ is. inr (inr (is, λ faithful held h. nothing.1 faithful (has_hive c.args.store _ _ held h))))
-        (c.found_told.ensures.told (λ e. subst (λ (r : Refusal). TellsOfHive r) e nothing.0))) other) c.in-Err.ensures.fails
+    (c.found_told.ensures.told (λ e. subst (λ (r : Refusal). TellsOfHive r) e nothing.0))) other) c.in-Err.ensures.fails

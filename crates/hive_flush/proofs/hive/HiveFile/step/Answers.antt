@@ -1,5 +1,4 @@
-use Rattle.std.proofs.Common.{◌≡◌, ℕ, List, length, refl, sym, ap, subst, ◌∙◌, Some, Result, Ok, Err, arith}
-use Rattle.refusals.specs.declared.refusal.Refusal.{Refusal}
+use Rattle.std.proofs.Common.{◌≡◌, ℕ, sym, ap, subst, ◌∙◌, Some, Ok, Err}
 use Rattle.engine_words.specs.declared.Progress.{Progress}
 use Rattle.engine_words.specs.declared.Progress.TheVariants as progress
 use Rattle.engine_words.specs.Steps.{Says}
@@ -11,7 +10,7 @@ use Rattle.hive_phases.specs.Plans.{IsReady}
 use Rattle.dirty_vector.specs.Pages.{clean_pages}
 use Rattle.hive_flush.specs.Planned.{block_again}
 use Rattle.hive_writer.specs.declared.writer.HiveWriter.{HiveWriter}
-use Rattle.hive_writer.specs.Writing.{KeepsBlocks, LeadsOn, choice_at, now_after, plan_of}
+use Rattle.hive_writer.specs.Writing.{KeepsBlocks, choice_at, now_after, plan_of}
 use Rattle.hive_flush.specs.HiveStates.{files_of, memory_of, now_of}
 use Rattle.hive_flush.proofs.Going.{IsNotDone, LeadsBy, by_plan, went, done, same_on, ready_same, files_done}
 use Rattle.hive_flush.proofs.hive.HiveFile.step.Goals as goal
@@ -36,7 +35,7 @@ returns-in-Ok-Done-clause-on g c = λ faithful on.
     let keeps : KeepsBlocks f.writer w (Ok progress.Done) = subst (λ (p : Progress). KeepsBlocks f.writer w (Ok p)) c.in-Ok-Done.field-0-is c.in-Ok-Done.ensures.keeps in
     let led : LeadsBy f.writer w f.bins.items f.pages (Ok progress.Done) before after
     = subst (λ (p : Progress). LeadsBy f.writer w f.bins.items f.pages (Ok p) before after) c.in-Ok-Done.field-0-is
-        (by_plan (Ok c.in-Ok-Done.field-0) f.writer w f.bins.items c.deref-2.result.now f.pages before after c.requires.whole c.deref-2.ensures.value (c.in-Ok-Done.ensures.on faithful)) in
+    (by_plan (Ok c.in-Ok-Done.field-0) f.writer w f.bins.items c.deref-2.result.now f.pages before after c.requires.whole c.deref-2.ensures.value (c.in-Ok-Done.ensures.on faithful)) in
     let quiet = c.in-Ok-Done.ensures.done (ap (λ (p : Progress). Ok p) c.in-Ok-Done.field-0-is) in
     let again : HiveWriter = record w { block = block_again w.block } in
     let clean = clean_pages f.pages.bins_size in

@@ -1,4 +1,4 @@
-use Rattle.std.proofs.Common.{sym, arith}
+use Rattle.std.proofs.Common.{arith}
 use Rattle.disk_model.specs.StoreFiles.{primary_file, log_file}
 use Rattle.hive_phases.specs.Phases.{Phase.Finished}
 use Rattle.hive_phases.proofs.Moving.{final_synced}
