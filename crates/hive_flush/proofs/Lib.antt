@@ -3,3 +3,4 @@ pub mod Going
 pub mod Standing
 pub mod Opened
 pub mod Adopting
+pub mod Replayed

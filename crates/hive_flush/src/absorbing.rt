@@ -1,5 +1,8 @@
 //! What a hive takes into memory.
-ghost use Rattle.std.specs.Prelude.{◌≡◌, ◌≤◌, ◌<◌, ◌^◌, ℕ, true, length};
+ghost use Rattle.std.specs.Prelude.{◌≡◌, ◌≤◌, ℕ, true, length, IfOk, OnOk, OnErr};
+ghost use Rattle.prefix_law.specs.Changes.{applied, ops_on};
+ghost use Rattle.engine_words.specs.Changes.{rules, timed_elements};
+ghost use Rattle.refusals.specs.declared.limits.TheConstants.{MOST_BINS_BYTES};
 ghost use Rattle.reg_tree.specs.Maps.{TreeMap};
 ghost use Rattle.disk_model.specs.FileState.{FileState};
 ghost use Rattle.dirty_vector.specs.Pages.{is_bins_size};
@@ -9,12 +12,61 @@ ghost use Rattle.hive_flush.specs.HiveStates.{IsBroken, IsOn, files_of, memory_o
 
 use crate::hive::HiveFile;
 use crate::planning::plan_fits;
+use crate::replaying::{last_moment, replayed};
 use base_block::{AppliedNumber, BaseBlock};
 use hive_files::mark_changes;
 use hive_records::one_tree;
-use reg_tree::Tree;
+use hive_emit::{Emitted, emit};
+use refusals::Refusal;
+use refusals::limits::MOST_BINS_BYTES;
+use reg_tree::{Element, Tree};
+use std::alloc::Global;
+
+// bins data come in bins of this many bytes, or of multiples of it
+const BIN_BYTES: usize = 4_096;
+
+const _: () = prove!(BIN_BYTES == 4_096);
 
 impl HiveFile {
+    /// Absorbs changes into memory, one after another, from two slices: what follows the number in memory up to `upto`. A flush
+    /// that begins then writes the tree that they lead to. No flush is on its way, and the hive is whole.
+    ///
+    /// Refused with `NoMemory`, and with `TooLarge` where the tree that they lead to is over the weight or has no place in an image
+    /// within the limit; nothing has changed then.
+    pub fn absorb(
+        &mut self,
+        alloc: Global,
+        first: &[Element],
+        then: &[Element],
+        upto: u64,
+    ) -> Result<(), Refusal>
+        requires quiet { self.old.writer.stage ≡ stage.Quiet }
+        ensures memory { OnOk result (memory_of self.new ≡ (applied rules
+            (ops_on (place_of self.old) (timed_elements then.now))
+            (applied rules (ops_on (place_of self.old) (timed_elements first.now))
+            (memory_of self.old).0), upto)) }
+        ensures err { OnErr result (self.new ≡ self.old) }
+        ensures files { files_of self.new ≡ files_of self.old }
+        ensures on { (primary log : FileState) → IsOn self.old primary log →
+            IsOn self.new primary log }
+        ensures place { place_of self.new ≡ place_of self.old }
+        ensures store { store_of self.new ≡ store_of self.old }
+        ensures quiet { self.new.writer.stage ≡ stage.Quiet }
+        ensures sound { IsBroken self.new → IsBroken self.old }
+    {
+        let hive = self.writer.hive;
+        let tree = replayed(alloc, self.tree.clone()?, hive, first)?;
+        let tree = replayed(alloc, tree, hive, then)?;
+        let (bins, root) = match written(alloc, &tree, self.bins.len()) {
+            Ok(written) => written,
+            Err(why) => return Err(why),
+        };
+        let time = last_moment(hive, first, self.writer.block.last_written);
+        let time = last_moment(hive, then, time);
+        self.adopt(tree, bins, root, time, upto);
+        Ok(())
+    }
+
     /// Takes a tree into memory, with bins data that stand for it from a root on, and the moment and number of its last change.
     /// No flush is on its way, and the data are no shorter than those before. The pages that differ are marked; what the files hold
     /// stays.
@@ -46,4 +98,27 @@ impl HiveFile {
         self.tree = tree;
         plan_fits(&self.writer, &self.bins, &self.pages);
     }
+}
+
+// bins data of at least a size that stand for a tree, and the root's cell in them
+fn written(alloc: Global, tree: &Tree, least_size: usize) -> Result<(Vec<u8>, u32), Refusal>
+    requires { least_size ≤ MOST_BINS_BYTES }
+    ensures stands { IfOk result (λ made. StandsWithin made.0.items made.1 5 tree.now) }
+    ensures size { IfOk result (λ made. is_bins_size (length made.0.items) ≡ true) }
+    ensures least { IfOk result (λ made. least_size ≤ length made.0.items) }
+{
+    let _ = tree.root();
+    let Emitted { image, root } = match emit(alloc, tree, least_size as u32) {
+        Ok(emitted) => emitted,
+        Err(why) => return Err(why),
+    };
+    let bins = image.into_bytes();
+    if is_size(bins.len()) { Ok((bins, root)) } else { Err(Refusal::TooLarge) }
+}
+
+// whether bins data have whole bins, at least one, and are within the limit
+fn is_size(len: usize) -> bool
+    ensures { result ≡ is_bins_size len }
+{
+    len.is_multiple_of(BIN_BYTES) && len >= BIN_BYTES && len <= MOST_BINS_BYTES
 }

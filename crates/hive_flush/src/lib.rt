@@ -7,5 +7,6 @@ mod hive;
 pub mod laws;
 mod opening;
 mod planning;
+mod replaying;
 
 pub use crate::hive::HiveFile;
