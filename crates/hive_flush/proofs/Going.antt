@@ -1,5 +1,5 @@
 -- A step's files, from stage to stage.
-use Rattle.std.proofs.Common.{◌≡◌, false, ℕ, List, length, refl, sym, ap, subst, ◌∙◌, Some, Result, Ok, Err}
+use Rattle.std.proofs.Common.{◌≡◌, false, ℕ, List, length, refl, sym, ap, subst, ◌∙◌, Some, None, Result, Ok, Err}
 use Rattle.refusals.specs.declared.refusal.Refusal.{Refusal}
 use Rattle.engine_words.specs.declared.Progress.{Progress}
 use Rattle.engine_words.specs.declared.Progress.TheVariants as progress
@@ -224,3 +224,16 @@ choice_is total stage.Raised now memory = refl
 choice_is total (stage.Paging whose page) now memory = refl
 choice_is total (stage.Paged whose) now memory = refl
 choice_is total (stage.Finished whose) now memory = refl
+
+-- a flush of which nothing is on its way hasn't begun
+pub rests : (at : Stage) (now memory : TreeMap × ℕ) → IsFlushing at → (choice_at at now memory).next ≡ None → at ≡ stage.Quiet
+rests stage.Quiet now memory f e = refl
+rests (stage.Logging k) now memory f e = absurd cc
+rests stage.Logged now memory f e = absurd cc
+rests stage.Raised now memory f e = absurd cc
+rests (stage.Paging purpose.Flush page) now memory f e = absurd cc
+rests (stage.Paging purpose.Repair page) now memory f e = absurd cc
+rests (stage.Paged purpose.Flush) now memory f e = absurd cc
+rests (stage.Paged purpose.Repair) now memory f e = absurd cc
+rests (stage.Finished purpose.Flush) now memory f e = absurd cc
+rests (stage.Finished purpose.Repair) now memory f e = absurd cc

@@ -1,14 +1,13 @@
 //! What a hive takes into memory.
-ghost use Rattle.std.specs.Prelude.{◌≡◌, ◌≤◌, ℕ, true, length, IfOk, OnOk, OnErr};
+ghost use Rattle.std.specs.Prelude.{◌≡◌, ◌≤◌, ℕ, true, None, length, IfOk, OnOk, OnErr};
 ghost use Rattle.prefix_law.specs.Changes.{applied, ops_on};
 ghost use Rattle.engine_words.specs.Changes.{rules, timed_elements};
 ghost use Rattle.refusals.specs.declared.limits.TheConstants.{MOST_BINS_BYTES};
 ghost use Rattle.reg_tree.specs.Maps.{TreeMap};
 ghost use Rattle.disk_model.specs.FileState.{FileState};
 ghost use Rattle.dirty_vector.specs.Pages.{is_bins_size};
-ghost use Rattle.hive_writer.specs.declared.stage.Stage.TheVariants as stage;
 ghost use Rattle.hive_flush.specs.Standing.{StandsWithin};
-ghost use Rattle.hive_flush.specs.HiveStates.{IsBroken, IsOn, files_of, memory_of, place_of, store_of};
+ghost use Rattle.hive_flush.specs.HiveStates.{IsBroken, IsOn, IsWhole, files_of, memory_of, place_of, store_of};
 
 use crate::hive::HiveFile;
 use crate::planning::plan_fits;
@@ -40,7 +39,8 @@ impl HiveFile {
         then: &[Element],
         upto: u64,
     ) -> Result<(), Refusal>
-        requires quiet { self.old.writer.stage ≡ stage.Quiet }
+        requires whole { IsWhole self.old }
+        requires rest { (files_of self.old).next ≡ None }
         ensures memory { OnOk result (memory_of self.new ≡ (applied rules
             (ops_on (place_of self.old) (timed_elements then.now))
             (applied rules (ops_on (place_of self.old) (timed_elements first.now))
@@ -51,7 +51,7 @@ impl HiveFile {
             IsOn self.new primary log }
         ensures place { place_of self.new ≡ place_of self.old }
         ensures store { store_of self.new ≡ store_of self.old }
-        ensures quiet { self.new.writer.stage ≡ stage.Quiet }
+        ensures whole { IsWhole self.new }
         ensures sound { IsBroken self.new → IsBroken self.old }
     {
         let hive = self.writer.hive;
@@ -71,7 +71,8 @@ impl HiveFile {
     /// No flush is on its way, and the data are no shorter than those before. The pages that differ are marked; what the files hold
     /// stays.
     pub fn adopt(&mut self, tree: Tree, bins: Vec<u8>, root: u32, time: u64, number: u64)
-        requires quiet { self.old.writer.stage ≡ stage.Quiet }
+        requires whole { IsWhole self.old }
+        requires rest { (files_of self.old).next ≡ None }
         requires stands { StandsWithin bins.items root 5 tree }
         requires size { is_bins_size (length bins.items) ≡ true }
         requires larger { length self.old.bins.items ≤ length bins.items }
@@ -81,7 +82,7 @@ impl HiveFile {
             IsOn self.new primary log }
         ensures place { place_of self.new ≡ place_of self.old }
         ensures store { store_of self.new ≡ store_of self.old }
-        ensures quiet { self.new.writer.stage ≡ stage.Quiet }
+        ensures whole { IsWhole self.new }
         ensures sound { IsBroken self.new → IsBroken self.old }
     {
         one_tree();

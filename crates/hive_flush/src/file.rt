@@ -1,5 +1,5 @@
 //! The steps of a hive's flush and repair.
-ghost use Rattle.std.specs.Prelude.{◌≡◌, ◌↔◌, ◌⊎◌, ◌<◌, ℕ, length, Ok, Err, IfErr, IsTrue, Some};
+ghost use Rattle.std.specs.Prelude.{◌≡◌, ◌↔◌, ◌⊎◌, ◌<◌, ℕ, length, true, Ok, Err, IfErr, IsTrue, Some, None};
 ghost use Rattle.prefix_law.specs.Promises.{HiveSays};
 ghost use Rattle.engine_words.specs.Steps.{Says};
 ghost use Rattle.engine_words.specs.declared.Progress.TheVariants as Progress;
@@ -94,6 +94,15 @@ impl HiveFile {
                 | Stage::Paged(Purpose::Repair)
                 | Stage::Finished(Purpose::Repair)
         )
+    }
+
+    /// Whether nothing is on its way and no repair is left: changes may be absorbed.
+    pub fn is_at_rest(&self) -> bool
+        ensures rest { result ≡ true → (files_of self.now).next ≡ None }
+        ensures whole { result ≡ true → IsWhole self.now }
+        ensures busy { IsWhole self.now → (files_of self.now).next ≡ None → result ≡ true }
+    {
+        matches!(self.writer.stage, Stage::Quiet)
     }
 
     /// One step of the repair of a hive that was opened unclean: at most one device call. `More` where others follow, `Done`

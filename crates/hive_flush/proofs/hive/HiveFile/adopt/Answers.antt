@@ -5,7 +5,7 @@ use Rattle.hive_flush.specs.HiveStates.{IsOnBy, memory_of, now_of}
 use Rattle.hive_flush.specs.Planned.{block_for}
 use Rattle.hive_flush.specs.Standing.{StandsWithin}
 use Rattle.hive_flush.proofs.Adopting.{adopted}
-use Rattle.hive_flush.proofs.Going.{ready_same}
+use Rattle.hive_flush.proofs.Going.{ready_same, rests}
 use Rattle.hive_flush.proofs.hive.HiveFile.adopt.Goals as goal
 
 sized : HiveWriter → ℕ → ℕ → ℕ → ℕ → HiveWriter
@@ -23,5 +23,5 @@ returns-clause-on c = λ primary log on.
     let marks : Marks f.bins.items f.pages bins left = subst (λ (l : List ℕ). Marks f.bins.items f.pages l left) c.deref-2.ensures.value (subst (λ (l : List ℕ). Marks l f.pages c.deref-2.result.now left) c.deref.ensures.value c.mark_changes.ensures.marks) in
     let within : StandsWithin bins c.args.root f.writer.block.minor c.args.tree = subst (λ (m : ℕ). StandsWithin bins c.args.root m c.args.tree) (sym f.planned.own.1.1) c.requires.stands in
     subst (λ (x : HiveWriter). IsOnBy x bins left (f.held.value, x.base.applied.0) (c.args.tree, x.block.applied.0) primary log) (sym is)
-    (adopted f.writer f.bins.items bins f.pages left (now_of f) (memory_of f) c.args.tree c.args.root size c.args.time c.args.number primary log c.one_tree.ensures.one c.requires.quiet within marks
+    (adopted f.writer f.bins.items bins f.pages left (now_of f) (memory_of f) c.args.tree c.args.root size c.args.time c.args.number primary log c.one_tree.ensures.one (rests f.writer.stage (now_of f) (memory_of f) c.requires.whole c.requires.rest) within marks
     (λ stands given. ready_same w c.plan.new.self bins c.deref-3.result.now left left (c.args.tree, c.args.number) stands is c.deref-3.ensures.value refl (c.plan_fits.ensures.ready stands (c.args.tree, c.args.number)) given refl) on)
