@@ -89,34 +89,42 @@ module _ {D R C : Type 0} (read : (ℕ → Option D) → Reads R C) (local : IsL
   pub writes_filled : (old start mid full new : ℕ → Option D) (at : ℕ) (p : Parts R) (f : Keys R) (rest : List ℕ) → Grows old start → old at ≡ None → IsSome (start at) → Writing read start mid f → Grows mid full → SameBut at full new
       → read new at ≡ Ok p → p.own ≡ at ∷ rest → Once rest → AreNew mid rest → LentThere old f → offsets f ≡ p.kids → Once (names f) → (IsIn [] (names f) → ⊥) → Written read old new at p f
   writes_filled old start mid full new at p f rest begun fresh_at there_at w grows same r own once fresh lent e distinct some = record {
-      whole = record {
-        read = r;
-        listed = e;
-        fits = fits;
-        named = all_named (read new) f w.inner distinct some;
-        once = subst (λ cells. Once (cells ++ own_cells f)) (sym own) (once_joined (at ∷ rest) (own_cells f) own_once w.once apart);
-      };
-      grows = λ cell h. same cell (λ i. not_at_old cell h i) ∙ grows_on old start full begun (grows_on start mid full w.grows grows) cell h;
-      fresh = subst (λ cells. AreNew old (cells ++ own_cells f)) (sym own) all_new;
-    }
+    whole = record {
+      read = r;
+      listed = e;
+      fits = fits;
+      named = all_named (read new) f w.inner distinct some;
+      once = subst (λ cells. Once (cells ++ own_cells f)) (sym own) (once_joined (at ∷ rest) (own_cells f) own_once w.once apart);
+    };
+    grows = λ cell h. same cell (λ i. not_at_old cell h i) ∙ grows_on old start full begun (grows_on start mid full w.grows grows) cell h;
+    fresh = subst (λ cells. AreNew old (cells ++ own_cells f)) (sym own) all_new;
+  }
     where
       not_at_old : (cell : ℕ) → IsSome (old cell) → cell ≡ at → ⊥
       not_at_old cell h i = some_not (old cell) h (ap old i ∙ fresh_at)
+
       not_at_start : (cell : ℕ) → start cell ≡ None → cell ≡ at → ⊥
       not_at_start cell h i = some_not (start at) there_at (ap start (sym i) ∙ h)
+
       mid_at : IsSome (mid at)
       mid_at = ap is_some (w.grows at there_at) ∙ there_at
+
       not_at : (cell : ℕ) → IsIn cell (all_cells f) → cell ≡ at → ⊥
       not_at cell h i = elim (own_or_lent f cell h) [ inl j ↦ not_at_start cell (w.fresh cell j) i | inr j ↦ not_at_old cell (lent cell j) i ]
+
       fits : Fits (read new) f
       fits = fits_still read local full new f (fits_grown mid full grows f w.fits) (λ cell h. same cell (λ i. not_at cell h i))
+
       own_once : Once (at ∷ rest)
       own_once = (λ h. some_not (mid at) mid_at (fresh at h), once)
+
       apart : (cell : ℕ) → IsIn cell (at ∷ rest) → IsIn cell (own_cells f) → ⊥
       apart cell (inl i) g = not_at_start cell (w.fresh cell g) i
       apart cell (inr h) g = some_not (mid cell) (used_there mid f w.fits cell g) (fresh cell h)
+
       old_new : (cell : ℕ) → IsIn cell (at ∷ rest) → old cell ≡ None
       old_new cell (inl i) = ap old i ∙ fresh_at
       old_new cell (inr h) = none_before old mid (grows_on old start mid begun w.grows) cell (fresh cell h)
+
       all_new : AreNew old ((at ∷ rest) ++ own_cells f)
       all_new cell h = elim (in_either cell (at ∷ rest) (own_cells f) h) [ inl i ↦ old_new cell i | inr i ↦ none_before old start begun cell (w.fresh cell i) ]
