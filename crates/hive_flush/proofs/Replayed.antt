@@ -1,5 +1,5 @@
 -- Changes replayed on one tree, one after another.
-use Rattle.std.proofs.Common.{◌≡◌, ◌≢◌, ℕ, ◌+◌, Bool, List, ◌∷◌, ◌++◌, drop, map, sym, ap, ◌∙◌}
+use Rattle.std.proofs.Common.{◌≡◌, ◌≢◌, ℕ, Bool, List, ◌∷◌, map, sym, ap, ◌∙◌}
 use Rattle.std.specs.Prelude.{if◌then◌else◌}
 use Rattle.std.proofs.lemmas.Bool.{eq-eqb, ne_eqb}
 use Rattle.prefix_law.specs.Changes.{applied, on_hive, ops_on}
@@ -9,7 +9,7 @@ use Rattle.reg_tree.specs.Operations.{hive_of}
 use Rattle.reg_tree.specs.Judgement.{changed}
 use Rattle.reg_tree.specs.declared.op.Op.{Op}
 use Rattle.reg_tree.specs.declared.element.Element.{Element}
-use Rattle.engine_words.specs.Changes.{TimedOp, rules, timed, timed_element, timed_elements}
+use Rattle.engine_words.specs.Changes.{rules, timed, timed_element, timed_elements}
 
 -- an operation on the hive, and one on another
 pub op_here : (hive moment : ℕ) (op : Op) (rest : List Op) (tree made : TreeMap) → hive_of op ≡ hive → made ≡ changed tree op moment

@@ -13,9 +13,9 @@ use crate::hive::HiveFile;
 use crate::planning::plan_fits;
 use crate::replaying::{last_moment, replayed};
 use base_block::{AppliedNumber, BaseBlock};
+use hive_emit::{Emitted, emit};
 use hive_files::mark_changes;
 use hive_records::one_tree;
-use hive_emit::{Emitted, emit};
 use refusals::Refusal;
 use refusals::limits::MOST_BINS_BYTES;
 use reg_tree::{Element, Tree};
@@ -41,10 +41,13 @@ impl HiveFile {
     ) -> Result<(), Refusal>
         requires whole { IsWhole self.old }
         requires rest { (files_of self.old).next ≡ None }
-        ensures memory { OnOk result (memory_of self.new ≡ (applied rules
-            (ops_on (place_of self.old) (timed_elements then.now))
-            (applied rules (ops_on (place_of self.old) (timed_elements first.now))
-            (memory_of self.old).0), upto)) }
+        ensures memory { OnOk result (memory_of self.new ≡ (
+          applied rules
+              (ops_on (place_of self.old) (timed_elements then.now))
+              (applied rules (ops_on (place_of self.old) (timed_elements first.now))
+              (memory_of self.old).0),
+          upto,
+        )) }
         ensures err { OnErr result (self.new ≡ self.old) }
         ensures files { files_of self.new ≡ files_of self.old }
         ensures on { (primary log : FileState) → IsOn self.old primary log →
@@ -114,7 +117,11 @@ fn written(alloc: Global, tree: &Tree, least_size: usize) -> Result<(Vec<u8>, u3
         Err(why) => return Err(why),
     };
     let bins = image.into_bytes();
-    if is_size(bins.len()) { Ok((bins, root)) } else { Err(Refusal::TooLarge) }
+    if is_size(bins.len()) {
+        Ok((bins, root))
+    } else {
+        Err(Refusal::TooLarge)
+    }
 }
 
 // whether bins data have whole bins, at least one, and are within the limit

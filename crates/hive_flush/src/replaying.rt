@@ -46,5 +46,9 @@ fn after_ops(
 /// The moment of the last change that has an operation on a hive, or else one that is given.
 pub(crate) fn last_moment(hive: u8, elements: &[Element], otherwise: u64) -> u64 {
     let names = |element: &&Element| element.ops.list().iter().any(|op| op.hive() == hive);
-    elements.iter().rev().find(names).map_or(otherwise, |element| element.moment)
+    elements
+        .iter()
+        .rev()
+        .find(names)
+        .map_or(otherwise, |element| element.moment)
 }

@@ -1,4 +1,4 @@
-use Rattle.std.proofs.Common.{◌≡◌, ℕ, ◌≤◌, List, ⊎_elim, sym, ap, subst, ◌∙◌, arith, Ok, Err, Result}
+use Rattle.std.proofs.Common.{◌≡◌, ℕ, List, ⊎_elim, sym, subst, arith, Ok, Err, Result}
 use Rattle.refusals.specs.declared.refusal.Refusal.{Refusal}
 use Rattle.std.proofs.lemmas.Bool.{cases_lt}
 use Rattle.refusals.specs.declared.refusal.Refusal.TheVariants.{TooLarge}
@@ -11,8 +11,10 @@ never x e same = absurd cc
 
 pub returns-then-is_size-clause-stands : goal.returns-then-is_size-clause-stands
 returns-then-is_size-clause-stands c =
-    let tree = c.args.tree.now in
-    (subst (λ (l : List ℕ). StandsFor l c.in-Ok.emitted.root 5 tree) (sym c.into_bytes-bins.ensures) (c.in-Ok.ensures.stands 5 (omega arith)), record {
-      light = ⊎_elim (λ over. absurd (never c.in-Ok.emitted TooLarge (c.in-Ok.ensures.heavy over))) (λ within. within) (cases_lt 16_777_216 (weight tree));
-      shallow = λ path key there. (c.root.ensures.spellable.rows path key there).shallow;
-    })
+    let tree = c.args.tree.now in (
+      subst (λ (l : List ℕ). StandsFor l c.in-Ok.emitted.root 5 tree) (sym c.into_bytes-bins.ensures) (c.in-Ok.ensures.stands 5 (omega arith)),
+      record {
+        light = ⊎_elim (λ over. absurd (never c.in-Ok.emitted TooLarge (c.in-Ok.ensures.heavy over))) (λ within. within) (cases_lt 16_777_216 (weight tree));
+        shallow = λ path key there. (c.root.ensures.spellable.rows path key there).shallow;
+      },
+    )
