@@ -95,12 +95,7 @@ pub fn flushed(
 
 // flushes on behind so many steps, with at most so many more
 #[cycle(flushing)]
-fn flush_on(
-    file: &mut HiveFile,
-    disk: &mut MemDisk,
-    made: u32,
-    most: u32,
-) -> Result<u32, Refusal>
+fn flush_on(file: &mut HiveFile, disk: &mut MemDisk, made: u32, most: u32) -> Result<u32, Refusal>
     requires { IsWhole file.old }
 {
     if most == 0 {
