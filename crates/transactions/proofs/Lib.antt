@@ -5,3 +5,4 @@ mod TableChanges
 mod Holding
 mod PlacesInTurn
 mod Stored
+mod ShortOnes

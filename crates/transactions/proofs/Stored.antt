@@ -1,15 +1,14 @@
--- What a plain store answers, and what it shows after each change.
-use Rattle.std.proofs.Common.{◌≡◌, ◌⊎◌, inl, inr, ℕ, ◌+◌, ◌<◌, ◌≤◌, ◌==◌, ◌&&◌, min, Bool, true, false, not, cond, List, [], ◌∷◌, ◌++◌, length, map, Option, Some, None, Result, Ok, Err, refl, sym, ◌∙◌, ap, subst, arith}
+-- What a store in memory answers, and what it shows after each change.
+use Rattle.std.proofs.Common.{◌≡◌, ◌⊎◌, inl, inr, ℕ, ◌+◌, ◌<◌, ◌≤◌, ◌==◌, ◌&&◌, min, Bool, true, false, not, cond, List, [], ◌∷◌, ◌++◌, length, Option, Some, None, Result, Ok, Err, refl, sym, ◌∙◌, ap, subst, arith}
 use Rattle.std.specs.Prelude.{IsErrAnd, ◌||◌, nat_le, nat_lt, is_some, slice_get}
 use Rattle.std.specs.Option.{option_and_then}
 use Rattle.std.specs.List.{list_any}
-use Rattle.std.specs.declared.snapshot.Snapshot.{Snapshot}
 use Rattle.std.proofs.lemmas.Bool.Decides.{nat_tests}
 use Rattle.std.proofs.lemmas.Option.{none-some, slice_get_past, slice_get-get_or}
-use Rattle.std.proofs.lemmas.List.{map-append, length-append, length-set}
+use Rattle.std.proofs.lemmas.List.{length-append, length-set}
 use Rattle.refusals.specs.declared.refusal.Refusal.{Refusal}
-use Rattle.refusals.specs.declared.refusal.Refusal.TheVariants.{NoMemory, NotFound, TooLarge, NoSuchHandle, HistoryFull, JournalFull}
-use Rattle.refusals.specs.declared.limits.TheConstants.{MOST_HISTORY, GREATEST_NUMBER, MOST_JOURNAL_BYTES}
+use Rattle.refusals.specs.declared.refusal.Refusal.TheVariants.{NoMemory, NotFound, TooLarge, NoSuchHandle, HistoryFull, JournalFull, Faulted}
+use Rattle.refusals.specs.declared.limits.TheConstants.{MOST_ELEMENT_BYTES, MOST_HISTORY, GREATEST_NUMBER, MOST_JOURNAL_BYTES}
 use Rattle.reg_tree.specs.Maps.{TreeMap}
 use Rattle.reg_tree.specs.Fresh.{fresh_tree}
 use Rattle.reg_tree.specs.Operations.{hive_of}
@@ -22,7 +21,8 @@ use Rattle.reg_tree.specs.declared.op.Legality.TheVariants.{Legal}
 use Rattle.claims_law.specs.Skeleton.{Claim}
 use Rattle.conflicts.specs.Claims.{claim_of, meets}
 use Rattle.machine.specs.Machine.{Machine, trees_now, last_number, is_open, found_in, change, first_of, refused_if, fault, closed_refusal, looked_up, read_refusal, levels_made, refusal_by, room_of, room_refusal, write_refusal, added_refusal_if, commit_refusal_if}
-use Rattle.machine.specs.Steps.{Step, Accepts, Commits, Flushes, StepFails, no_hive}
+use Rattle.machine.specs.Steps.{Step, Accepts, Commits, Flushes, Journals, Trims, StepFails, no_hive}
+use Rattle.machine.specs.declared.event.Progress.TheVariants.{Done, Idle}
 use Rattle.machine.specs.Transactions.{Transaction, Puts, at, own, is_active, ended, rolled_back_by, missing_refusal, inactive_refusal}
 use Rattle.machine.specs.declared.handle.Tx.{Tx}
 use Rattle.machine.specs.declared.handle.Outcome.TheVariants.{Committed, RolledBack}
@@ -32,6 +32,7 @@ use Rattle.machine.specs.declared.event.Question.{Question}
 use Rattle.machine.specs.declared.event.Reply.{Reply}
 use Rattle.machine.specs.declared.event.Reply.TheVariants as reply
 use Rattle.transactions.specs.Tables.{Table, EndsWith, IsPending, IsPendingOf, holds_if, is_listed, rolled_back_if}
+use Rattle.transactions.specs.Histories.{IsShort}
 use Rattle.transactions.specs.Stores.{Answers, IsTied, store_of}
 
 -- an error that is handed on is the answer
@@ -41,7 +42,6 @@ on_refusal m event (Err e) why h s = subst (λ r. Step m event (reply.Refused r)
 
 -- the session isn't open, and that is why
 pub record IsClosed (m : Machine) (session : ℕ) (why : Refusal) : Type 0 where
-  pub free : fault m ≡ None
   pub shut : is_open m session ≡ false
   pub named : why ≡ NoSuchHandle
 
@@ -64,22 +64,22 @@ module _ (m : Machine) (session : ℕ) (why : Refusal) (res : Result Reply Refus
   pub closed_read : (hive : ℕ) (path : List (List ℕ)) (question : Question) → Answers m (event.Read session hive path question) res m
   closed_read hive path question = on_refusal m (event.Read session hive path question) res why h (inl (first _ _ why (no_session m session why i)), refl)
 
-  pub closed_write : (moment : ℕ) (op : Op) → Answers m (event.Write session moment op) res m
-  closed_write moment op = on_refusal m (event.Write session moment op) res why h (inl (second _ _ (Some why) i.free (first _ _ why (no_session m session why i))), refl)
+  pub closed_write : fault m ≡ None → (moment : ℕ) (op : Op) → Answers m (event.Write session moment op) res m
+  closed_write free moment op = on_refusal m (event.Write session moment op) res why h (inl (second _ _ (Some why) free (first _ _ why (no_session m session why i))), refl)
 
-  pub closed_begin : (id : List ℕ) → Answers m (event.Begin session id) res m
-  closed_begin id = on_refusal m (event.Begin session id) res why h (inl (second _ _ (Some why) i.free (first _ _ why (no_session m session why i))), refl)
+  pub closed_begin : fault m ≡ None → (id : List ℕ) → Answers m (event.Begin session id) res m
+  closed_begin free id = on_refusal m (event.Begin session id) res why h (inl (second _ _ (Some why) free (first _ _ why (no_session m session why i))), refl)
 
   pub closed_tx_read : (tx : Tx) (hive : ℕ) (path : List (List ℕ)) (question : Question) → Answers m (event.TxRead session tx hive path question) res m
   closed_tx_read tx hive path question =
       on_refusal m (event.TxRead session tx hive path question) res why h (inl (first _ _ why (ap inactive_refusal (none_found m session tx why i) ∙ ap Some (sym i.named))), refl)
 
-  pub closed_tx_write : (tx : Tx) (moment : ℕ) (op : Op) → Answers m (event.TxWrite session tx moment op) res m
-  closed_tx_write tx moment op =
-      on_refusal m (event.TxWrite session tx moment op) res why h (inl (second _ _ (Some why) i.free (ap (added_refusal_if (trees_now m) m.places tx.place op) (none_found m session tx why i) ∙ ap Some (sym i.named))), refl)
+  pub closed_tx_write : fault m ≡ None → (tx : Tx) (moment : ℕ) (op : Op) → Answers m (event.TxWrite session tx moment op) res m
+  closed_tx_write free tx moment op =
+      on_refusal m (event.TxWrite session tx moment op) res why h (inl (second _ _ (Some why) free (ap (added_refusal_if (trees_now m) m.places tx.place op) (none_found m session tx why i) ∙ ap Some (sym i.named))), refl)
 
-  pub closed_commit : (tx : Tx) (moment : ℕ) → Answers m (event.CommitAccept session tx moment) res m
-  closed_commit tx moment = on_refusal m (event.CommitAccept session tx moment) res why h (inl (second _ _ (Some why) i.free (ap (commit_refusal_if m moment) (none_found m session tx why i) ∙ ap Some (sym i.named))), refl)
+  pub closed_commit : fault m ≡ None → (tx : Tx) (moment : ℕ) → Answers m (event.CommitAccept session tx moment) res m
+  closed_commit free tx moment = on_refusal m (event.CommitAccept session tx moment) res why h (inl (second _ _ (Some why) free (ap (commit_refusal_if m moment) (none_found m session tx why i) ∙ ap Some (sym i.named))), refl)
 
   pub closed_roll_back : (tx : Tx) → Answers m (event.Rollback session tx) res m
   closed_roll_back tx = on_refusal m (event.Rollback session tx) res why h (ap inactive_refusal (none_found m session tx why i) ∙ ap Some (sym i.named), refl)
@@ -87,8 +87,12 @@ module _ (m : Machine) (session : ℕ) (why : Refusal) (res : Result Reply Refus
   pub closed_close : (tx : Tx) → Answers m (event.Close session tx) res m
   closed_close tx = on_refusal m (event.Close session tx) res why h (ap missing_refusal (none_found m session tx why i) ∙ ap Some (sym i.named), refl)
 
-  pub closed_outcome : (tx : Tx) → Answers m (event.Outcome session tx) res m
-  closed_outcome tx = on_refusal m (event.Outcome session tx) res why h (second _ _ (Some why) i.free (ap missing_refusal (none_found m session tx why i) ∙ ap Some (sym i.named)), refl)
+  pub closed_outcome : fault m ≡ None → (tx : Tx) → Answers m (event.Outcome session tx) res m
+  closed_outcome free tx = on_refusal m (event.Outcome session tx) res why h (second _ _ (Some why) free (ap missing_refusal (none_found m session tx why i) ∙ ap Some (sym i.named)), refl)
+
+-- a store that isn't faulted has no fault
+pub sound : (m : Machine) → m.faulted ≡ false → fault m ≡ None
+sound m e = ap (λ b. refused_if b Faulted) e
 
 either : {A B C : Type 0} → A ⊎ C → (A → B) → B ⊎ C
 either (inl a) f = inl (f a)
@@ -156,9 +160,6 @@ flushes_none m hive f past =
     inl (inl (second (fault m) (no_hive m hive) (Some NotFound) f (ap (λ x. cond (is_some x) None (Some NotFound)) gone)), refl)
 
 -- the accepted changes with one more, and the trees after them
-recorded : (old new : List (Snapshot Element)) (last : Snapshot Element) (element : Element) → new ≡ old ++ last ∷ [] → last.value ≡ element → map (λ x. x.value) new ≡ map (λ x. x.value) old ++ element ∷ []
-recorded old new last element e f = ap (map (λ x. x.value)) e ∙ map-append (λ x. x.value) old (last ∷ []) ∙ ap (λ x. map (λ y. y.value) old ++ x ∷ []) f
-
 after_one_more : (trees : List TreeMap) (elements : List Element) (element : Element) → after_elements trees (elements ++ element ∷ []) ≡ applied (after_elements trees elements) element.ops element.moment
 after_one_more trees [] element = refl
 after_one_more trees (before ∷ elements) element = after_one_more (applied trees before.ops before.moment) elements element
@@ -174,15 +175,14 @@ below_most m long e =
     grind (arith, nat_tests, open_history)
 
 -- a table that has moved on is tied to the store with one change more
-pub tied_more : (o : List TreeMap) (a b : List (Snapshot Element)) (s : List ℕ) (t u : Table) (d r q : ℕ) (last : Snapshot Element) (element : Element) → IsTied t (store_of o a s t d r) → length (store_of o a s t d r).accepted < MOST_HISTORY →
-    b ≡ a ++ last ∷ [] → last.value ≡ element → u.trees ≡ applied t.trees element.ops element.moment → u.number ≡ t.number + 1 → IsTied u (store_of o b s u d q)
-tied_more o a b s t u d r q last element i below e f trees number =
-    let grown : map (λ x. x.value) b ≡ map (λ x. x.value) a ++ element ∷ [] = recorded a b last element e f in
-    let long : length (map (λ (x : Snapshot Element). x.value) b) ≡ length (map (λ (x : Snapshot Element). x.value) a) + 1 = ap length grown ∙ length-append (map (λ x. x.value) a) (element ∷ []) in
+pub tied_more : (o : List TreeMap) (n : ℕ) (a b : List Element) (s : List ℕ) (t u : Table) (d r q : ℕ) (f : Bool) (element : Element) → IsTied t (store_of o n a s t d r f) → length a < MOST_HISTORY →
+    b ≡ a ++ element ∷ [] → u.trees ≡ applied t.trees element.ops element.moment → u.number ≡ t.number + 1 → IsTied u (store_of o n b s u d q f)
+tied_more o n a b s t u d r q f element i below grown trees number =
+    let long : length b ≡ length a + 1 = ap length grown ∙ length-append a (element ∷ []) in
     let old_number = i.number in
     let old_durable = i.durable in
     record {
-      trees = trees ∙ ap (λ x. applied x element.ops element.moment) i.trees ∙ sym (ap (after_elements o) grown ∙ after_one_more o (map (λ x. x.value) a) element);
+      trees = trees ∙ ap (λ x. applied x element.ops element.moment) i.trees ∙ sym (ap (after_elements o) grown ∙ after_one_more o a element);
       number = omega (arith, number, old_number, long);
       durable = omega (arith, old_durable, long);
       few = omega (arith, below, long);
@@ -197,26 +197,25 @@ roll : (claim : Claim) (slot : Option Transaction) → rolled_back_if (holds_if 
 roll claim None = refl
 roll claim (Some one) = roll_by (is_active one) (list_any (λ op. meets claim (claim_of op)) one.ops) (ended RolledBack one) one
 
-module _ (o : List TreeMap) (a b : List (Snapshot Element)) (s : List ℕ) (t u v : Table) (d r q : ℕ) (last : Snapshot Element) where
-  pub accepts : (session moment number : ℕ) (op : Op) (levels : Option ℕ) (trees : List TreeMap) (listed : List ℕ) → IsTied t (store_of o a s t d r) → is_open (store_of o a s t d r) session ≡ true →
-      legal t.trees op ≡ Ok Legal → room_refusal (store_of o a s t d r) (element_text_len (change moment op)) ≡ None → levels ≡ levels_made t.trees op → number ≡ v.number →
-      b ≡ a ++ last ∷ [] → last.value ≡ change moment op → q ≡ r + room_of (change moment op) → u ≡ record t { trees = trees; number = t.number + 1 } → v ≡ record u { places = v.places } →
+module _ (o : List TreeMap) (n : ℕ) (a b : List Element) (s : List ℕ) (t u v : Table) (d r q : ℕ) (faulted : Bool) (free : fault (store_of o n a s t d r faulted) ≡ None) where
+  pub accepts : (session moment number : ℕ) (op : Op) (levels : Option ℕ) (trees : List TreeMap) (listed : List ℕ) → IsTied t (store_of o n a s t d r faulted) → is_open (store_of o n a s t d r faulted) session ≡ true →
+      legal t.trees op ≡ Ok Legal → room_refusal (store_of o n a s t d r faulted) (element_text_len (change moment op)) ≡ None → levels ≡ levels_made t.trees op → number ≡ v.number →
+      b ≡ a ++ change moment op ∷ [] → q ≡ r + room_of (change moment op) → u ≡ record t { trees = trees; number = t.number + 1 } → v ≡ record u { places = v.places } →
       ((place : ℕ) → at v.places place ≡ rolled_back_if (is_listed listed place) (at u.places place)) → ((place : ℕ) → is_listed listed place ≡ holds_if (claim_of op) (at t.places place)) →
-      Accepts (store_of o a s t d r) session moment op levels number (store_of o b s v d q)
-  accepts session moment number op levels trees listed i there l room made n e f g moved rest rolled lists =
-      let old = store_of o a s t d r in
-      let grown : map (λ x. x.value) b ≡ map (λ x. x.value) a ++ change moment op ∷ [] = recorded a b last (change moment op) e f in
+      Accepts (store_of o n a s t d r faulted) session moment op levels number (store_of o n b s v d q faulted)
+  accepts session moment number op levels trees listed i there l room made told grown g moved rest rolled lists =
+      let old = store_of o n a s t d r faulted in
       let begun : v.begun ≡ t.begun = ap (λ (x : Table). x.begun) rest ∙ ap (λ (x : Table). x.begun) moved in
       let count : v.number ≡ t.number + 1 = ap (λ (x : Table). x.number) rest ∙ ap (λ (x : Table). x.number) moved in
       let legal_now : legal (trees_now old) op ≡ Ok Legal = ap (λ x. legal x op) (sym i.trees) ∙ l in
       record {
-        free = may_write old session moment op None refl there (ap (λ x. refusal_by x (room_refusal old (element_text_len (change moment op)))) legal_now ∙ room);
+        free = may_write old session moment op None free there (ap (λ x. refusal_by x (room_refusal old (element_text_len (change moment op)))) legal_now ∙ room);
         is_legal = legal_now;
         made = made ∙ ap (λ x. levels_made x op) i.trees;
-        numbered = n ∙ count ∙ ap (λ x. x + 1) i.number;
+        numbered = told ∙ count ∙ ap (λ x. x + 1) i.number;
         next = ap (λ x. record old { accepted = x; places = v.places; begun = v.begun; room = q }) grown
-            ∙ ap (λ x. record old { accepted = map (λ y. y.value) a ++ change moment op ∷ []; places = v.places; begun = x; room = q }) begun
-            ∙ ap (λ x. record old { accepted = map (λ y. y.value) a ++ change moment op ∷ []; places = v.places; room = x }) g;
+            ∙ ap (λ x. record old { accepted = a ++ change moment op ∷ []; places = v.places; begun = x; room = q }) begun
+            ∙ ap (λ x. record old { accepted = a ++ change moment op ∷ []; places = v.places; room = x }) g;
         rolled_back = λ place. rolled place ∙ ap (λ (x : Table). rolled_back_if (is_listed listed place) (at x.places place)) moved ∙ ap (λ x. rolled_back_if x (at t.places place)) (lists place) ∙ roll (claim_of op) (at t.places place);
       }
 
@@ -281,29 +280,41 @@ same_ops t u session tx ops given long p e =
     let q : IsPendingOf e.finishes.one ops long = subst (λ x. IsPending x ops long) e.finishes.found p in
     q.given ∙ sym e.given
 
-module _ (o : List TreeMap) (a b : List (Snapshot Element)) (s : List ℕ) (t u v : Table) (d r q : ℕ) (last : Snapshot Element) where
-  pub commits : (session moment number : ℕ) (tx : Tx) (trees : List TreeMap) (ops given : List Op) (long : ℕ) → IsTied t (store_of o a s t d r) → is_open (store_of o a s t d r) session ≡ true →
-      IsPending (own t.places session tx) ops long → EndsWith t session tx Committed given u → (length ops == 0) ≡ false → any_outweighs t.trees ops moment ≡ false → room_refusal (store_of o a s t d r) long ≡ None →
-      number ≡ v.number → b ≡ a ++ last ∷ [] → last.value ≡ record { moment = moment; ops = given } → q ≡ r + (17 + long) → v ≡ record u { trees = trees; number = u.number + 1 } →
-      Commits (store_of o a s t d r) session tx moment number (store_of o b s v d q)
-  commits session moment number tx trees ops given long i there p ends some light room n e f g moved =
-      let old = store_of o a s t d r in
+module _ (o : List TreeMap) (n : ℕ) (a b : List Element) (s : List ℕ) (t u v : Table) (d r q : ℕ) (faulted : Bool) (free : fault (store_of o n a s t d r faulted) ≡ None) where
+  pub commits : (session moment number : ℕ) (tx : Tx) (trees : List TreeMap) (ops given : List Op) (long : ℕ) → IsTied t (store_of o n a s t d r faulted) → is_open (store_of o n a s t d r faulted) session ≡ true →
+      IsPending (own t.places session tx) ops long → EndsWith t session tx Committed given u → (length ops == 0) ≡ false → any_outweighs t.trees ops moment ≡ false → room_refusal (store_of o n a s t d r faulted) long ≡ None →
+      number ≡ v.number → b ≡ a ++ record { moment = moment; ops = given } ∷ [] → q ≡ r + (17 + long) → v ≡ record u { trees = trees; number = u.number + 1 } →
+      Commits (store_of o n a s t d r faulted) session tx moment number (store_of o n b s v d q faulted)
+  commits session moment number tx trees ops given long i there p ends some light room told e g moved =
+      let old = store_of o n a s t d r faulted in
       let element : Element = record { moment = moment; ops = ends.finishes.one.ops } in
-      let before : List Element = map (λ x. x.value) a in
       let mine : IsPendingOf ends.finishes.one ops long = subst (λ x. IsPending x ops long) ends.finishes.found p in
       let kept : (length ends.finishes.one.ops == 0) ≡ false = ap (λ (x : List Op). length x == 0) (sym mine.given) ∙ some in
-      let grown : map (λ x. x.value) b ≡ before ++ element ∷ [] = recorded a b last element e (f ∙ ap (λ (x : List Op). let y : Element = record { moment = moment; ops = x } in y) ends.given) in
+      let grown : b ≡ a ++ element ∷ [] = e ∙ ap (λ (x : List Op). let y : Element = record { moment = moment; ops = x } in a ++ y ∷ []) ends.given in
       let begun : v.begun ≡ t.begun = ap (λ (x : Table). x.begun) moved ∙ ap (λ (x : Table). x.begun) ends.next in
       let count : v.number ≡ t.number + 1 = ap (λ (x : Table). x.number) moved ∙ ap (λ (x : Table). x.number + 1) ends.next in
       let full : q ≡ r + room_of element = g ∙ ap (λ x. r + (17 + x)) (mine.long moment) in
       record {
         one = ends.finishes.one;
         found = found old session tx there ∙ ends.finishes.found;
-        free = pending_refusal old moment (Some ends.finishes.one) ops long None mine some (second _ (room_refusal old long) None (ap (λ x. refused_if x TooLarge) (ap (λ x. any_outweighs x ops moment) (sym i.trees) ∙ light)) room);
-        numbered = n ∙ count ∙ ap (λ x. x + 1) i.number ∙ ap (λ x. cond x 0 (last_number old + 1)) (sym kept);
+        free = second (fault old) (commit_refusal_if old moment (Some ends.finishes.one)) None free (pending_refusal old moment (Some ends.finishes.one) ops long None mine some (second _ (room_refusal old long) None (ap (λ x. refused_if x TooLarge) (ap (λ x. any_outweighs x ops moment) (sym i.trees) ∙ light)) room));
+        numbered = told ∙ count ∙ ap (λ x. x + 1) i.number ∙ ap (λ x. cond x 0 (last_number old + 1)) (sym kept);
         next = ap (λ x. record old { accepted = x; places = v.places; begun = v.begun; room = q }) grown
-            ∙ ap (λ x. record old { accepted = before ++ element ∷ []; places = v.places; begun = x; room = q }) begun
-            ∙ ap (λ x. record old { accepted = before ++ element ∷ []; places = v.places; room = x }) full
-            ∙ ap (λ x. record (cond x old (record old { accepted = before ++ element ∷ []; room = r + room_of element })) { places = v.places }) (sym kept);
+            ∙ ap (λ x. record old { accepted = a ++ element ∷ []; places = v.places; begun = x; room = q }) begun
+            ∙ ap (λ x. record old { accepted = a ++ element ∷ []; places = v.places; room = x }) full
+            ∙ ap (λ x. record (cond x old (record old { accepted = a ++ element ∷ []; room = r + room_of element })) { places = v.places }) (sym kept);
         put = subst (λ x. Puts t.places x tx.place (Some (ended Committed ends.finishes.one))) (sym (ap (λ (x : Table). x.places) moved)) ends.finishes.put;
       }
+
+-- the change of pending operations is short, where their length is
+pub pending_short : (slot : Option Transaction) (ops : List Op) (long moment : ℕ) → IsPending slot ops long → long ≤ MOST_ELEMENT_BYTES → IsShort (record { moment = moment; ops = ops })
+pending_short None ops long moment p short = absurd p
+pending_short (Some one) ops long moment p short =
+    subst (λ (x : List Op). let y : Element = record { moment = moment; ops = x } in IsShort y) (sym p.given) (subst (λ n. n ≤ MOST_ELEMENT_BYTES) (p.long moment) short)
+
+-- a step of a journal that is not written
+pub settles : (m : Machine) → m.faulted ≡ false → m.durable ≤ last_number m → Journals m Done (record m { durable = last_number m })
+settles m free known = record { free = sound m free; next = refl; grows = known; within = omega arith; room = inl refl; idle = λ e. absurd cc }
+
+pub trims_none : (m : Machine) → m.faulted ≡ false → Trims m Idle m
+trims_none m free = record { free = sound m free; next = refl; room = inl refl }

@@ -1,3 +1,4 @@
+pub mod Histories
 pub mod Tables
 pub mod Codes
 pub mod Entries

@@ -1,7 +1,6 @@
--- What a plain store shows.
-use Rattle.std.specs.Prelude.{◌≡◌, ◌≤◌, ℕ, Bool, false, List, length, map, Result, Ok, Err, refl}
+-- What a store in memory shows.
+use Rattle.std.specs.Prelude.{◌≡◌, ◌≤◌, ℕ, Bool, true, false, List, length, Result, Ok, Err, refl}
 use Rattle.std.specs.Coded.{Coded, code_by, coded×, coded_ℕ, coded_list, coded_bool}
-use Rattle.std.specs.declared.snapshot.Snapshot.{Snapshot}
 use Rattle.refusals.specs.declared.refusal.Refusal.{Refusal}
 use Rattle.refusals.specs.declared.limits.TheConstants.{MOST_HISTORY}
 use Rattle.reg_tree.specs.Maps.{TreeMap}
@@ -12,14 +11,35 @@ use Rattle.machine.specs.Machine.{Machine, trees_now, last_number}
 use Rattle.machine.specs.Steps.{Step}
 use Rattle.machine.specs.Transactions.{Places}
 use Rattle.machine.specs.declared.event.Event.{Event}
+use Rattle.machine.specs.declared.event.Event.TheVariants as event
 use Rattle.machine.specs.declared.event.Reply.{Reply}
 use Rattle.machine.specs.declared.event.Reply.TheVariants as reply
 use Rattle.transactions.specs.Tables.{Table}
 
--- the machine that a store shows: it began with number 0, and no device of it ever failed
-abbrev pub store_of : List TreeMap → List (Snapshot Element) → List ℕ → Table → ℕ → ℕ → Machine
-store_of opened accepted sessions table durable room =
-    record { opened = opened; before = 0; accepted = map (λ change. change.value) accepted; sessions = sessions; places = table.places; begun = table.begun; durable = durable; room = room; failures = 0; faulted = false }
+-- one call of the device has failed where the store is faulted, and else none
+abbrev pub failures_of : Bool → ℕ
+failures_of true = 1
+failures_of false = 0
+
+-- the machine that a store shows
+abbrev pub store_of : List TreeMap → ℕ → List Element → List ℕ → Table → ℕ → ℕ → Bool → Machine
+store_of opened before accepted sessions table durable room faulted = record {
+  opened = opened;
+  before = before;
+  accepted = accepted;
+  sessions = sessions;
+  places = table.places;
+  begun = table.begun;
+  durable = durable;
+  room = room;
+  failures = failures_of faulted;
+  faulted = faulted;
+}
+
+-- the machine, and the number above which its changes are at hand
+pub record StoreView : Type 0 where
+  pub machine : Machine
+  pub at_hand : ℕ
 
 -- the table's trees and number are those of the last accepted change, what is durable was accepted, and the history is
 -- within its limit
@@ -34,6 +54,17 @@ abbrev pub Answers : Machine → Event → Result Reply Refusal → Machine → 
 Answers old event (Ok answer) new = Step old event answer new
 Answers old event (Err refusal) new = Step old event (reply.Refused refusal) new
 
+-- whether a faulted store answers an event that it has failed: all that may come to be accepted, and what asks for it
+abbrev pub needs_device : Event → Bool
+needs_device (event.StartSession session) = true
+needs_device (event.Write session moment op) = true
+needs_device (event.Begin session id) = true
+needs_device (event.TxWrite session tx moment op) = true
+needs_device (event.CommitAccept session tx moment) = true
+needs_device (event.Outcome session tx) = true
+needs_device event.FlushAsk = true
+needs_device _ = false
+
 -- how machines are told apart: by their parts
 abbrev pub machine_code : Coded Machine
 machine_code =
@@ -42,3 +73,6 @@ machine_code =
     (λ m. (m.opened, (m.before, (m.accepted, (m.sessions, (m.places, (m.begun, (m.durable, (m.room, (m.failures, m.faulted))))))))))
     (λ p. record { opened = p.0; before = p.1.0; accepted = p.1.1.0; sessions = p.1.1.1.0; places = p.1.1.1.1.0; begun = p.1.1.1.1.1.0; durable = p.1.1.1.1.1.1.0; room = p.1.1.1.1.1.1.1.0; failures = p.1.1.1.1.1.1.1.1.0; faulted = p.1.1.1.1.1.1.1.1.1 })
     (λ _. refl)
+
+abbrev pub store_code : Coded StoreView
+store_code = code_by (Machine × ℕ) (coded× machine_code coded_ℕ) (λ s. (s.machine, s.at_hand)) (λ p. record { machine = p.0; at_hand = p.1 }) (λ _. refl)

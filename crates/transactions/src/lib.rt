@@ -1,12 +1,16 @@
 //! The transactions of a store: what each keeps, what it sees, and where it stands.
 //!
 //! [`TxTable`] keeps them by the machine (`machine`): a transaction's writes are private, it is read and judged by its
-//! own view, and its claims keep others off what it changes.
+//! own view, and its claims keep others off what it changes. [`Store`] answers by it each event that makes no step.
 #![tactic(auto)]
 
 mod entry;
+mod history;
 mod plain;
+mod short;
+mod store;
 mod table;
 
 pub use plain::PlainStore;
+pub use store::Store;
 pub use table::{Holders, Pending, TxTable, Written};

@@ -1,7 +1,7 @@
 //! The transactions of a store.
 ghost use Rattle.std.specs.Prelude.{◌≡◌, ◌⊎◌, ◌+◌, ◌<◌, ◌≤◌, ◌^◌, ◌-◌, ◌||◌, ◌==◌, [], ℕ, nat_le, IfOk, IfSome, OnOk, OnErr, Some, None, true, false, IfErr};
 ghost use Rattle.std.specs.Option.{option_map, option_copied};
-ghost use Rattle.refusals.specs.declared.limits.TheConstants.{MOST_TRANSACTIONS};
+ghost use Rattle.refusals.specs.declared.limits.TheConstants.{MOST_ELEMENT_BYTES, MOST_TRANSACTIONS};
 ghost use Rattle.refusals.specs.declared.refusal.Refusal.TheVariants.{NoMemory, NoSeat};
 ghost use Rattle.reg_tree.specs.Texts.{ops_text_len};
 ghost use Rattle.conflicts.specs.Claims.{claim_of};
@@ -265,6 +265,7 @@ impl TxTable {
             ≡ own self.now.places session tx }
         ensures counted { IfSome result (λ entry. entry.now.length
             ≡ 16 + ops_text_len entry.now.ops.items) }
+        ensures short { IfSome result (λ entry. entry.now.length ≤ MOST_ELEMENT_BYTES) }
     {
         match self.places.get(tx.place) {
             Some(entry) if entry.is_own(session, tx.generation) => Some(entry),
@@ -301,6 +302,7 @@ impl TxTable {
     pub fn commit_ops(&self, session: u32, tx: Tx) -> Result<Pending<'_>, NotEnded>
         ensures ok { IfOk result (λ pending.
             IsPending (own self.now.places session tx) pending.ops.now pending.text_len) }
+        ensures short { IfOk result (λ pending. pending.text_len ≤ MOST_ELEMENT_BYTES) }
         ensures refused { IfErr result (λ why.
             inactive_refusal (own self.now.places session tx) ≡ Some (refusal_of why)) }
     {

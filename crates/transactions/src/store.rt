@@ -1,0 +1,455 @@
+//! A store in memory: what it answers to each event that makes no step, and what it is told of those that do.
+ghost use Rattle.std.specs.Prelude.{◌≡◌, ◌≤◌, ◌+◌, ◌-◌, ◌⊎◌, ◌==◌, [], drop, true, false, Some, None, IfOk, IfErr, OnOk};
+ghost use Rattle.std.specs.List.{AllByRecursion, list_any};
+ghost use Rattle.refusals.specs.declared.refusal.Refusal.TheVariants.{NoSuchHandle};
+ghost use Rattle.machine.specs.Steps.{Step, is_step};
+ghost use Rattle.machine.specs.Machine.{opened_machine, last_number, fault, trees_now, room_refusal};
+ghost use Rattle.transactions.specs.Histories.{IsShort};
+ghost use Rattle.transactions.specs.Stores.{Answers, needs_device};
+
+use crate::history::History;
+use crate::short::change_is_short;
+use crate::table::{TxTable, Written};
+use machine::room::CHANGE_START;
+use machine::{Event, Question, Reply, Sessions, Tx, levels_made, look_up};
+use refusals::Refusal;
+use refusals::limits::{GREATEST_NUMBER, MOST_HISTORY, MOST_JOURNAL_BYTES};
+use reg_names::Path;
+use reg_tree::{CHANGE_BYTES, Element, Op, Ops, Trees};
+use std::alloc::{AllocError, Global};
+use std::marker::Model;
+use std::snapshot::Snapshot;
+use uuid::Uuid;
+
+/// A store in memory, seen by contracts as the state of the machine, and the number above which its changes are at hand.
+///
+/// It keeps the trees of now, and of the accepted changes those that were not let go; the trees as they were opened and the
+/// whole list of accepted changes are known to contracts alone. It makes no step: whoever keeps the journal and the hives tells
+/// it how far changes are durable ([`settle`](Store::settle)), what room is free again ([`free`](Store::free)), and that the
+/// device has failed ([`fail`](Store::fail)).
+#[derive(Drop)]
+pub struct Store {
+    alloc: Global,
+    opened: Snapshot<Trees>,
+    before: u64,
+    history: History,
+    sessions: Sessions,
+    table: TxTable,
+    durable: u64,
+    room: u64,
+    faulted: bool,
+}
+
+impl Model for Store {
+    ghost use Rattle.transactions.specs.Stores.{StoreView, store_of, store_code, IsTied};
+    ghost use Rattle.std.specs.Prelude.{◌+◌};
+
+    ghost Value = { StoreView };
+
+    ghost coded = { store_code };
+
+    ghost view = { λ inside. record {
+      machine =
+          store_of inside.opened.value inside.before inside.history.changes inside.sessions
+          inside.table inside.durable inside.room inside.faulted;
+      at_hand = inside.before + inside.history.let_go;
+    } };
+
+    ghost invariant = { λ inside. IsTied inside.table
+        (store_of inside.opened.value inside.before inside.history.changes inside.sessions
+        inside.table inside.durable inside.room inside.faulted) };
+}
+
+impl Store {
+    /// A store that was opened on trees after the change of a number. Its journal has used so much room.
+    pub fn new(alloc: Global, trees: Trees, number: u64, room: u64) -> Result<Store, AllocError>
+        ensures machine { IfOk result (λ store. store.machine
+            ≡ record (opened_machine trees number [] 0) { room = room }) }
+        ensures at_hand { IfOk result (λ store. store.at_hand ≡ number) }
+    {
+        Ok(Store {
+            alloc,
+            opened: Snapshot::of(&trees),
+            before: number,
+            history: History::new(alloc),
+            sessions: Sessions::new(alloc)?,
+            table: TxTable::new(alloc, trees, number),
+            durable: number,
+            room,
+            faulted: false,
+        })
+    }
+
+    /// Answers an event that makes no step.
+    pub fn event(&mut self, event: Event) -> Reply
+        requires calm { is_step event ≡ false }
+        ensures step { Step self.old.machine event result self.new.machine }
+        ensures at_hand { self.new.at_hand ≡ self.old.at_hand }
+    {
+        if self.faulted && needs_device(&event) {
+            return Reply::Refused {
+                refusal: Refusal::Faulted,
+            };
+        }
+        match self.answer(event) {
+            Ok(reply) => reply,
+            Err(refusal) => Reply::Refused { refusal },
+        }
+    }
+
+    /// The trees of now.
+    pub fn trees(&self) -> &Trees
+        ensures { result.now ≡ trees_now self.now.machine }
+    {
+        self.table.trees()
+    }
+
+    /// The number of the last accepted change, or that of the opening where none was.
+    pub fn last_number(&self) -> u64
+        ensures number { result ≡ last_number self.now.machine }
+        ensures at_hand { self.now.at_hand ≤ result }
+    {
+        let _ = self.history.len();
+        self.table.number()
+    }
+
+    /// The number up to which changes are durable.
+    pub fn durable(&self) -> u64
+        ensures durable { result ≡ self.now.machine.durable }
+        ensures known { result ≤ last_number self.now.machine }
+    {
+        self.durable
+    }
+
+    /// Whether the device has failed.
+    pub fn is_faulted(&self) -> bool
+        ensures { result ≡ self.now.machine.faulted }
+    {
+        self.faulted
+    }
+
+    /// The accepted changes with numbers above this one, none of which was let go.
+    pub fn above(&self, number: u64) -> &[Element]
+        requires at_hand { self.now.at_hand ≤ number }
+        requires there { number ≤ last_number self.now.machine }
+        ensures changes { result.now
+            ≡ drop (number - self.now.machine.before) self.now.machine.accepted }
+        ensures short { AllByRecursion IsShort result.now }
+    {
+        self.history.after((number - self.before) as usize)
+    }
+
+    /// Lets the changes up to this number go: they are no longer at hand.
+    pub fn let_go(&mut self, number: u64)
+        requires at_hand { self.old.at_hand ≤ number }
+        requires there { number ≤ last_number self.old.machine }
+        ensures machine { self.new.machine ≡ self.old.machine }
+        ensures at_hand { self.new.at_hand ≡ number }
+    {
+        self.history.let_go((number - self.before) as usize);
+    }
+
+    /// Changes are durable up to this number.
+    pub fn settle(&mut self, durable: u64)
+        requires there { durable ≤ last_number self.old.machine }
+        ensures machine { self.new.machine ≡ record self.old.machine { durable = durable } }
+        ensures at_hand { self.new.at_hand ≡ self.old.at_hand }
+    {
+        self.durable = durable;
+    }
+
+    /// So many bytes of the journal's room are free again.
+    pub fn free(&mut self, bytes: u64)
+        requires used { bytes ≤ self.old.machine.room }
+        ensures machine { self.new.machine
+            ≡ record self.old.machine { room = self.old.machine.room - bytes } }
+        ensures at_hand { self.new.at_hand ≡ self.old.at_hand }
+    {
+        self.room -= bytes;
+    }
+
+    /// The device has failed: the store is faulted from now on.
+    pub fn fail(&mut self)
+        requires sound { self.old.machine.faulted ≡ false }
+        ensures machine { self.new.machine
+            ≡ record self.old.machine { failures = self.old.machine.failures + 1; faulted = true } }
+        ensures at_hand { self.new.at_hand ≡ self.old.at_hand }
+    {
+        self.faulted = true;
+    }
+
+    fn answer(&mut self, event: Event) -> Result<Reply, Refusal>
+        requires calm { is_step event ≡ false }
+        requires free { needs_device event ≡ true → fault self.old.machine ≡ None }
+        ensures step { Answers self.old.machine event result self.new.machine }
+        ensures at_hand { self.new.at_hand ≡ self.old.at_hand }
+    {
+        match event {
+            Event::StartSession { session } => self.start_session(session),
+            Event::EndSession { session } => self.end_session(session),
+            Event::Read {
+                session,
+                hive,
+                path,
+                question,
+            } => self.read(session, hive, &path, question),
+            Event::Write {
+                session,
+                moment,
+                op,
+            } => self.write(session, moment, op),
+            Event::Begin { session, id } => self.begin(session, id),
+            Event::TxRead {
+                session,
+                tx,
+                hive,
+                path,
+                question,
+            } => self.tx_read(session, tx, hive, &path, question),
+            Event::TxWrite {
+                session,
+                tx,
+                moment,
+                op,
+            } => self.tx_write(session, tx, moment, op),
+            Event::CommitAccept {
+                session,
+                tx,
+                moment,
+            } => self.commit_accept(session, tx, moment),
+            Event::Rollback { session, tx } => self.roll_back(session, tx),
+            Event::Close { session, tx } => self.close(session, tx),
+            Event::Outcome { session, tx } => self.outcome(session, tx),
+            Event::FlushAsk => Ok(self.flush_ask()),
+            Event::Acked { number } => self.acked(number),
+            Event::JournalStep | Event::FlusherStep { .. } | Event::TrimStep => unreachable!(),
+        }
+    }
+
+    fn start_session(&mut self, session: u32) -> Result<Reply, Refusal>
+        requires free { fault self.old.machine ≡ None }
+        ensures step { Answers self.old.machine (Event.StartSession session) result self.new.machine }
+        ensures at_hand { self.new.at_hand ≡ self.old.at_hand }
+    {
+        if self.sessions.is_open(session) {
+            return Ok(Reply::Done);
+        }
+        match self.sessions.start(session) {
+            Ok(()) => Ok(Reply::Done),
+            Err(_) => Err(Refusal::NoSeat),
+        }
+    }
+
+    fn end_session(&mut self, session: u32) -> Result<Reply, Refusal>
+        ensures step { Answers self.old.machine (Event.EndSession session) result self.new.machine }
+        ensures at_hand { self.new.at_hand ≡ self.old.at_hand }
+    {
+        open(&self.sessions, session)?;
+        self.table.end_session(session);
+        self.sessions.end(session);
+        Ok(Reply::Done)
+    }
+
+    fn read(
+        &self,
+        session: u32,
+        hive: u8,
+        path: &Path,
+        question: Question,
+    ) -> Result<Reply, Refusal>
+        ensures { Answers self.now.machine (Event.Read session hive path.now question) result self.now.machine }
+    {
+        open(&self.sessions, session)?;
+        let found = look_up(self.alloc, self.table.trees(), hive, path, question)?;
+        Ok(Reply::Read { found })
+    }
+
+    fn write(&mut self, session: u32, moment: u64, op: Op) -> Result<Reply, Refusal>
+        requires free { fault self.old.machine ≡ None }
+        ensures step { Answers self.old.machine (Event.Write session moment op) result self.new.machine }
+        ensures at_hand { self.new.at_hand ≡ self.old.at_hand }
+    {
+        open(&self.sessions, session)?;
+        let Some(made) = self.table.trees().write(self.alloc, &op, moment)? else {
+            return Ok(Reply::Opened);
+        };
+        let room = self.room_with(CHANGE_BYTES.saturating_add(op.text_len()))?;
+        let levels = levels_made(self.table.trees(), &op);
+        change_is_short(&op);
+        let holders = self.table.holders(&op)?;
+        let ops = Ops::one(self.alloc, op)?;
+        self.history.reserve()?;
+        self.history.push_reserved(Element { moment, ops });
+        self.table.accept(made);
+        self.table.roll_back_all(&holders);
+        self.room = room;
+        Ok(Reply::Accepted {
+            levels,
+            number: self.table.number(),
+        })
+    }
+
+    // the room that the journal has used with one change more, of so many bytes
+    fn room_with(&self, length: u64) -> Result<u64, Refusal>
+        ensures ok { IfOk result (λ room. (room_refusal self.now.machine length ≡ None)
+            × (room ≡ self.now.machine.room + (17 + length))) }
+        ensures refused { IfErr result (λ refusal.
+            room_refusal self.now.machine length ≡ Some refusal) }
+    {
+        if self.history.len() as u64 >= MOST_HISTORY || self.table.number() >= GREATEST_NUMBER {
+            return Err(Refusal::HistoryFull);
+        }
+        let room = self
+            .room
+            .saturating_add(CHANGE_START)
+            .saturating_add(length);
+        if room > MOST_JOURNAL_BYTES {
+            return Err(Refusal::JournalFull);
+        }
+        Ok(room)
+    }
+
+    fn begin(&mut self, session: u32, id: Uuid) -> Result<Reply, Refusal>
+        requires free { fault self.old.machine ≡ None }
+        ensures step { Answers self.old.machine (Event.Begin session id) result self.new.machine }
+        ensures at_hand { self.new.at_hand ≡ self.old.at_hand }
+    {
+        open(&self.sessions, session)?;
+        let tx = self.table.begin(session, id)?;
+        Ok(Reply::Begun { tx })
+    }
+
+    fn tx_read(
+        &mut self,
+        session: u32,
+        tx: Tx,
+        hive: u8,
+        path: &Path,
+        question: Question,
+    ) -> Result<Reply, Refusal>
+        ensures step { Answers self.old.machine (Event.TxRead session tx hive path.now question) result self.new.machine }
+        ensures at_hand { self.new.at_hand ≡ self.old.at_hand }
+    {
+        open(&self.sessions, session)?;
+        let found = self.table.view_read(session, tx, hive, path, question)?;
+        Ok(Reply::Read { found })
+    }
+
+    fn tx_write(&mut self, session: u32, tx: Tx, moment: u64, op: Op) -> Result<Reply, Refusal>
+        requires free { fault self.old.machine ≡ None }
+        ensures step { Answers self.old.machine (Event.TxWrite session tx moment op) result self.new.machine }
+        ensures at_hand { self.new.at_hand ≡ self.old.at_hand }
+    {
+        open(&self.sessions, session)?;
+        match self.table.write(session, tx, moment, op)? {
+            Written::Added { levels } => Ok(Reply::Added { levels }),
+            Written::Opened => Ok(Reply::Opened),
+        }
+    }
+
+    fn commit_accept(&mut self, session: u32, tx: Tx, moment: u64) -> Result<Reply, Refusal>
+        requires free { fault self.old.machine ≡ None }
+        ensures step { Answers self.old.machine (Event.CommitAccept session tx moment) result self.new.machine }
+        ensures at_hand { self.new.at_hand ≡ self.old.at_hand }
+    {
+        open(&self.sessions, session)?;
+        let pending = self.table.commit_ops(session, tx)?;
+        if pending.ops.is_empty() {
+            self.table.commit(session, tx)?;
+            return Ok(Reply::Awaits { number: 0 });
+        }
+        let made = self
+            .table
+            .trees()
+            .apply_within(self.alloc, pending.ops, moment)?;
+        let room = self.room_with(pending.text_len)?;
+        self.history.reserve()?;
+        let ops = self.table.commit(session, tx)?;
+        let Some(ops) = Ops::from_vec(ops) else {
+            unreachable!();
+        };
+        self.history.push_reserved(Element { moment, ops });
+        self.table.accept(made);
+        self.room = room;
+        Ok(Reply::Awaits {
+            number: self.table.number(),
+        })
+    }
+
+    fn roll_back(&mut self, session: u32, tx: Tx) -> Result<Reply, Refusal>
+        ensures step { Answers self.old.machine (Event.Rollback session tx) result self.new.machine }
+        ensures at_hand { self.new.at_hand ≡ self.old.at_hand }
+    {
+        open(&self.sessions, session)?;
+        self.table.rollback(session, tx)?;
+        Ok(Reply::Done)
+    }
+
+    fn close(&mut self, session: u32, tx: Tx) -> Result<Reply, Refusal>
+        ensures step { Answers self.old.machine (Event.Close session tx) result self.new.machine }
+        ensures at_hand { self.new.at_hand ≡ self.old.at_hand }
+    {
+        open(&self.sessions, session)?;
+        self.table.close(session, tx)?;
+        Ok(Reply::Done)
+    }
+
+    fn outcome(&self, session: u32, tx: Tx) -> Result<Reply, Refusal>
+        requires free { fault self.now.machine ≡ None }
+        ensures { Answers self.now.machine (Event.Outcome session tx) result self.now.machine }
+    {
+        open(&self.sessions, session)?;
+        let outcome = self.table.outcome(session, tx)?;
+        Ok(Reply::Stands { outcome })
+    }
+
+    fn flush_ask(&self) -> Reply
+        requires free { fault self.now.machine ≡ None }
+        ensures { Step self.now.machine Event.FlushAsk result self.now.machine }
+    {
+        Reply::Awaits {
+            number: self.table.number(),
+        }
+    }
+
+    fn acked(&self, number: u64) -> Result<Reply, Refusal>
+        ensures { Answers self.now.machine (Event.Acked number) result self.now.machine }
+    {
+        if number <= self.durable {
+            return Ok(Reply::Receipt { number });
+        }
+        if self.faulted {
+            return Err(Refusal::Faulted);
+        }
+        Ok(Reply::NotYet)
+    }
+}
+
+// whether a faulted store answers an event that it has failed
+fn needs_device(event: &Event) -> bool
+    ensures { result ≡ needs_device event.now }
+{
+    matches!(
+        event,
+        Event::StartSession { .. }
+            | Event::Write { .. }
+            | Event::Begin { .. }
+            | Event::TxWrite { .. }
+            | Event::CommitAccept { .. }
+            | Event::Outcome { .. }
+            | Event::FlushAsk
+    )
+}
+
+// refuses a session that isn't open
+fn open(sessions: &Sessions, session: u32) -> Result<(), Refusal>
+    ensures ok { OnOk result (list_any (λ s. s == session) sessions.now ≡ true) }
+    ensures refused { IfErr result (λ refusal.
+        (list_any (λ s. s == session) sessions.now ≡ false) × (refusal ≡ NoSuchHandle)) }
+{
+    if sessions.is_open(session) {
+        Ok(())
+    } else {
+        Err(Refusal::NoSuchHandle)
+    }
+}
