@@ -1,5 +1,5 @@
 -- What every state of the machine keeps: what is known of transactions that are held, and of handles.
-use Rattle.std.specs.Prelude.{◌≡◌, ◌≢◌, ◌⊎◌, ℕ, ◌+◌, ◌<◌, ◌≤◌, true, length, List, [], ◌∷◌, map, filter_map, Option, Some, None, Ok, Err, ⊤}
+use Rattle.std.specs.Prelude.{◌≡◌, ◌≢◌, ◌⊎◌, ℕ, ◌+◌, ◌<◌, ◌≤◌, true, length, List, [], ◌∷◌, ◌++◌, map, filter_map, Option, Some, None, Ok, Err, ⊤}
 use Rattle.refusals.specs.declared.refusal.Refusal.TheVariants.{TooLarge}
 use Rattle.refusals.specs.declared.limits.TheConstants.{GREATEST_NUMBER, MOST_HISTORY, MOST_SESSIONS, MOST_TRANSACTIONS}
 use Rattle.reg_tree.specs.Maps.{TreeMap}
@@ -10,7 +10,7 @@ use Rattle.reg_tree.specs.declared.op.Op.{Op}
 use Rattle.reg_tree.specs.declared.op.Legality.TheVariants.{Legal}
 use Rattle.conflicts.specs.Skeletons.{AreCarriedOut, AreApart}
 use Rattle.machine.specs.Transactions.{Transaction, Places, at, is_active, count_held}
-use Rattle.machine.specs.Machine.{Machine, trees_now, last_number, pending, room_with}
+use Rattle.machine.specs.Machine.{Machine, trees_now, last_number, pending, room_of, room_with}
 use Rattle.machine.specs.declared.handle.Tx.{Tx}
 use Rattle.machine.specs.declared.event.Reply.{Reply}
 use Rattle.machine.specs.declared.event.Reply.TheVariants as reply
@@ -83,3 +83,26 @@ IsCounted old (Some tx) new = (tx.generation ≡ old.begun + 1) × (new.begun �
 pub record IsGone (machine : Machine) (tx : Tx) : Type 0 where
   pub was_begun : tx.generation ≤ machine.begun
   pub not_there : (one : Transaction) → at machine.places tx.place ≡ Some one → one.generation ≢ tx.generation
+
+-- What the journal, its numbers and the device have to do with stays.
+pub record Stays (old new : Machine) : Type 0 where
+  pub opened : new.opened ≡ old.opened
+  pub before : new.before ≡ old.before
+  pub accepted : new.accepted ≡ old.accepted
+  pub durable : new.durable ≡ old.durable
+  pub room : new.room ≡ old.room
+  pub faulted : new.faulted ≡ old.faulted
+
+-- One change is accepted, which has an operation, is legal operation by operation on the trees of now, and for which there is a
+-- number; its room is used. The rest stays.
+pub record Grows (old new : Machine) : Type 0 where
+  pub element : Element
+  pub some : 0 < length element.ops
+  pub legal : AreLegalChanges (trees_now old) element.ops element.moment
+  pub number : last_number old < GREATEST_NUMBER
+  pub opened : new.opened ≡ old.opened
+  pub before : new.before ≡ old.before
+  pub accepted : new.accepted ≡ old.accepted ++ element ∷ []
+  pub durable : new.durable ≡ old.durable
+  pub room : new.room ≡ old.room + room_of element
+  pub faulted : new.faulted ≡ old.faulted

@@ -2,7 +2,7 @@
 //!
 //! They have no code of their own: each is the contract of a function that does nothing, for whoever keeps a store by
 //! the machine.
-ghost use Rattle.std.specs.Prelude.{◌≡◌, ◌≤◌, ℕ, true, false, List, Some, None};
+ghost use Rattle.std.specs.Prelude.{◌≡◌, ◌≤◌, ◌⊎◌, ℕ, true, false, List, Some, None};
 ghost use Rattle.std.specs.List.Sorted.{IsStrictlySortedBy};
 ghost use Rattle.std.specs.Ordering.{nat_cmp};
 ghost use Rattle.refusals.specs.declared.limits.TheConstants.{GREATEST_NUMBER, MOST_JOURNAL_BYTES};
@@ -14,7 +14,7 @@ ghost use Rattle.reg_tree.specs.Sequences.{AreTrees, AreLegal};
 ghost use Rattle.machine.specs.Transactions.{Transaction, own};
 ghost use Rattle.machine.specs.Machine.{Machine, opened_machine, trees_now, found_in};
 ghost use Rattle.machine.specs.Steps.{Step, Run, is_step};
-ghost use Rattle.machine.specs.Kept.{IsKept, IsActiveAt, AreLegalButForWeight, AreLegalChanges, IsCounted, IsGone, handle_in, numbers_given};
+ghost use Rattle.machine.specs.Kept.{IsKept, IsActiveAt, AreLegalButForWeight, AreLegalChanges, IsCounted, IsGone, Stays, Grows, handle_in, numbers_given};
 ghost use Rattle.machine.specs.declared.handle.Tx.{Tx};
 ghost use Rattle.machine.specs.declared.event.Event.{Event};
 ghost use Rattle.machine.specs.declared.event.Event.TheVariants as event;
@@ -60,6 +60,15 @@ pub fn steps_alone_fail()
     ensures { (old new : Machine) (event : Event) → Step old event (reply.Refused DiskFault) new →
         is_step event ≡ true }
 {}
+
+/// Only a step may change what is durable, free room, or fault a store: every other event leaves all of that, and accepts one
+/// change at most.
+pub fn steps_alone_settle()
+    ensures { (old new : Machine) (event : Event) (reply : Reply) → IsKept old →
+        is_step event ≡ false → Step old event reply new → Stays old new ⊎ Grows old new }
+{
+    commits_stay_legal();
+}
 
 /// At a commit no operation is illegal but for weight: others may have changed the trees since it was written, but
 /// nothing that its claim guards.

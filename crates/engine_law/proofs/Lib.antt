@@ -1,0 +1,5 @@
+mod Bridge
+mod Room
+mod Accepting
+mod Beginning
+mod Stepping

@@ -1,0 +1,73 @@
+-- What an engine answers to a step of its journal or of a hive, and what its machine is then.
+use Rattle.std.specs.Prelude.{◌≡◌, ◌⊎◌, ℕ, ◌+◌, ◌-◌, ◌<◌, ◌≤◌, true, List, [], length, take, drop, slice_get, Option, Some, None, Result, Ok, Err}
+use Rattle.refusals.specs.declared.refusal.Refusal.{Refusal}
+use Rattle.refusals.specs.declared.refusal.Refusal.TheVariants as refusal
+use Rattle.reg_tree.specs.Maps.{TreeMap}
+use Rattle.reg_tree.specs.declared.element.Element.{Element}
+use Rattle.prefix_law.specs.Changes.{applied, ops_on}
+use Rattle.prefix_law.specs.Life.{ops_in}
+use Rattle.prefix_law.specs.Promises.{Choice, Spelled, nothing, top}
+use Rattle.engine_words.specs.Changes.{TimedOp, rules, timed_elements}
+use Rattle.engine_words.specs.declared.Progress.{Progress}
+use Rattle.engine_words.specs.declared.Progress.TheVariants as progress
+use Rattle.commit_journal.specs.Store.{room_of}
+use Rattle.machine.specs.Machine.{Machine}
+use Rattle.machine.specs.declared.event.Progress as machine
+use Rattle.machine.specs.declared.event.Progress.TheVariants as stepped
+use Rattle.machine.specs.declared.event.Reply.{Reply}
+use Rattle.machine.specs.declared.event.Reply.TheVariants as reply
+use Rattle.engine_law.specs.States.{HiveView, life_of}
+
+-- how far a step has come, as the machine tells it
+abbrev pub stepped_to : Progress → machine.Progress
+stepped_to progress.Idle = stepped.Idle
+stepped_to progress.More = stepped.More
+stepped_to progress.Done = stepped.Done
+
+abbrev pub reply_to : Result Progress Refusal → Reply
+reply_to (Ok come) = reply.Stepped (stepped_to come)
+reply_to (Err why) = reply.Refused why
+
+-- the machine once the device has failed
+abbrev pub failed : Machine → Machine
+failed machine = record machine { failures = machine.failures + 1; faulted = true }
+
+-- the bytes that changes in the journal give back once they are no longer in it: where more of them are there, none
+abbrev pub freed : Choice (Spelled TimedOp) → Choice (Spelled TimedOp) → ℕ
+freed old new = room_of old.now.elements - room_of new.now.elements
+
+-- the machine after a step of the journal or of a trim: what the journal carries is durable once the step is done, and the
+-- room of changes that left it is free
+abbrev pub after_step : Machine → Choice (Spelled TimedOp) → Choice (Spelled TimedOp) → Result Progress Refusal → Machine
+after_step machine old new (Ok progress.Done) = record machine { durable = top machine.durable new.now; room = machine.room - freed old new }
+after_step machine old new (Ok progress.Idle) = machine
+after_step machine old new (Ok progress.More) = machine
+after_step machine old new (Err refusal.DiskFault) = failed machine
+after_step machine old new (Err why) = machine
+
+-- the machine after a step of a hive's flush
+abbrev pub after_flush : Machine → Result Progress Refusal → Machine
+after_flush machine (Ok come) = machine
+after_flush machine (Err refusal.DiskFault) = failed machine
+after_flush machine (Err why) = machine
+
+-- What surely stands of each hive has each operation on it of each durable change.
+abbrev pub HaveAll : Machine → ℕ → List Element → List HiveView → Type 0
+HaveAll machine base opened hives = (i : ℕ) (hive : HiveView) → slice_get hives i ≡ Some hive → ops_in (life_of machine base opened) i hive.files.now.1 machine.durable ≡ []
+
+-- A step of a trim may be made: one is on its way; or nothing is, the journal spells something, and the hives have all of it.
+abbrev pub MayTrim : Machine → ℕ → List Element → Choice (Spelled TimedOp) → List HiveView → Type 0
+MayTrim machine base opened journal hives = (journal.next ≡ Some nothing)
+    ⊎ ((journal.next ≡ None) × (0 < length journal.now.elements) × HaveAll machine base opened hives)
+
+-- the changes above a number that are durable: those that the journal spelled at the opening, and those accepted since
+abbrev pub opened_above : ℕ → List Element → ℕ → List Element
+opened_above base opened number = drop (number - base) opened
+
+abbrev pub accepted_above : Machine → ℕ → List Element
+accepted_above machine number = drop (number - machine.before) (take (machine.durable - machine.before) machine.accepted)
+
+-- what a hive has in memory once it has taken in what it lacks
+abbrev pub absorbed : Machine → ℕ → List Element → ℕ → TreeMap × ℕ → TreeMap × ℕ
+absorbed machine base opened place memory =
+    (applied rules (ops_on place (timed_elements (accepted_above machine memory.1))) (applied rules (ops_on place (timed_elements (opened_above base opened memory.1))) memory.0), machine.durable)

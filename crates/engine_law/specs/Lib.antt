@@ -1,0 +1,5 @@
+pub mod States
+pub mod Prefixes
+pub mod Runs
+pub mod Openings
+pub mod Answers
