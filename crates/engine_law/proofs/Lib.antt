@@ -3,3 +3,6 @@ mod Room
 mod Accepting
 mod Beginning
 mod Stepping
+mod Flushing
+mod Standing
+mod Running

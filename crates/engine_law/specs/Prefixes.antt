@@ -19,7 +19,7 @@ use Rattle.hive_flush.specs.HiveStates.{IsOn, place_of}
 use Rattle.hive_flush.specs.HiveStates as states
 use Rattle.hive_flush.specs.declared.hive.HiveFile.{HiveFile}
 use Rattle.machine.specs.Machine.{Machine, last_number}
-use Rattle.engine_law.specs.States.{tree_of}
+use Rattle.engine_law.specs.States.{HiveView, tree_of}
 
 -- bytes of the journal's file spell this, in a store
 abbrev pub Spells : Store → List ℕ → Spelled TimedOp → Type 0
@@ -47,6 +47,10 @@ IsPrefix store machine files = (n : ℕ) × (machine.durable ≤ n) × (n ≤ la
 -- Whatever a crash at this moment leaves, with honest first sectors, is a prefix of the machine's changes.
 abbrev pub IsSafeAt : Store → (ℕ → ℕ → FileState) → ℕ → Machine → Type 0
 IsSafeAt store states moment machine = (files : ℕ → List ℕ) → LeavesHonest IsPrimary (states moment) files → IsPrefix store machine files
+
+-- what the law sees of a hive
+abbrev pub view_of : HiveFile → HiveView
+view_of hive = record { files = states.files_of hive; memory = states.memory_of hive }
 
 -- The journal and each hive are on the disk as they say.
 pub record AreOnDisk (journal : Journal) (hives : List HiveFile) (state : ℕ → FileState) : Type 0 where

@@ -1,21 +1,31 @@
 //! The laws, each the contract of a function that does nothing.
-ghost use Rattle.std.specs.Prelude.{◌≡◌, ◌⊎◌, ℕ, ◌+◌, false, List, Result, Err};
+ghost use Rattle.std.specs.Prelude.{◌≡◌, ◌⊎◌, ℕ, ◌+◌, ◌≤◌, ◌++◌, ◌∷◌, [], false, List, length, map, slice_get, slice_set, Some, None, Result, Err};
 ghost use Rattle.reg_tree.specs.Maps.{TreeMap};
 ghost use Rattle.reg_tree.specs.declared.element.Element.{Element};
-ghost use Rattle.prefix_law.specs.Promises.{Choice, Spelled, JournalSays, TrimSays};
-ghost use Rattle.engine_words.specs.Changes.{TimedOp, timed_elements};
+ghost use Rattle.prefix_law.specs.Promises.{Choice, Spelled, JournalSays, TrimSays, HiveSays};
+ghost use Rattle.engine_words.specs.Changes.{TimedOp, rules, timed_elements};
+ghost use Rattle.prefix_law.specs.Changes.{AreLegal, ops_on};
 ghost use Rattle.engine_words.specs.Steps.{Says};
 ghost use Rattle.engine_words.specs.declared.Progress.{Progress};
 ghost use Rattle.machine.specs.Machine.{Machine, opened_machine, pending};
-ghost use Rattle.machine.specs.Steps.{Step, is_step};
+ghost use Rattle.machine.specs.Steps.{Step, Run, is_step};
 ghost use Rattle.machine.specs.declared.event.Event.{Event};
 ghost use Rattle.machine.specs.declared.event.Event.TheVariants as event;
 ghost use Rattle.machine.specs.declared.event.Reply.{Reply};
 ghost use Rattle.engine_law.specs.States.{HiveView, IsConsistent};
 ghost use Rattle.refusals.specs.declared.refusal.Refusal.{Refusal};
 ghost use Rattle.refusals.specs.declared.refusal.Refusal.TheVariants.{Faulted};
-ghost use Rattle.engine_law.specs.Answers.{reply_to, after_step, MayTrim};
+ghost use Rattle.engine_law.specs.Answers.{reply_to, after_step, after_flush, MayTrim, opened_above, accepted_above, absorbed};
+ghost use Rattle.disk_model.specs.FileState.{FileState};
+ghost use Rattle.commit_journal.specs.Store.{Store};
+ghost use Rattle.commit_journal.specs.Journals.{choice_of, store_of};
+ghost use Rattle.commit_journal.specs.declared.journal.Journal.{Journal};
+ghost use Rattle.hive_flush.specs.declared.hive.HiveFile.{HiveFile};
+ghost use Rattle.engine_law.specs.Prefixes.{ArePlaced, AreOnDisk, IsSafeAt, view_of};
+ghost use Rattle.engine_law.specs.Runs.{RunsSafely, IsBoundary};
 ghost use Rattle.engine_law.specs.Openings.{IsFound};
+
+use reg_tree::Op;
 
 /// What an opening finds begins a life in which all is kept.
 pub fn openings_begin()
@@ -59,4 +69,77 @@ pub fn journal_steps_keep()
         × IsConsistent (after_step machine old new result) base opened new hives }
 {
     machine::laws::states_are_kept();
+}
+
+/// What a hive takes in and what its steps say.
+///
+/// - `lacks`: what a hive at rest lacks of the durable changes is legal on what it has in memory.
+/// - `takes`: a hive at rest may take that in.
+/// - `step`: a step of its flush keeps all and is a step of the machine, at each of its answers.
+pub fn hive_steps_keep()
+    ensures lacks { (machine : Machine) (base : ℕ) (opened : List Element)
+        (journal : Choice (Spelled TimedOp)) (hives : List HiveView) (i : ℕ) (old : HiveView) →
+        IsConsistent machine base opened journal hives → slice_get hives i ≡ Some old →
+        (old.memory.1 ≤ machine.durable)
+        × AreLegal rules (ops_on i (timed_elements (opened_above base opened old.memory.1
+        ++ accepted_above machine old.memory.1))) old.memory.0 }
+    ensures takes { (machine : Machine) (base : ℕ) (opened : List Element)
+        (journal : Choice (Spelled TimedOp)) (hives : List HiveView) (i : ℕ) (old : HiveView) →
+        IsConsistent machine base opened journal hives → slice_get hives i ≡ Some old →
+        old.files.next ≡ None →
+        IsConsistent machine base opened journal (slice_set hives i
+        (record { files = old.files; memory = absorbed machine base opened i old.memory })) }
+    ensures step { (machine : Machine) (base : ℕ) (opened : List Element)
+        (journal : Choice (Spelled TimedOp)) (hives : List HiveView) (i : ℕ) (old new : HiveView)
+        (result : Result Progress Refusal) → IsConsistent machine base opened journal hives →
+        machine.faulted ≡ false → slice_get hives i ≡ Some old → new.memory ≡ old.memory →
+        ¬ (result ≡ Err Faulted) → Says (HiveSays old.memory) result old.files new.files →
+        Step machine (event.FlusherStep i) (reply_to result) (after_flush machine result)
+        × IsConsistent (after_flush machine result) base opened journal (slice_set hives i new) }
+{
+    machine::laws::states_are_kept();
+}
+
+/// Where all is kept, and journal and hives are on the disk as they say, whatever a crash leaves at that moment, with honest first
+/// sectors, is a prefix of the machine's changes; and it stays so of that moment as the disk goes on.
+pub fn crashes_leave_prefixes()
+    ensures safe { (store : Store) (machine : Machine) (base : ℕ) (opened : List Element)
+        (journal : Journal) (hives : List HiveFile) (states : ℕ → ℕ → FileState) (moment : ℕ) →
+        IsConsistent machine base opened (choice_of journal) (map view_of hives) →
+        store_of journal ≡ store → ArePlaced store hives →
+        AreOnDisk journal hives (states moment) → IsSafeAt store states moment machine }
+    ensures past { (store : Store) (old new : ℕ → ℕ → FileState) (clock : ℕ) →
+        ((k f : ℕ) → k ≤ clock → new k f ≡ old k f) →
+        (moment : ℕ) (machine : Machine) → moment ≤ clock → IsSafeAt store old moment machine →
+        IsSafeAt store new moment machine }
+{
+    commit_journal::laws::leaves::<(u64, Op)>();
+    hive_flush::laws::files_hold();
+}
+
+/// Runs whose boundaries are safe, each at its moment.
+///
+/// - `goes_on`: such a run goes on by a step of one device call at most, behind which it is safe again, over a disk of which what
+///   was is as it was.
+/// - `runs`: it is a run of the machine, with as many answers as events.
+/// - `each_moment`: at each moment from its start to its end some boundary is of that moment; so what a crash leaves then is
+///   a prefix of the changes accepted up to there.
+pub fn safe_runs_go_on()
+    ensures goes_on { (store : Store) (was is : ℕ → ℕ → FileState) (start middle end : ℕ)
+        (old mid new : Machine) (events : List Event) (replies : List Reply) (event : Event)
+        (reply : Reply) → RunsSafely (IsSafeAt store was) start old events replies middle mid →
+        ((k f : ℕ) → k ≤ middle → is k f ≡ was k f) → middle ≤ end → end ≤ middle + 1 →
+        Step mid event reply new → IsSafeAt store is end new →
+        RunsSafely (IsSafeAt store is) start old (events ++ event ∷ []) (replies ++ reply ∷ []) end new }
+    ensures runs { (store : Store) (states : ℕ → ℕ → FileState) (start end : ℕ) (old new : Machine)
+        (events : List Event) (replies : List Reply) →
+        RunsSafely (IsSafeAt store states) start old events replies end new →
+        Run old events replies new × (length replies ≡ length events) }
+    ensures each_moment { (store : Store) (states : ℕ → ℕ → FileState) (start end : ℕ)
+        (old new : Machine) (events : List Event) (replies : List Reply) →
+        RunsSafely (IsSafeAt store states) start old events replies end new →
+        (moment : ℕ) → start ≤ moment → moment ≤ end →
+        IsBoundary (IsSafeAt store states) old events replies new moment }
+{
+    crashes_leave_prefixes();
 }
