@@ -1,3 +1,4 @@
 pub mod Frames
 pub mod Founding
 pub mod Alike
+pub mod Anew

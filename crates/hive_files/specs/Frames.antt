@@ -22,3 +22,8 @@ nothing_told why = ⊥
 -- a file is as before, or synced
 abbrev pub IsSyncedOrSame : FileState → FileState → Type 0
 IsSyncedOrSame old new = (new ≡ old) ⊎ Syncs old new
+
+-- Some calls on files of a part's own: time goes on, and each other file is as before.
+pub record StaysOff (own : ℕ → Type 0) (old_states new_states : ℕ → ℕ → FileState) (old_clock new_clock : ℕ) : Type 0 where
+  pub time : Extends old_states new_states old_clock new_clock
+  pub others : (f : ℕ) → ¬ (own f) → new_states new_clock f ≡ old_states old_clock f

@@ -1,3 +1,4 @@
 pub mod Blocks
 pub mod Finding
 pub mod Frames
+pub mod Made

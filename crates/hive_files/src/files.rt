@@ -8,6 +8,12 @@ use disk_model::{Disk, Failed};
 use refusals::Refusal;
 use std::alloc::Global;
 
+/// Where the hive bins data begin in a primary file.
+pub const BINS_AT: u64 = 4_096;
+
+/// The bytes of a first sector.
+pub(crate) const SECTOR_BYTES: u64 = 512;
+
 /// The number of a hive's primary file in its store.
 pub fn primary_number(hive: u8) -> u32
     ensures { result ≡ primary_file hive }

@@ -11,7 +11,7 @@ ghost use Rattle.hive_files.specs.Finding.{IsByLog, IsFound, IsLogOf, IsLogged, 
 ghost use Rattle.hive_files.specs.Frames.{OnlyReads, FailsBy, IsSyncedOrSame};
 ghost use Rattle.refusals.specs.Answers.{RefusedFor};
 
-use crate::files::{log_number, primary_number, read_part};
+use crate::files::{BINS_AT, SECTOR_BYTES, log_number, primary_number, read_part};
 use crate::found::Found;
 use base_block::{BaseBlock, FileType};
 use dirt_log::{DirtLog, front_is_read, front_is_repaired};
@@ -19,12 +19,6 @@ use dirty_vector::DirtyVector;
 use disk_model::Disk;
 use refusals::{Cause, Refusal};
 use std::alloc::Global;
-
-/// Where the bins data begin in a primary file.
-const BINS_AT: u64 = 4_096;
-
-/// The bytes of a first sector.
-const SECTOR_BYTES: u64 = 512;
 
 /// The bytes of the longest log that is whole: its first sector, letters and bitmap, in whole sectors, and each page.
 const MOST_LOG_BYTES: u64 = 67_126_272;

@@ -5,15 +5,17 @@
 //! most 65,536 bytes, and nothing is allocated by a number before so many bytes are known to be there. Which tree the bins
 //! data stand for is no matter here.
 //!
-//! [`mark_changes`] compares two images page by page, so that a flush writes what differs.
+//! [`make`] makes both anew, of a base block and bins data. [`mark_changes`] compares two images page by page, so that a flush writes what differs.
 #![tactic(auto)]
 
 mod files;
 mod finding;
 mod found;
+mod making;
 mod marking;
 
-pub use crate::files::{log_number, primary_number};
+pub use crate::files::{BINS_AT, log_number, primary_number};
 pub use crate::finding::find;
 pub use crate::found::Found;
+pub use crate::making::{make, sector};
 pub use crate::marking::mark_changes;

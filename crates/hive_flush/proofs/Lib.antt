@@ -4,3 +4,6 @@ pub mod Standing
 pub mod Opened
 pub mod Adopting
 pub mod Replayed
+pub mod Created
+pub mod Legal
+pub mod Ahead

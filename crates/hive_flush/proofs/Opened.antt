@@ -10,7 +10,7 @@ use Rattle.hive_load.specs.Limits.{IsWithin, LoadRefused}
 use Rattle.reg_tree.specs.Maps.{TreeMap}
 use Rattle.base_block.specs.declared.block.BaseBlock.{BaseBlock}
 use Rattle.base_block.specs.Judgements.{IsPrimary}
-use Rattle.dirty_vector.specs.Pages.{Pages, clean_pages}
+use Rattle.dirty_vector.specs.Pages.{Pages, clean_pages, dirty_count}
 use Rattle.disk_model.specs.FileState.{FileState, at_rest}
 use Rattle.dirt_log.specs.WholeLog.{IsCovered, IsWhole, block_of, page_bytes_in, pages_in, repaired}
 use Rattle.dirt_log.specs.Held.{IsInUse, is_clean_file}
@@ -22,14 +22,14 @@ use Rattle.std.proofs.Math.Seq.{take-length}
 use Rattle.hive_phases.specs.Holding.{Standing, tree_under}
 use Rattle.hive_phases.specs.Plans.{IsBehind, IsReady}
 use Rattle.hive_writer.specs.declared.writer.HiveWriter.{HiveWriter}
-use Rattle.hive_writer.specs.Writing.{IsFlushing, plan_of, work_of}
+use Rattle.hive_writer.specs.Writing.{IsFlushing, calls_left, plan_of, work_of}
 use Rattle.hive_flush.specs.HiveStates.{IsOnBy}
 use Rattle.hive_files.specs.Blocks.{IsPlanned}
 use Rattle.hive_flush.specs.Planned.{block_again, clean_writer, unclean_writer, repair_plan}
 use Rattle.hive_flush.specs.Standing.{HoldsUnder, IsRight, StandsWithin, no_tree, with_tree}
 use Rattle.hive_flush.proofs.Standing.{gives, gives_right}
 
-match_at_true : {b : Bool} (P Q : Type 0) → b ≡ true → P → MatchBool b P Q
+pub match_at_true : {b : Bool} (P Q : Type 0) → b ≡ true → P → MatchBool b P Q
 match_at_true P Q e x = subst (λ (b : Bool). MatchBool b P Q) (sym e) x
 
 match_at_false : {b : Bool} (P Q : Type 0) → b ≡ false → Q → MatchBool b P Q
@@ -228,6 +228,20 @@ pub writer_number : (writer : HiveWriter) (hive : ℕ) (block : BaseBlock) (is_c
 writer_number writer hive block is_clean w = elim (cases_Bool is_clean) [
   | inl e ↦ ap (λ (x : HiveWriter). x.block.applied.0) (sym (w.clean e))
   | inr e ↦ ap (λ (x : HiveWriter). x.block.applied.0) (sym (w.unclean e))
+]
+
+pub writer_ahead : (writer : HiveWriter) (hive : ℕ) (block : BaseBlock) (is_clean : Bool) → IsWriterFor writer hive block is_clean → writer.base.applied.0 ≤ writer.block.applied.0
+writer_ahead writer hive block is_clean w = elim (cases_Bool is_clean) [
+  | inl e ↦ subst (λ (x : HiveWriter). x.base.applied.0 ≤ x.block.applied.0) (sym (w.clean e)) (omega arith)
+  | inr e ↦ subst (λ (x : HiveWriter). x.base.applied.0 ≤ x.block.applied.0) (sym (w.unclean e)) (omega arith)
+]
+
+-- what is not whole was found unclean, and few calls of its repair are left
+pub few_left : (writer : HiveWriter) (hive : ℕ) (block : BaseBlock) (is_clean : Bool) (total : ℕ) (pages : Pages) → IsWriterFor writer hive block is_clean → (IsFlushing writer.stage → ⊥)
+    → (is_clean ≡ false) × (calls_left total pages writer.stage ≤ dirty_count pages + 3)
+few_left writer hive block is_clean total pages w not = elim (cases_Bool is_clean) [
+  | inl e ↦ absurd (subst (λ (x : HiveWriter). IsFlushing x.stage → ⊥) (w.clean e) not tt)
+  | inr e ↦ (e, subst (λ (x : HiveWriter). calls_left total pages x.stage ≤ dirty_count pages + 3) (sym (w.unclean e)) (omega arith))
 ]
 
 pub clean_ready : (writer : HiveWriter) (hive : ℕ) (block : BaseBlock) (image bins : List ℕ) (pages : Pages) (tree : TreeMap) (stands : Standing TreeMap) → writer ≡ clean_writer hive block → image ≡ bins

@@ -1,12 +1,16 @@
 -- What contracts see of a hive's files and memory.
 use Rattle.std.specs.Prelude.{◌≡◌, ℕ, true, List, length}
 use Rattle.prefix_law.specs.Promises.{Choice}
+use Rattle.prefix_law.specs.Changes.{AreLegal, applied, ops_on}
+use Rattle.engine_words.specs.Changes.{rules, timed_elements}
 use Rattle.reg_tree.specs.Maps.{TreeMap}
+use Rattle.reg_tree.specs.declared.element.Element.{Element}
 use Rattle.disk_model.specs.FileState.{FileState}
 use Rattle.hive_phases.specs.Holding.{Standing}
 use Rattle.hive_phases.specs.Plans.{Plan, IsReady}
 use Rattle.hive_phases.specs.States.{is_on_in}
-use Rattle.dirty_vector.specs.Pages.{Pages, clean_pages}
+use Rattle.dirty_vector.specs.Pages.{Pages, clean_pages, dirty_count}
+use Rattle.dirt_log.specs.WholeLog.{pages_in}
 use Rattle.hive_writer.specs.declared.writer.HiveWriter.{HiveWriter}
 use Rattle.hive_writer.specs.Writing.{EndsWith, IsFlushing, calls_left, choice_at, phase_in, plan_of, work_of}
 use Rattle.hive_flush.specs.Standing.{IsRight}
@@ -24,6 +28,14 @@ now_of file = (file.held.value, file.writer.base.applied.0)
 -- what surely stands in the files, and what may be on its way
 abbrev pub files_of : HiveFile → Choice (TreeMap × ℕ)
 files_of file = choice_at file.writer.stage (now_of file) (memory_of file)
+
+-- the tree that changes lead to on a hive's tree: their operations on the hive, one after another, each at its change's moment
+abbrev pub led_to : ℕ → List Element → TreeMap → TreeMap
+led_to hive changes tree = applied rules (ops_on hive (timed_elements changes)) tree
+
+-- the changes' operations on a hive are legal on its tree, each where its turn comes
+abbrev pub AreLegalOn : ℕ → List Element → TreeMap → Type 0
+AreLegalOn hive changes tree = AreLegal rules (ops_on hive (timed_elements changes)) tree
 
 -- the number of the hive in its store, and the store
 abbrev pub place_of : HiveFile → ℕ
@@ -64,6 +76,14 @@ pub record Settled (old new : HiveFile) : Type 0 where
   pub bins : new.bins.items ≡ old.bins.items
   pub pages : new.pages ≡ clean_pages old.pages.bins_size
   pub writer : new.writer ≡ record old.writer { block = block_again old.writer.block }
+
+-- how many pages the next flush writes, or the repair that is left
+abbrev pub dirty_pages : HiveFile → ℕ
+dirty_pages file = dirty_count file.pages
+
+-- how many pages a log marks
+abbrev pub marked_pages : List ℕ → ℕ
+marked_pages log = dirty_count (pages_in log)
 
 -- a flush's calls that are left, or those of a whole one
 abbrev pub steps_left : HiveFile → ℕ

@@ -1,3 +1,4 @@
 pub mod Standing
 pub mod Planned
 pub mod HiveStates
+pub mod Created

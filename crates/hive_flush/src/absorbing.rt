@@ -1,13 +1,12 @@
 //! What a hive takes into memory.
-ghost use Rattle.std.specs.Prelude.{◌≡◌, ◌≤◌, ℕ, true, None, length, IfOk, OnOk, OnErr};
-ghost use Rattle.prefix_law.specs.Changes.{applied, ops_on};
-ghost use Rattle.engine_words.specs.Changes.{rules, timed_elements};
-ghost use Rattle.refusals.specs.declared.limits.TheConstants.{MOST_BINS_BYTES};
-ghost use Rattle.reg_tree.specs.Maps.{TreeMap};
+ghost use Rattle.std.specs.Prelude.{◌≡◌, ◌⊎◌, ◌<◌, ◌≤◌, ◌++◌, ℕ, true, None, length, Err, IfErr, IfOk, OnOk, OnErr};
+ghost use Rattle.refusals.specs.declared.limits.TheConstants.{MOST_BINS_BYTES, MOST_WEIGHT};
+ghost use Rattle.refusals.specs.declared.refusal.Refusal.TheVariants.{NoMemory, TooLarge};
+ghost use Rattle.reg_tree.specs.Maps.{TreeMap, weight};
 ghost use Rattle.disk_model.specs.FileState.{FileState};
 ghost use Rattle.dirty_vector.specs.Pages.{is_bins_size};
 ghost use Rattle.hive_flush.specs.Standing.{StandsWithin};
-ghost use Rattle.hive_flush.specs.HiveStates.{IsBroken, IsOn, IsWhole, files_of, memory_of, place_of, store_of};
+ghost use Rattle.hive_flush.specs.HiveStates.{IsBroken, IsOn, IsWhole, files_of, led_to, memory_of, place_of, store_of};
 
 use crate::hive::HiveFile;
 use crate::planning::plan_fits;
@@ -41,11 +40,9 @@ impl HiveFile {
     ) -> Result<(), Refusal>
         requires whole { IsWhole self.old }
         requires rest { (files_of self.old).next ≡ None }
+        requires ahead { (memory_of self.old).1 ≤ upto }
         ensures memory { OnOk result (memory_of self.new ≡ (
-          applied rules
-              (ops_on (place_of self.old) (timed_elements then.now))
-              (applied rules (ops_on (place_of self.old) (timed_elements first.now))
-              (memory_of self.old).0),
+          led_to (place_of self.old) (first.now ++ then.now) (memory_of self.old).0,
           upto,
         )) }
         ensures err { OnErr result (self.new ≡ self.old) }
@@ -76,6 +73,7 @@ impl HiveFile {
     pub fn adopt(&mut self, tree: Tree, bins: Vec<u8>, root: u32, time: u64, number: u64)
         requires whole { IsWhole self.old }
         requires rest { (files_of self.old).next ≡ None }
+        requires ahead { (memory_of self.old).1 ≤ number }
         requires stands { StandsWithin bins.items root 5 tree }
         requires size { is_bins_size (length bins.items) ≡ true }
         requires larger { length self.old.bins.items ≤ length bins.items }
@@ -104,17 +102,24 @@ impl HiveFile {
     }
 }
 
-// bins data of at least a size that stand for a tree, and the root's cell in them
-fn written(alloc: Global, tree: &Tree, least_size: usize) -> Result<(Vec<u8>, u32), Refusal>
+/// Bins data of at least a size that stand for a tree, and the root's cell in them.
+pub(crate) fn written(
+    alloc: Global,
+    tree: &Tree,
+    least_size: usize,
+) -> Result<(Vec<u8>, u32), Refusal>
     requires { least_size ≤ MOST_BINS_BYTES }
     ensures stands { IfOk result (λ made. StandsWithin made.0.items made.1 5 tree.now) }
     ensures size { IfOk result (λ made. is_bins_size (length made.0.items) ≡ true) }
     ensures least { IfOk result (λ made. least_size ≤ length made.0.items) }
+    ensures refused { IfErr result (λ why. (why ≡ NoMemory) ⊎ (why ≡ TooLarge)) }
+    ensures heavy { MOST_WEIGHT < weight tree.now → result ≡ Err TooLarge }
 {
     let _ = tree.root();
     let Emitted { image, root } = match emit(alloc, tree, least_size as u32) {
         Ok(emitted) => emitted,
-        Err(why) => return Err(why),
+        Err(Refusal::NoMemory) => return Err(Refusal::NoMemory),
+        Err(_) => return Err(Refusal::TooLarge),
     };
     let bins = image.into_bytes();
     if is_size(bins.len()) {

@@ -1,5 +1,5 @@
 //! The steps of a hive's flush and repair.
-ghost use Rattle.std.specs.Prelude.{◌≡◌, ◌↔◌, ◌⊎◌, ◌<◌, ℕ, length, true, Ok, Err, IfErr, IsTrue, Some, None};
+ghost use Rattle.std.specs.Prelude.{◌≡◌, ◌↔◌, ◌⊎◌, ◌<◌, ◌≤◌, ◌+◌, ◌*◌, ℕ, length, true, false, Ok, Err, IfErr, IsTrue, Some, None};
 ghost use Rattle.prefix_law.specs.Promises.{HiveSays};
 ghost use Rattle.engine_words.specs.Steps.{Says};
 ghost use Rattle.engine_words.specs.declared.Progress.TheVariants as Progress;
@@ -11,7 +11,7 @@ ghost use Rattle.hive_phases.specs.Holding.{Standing, tree_under};
 ghost use Rattle.hive_phases.specs.Plans.{IsReady};
 ghost use Rattle.hive_writer.specs.Writing.{plan_of};
 ghost use Rattle.hive_writer.specs.declared.stage.Stage.TheVariants as stage;
-ghost use Rattle.hive_flush.specs.HiveStates.{IsBroken, IsOn, IsWhole, Settled, files_of, memory_of, place_of, steps_left};
+ghost use Rattle.hive_flush.specs.HiveStates.{IsBroken, IsOn, IsWhole, Settled, dirty_pages, files_of, memory_of, place_of, steps_left};
 
 use crate::hive::HiveFile;
 use crate::planning::{next_block, plan_fits};
@@ -44,8 +44,16 @@ impl HiveFile {
         self.writer.base.applied.0
     }
 
+    /// How many pages the next flush writes, or the repair that is left.
+    pub fn dirty_pages(&self) -> usize
+        ensures { result ≡ dirty_pages self.now }
+    {
+        self.pages.count()
+    }
+
     /// One step of a flush of what is in memory, which begins where none is on its way: at most one device call. `More` where
-    /// others follow, and `Done` where it was the last one: then what was in memory stands.
+    /// others follow, and `Done` where it was the last one: then what was in memory stands. A flush that begins with `p` dirty
+    /// pages is done within `2 * p + 7` steps, where none is refused.
     ///
     /// Takes no memory. Refused with `DiskFault` where the device failed in the call, and with `Faulted` exactly where it had
     /// failed in an earlier one: nothing is done then.
@@ -62,7 +70,10 @@ impl HiveFile {
         ensures memory { memory_of self.new ≡ memory_of self.old }
         ensures place { place_of self.new ≡ place_of self.old }
         ensures whole { IsWhole self.new }
+        ensures few { (files_of self.old).next ≡ None →
+            steps_left self.old ≤ 2 * dirty_pages self.old + 7 }
         ensures falls { result ≡ Ok Progress.More → steps_left self.new < steps_left self.old }
+        ensures left { result ≡ Ok Progress.More → 0 < steps_left self.new }
         ensures refused { IfErr result (λ why. (why ≡ DiskFault) ⊎ (why ≡ Faulted)) }
         ensures faulted { (result ≡ Err Faulted) ↔ IsBroken self.old }
         ensures broken { (result ≡ Err DiskFault) → IsBroken self.new }
@@ -96,6 +107,19 @@ impl HiveFile {
         )
     }
 
+    /// Whether a flush is on its way.
+    pub fn is_halfway(&self) -> bool
+        ensures { (result ≡ false) ↔ ((files_of self.now).next ≡ None) }
+    {
+        match self.writer.stage {
+            Stage::Quiet => false,
+            Stage::Logging(_) | Stage::Logged | Stage::Raised => true,
+            Stage::Paging(purpose, _) | Stage::Paged(purpose) | Stage::Finished(purpose) => {
+                matches!(purpose, Purpose::Flush)
+            }
+        }
+    }
+
     /// Whether nothing is on its way and no repair is left: changes may be absorbed.
     pub fn is_at_rest(&self) -> bool
         ensures rest { result ≡ true → (files_of self.now).next ≡ None }
@@ -122,6 +146,7 @@ impl HiveFile {
         ensures whole { (result ≡ Ok Progress.Done) → IsWhole self.new }
         ensures idle { (result ≡ Ok Progress.Idle) → IsWhole self.old }
         ensures falls { result ≡ Ok Progress.More → steps_left self.new < steps_left self.old }
+        ensures left { result ≡ Ok Progress.More → 0 < steps_left self.new }
         ensures ready { IsWhole self.old → (self.new ≡ self.old) × (disk.new ≡ disk.old) }
         ensures refused { IfErr result (λ why. (why ≡ DiskFault) ⊎ (why ≡ Faulted)) }
         ensures faulted { (result ≡ Err Faulted) ↔ IsBroken self.old }

@@ -1,5 +1,7 @@
 //! What a hive in memory has.
-ghost use Rattle.std.specs.Prelude.{◌≡◌, length};
+ghost use Rattle.std.specs.Prelude.{◌≡◌, ◌≤◌, length};
+ghost use Rattle.refusals.specs.declared.limits.TheConstants.{MOST_WEIGHT};
+ghost use Rattle.reg_tree.specs.Maps.{weight};
 ghost use Rattle.hive_files.specs.Blocks.{IsPlanned};
 ghost use Rattle.hive_flush.specs.Planned.{IsSteady};
 
@@ -21,4 +23,6 @@ pub struct HiveFile {
     ghost sizes: { length bins.items ≡ pages.bins_size },
     ghost planned: { IsPlanned writer.block pages },
     ghost steady: { IsSteady writer held.value tree },
+    ghost ahead: { writer.base.applied.0 ≤ writer.block.applied.0 },
+    ghost light: { weight tree ≤ MOST_WEIGHT },
 }

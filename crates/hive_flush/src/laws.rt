@@ -1,11 +1,12 @@
-//! What a hive's files hold, whatever a crash leaves of them: a law.
-ghost use Rattle.std.specs.Prelude.{◌≡◌, List, ℕ};
+//! What a hive's files hold, whatever a crash leaves of them, and what is in memory beside: laws.
+ghost use Rattle.std.specs.Prelude.{◌≡◌, ◌≤◌, List, ℕ};
+ghost use Rattle.prefix_law.specs.Memory.{IsOfMemory};
 ghost use Rattle.prefix_law.specs.Promises.{HiveOn};
 ghost use Rattle.reg_tree.specs.Maps.{TreeMap};
 ghost use Rattle.disk_model.specs.FileState.{FileState, Leaves};
 ghost use Rattle.disk_model.specs.Sector.{IsHonest};
 ghost use Rattle.hive_flush.specs.Standing.{HoldsUnder};
-ghost use Rattle.hive_flush.specs.HiveStates.{IsOn, files_of, store_of};
+ghost use Rattle.hive_flush.specs.HiveStates.{IsOn, files_of, memory_of, store_of};
 ghost use Rattle.hive_flush.specs.declared.hive.HiveFile.{HiveFile};
 
 use hive_phases::laws::on_leaves;
@@ -28,3 +29,9 @@ pub fn one_is_held()
 {
     hive_records::one_tree();
 }
+
+/// A law: what is on its way to a hive's files, if anything, is what is in memory, and its number isn't below that of what stands.
+pub fn memory_is_ahead()
+    ensures own { (file : HiveFile) → IsOfMemory (files_of file) (memory_of file) }
+    ensures ahead { (file : HiveFile) → (files_of file).now.1 ≤ (memory_of file).1 }
+{}

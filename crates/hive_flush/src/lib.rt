@@ -2,6 +2,7 @@
 #![tactic(auto)]
 
 mod absorbing;
+mod creating;
 mod file;
 mod hive;
 pub mod laws;

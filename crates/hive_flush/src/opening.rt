@@ -1,5 +1,5 @@
 //! Opening a hive: what its two files hold.
-ghost use Rattle.std.specs.Prelude.{◌≡◌, ◌⊎◌, ◌<◌, ◌≤◌, false, true, ℕ, List, IfOk, IfErr};
+ghost use Rattle.std.specs.Prelude.{◌≡◌, ◌⊎◌, ◌<◌, ◌≤◌, ◌+◌, false, true, ℕ, List, IfOk, IfErr};
 ghost use Rattle.prefix_law.specs.Promises.{settled};
 ghost use Rattle.reg_tree.specs.Maps.{TreeMap};
 ghost use Rattle.refusals.specs.declared.refusal.Refusal.TheVariants.{DiskFault, NoMemory};
@@ -10,7 +10,7 @@ ghost use Rattle.hive_files.specs.Finding.{IsFound};
 ghost use Rattle.hive_files.specs.Frames.{FailsBy, IsSyncedOrSame};
 ghost use Rattle.hive_flush.specs.Standing.{HoldsUnder, IsOfHive, NothingHeld, StandsWithin};
 ghost use Rattle.hive_flush.specs.Planned.{clean_writer, unclean_writer};
-ghost use Rattle.hive_flush.specs.HiveStates.{IsBroken, IsOn, files_of, memory_of, place_of, store_of};
+ghost use Rattle.hive_flush.specs.HiveStates.{IsBroken, IsOn, IsWhole, files_of, marked_pages, memory_of, place_of, steps_left, store_of};
 
 use crate::hive::HiveFile;
 use crate::planning::{next_block, plan_fits, repair_fits};
@@ -30,7 +30,8 @@ use uuid::Uuid;
 
 impl HiveFile {
     /// Opens a hive of a store, by its number: the tree and the number that its two files hold. Where the primary file is
-    /// unclean its repair is to be made before anything else.
+    /// unclean its repair is to be made before anything else: of a log that marks `p` pages it is done within `p + 3` steps, where
+    /// none is refused.
     ///
     /// The primary file is synced before it is read; and so is the log, but where the primary file is clean: then it isn't
     /// looked at. Both are read in pieces.
@@ -53,6 +54,9 @@ impl HiveFile {
         ensures place { IfOk result (λ file. place_of file ≡ hive) }
         ensures store { IfOk result (λ file. store_of file ≡ store) }
         ensures sound { IfOk result (λ file. IsBroken file → ⊥) }
+        ensures few { IfOk result (λ file. D.faithful disk.new → ¬ (IsWhole file) →
+            steps_left file ≤ marked_pages
+            (D.state_at disk.old (D.clock disk.old) (log_file hive)).seen + 3) }
         ensures fails { IfErr result (FailsBy (D.failures disk.old < D.failures disk.new)
             (NothingHeld (D.faithful disk.new) hive store
             (D.state_at disk.old (D.clock disk.old) (primary_file hive)).seen
@@ -113,6 +117,8 @@ fn of_found(alloc: Global, found: Found, hive: u8, store: Uuid) -> Result<HiveFi
     ensures place { IfOk result (λ file. place_of file ≡ hive) }
     ensures store { IfOk result (λ file. store_of file ≡ store) }
     ensures sound { IfOk result (λ file. IsBroken file → ⊥) }
+    ensures few { IfOk result (λ file. (primary log : List ℕ) → IsFound primary log found →
+        ¬ (IsWhole file) → steps_left file ≤ marked_pages log + 3) }
     ensures fails { IfErr result (λ why. (why ≡ NoMemory) ⊎ (IsOfHive hive why
         × ((primary log : List ℕ) → IsFound primary log found → (held : TreeMap × ℕ) →
         HoldsUnder store primary log held → ⊥))) }

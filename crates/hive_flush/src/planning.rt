@@ -1,20 +1,24 @@
 //! What a flush writes.
-ghost use Rattle.std.specs.Prelude.{◌≡◌, ◌<◌, ◌^◌, ℕ, List, length, drop, true, Some};
+ghost use Rattle.std.specs.Prelude.{◌≡◌, ◌<◌, ◌≤◌, ◌^◌, ◌+◌, ◌*◌, ℕ, List, length, drop, true, Some};
 ghost use Rattle.reg_tree.specs.Maps.{TreeMap};
 ghost use Rattle.base_block.specs.Layout.{block_at, sector_of};
 ghost use Rattle.hive_phases.specs.Holding.{Standing, tree_under};
 ghost use Rattle.hive_phases.specs.Plans.{IsBehind, IsReady};
 ghost use Rattle.dirt_log.specs.WholeLog.{IsCovered, IsWhole, block_of, page_bytes_in, pages_in, repaired};
 ghost use Rattle.hive_files.specs.Finding.{as_primary};
-ghost use Rattle.hive_writer.specs.Writing.{plan_of};
+ghost use Rattle.dirty_vector.specs.Pages.{dirty_count};
+ghost use Rattle.hive_writer.specs.Writing.{calls_left, plan_of};
+ghost use Rattle.hive_writer.specs.declared.stage.Stage.TheVariants as stage;
 ghost use Rattle.hive_files.specs.Blocks.{IsPlanned};
 ghost use Rattle.hive_flush.specs.Planned.{block_after, repair_plan};
 
 use base_block::{AppliedNumber, BaseBlock, FileType, SequenceNumber};
 use dirt_log::write_steps;
 use dirty_vector::DirtyVector;
+use hive_files::sector;
 use hive_phases::laws::plans;
 use hive_writer::HiveWriter;
+use hive_writer::laws::steps_are_few;
 use reg_tree::Tree;
 
 /// The block with which a flush ends that follows one which ended with this: for a root and bins data of a size, at the moment
@@ -45,12 +49,15 @@ pub(crate) fn plan_fits(writer: &HiveWriter, image: &[u8], pages: &DirtyVector)
     requires size { length image.now ≡ pages.now.bins_size }
     requires planned { IsPlanned writer.now.block pages.now }
     ensures short { length (plan_of writer.now image.now pages.now).text < 2 ^ 32 }
+    ensures few { calls_left (length (plan_of writer.now image.now pages.now).text) pages.now
+        stage.Quiet ≤ 2 * dirty_count pages.now + 7 }
     ensures ready { (stands : Standing TreeMap) (memory : TreeMap × ℕ) →
         tree_under stands writer.now.block image.now ≡ Some memory.0 →
         writer.now.block.applied.0 ≡ memory.1 →
         IsReady stands memory image.now pages.now (plan_of writer.now image.now pages.now) }
 {
     plans::<Tree>();
+    steps_are_few();
     let number = bounded(writer.base.secondary);
     let raised = BaseBlock {
         primary: number.next(),
@@ -95,13 +102,4 @@ fn bounded(number: SequenceNumber) -> SequenceNumber
     ensures fits { number.0 < 2 ^ 32 }
 {
     number
-}
-
-// the first sector of a block
-fn sector(block: &BaseBlock) -> [u8; 512]
-    ensures text { result ≡ sector_of block.now }
-    ensures again { block_at result ≡ record block.now { sum_is_right = true } }
-    ensures long { length result ≡ 512 }
-{
-    block.write()
 }

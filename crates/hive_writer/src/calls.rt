@@ -15,10 +15,9 @@ use crate::writer::HiveWriter;
 use dirt_log::{PIECE_BYTES, write_steps};
 use dirty_vector::{DirtyVector, PAGE_BYTES};
 use disk_model::{Disk, Failed};
+use hive_files::BINS_AT;
 use std::ops::Range;
 
-// where the bins data begin in a primary file
-const BINS_AT: u64 = 4_096;
 // as many pages as one write takes
 const MOST_PAGES: usize = PIECE_BYTES / PAGE_BYTES;
 

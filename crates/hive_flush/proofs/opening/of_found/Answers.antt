@@ -1,12 +1,15 @@
-use Rattle.std.proofs.Common.{◌≡◌, inl, inr, ⊎_elim, ℕ, List, length, refl, sym, ap, subst, ◌∙◌}
+use Rattle.std.proofs.Common.{◌≡◌, ◌≤◌, ◌+◌, inl, inr, ⊎_elim, ℕ, List, length, refl, sym, ap, subst, ◌∙◌}
 use Rattle.std.proofs.lemmas.Bool.{cases_Bool, not-false, not-true, MatchBool-at_true, MatchBool-at_false}
 use Rattle.std.proofs.lemmas.Slice.Eq.{bytes_eq-Decides}
 use Rattle.disk_model.specs.FileState.{FileState, at_rest}
 use Rattle.hive_writer.specs.declared.writer.HiveWriter.{HiveWriter}
+use Rattle.hive_writer.specs.Writing.{calls_left, plan_of}
+use Rattle.dirty_vector.specs.Pages.{Pages, dirty_count}
+use Rattle.hive_files.specs.Finding.{IsFoundUnclean}
 use Rattle.hive_flush.specs.HiveStates.{IsOnBy}
 use Rattle.hive_flush.specs.Planned.{clean_writer, unclean_writer}
 use Rattle.hive_flush.proofs.Going.{same_on}
-use Rattle.hive_flush.proofs.Opened.{IsWriterFor, clean_ready, found_agrees, found_holds, clean_on, unclean_on, true_false, writer_number, writer_planned, writer_steady}
+use Rattle.hive_flush.proofs.Opened.{IsWriterFor, clean_ready, found_agrees, found_holds, clean_on, unclean_on, true_false, few_left, writer_ahead, writer_number, writer_planned, writer_steady}
 use Rattle.hive_flush.proofs.opening.of_found.Goals as goal
 
 pub returns-then-ne-clause-fails : goal.returns-then-ne-clause-fails
@@ -36,7 +39,19 @@ invariant_of-result c =
       sizes = ap (λ (l : List ℕ). length l) c.in-Ok.ensures.same ∙ c.args.found.sizes;
       planned = writer_planned c.writer_for-writer.result c.args.hive c.args.found.block c.args.found.is_clean c.args.found.pages w c.args.found.planned;
       steady = λ not. (writer_steady c.writer_for-writer.result c.args.hive c.args.found.block c.args.found.is_clean w not, c.of-held.ensures);
+      ahead = writer_ahead c.writer_for-writer.result c.args.hive c.args.found.block c.args.found.is_clean w;
+      light = c.in-Ok.ensures.stands.1.light;
     }
+
+pub returns-clause-few : goal.returns-clause-few
+returns-clause-few c = λ primary log f not.
+    let w : IsWriterFor c.writer_for-writer.result c.args.hive c.args.found.block c.args.found.is_clean = record { clean = c.writer_for-writer.ensures.clean; unclean = c.writer_for-writer.ensures.unclean } in
+    let found = c.args.found in
+    let writer = c.writer_for-writer.result in
+    let total = length (plan_of writer c.in-Ok.loaded.1.items found.pages).text in
+    let left = few_left writer c.args.hive found.block found.is_clean total found.pages w not in
+    let unclean : IsFoundUnclean primary log found = MatchBool-at_false _ _ left.0 f.parts in
+    subst (λ (v : Pages). calls_left total found.pages writer.stage ≤ dirty_count v + 3) unclean.by_log.pages left.1
 
 pub returns-clause-held : goal.returns-clause-held
 returns-clause-held c = λ primary log f.

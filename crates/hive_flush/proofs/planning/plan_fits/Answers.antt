@@ -1,4 +1,4 @@
-use Rattle.std.proofs.Common.{◌≡◌, ℕ, List, length, sym, ap, subst, ◌∙◌, arith}
+use Rattle.std.proofs.Common.{◌≡◌, ◌≤◌, ℕ, List, length, sym, ap, subst, ◌∙◌, arith}
 use Rattle.base_block.specs.declared.fields.SequenceNumber.{SequenceNumber}
 use Rattle.base_block.specs.Layout.{block_at, sector_of}
 use Rattle.base_block.specs.Numbers.{number_after}
@@ -18,6 +18,13 @@ returns-clause-short c =
     let sector = sector_of (log_block c.args.writer.now.block) in
     let long : length sector ≡ 512 = subst (λ (s : List ℕ). length s ≡ 512) c.sector-3.ensures.text c.sector-3.ensures.long in
     omega (arith, length_log image pages sector c.requires.size long, few_dirty pages, c.requires.planned.size, c.requires.planned.own.0.within)
+
+pub returns-clause-few : goal.returns-clause-few
+returns-clause-few c =
+    let sector = sector_of (log_block c.args.writer.now.block) in
+    let long : length sector ≡ 512 = subst (λ (s : List ℕ). length s ≡ 512) c.sector-3.ensures.text c.sector-3.ensures.long in
+    c.steps_are_few.ensures.flush c.args.image.now sector c.args.pages.now c.requires.size long
+    (subst (λ (n : ℕ). n ≤ 67108864) c.requires.planned.size c.requires.planned.own.0.within)
 
 pub returns-clause-ready : goal.returns-clause-ready
 returns-clause-ready c = λ stands memory tree number.

@@ -1,0 +1,52 @@
+-- Changes that are legal leave a tree within the weight.
+use Rattle.std.proofs.Common.{◌≡◌, ◌≤◌, ℕ, Bool, true, false, List, [], ◌∷◌, ◌++◌, refl, ap, ◌∙◌, Option, Some, None, Result, Ok, Err, cond}
+use Rattle.std.specs.Prelude.{IsOk}
+use Rattle.std.proofs.lemmas.Option.{none-some}
+use Rattle.refusals.specs.declared.refusal.Refusal.{Refusal}
+use Rattle.refusals.specs.declared.limits.TheConstants.{MOST_WEIGHT}
+use Rattle.reg_tree.specs.Maps.{TreeMap, IsTree, weight}
+use Rattle.reg_tree.specs.Judgement.{changed, legal_in}
+use Rattle.reg_tree.specs.declared.op.Op.{Op}
+use Rattle.reg_tree.specs.declared.op.Legality.{Legality}
+use Rattle.reg_tree.specs.declared.element.Element.{Element}
+use Rattle.prefix_law.specs.Changes.{applied, ops_on, replay}
+use Rattle.prefix_law.proofs.Replays.{applied-append, ops_on-append}
+use Rattle.engine_words.specs.Changes.{TimedOp, is_legal, rules, timed_element, timed_elements}
+use Rattle.hive_flush.specs.HiveStates.{led_to}
+
+-- ---- two lists of changes as one
+
+timed-append : (xs ys : List Element) → timed_elements (xs ++ ys) ≡ timed_elements xs ++ timed_elements ys
+timed-append [] ys = refl
+timed-append (x ∷ xs) ys = ap (λ (l : List (List (ℕ × TimedOp))). timed_element x ∷ l) (timed-append xs ys)
+
+pub led_on : (hive : ℕ) (xs ys : List Element) (tree : TreeMap) → led_to hive (xs ++ ys) tree ≡ led_to hive ys (led_to hive xs tree)
+led_on hive xs ys tree =
+    ap (λ (l : List (List (ℕ × TimedOp))). applied rules (ops_on hive l) tree) (timed-append xs ys)
+    ∙ ap (λ (l : List TimedOp). applied rules l tree) (ops_on-append hive (timed_elements xs) (timed_elements ys))
+    ∙ applied-append rules (ops_on hive (timed_elements xs)) (ops_on hive (timed_elements ys)) tree
+
+-- ---- weights
+
+abbrev pub WeightsStay : Type 0
+WeightsStay = (tree : TreeMap) → IsTree tree → (op : Op) (moment : ℕ) → weight tree ≤ MOST_WEIGHT → IsOk (legal_in tree op) → weight (changed tree op moment) ≤ MOST_WEIGHT
+
+abbrev pub TreesStay : Type 0
+TreesStay = (tree : TreeMap) → IsTree tree → (op : Op) (moment : ℕ) → IsTree (changed tree op moment)
+
+legal_ok : (r : Result Legality Refusal) → is_legal r ≡ true → IsOk r
+legal_ok (Ok x) e = refl
+legal_ok (Err why) e = absurd cc
+
+-- a step that leads somewhere was legal
+was_legal : (b : Bool) (o : Option TreeMap) (u : TreeMap) → cond b o None ≡ Some u → (b ≡ true) × (o ≡ Some u)
+was_legal true o u go = (refl, go)
+was_legal false o u go = absurd (none-some u go)
+
+pub legal_within : WeightsStay → TreesStay → (ops : List TimedOp) (tree made : TreeMap) → IsTree tree → weight tree ≤ MOST_WEIGHT
+    → replay rules ops tree ≡ Some made → weight (applied rules ops tree) ≤ MOST_WEIGHT
+unfolding rules
+legal_within weights trees [] tree made is within go = within
+legal_within weights trees (op ∷ ops) tree made is within go =
+    let step = was_legal (is_legal (legal_in tree op.1)) (replay rules ops (changed tree op.1 op.0)) made go in
+    legal_within weights trees ops (changed tree op.1 op.0) made (trees tree is op.1 op.0) (weights tree is op.1 op.0 within (legal_ok (legal_in tree op.1) step.0)) step.1
