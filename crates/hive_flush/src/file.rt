@@ -11,7 +11,7 @@ ghost use Rattle.hive_phases.specs.Holding.{Standing, tree_under};
 ghost use Rattle.hive_phases.specs.Plans.{IsReady};
 ghost use Rattle.hive_writer.specs.Writing.{plan_of};
 ghost use Rattle.hive_writer.specs.declared.stage.Stage.TheVariants as stage;
-ghost use Rattle.hive_flush.specs.HiveStates.{IsBroken, IsOn, IsWhole, Settled, dirty_pages, files_of, memory_of, place_of, steps_left};
+ghost use Rattle.hive_flush.specs.HiveStates.{IsBroken, IsOn, IsWhole, Settled, dirty_pages, files_of, memory_of, place_of, steps_left, store_of};
 
 use crate::hive::HiveFile;
 use crate::planning::{next_block, plan_fits};
@@ -69,6 +69,7 @@ impl HiveFile {
             self.new) }
         ensures memory { memory_of self.new ≡ memory_of self.old }
         ensures place { place_of self.new ≡ place_of self.old }
+        ensures store { store_of self.new ≡ store_of self.old }
         ensures whole { IsWhole self.new }
         ensures few { (files_of self.old).next ≡ None →
             steps_left self.old ≤ 2 * dirty_pages self.old + 7 }
@@ -76,7 +77,7 @@ impl HiveFile {
         ensures left { result ≡ Ok Progress.More → 0 < steps_left self.new }
         ensures refused { IfErr result (λ why. (why ≡ DiskFault) ⊎ (why ≡ Faulted)) }
         ensures faulted { (result ≡ Err Faulted) ↔ IsBroken self.old }
-        ensures broken { (result ≡ Err DiskFault) → IsBroken self.new }
+        ensures broken { IsBroken self.new ↔ (IsBroken self.old ⊎ (result ≡ Err DiskFault)) }
         ensures still { IsBroken self.old → (self.new ≡ self.old) × (disk.new ≡ disk.old) }
         ensures call { OneCall (IsOfHive (place_of self.old)) (D.state_at disk.old) (D.state_at
             disk.new) (D.clock disk.old) (D.clock disk.new) }
@@ -143,6 +144,7 @@ impl HiveFile {
         ensures files { files_of self.new ≡ files_of self.old }
         ensures memory { memory_of self.new ≡ memory_of self.old }
         ensures place { place_of self.new ≡ place_of self.old }
+        ensures store { store_of self.new ≡ store_of self.old }
         ensures whole { (result ≡ Ok Progress.Done) → IsWhole self.new }
         ensures idle { (result ≡ Ok Progress.Idle) → IsWhole self.old }
         ensures falls { result ≡ Ok Progress.More → steps_left self.new < steps_left self.old }
@@ -150,7 +152,7 @@ impl HiveFile {
         ensures ready { IsWhole self.old → (self.new ≡ self.old) × (disk.new ≡ disk.old) }
         ensures refused { IfErr result (λ why. (why ≡ DiskFault) ⊎ (why ≡ Faulted)) }
         ensures faulted { (result ≡ Err Faulted) ↔ IsBroken self.old }
-        ensures broken { (result ≡ Err DiskFault) → IsBroken self.new }
+        ensures broken { IsBroken self.new ↔ (IsBroken self.old ⊎ (result ≡ Err DiskFault)) }
         ensures still { IsBroken self.old → (self.new ≡ self.old) × (disk.new ≡ disk.old) }
         ensures call { OneCall (IsOfHive (place_of self.old)) (D.state_at disk.old) (D.state_at
             disk.new) (D.clock disk.old) (D.clock disk.new) }

@@ -114,7 +114,8 @@ impl HiveWriter {
         ensures keeps { KeepsBlocks self.old self.new result }
         ensures refused { IfErr result (λ why. (why ≡ DiskFault) ⊎ (why ≡ Faulted)) }
         ensures faulted { (result ≡ Err Faulted) ↔ IsTrue self.old.failed }
-        ensures broken { (result ≡ Err DiskFault) → IsTrue self.new.failed }
+        ensures broken { IsTrue self.new.failed ↔
+            (IsTrue self.old.failed ⊎ (result ≡ Err DiskFault)) }
         ensures still { IsTrue self.old.failed → (self.new ≡ self.old) × (disk.new ≡ disk.old) }
         ensures call { OneCall (IsOfHive self.old.hive) (D.state_at disk.old) (D.state_at disk.new)
             (D.clock disk.old) (D.clock disk.new) }
@@ -156,7 +157,8 @@ impl HiveWriter {
         ensures keeps { KeepsBlocks self.old self.new result }
         ensures refused { IfErr result (λ why. (why ≡ DiskFault) ⊎ (why ≡ Faulted)) }
         ensures faulted { (result ≡ Err Faulted) ↔ IsTrue self.old.failed }
-        ensures broken { (result ≡ Err DiskFault) → IsTrue self.new.failed }
+        ensures broken { IsTrue self.new.failed ↔
+            (IsTrue self.old.failed ⊎ (result ≡ Err DiskFault)) }
         ensures still { IsTrue self.old.failed → (self.new ≡ self.old) × (disk.new ≡ disk.old) }
         ensures call { OneCall (IsOfHive self.old.hive) (D.state_at disk.old) (D.state_at disk.new)
             (D.clock disk.old) (D.clock disk.new) }
