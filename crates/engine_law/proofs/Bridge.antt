@@ -66,7 +66,7 @@ one_long ts op moment = by_slot (slice_get ts (hive_of op))
     by_slot None = refl
     by_slot (Some t) = length-set ts (hive_of op) (changed t op moment)
 
-ops_long : (ts : List TreeMap) (ops : List Op) (moment : ℕ) → length (applied ts ops moment) ≡ length ts
+pub ops_long : (ts : List TreeMap) (ops : List Op) (moment : ℕ) → length (applied ts ops moment) ≡ length ts
 ops_long ts [] moment = refl
 ops_long ts (op ∷ ops) moment = ops_long (applied_one ts op moment) ops moment ∙ one_long ts op moment
 
@@ -128,9 +128,9 @@ pub names : (ts : List TreeMap) (op : Op) (ops : List Op) (moment : ℕ) → Are
 names ts op ops moment l = (hive_of op, there ts op l.0, (moment, op), on_hive (hive_of op) (map (timed moment) ops), on_own (hive_of op) (moment, op) (map (timed moment) ops))
 
 -- and each of its operations is on a hive that is there
-pub all_there : (ts : List TreeMap) (ops : List Op) (moment : ℕ) → AreLegalChanges ts ops moment → AllByRecursion (λ (p : ℕ × TimedOp). p.0 < length ts) (map (timed moment) ops)
-all_there ts [] moment l = tt
-all_there ts (op ∷ ops) moment (first, rest) = (there ts op first, subst (λ n. AllByRecursion (λ (p : ℕ × TimedOp). p.0 < n) (map (timed moment) ops)) (one_long ts op moment) (all_there (applied_one ts op moment) ops moment rest))
+pub ops_there : (ts : List TreeMap) (ops : List Op) (moment : ℕ) → AreLegalChanges ts ops moment → AllByRecursion (λ op. hive_of op < length ts) ops
+ops_there ts [] moment l = tt
+ops_there ts (op ∷ ops) moment (first, rest) = (there ts op first, subst (λ n. AllByRecursion (λ op. hive_of op < n) ops) (one_long ts op moment) (ops_there (applied_one ts op moment) ops moment rest))
 
 -- nothing more is asked of a tree
 pub all_allowed : (i n : ℕ) (t : TreeMap) → IsTrue (rules.allows i n t)

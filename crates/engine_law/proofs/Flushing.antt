@@ -19,7 +19,6 @@ use Rattle.prefix_law.specs.Steps.{OthersStay}
 use Rattle.prefix_law.specs.Calls.{MemoryFits}
 use Rattle.prefix_law.specs.Memory.{with_memory, IsOfMemory}
 use Rattle.prefix_law.proofs.Lists.{drop_nil}
-use Rattle.prefix_law.proofs.Replays.{applied-append}
 use Rattle.prefix_law.proofs.ClausesSuffice.{may_absorb}
 use Rattle.prefix_law.proofs.MemoryCounts.{memory_absorbs, memory_flushes}
 use Rattle.machine.specs.Machine.{Machine, last_number, fault, first_of, refused_if}
@@ -180,22 +179,10 @@ module _ (m : Machine) (base : ℕ) (opened : List Element) (journal : Choice (S
         others = others_stay (length m.opened) hives k v;
       }))
 
--- the operations of two lists of changes, one after the other
-ops_both : (k : ℕ) (xs ys : List (law.Element TimedOp)) → ops_on k (xs ++ ys) ≡ ops_on k xs ++ ops_on k ys
-ops_both k [] ys = refl
-ops_both k (x ∷ xs) ys = ap (λ (l : List TimedOp). law.on_hive k x ++ l) (ops_both k xs ys) ∙ sym (append_assoc (law.on_hive k x) (ops_on k xs) (ops_on k ys))
-
-both_applied : (k : ℕ) (xs ys : List Element) (t : TreeMap) → applied rules (ops_on k (timed_elements (xs ++ ys))) t ≡ applied rules (ops_on k (timed_elements ys)) (applied rules (ops_on k (timed_elements xs)) t)
-both_applied k xs ys t =
-    ap (λ (l : List (law.Element TimedOp)). applied rules (ops_on k l) t) (map-append timed_element xs ys)
-    ∙ ap (λ (l : List TimedOp). applied rules l t) (ops_both k (timed_elements xs) (timed_elements ys))
-    ∙ applied-append rules (ops_on k (timed_elements xs)) (ops_on k (timed_elements ys)) t
-
 pub takes_in : (m : Machine) (base : ℕ) (opened : List Element) (journal : Choice (Spelled TimedOp)) (hives : List HiveView) (i : IsConsistent m base opened journal hives) (k : ℕ) (old : HiveView) (is : slice_get hives k ≡ Some old)
     → old.files.next ≡ None → IsConsistent m base opened journal (slice_set hives k (record { files = old.files; memory = absorbed m base opened k old.memory }))
 takes_in m base opened journal hives i k old is idle =
-    takes m base opened journal hives i k old is (opened_above base opened old.memory.1 ++ accepted_above m old.memory.1) (record { files = old.files; memory = absorbed m base opened k old.memory }) refl idle
-    (ap (λ (t : TreeMap). let v : HiveView = record { files = old.files; memory = (t, m.durable) } in v) (sym (both_applied k (opened_above base opened old.memory.1) (accepted_above m old.memory.1) old.memory.0)))
+    takes m base opened journal hives i k old is (opened_above base opened old.memory.1 ++ accepted_above m old.memory.1) (record { files = old.files; memory = absorbed m base opened k old.memory }) refl idle refl
 
 module _ (keeps : Keeps) (fits : Fits) (m : Machine) (base : ℕ) (opened : List Element) (journal : Choice (Spelled TimedOp)) (hives : List HiveView) (i : IsConsistent m base opened journal hives) (free : m.faulted ≡ false)
     (k : ℕ) (old : HiveView) (is : slice_get hives k ≡ Some old) (v : HiveView) (same : v.memory ≡ old.memory) where

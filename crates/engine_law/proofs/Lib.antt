@@ -2,6 +2,7 @@ mod Bridge
 mod Room
 mod Accepting
 mod Beginning
+mod Handing
 mod Stepping
 mod Flushing
 mod Standing

@@ -1,13 +1,13 @@
 -- What an engine answers to a step of its journal or of a hive, and what its machine is then.
-use Rattle.std.specs.Prelude.{◌≡◌, ◌⊎◌, ℕ, ◌+◌, ◌-◌, ◌<◌, ◌≤◌, true, List, [], length, take, drop, slice_get, Option, Some, None, Result, Ok, Err}
+use Rattle.std.specs.Prelude.{◌≡◌, ◌⊎◌, ℕ, ◌+◌, ◌-◌, ◌<◌, ◌≤◌, true, List, [], ◌++◌, length, take, drop, slice_get, Option, Some, None, Result, Ok, Err}
 use Rattle.refusals.specs.declared.refusal.Refusal.{Refusal}
 use Rattle.refusals.specs.declared.refusal.Refusal.TheVariants as refusal
 use Rattle.reg_tree.specs.Maps.{TreeMap}
 use Rattle.reg_tree.specs.declared.element.Element.{Element}
-use Rattle.prefix_law.specs.Changes.{applied, ops_on}
+use Rattle.hive_flush.specs.HiveStates.{led_to}
 use Rattle.prefix_law.specs.Life.{ops_in}
 use Rattle.prefix_law.specs.Promises.{Choice, Spelled, nothing, top}
-use Rattle.engine_words.specs.Changes.{TimedOp, rules, timed_elements}
+use Rattle.engine_words.specs.Changes.{TimedOp}
 use Rattle.engine_words.specs.declared.Progress.{Progress}
 use Rattle.engine_words.specs.declared.Progress.TheVariants as progress
 use Rattle.commit_journal.specs.Store.{room_of}
@@ -32,6 +32,11 @@ reply_to (Err why) = reply.Refused why
 abbrev pub failed : Machine → Machine
 failed machine = record machine { failures = machine.failures + 1; faulted = true }
 
+-- the machine after a refused step: where the device has failed in it the store is faulted
+abbrev pub refused_by : Machine → Refusal → Machine
+refused_by machine refusal.DiskFault = failed machine
+refused_by machine _ = machine
+
 -- the bytes that changes in the journal give back once they are no longer in it: where more of them are there, none
 abbrev pub freed : Choice (Spelled TimedOp) → Choice (Spelled TimedOp) → ℕ
 freed old new = room_of old.now.elements - room_of new.now.elements
@@ -42,14 +47,12 @@ abbrev pub after_step : Machine → Choice (Spelled TimedOp) → Choice (Spelled
 after_step machine old new (Ok progress.Done) = record machine { durable = top machine.durable new.now; room = machine.room - freed old new }
 after_step machine old new (Ok progress.Idle) = machine
 after_step machine old new (Ok progress.More) = machine
-after_step machine old new (Err refusal.DiskFault) = failed machine
-after_step machine old new (Err why) = machine
+after_step machine old new (Err why) = refused_by machine why
 
 -- the machine after a step of a hive's flush
 abbrev pub after_flush : Machine → Result Progress Refusal → Machine
 after_flush machine (Ok come) = machine
-after_flush machine (Err refusal.DiskFault) = failed machine
-after_flush machine (Err why) = machine
+after_flush machine (Err why) = refused_by machine why
 
 -- What surely stands of each hive has each operation on it of each durable change.
 abbrev pub HaveAll : Machine → ℕ → List Element → List HiveView → Type 0
@@ -70,4 +73,4 @@ accepted_above machine number = drop (number - machine.before) (take (machine.du
 -- what a hive has in memory once it has taken in what it lacks
 abbrev pub absorbed : Machine → ℕ → List Element → ℕ → TreeMap × ℕ → TreeMap × ℕ
 absorbed machine base opened place memory =
-    (applied rules (ops_on place (timed_elements (accepted_above machine memory.1))) (applied rules (ops_on place (timed_elements (opened_above base opened memory.1))) memory.0), machine.durable)
+    (led_to place (opened_above base opened memory.1 ++ accepted_above machine memory.1) memory.0, machine.durable)

@@ -3,8 +3,8 @@ ghost use Rattle.std.specs.Prelude.{◌≡◌, ◌⊎◌, ℕ, ◌+◌, ◌≤�
 ghost use Rattle.reg_tree.specs.Maps.{TreeMap};
 ghost use Rattle.reg_tree.specs.declared.element.Element.{Element};
 ghost use Rattle.prefix_law.specs.Promises.{Choice, Spelled, JournalSays, TrimSays, HiveSays};
-ghost use Rattle.engine_words.specs.Changes.{TimedOp, rules, timed_elements};
-ghost use Rattle.prefix_law.specs.Changes.{AreLegal, ops_on};
+ghost use Rattle.engine_words.specs.Changes.{TimedOp, timed_elements};
+ghost use Rattle.hive_flush.specs.HiveStates.{AreLegalOn};
 ghost use Rattle.engine_words.specs.Steps.{Says};
 ghost use Rattle.engine_words.specs.declared.Progress.{Progress};
 ghost use Rattle.machine.specs.Machine.{Machine, opened_machine, pending};
@@ -17,7 +17,9 @@ ghost use Rattle.refusals.specs.declared.refusal.Refusal.{Refusal};
 ghost use Rattle.refusals.specs.declared.refusal.Refusal.TheVariants.{Faulted};
 ghost use Rattle.engine_law.specs.Answers.{reply_to, after_step, after_flush, MayTrim, opened_above, accepted_above, absorbed};
 ghost use Rattle.disk_model.specs.FileState.{FileState};
-ghost use Rattle.commit_journal.specs.Store.{Store};
+ghost use Rattle.std.specs.List.{AllByRecursion};
+ghost use Rattle.commit_journal.specs.Store.{Store, room_of};
+ghost use Rattle.commit_journal.specs.Handed.{IsHanded, IsShort};
 ghost use Rattle.commit_journal.specs.Journals.{choice_of, store_of};
 ghost use Rattle.commit_journal.specs.declared.journal.Journal.{Journal};
 ghost use Rattle.hive_flush.specs.declared.hive.HiveFile.{HiveFile};
@@ -25,7 +27,7 @@ ghost use Rattle.engine_law.specs.Prefixes.{ArePlaced, AreOnDisk, IsSafeAt, view
 ghost use Rattle.engine_law.specs.Runs.{RunsSafely, IsBoundary};
 ghost use Rattle.engine_law.specs.Openings.{IsFound};
 
-use reg_tree::Op;
+use reg_tree::{Op, Tree};
 
 /// What an opening finds begins a life in which all is kept.
 pub fn openings_begin()
@@ -47,6 +49,18 @@ pub fn events_keep()
 {
     machine::laws::states_are_kept();
     machine::laws::steps_alone_settle();
+}
+
+/// What is pending may be handed to the journal of a store with as many hives, where each change is short: the numbers go on
+/// from what it spells, each operation is on a hive that is there, and there is room.
+pub fn pending_may_be_handed()
+    ensures { (machine : Machine) (base : ℕ) (opened : List Element)
+        (journal : Choice (Spelled TimedOp)) (hives : List HiveView) →
+        IsConsistent machine base opened journal hives →
+        AllByRecursion IsShort (pending machine) →
+        IsHanded (length hives) (65 + room_of journal.now.elements) (machine.durable + 1) (pending machine) journal.now }
+{
+    prefix_law::clauses_suffice::<Tree, (u64, Op)>();
 }
 
 /// A step of the journal, which is handed what is pending, keeps all and is a step of the machine, at each of its answers; and so
@@ -81,8 +95,8 @@ pub fn hive_steps_keep()
         (journal : Choice (Spelled TimedOp)) (hives : List HiveView) (i : ℕ) (old : HiveView) →
         IsConsistent machine base opened journal hives → slice_get hives i ≡ Some old →
         (old.memory.1 ≤ machine.durable)
-        × AreLegal rules (ops_on i (timed_elements (opened_above base opened old.memory.1
-        ++ accepted_above machine old.memory.1))) old.memory.0 }
+        × AreLegalOn i (opened_above base opened old.memory.1
+        ++ accepted_above machine old.memory.1) old.memory.0 }
     ensures takes { (machine : Machine) (base : ℕ) (opened : List Element)
         (journal : Choice (Spelled TimedOp)) (hives : List HiveView) (i : ℕ) (old : HiveView) →
         IsConsistent machine base opened journal hives → slice_get hives i ≡ Some old →

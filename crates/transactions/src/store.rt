@@ -113,6 +113,13 @@ impl Store {
         self.table.number()
     }
 
+    /// The number at which the store was opened: the first accepted change has the next one.
+    pub fn before(&self) -> u64
+        ensures { result ≡ self.now.machine.before }
+    {
+        self.before
+    }
+
     /// The number up to which changes are durable.
     pub fn durable(&self) -> u64
         ensures durable { result ≡ self.now.machine.durable }

@@ -1,0 +1,89 @@
+-- What the journal says of its steps is what the engine answers and keeps.
+use Rattle.std.proofs.Common.{◌≡◌, ◌⊎◌, ◌↔◌, inl, inr, ℕ, ◌+◌, ◌-◌, ◌<◌, ◌≤◌, true, false, List, [], ◌∷◌, length, map, drop, refl, sym, ◌∙◌, ap, subst, arith, Option, Some, None, Result, Ok, Err, slice_get}
+use Rattle.std.specs.List.{AllByRecursion}
+use Rattle.std.proofs.lemmas.List.{length-map}
+use Rattle.refusals.specs.declared.refusal.Refusal.{Refusal}
+use Rattle.refusals.specs.declared.refusal.Refusal.TheVariants.{Faulted}
+use Rattle.reg_tree.specs.declared.element.Element.{Element}
+use Rattle.prefix_law.specs.Promises.{Choice, Spelled, nothing, top, JournalSays, TrimSays}
+use Rattle.prefix_law.specs.Life.{known_elements, ops_in}
+use Rattle.prefix_law.specs.Changes.{ops_on}
+use Rattle.prefix_law.proofs.Lists.{seg_none}
+use Rattle.machine.specs.Machine.{Machine, pending}
+use Rattle.machine.specs.Steps.{Step}
+use Rattle.machine.specs.declared.event.Event.{Event}
+use Rattle.machine.specs.declared.event.Event.TheVariants as event
+use Rattle.machine.specs.declared.event.Reply.{Reply}
+use Rattle.transactions.specs.Stores.{StoreView}
+use Rattle.engine_words.specs.Changes.{TimedOp, timed_elements}
+use Rattle.engine_words.specs.Steps.{Says}
+use Rattle.engine_words.specs.declared.Progress.{Progress}
+use Rattle.commit_journal.specs.Store.{room_of}
+use Rattle.commit_journal.specs.Handed.{IsHanded, IsShort}
+use Rattle.commit_journal.specs.Journals.{choice_of, store_of}
+use Rattle.commit_journal.specs.Journals as journals
+use Rattle.commit_journal.specs.declared.journal.Journal.{Journal}
+use Rattle.hive_flush.specs.HiveStates.{files_of}
+use Rattle.hive_flush.specs.declared.hive.HiveFile.{HiveFile}
+use Rattle.engine_law.specs.States.{HiveView, life_of, IsConsistent}
+use Rattle.engine_law.specs.Answers.{reply_to, after_step, MayTrim, HaveAll}
+use Rattle.engine_law.specs.Prefixes.{view_of}
+use Rattle.engine.specs.Parts.{AreSound, settled_by}
+use Rattle.engine.proofs.Sound.{settled_is, view_of_at}
+
+-- The laws that are used
+
+abbrev pub Hand : Type 0
+Hand = (machine : Machine) (base : ℕ) (opened : List Element) (journal : Choice (Spelled TimedOp)) (hives : List HiveView) → IsConsistent machine base opened journal hives → AllByRecursion IsShort (pending machine)
+    → IsHanded (length hives) (65 + room_of journal.now.elements) (machine.durable + 1) (pending machine) journal.now
+
+abbrev pub Batch : Type 0
+Batch = (machine : Machine) (base : ℕ) (opened : List Element) (old new : Choice (Spelled TimedOp)) (hives : List HiveView) (result : Result Progress Refusal) → IsConsistent machine base opened old hives → machine.faulted ≡ false → ¬ (result ≡ Err Faulted)
+    → Says (JournalSays (machine.durable + 1) (timed_elements (pending machine))) result old new → Step machine event.JournalStep (reply_to result) (after_step machine old new result) × IsConsistent (after_step machine old new result) base opened new hives
+
+abbrev pub Trim : Type 0
+Trim = (machine : Machine) (base : ℕ) (opened : List Element) (old new : Choice (Spelled TimedOp)) (hives : List HiveView) (result : Result Progress Refusal) → IsConsistent machine base opened old hives → machine.faulted ≡ false → MayTrim machine base opened old hives → ¬ (result ≡ Err Faulted)
+    → Says TrimSays result old new → Step machine event.TrimStep (reply_to result) (after_step machine old new result) × IsConsistent (after_step machine old new result) base opened new hives
+
+module _ (s : StoreView) (base : ℕ) (opened : List Element) (old : Journal) (hives : List HiveFile) (a : AreSound s base opened old hives) where
+  module _ (durable : ℕ) (es : List Element) (d : durable ≡ s.machine.durable) (e : es ≡ drop (durable - s.machine.before) s.machine.accepted) where
+    pending_is : es ≡ pending s.machine
+    pending_is = e ∙ ap (λ n. drop (n - s.machine.before) s.machine.accepted) d
+
+    pub may_hand : Hand → AllByRecursion IsShort es → IsHanded (store_of old).hives (65 + room_of (choice_of old).now.elements) (durable + 1) es (choice_of old).now
+    may_hand law short =
+        let h = law s.machine base opened (choice_of old) (map view_of hives) a.kept (subst (AllByRecursion IsShort) pending_is short) in
+        let many : length (map view_of hives) ≡ (store_of old).hives = length-map hives view_of ∙ a.many in
+        subst (λ (l : List Element). IsHanded (store_of old).hives (65 + room_of (choice_of old).now.elements) (durable + 1) l (choice_of old).now) (sym pending_is)
+        (subst (λ n. IsHanded (store_of old).hives (65 + room_of (choice_of old).now.elements) (n + 1) (pending s.machine) (choice_of old).now) (sym d)
+        (subst (λ n. IsHanded n (65 + room_of (choice_of old).now.elements) (s.machine.durable + 1) (pending s.machine) (choice_of old).now) many h))
+
+    pub batch_goes : Batch → (new : Journal) (result : Result Progress Refusal) → s.machine.faulted ≡ false → ((result ≡ Err Faulted) ↔ journals.IsBroken old) → Says (JournalSays (durable + 1) (timed_elements es)) result (choice_of old) (choice_of new)
+        → Step s.machine event.JournalStep (reply_to result) (after_step s.machine (choice_of old) (choice_of new) result) × IsConsistent (after_step s.machine (choice_of old) (choice_of new) result) base opened (choice_of new) (map view_of hives)
+    batch_goes law new result free broken says =
+        law s.machine base opened (choice_of old) (choice_of new) (map view_of hives) result a.kept free (λ f. a.journal_works free (broken.0 f))
+        (subst (λ n. Says (JournalSays (n + 1) (timed_elements (pending s.machine))) result (choice_of old) (choice_of new)) d
+        (subst (λ (l : List Element). Says (JournalSays (durable + 1) (timed_elements l)) result (choice_of old) (choice_of new)) pending_is says))
+
+  pub trim_goes : Trim → (new : Journal) (result : Result Progress Refusal) → s.machine.faulted ≡ false → MayTrim s.machine base opened (choice_of old) (map view_of hives) → ((result ≡ Err Faulted) ↔ journals.IsBroken old) → Says TrimSays result (choice_of old) (choice_of new)
+      → Step s.machine event.TrimStep (reply_to result) (after_step s.machine (choice_of old) (choice_of new) result) × IsConsistent (after_step s.machine (choice_of old) (choice_of new) result) base opened (choice_of new) (map view_of hives)
+  trim_goes law new result free may broken says = law s.machine base opened (choice_of old) (choice_of new) (map view_of hives) result a.kept free may (λ f. a.journal_works free (broken.0 f)) says
+
+-- the answer and the machine, as the code has them
+pub told : (e : Event) (m t : Machine) (old new : Choice (Spelled TimedOp)) (used : ℕ) (result : Result Progress Refusal) (answer : Reply) → Step m e (reply_to result) (after_step m old new result) → answer ≡ reply_to result → used ≡ 65 + room_of old.now.elements
+    → t ≡ settled_by m new.now used result → Step m e answer t
+told e m t old new used result answer step is used_is t_is =
+    subst (λ r. Step m e r t) (sym is) (subst (λ x. Step m e (reply_to result) x) (sym (t_is ∙ settled_is m old new used result used_is)) step)
+
+-- a trim may begin where each hive's number is not below the durable one
+some_spelled : (below : ℕ) (es : List (List (ℕ × TimedOp))) → ¬ (top 0 (record { below = below; elements = es }) ≡ 0) → 0 < length es
+some_spelled below [] not = absurd (not refl)
+some_spelled below (e ∷ es) not = omega arith
+
+pub may_begin : (m : Machine) (base : ℕ) (opened : List Element) (journal : Choice (Spelled TimedOp)) (hives : List HiveFile) → journal.next ≡ None → (last : ℕ) → last ≡ top 0 journal.now → ¬ (last ≡ 0) → (durable : ℕ) → durable ≡ m.durable
+    → ((i : ℕ) (hive : HiveFile) → slice_get hives i ≡ Some hive → durable ≤ (files_of hive).now.1) → MayTrim m base opened journal (map view_of hives)
+may_begin m base opened journal hives idle last is some durable d have =
+    inr (idle, some_spelled journal.now.below journal.now.elements (λ z. some (is ∙ z)), λ j v at.
+    let w = view_of_at hives j v at in
+    ap (ops_on j) (seg_none (known_elements (life_of m base opened)) (v.files.now.1 - base) (m.durable - base)
+    (let le = have j w.0 w.1 in let same = ap (λ (x : HiveView). x.files.now.1) w.2 in omega (arith, le, same, d))))

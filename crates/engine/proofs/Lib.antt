@@ -1,0 +1,4 @@
+mod Sound
+mod OnDisk
+mod Journaling
+mod Taking

@@ -1,0 +1,162 @@
+-- The engine's parts stay sound.
+use Rattle.std.proofs.Common.{◌≡◌, ◌≢◌, ◌⊎◌, ◌↔◌, inl, inr, ℕ, zero, suc, ◌+◌, ◌-◌, ◌<◌, ◌≤◌, true, false, List, [], ◌∷◌, length, map, get_or, refl, sym, ◌∙◌, ap, subst, arith, Option, Some, None, Result, Ok, Err, slice_get, option_map}
+use Rattle.std.specs.Prelude.{slice_set}
+use Rattle.std.proofs.lemmas.Option.{none-some, same_Some, slice_get_read, slice_get_within, slice_get-map}
+use Rattle.std.proofs.lemmas.List.{length-set, map-set}
+use Rattle.std.proofs.lemmas.Bool.{cases_eq, true≢false}
+use Rattle.refusals.specs.declared.refusal.Refusal.{Refusal}
+use Rattle.refusals.specs.declared.refusal.Refusal.TheVariants as refusal
+use Rattle.reg_tree.specs.declared.element.Element.{Element}
+use Rattle.prefix_law.specs.Promises.{Choice, Spelled, top}
+use Rattle.machine.specs.Machine.{Machine, last_number}
+use Rattle.machine.specs.Kept.{Stays, Grows}
+use Rattle.transactions.specs.Stores.{StoreView}
+use Rattle.engine_words.specs.Changes.{TimedOp}
+use Rattle.engine_words.specs.declared.Progress.{Progress}
+use Rattle.engine_words.specs.declared.Progress.TheVariants as progress
+use Rattle.commit_journal.specs.Store.{Store, room_of}
+use Rattle.commit_journal.specs.Journals.{choice_of, store_of}
+use Rattle.commit_journal.specs.Journals as journals
+use Rattle.commit_journal.specs.declared.journal.Journal.{Journal}
+use Rattle.hive_flush.specs.HiveStates.{IsWhole, IsBroken, place_of}
+use Rattle.hive_flush.specs.HiveStates as states
+use Rattle.hive_flush.specs.declared.hive.HiveFile.{HiveFile}
+use Rattle.engine_law.specs.States.{HiveView, IsConsistent}
+use Rattle.engine_law.specs.Answers.{after_step, after_flush, refused_by}
+use Rattle.engine_law.specs.Prefixes.{ArePlaced, view_of}
+use Rattle.engine.specs.Parts.{AreSound, settled_by}
+
+-- an event that makes no step
+pub calm_sound : (s t : StoreView) (base : ℕ) (opened : List Element) (journal : Journal) (hives : List HiveFile) → AreSound s base opened journal hives
+    → IsConsistent t.machine base opened (choice_of journal) (map view_of hives) → Stays s.machine t.machine ⊎ Grows s.machine t.machine → t.at_hand ≡ s.at_hand → AreSound t base opened journal hives
+calm_sound s t base opened journal hives a kept how same = record {
+  kept = kept;
+  placed = a.placed;
+  many = a.many;
+  whole = a.whole;
+  journal_works = λ free. a.journal_works (sym (faulted how) ∙ free);
+  hives_work = λ free. a.hives_work (sym (faulted how) ∙ free);
+  at_hand = omega (arith, a.at_hand, same, before how);
+}
+  where
+    faulted : Stays s.machine t.machine ⊎ Grows s.machine t.machine → t.machine.faulted ≡ s.machine.faulted
+    faulted (inl x) = x.faulted
+    faulted (inr x) = x.faulted
+
+    before : Stays s.machine t.machine ⊎ Grows s.machine t.machine → t.machine.before ≡ s.machine.before
+    before (inl x) = x.before
+    before (inr x) = x.before
+
+-- a machine told by the room that was used
+pub settled_is : (m : Machine) (old new : Choice (Spelled TimedOp)) (used : ℕ) (result : Result Progress Refusal) → used ≡ 65 + room_of old.now.elements → settled_by m new.now used result ≡ after_step m old new result
+settled_is m old new used (Ok progress.Done) e = let f : used - (65 + room_of new.now.elements) ≡ room_of old.now.elements - room_of new.now.elements = omega (arith, e) in ap (λ n. record m { durable = top m.durable new.now; room = m.room - n }) f
+settled_is m old new used (Ok progress.Idle) e = refl
+settled_is m old new used (Ok progress.More) e = refl
+settled_is m old new used (Err why) e = refl
+
+pub done_known : (m : Machine) (base : ℕ) (opened : List Element) (old new : Choice (Spelled TimedOp)) (hives : List HiveView) (result : Result Progress Refusal) → IsConsistent (after_step m old new result) base opened new hives
+    → result ≡ Ok progress.Done → top m.durable new.now ≤ last_number m
+done_known m base opened old new hives (Ok progress.Done) i e = i.kept.within.known
+done_known m base opened old new hives (Ok progress.Idle) i e = absurd cc
+done_known m base opened old new hives (Ok progress.More) i e = absurd cc
+done_known m base opened old new hives (Err why) i e = absurd cc
+
+-- only a device that failed faults a store
+refused_faults : (m : Machine) (why : Refusal) → m.faulted ≡ false → (refused_by m why).faulted ≡ false → why ≡ refusal.DiskFault → ⊥
+refused_faults m why free still e = true≢false (sym (ap (λ r. (refused_by m r).faulted) e) ∙ still)
+
+step_faults : (m : Machine) (old new : Choice (Spelled TimedOp)) (result : Result Progress Refusal) → m.faulted ≡ false → (after_step m old new result).faulted ≡ false → result ≡ Err refusal.DiskFault → ⊥
+step_faults m old new result free still e = true≢false (sym (ap (λ r. (after_step m old new r).faulted) e) ∙ still)
+
+flush_faults : (m : Machine) (result : Result Progress Refusal) → (after_flush m result).faulted ≡ false → result ≡ Err refusal.DiskFault → ⊥
+flush_faults m result still e = true≢false (sym (ap (λ r. (after_flush m r).faulted) e) ∙ still)
+
+refused_before : (m : Machine) (why : Refusal) → (refused_by m why).before ≡ m.before
+refused_before m refusal.DiskFault = refl
+refused_before m _ = refl
+
+step_before : (m : Machine) (old new : Choice (Spelled TimedOp)) (result : Result Progress Refusal) → (after_step m old new result).before ≡ m.before
+step_before m old new (Ok progress.Done) = refl
+step_before m old new (Ok progress.Idle) = refl
+step_before m old new (Ok progress.More) = refl
+step_before m old new (Err why) = refused_before m why
+
+flush_before : (m : Machine) (result : Result Progress Refusal) → (after_flush m result).before ≡ m.before
+flush_before m (Ok come) = refl
+flush_before m (Err why) = refused_before m why
+
+-- a step of the journal or of a trim
+pub journal_sound : (s t : StoreView) (base : ℕ) (opened : List Element) (old new : Journal) (hives : List HiveFile) (result : Result Progress Refusal) → AreSound s base opened old hives → s.machine.faulted ≡ false
+    → IsConsistent (after_step s.machine (choice_of old) (choice_of new) result) base opened (choice_of new) (map view_of hives) → store_of new ≡ store_of old → (journals.IsBroken new → journals.IsBroken old ⊎ (result ≡ Err refusal.DiskFault))
+    → t.machine ≡ after_step s.machine (choice_of old) (choice_of new) result → t.at_hand ≡ s.at_hand → AreSound t base opened new hives
+journal_sound s t base opened old new hives result a free kept same broken is hand = record {
+  kept = subst (λ (m : Machine). IsConsistent m base opened (choice_of new) (map view_of hives)) (sym is) kept;
+  placed = subst (λ (x : Store). ArePlaced x hives) (sym same) a.placed;
+  many = a.many ∙ ap (λ (x : Store). x.hives) (sym same);
+  whole = a.whole;
+  journal_works = λ still bad. elim (broken bad) [ inl b ↦ a.journal_works free b | inr f ↦ step_faults s.machine (choice_of old) (choice_of new) result free (ap (λ (m : Machine). m.faulted) (sym is) ∙ still) f ];
+  hives_work = λ still. a.hives_work free;
+  at_hand = omega (arith, a.at_hand, hand, ap (λ (m : Machine). m.before) is, step_before s.machine (choice_of old) (choice_of new) result);
+}
+
+-- One hive of a list
+
+pub at_place : {H : Type 0} (hives : List H) (k : ℕ) (h : H) → k < length hives → h ≡ get_or hives k h → slice_get hives k ≡ Some h
+at_place hives k h lt e = slice_get_read hives (length hives) k h refl lt e
+
+pub view_at : (hives : List HiveFile) (k : ℕ) (h : HiveFile) → slice_get hives k ≡ Some h → slice_get (map view_of hives) k ≡ Some (view_of h)
+view_at hives k h is = slice_get-map view_of hives k ∙ ap (option_map view_of) is
+
+get_same : {A : Type 0} (hs : List A) (i : ℕ) (v : A) → i < length hs → slice_get (slice_set hs i v) i ≡ Some v
+get_same [] i v lt = absurd (omega (arith, lt))
+get_same (h ∷ hs) zero v lt = refl
+get_same (h ∷ hs) (suc i) v lt = get_same hs i v (omega (arith, lt))
+
+get_other : {A : Type 0} (hs : List A) (i j : ℕ) (v : A) → j ≢ i → slice_get (slice_set hs i v) j ≡ slice_get hs j
+get_other [] i j v ne = refl
+get_other (h ∷ hs) zero zero v ne = absurd (ne refl)
+get_other (h ∷ hs) zero (suc j) v ne = refl
+get_other (h ∷ hs) (suc i) zero v ne = refl
+get_other (h ∷ hs) (suc i) (suc j) v ne = get_other hs i j v (λ e. ne (ap suc e))
+
+-- what holds of the new hive and of all others
+pub each_hive : (hives : List HiveFile) (k : ℕ) (old new : HiveFile) → slice_get hives k ≡ Some old → (P : ℕ → HiveFile → Type 0) → P k new → ((j : ℕ) (h : HiveFile) → j ≢ k → slice_get hives j ≡ Some h → P j h)
+    → (j : ℕ) (h : HiveFile) → slice_get (slice_set hives k new) j ≡ Some h → P j h
+each_hive hives k old new is P own others j h at = elim (cases_eq j k) as (λ z. P j h) [
+  | inl e ↦ let there : slice_get (slice_set hives k new) k ≡ Some h = subst (λ n. slice_get (slice_set hives k new) n ≡ Some h) e at in
+      subst (λ n. P n h) (sym e) (subst (P k) (same_Some new h (sym (get_same hives k new (slice_get_within hives k old is)) ∙ there)) own)
+  | inr ne ↦ others j h ne (sym (get_other hives k j new ne) ∙ at)
+]
+
+-- a hive that has taken something in, or made a step
+pub hive_sound : (s t : StoreView) (base : ℕ) (opened : List Element) (journal : Journal) (hives : List HiveFile) (k : ℕ) (old new : HiveFile) → AreSound s base opened journal hives → slice_get hives k ≡ Some old
+    → IsConsistent t.machine base opened (choice_of journal) (slice_set (map view_of hives) k (view_of new)) → place_of new ≡ place_of old → states.store_of new ≡ states.store_of old → IsWhole new
+    → (t.machine.faulted ≡ false → (s.machine.faulted ≡ false) × ¬ (IsBroken new)) → t.machine.before ≡ s.machine.before → t.at_hand ≡ s.at_hand → AreSound t base opened journal (slice_set hives k new)
+hive_sound s t base opened journal hives k old new a is kept place owner whole works before hand = record {
+  kept = subst (λ (v : List HiveView). IsConsistent t.machine base opened (choice_of journal) v) (sym (map-set view_of hives k new)) kept;
+  placed = record {
+    place = each_hive hives k old new is (λ j h. place_of h ≡ j) (place ∙ a.placed.place k old is) (λ j h ne at. a.placed.place j h at);
+    owner = each_hive hives k old new is (λ j h. states.store_of h ≡ (store_of journal).id) (owner ∙ a.placed.owner k old is) (λ j h ne at. a.placed.owner j h at);
+  };
+  many = length-set hives k new ∙ a.many;
+  whole = each_hive hives k old new is (λ j h. IsWhole h) whole (λ j h ne at. a.whole j h at);
+  journal_works = λ still. a.journal_works (works still).0;
+  hives_work = λ still. each_hive hives k old new is (λ j h. ¬ (IsBroken h)) (works still).1 (λ j h ne at. a.hives_work (works still).0 j h at);
+  at_hand = omega (arith, a.at_hand, hand, before);
+}
+
+pub flush_sound : (s t : StoreView) (base : ℕ) (opened : List Element) (journal : Journal) (hives : List HiveFile) (k : ℕ) (old new : HiveFile) (result : Result Progress Refusal) → AreSound s base opened journal hives → s.machine.faulted ≡ false → slice_get hives k ≡ Some old
+    → IsConsistent (after_flush s.machine result) base opened (choice_of journal) (slice_set (map view_of hives) k (view_of new)) → place_of new ≡ place_of old → states.store_of new ≡ states.store_of old → IsWhole new
+    → (IsBroken new → IsBroken old ⊎ (result ≡ Err refusal.DiskFault)) → t.machine ≡ after_flush s.machine result → t.at_hand ≡ s.at_hand → AreSound t base opened journal (slice_set hives k new)
+flush_sound s t base opened journal hives k old new result a free is kept place owner whole broken told hand =
+    hive_sound s t base opened journal hives k old new a is (subst (λ (m : Machine). IsConsistent m base opened (choice_of journal) (slice_set (map view_of hives) k (view_of new))) (sym told) kept) place owner whole
+    (λ still. (free, λ bad. elim (broken bad) [ inl b ↦ a.hives_work free k old is b | inr f ↦ flush_faults s.machine result (ap (λ (m : Machine). m.faulted) (sym told) ∙ still) f ]))
+    (ap (λ (m : Machine). m.before) told ∙ flush_before s.machine result) hand
+
+-- the hive that a view is of
+viewed : (o : Option HiveFile) (v : HiveView) → option_map view_of o ≡ Some v → (h : HiveFile) × (o ≡ Some h) × (view_of h ≡ v)
+viewed None v e = absurd (none-some v e)
+viewed (Some h) v e = (h, refl, same_Some (view_of h) v e)
+
+pub view_of_at : (hives : List HiveFile) (j : ℕ) (v : HiveView) → slice_get (map view_of hives) j ≡ Some v → (h : HiveFile) × (slice_get hives j ≡ Some h) × (view_of h ≡ v)
+view_of_at hives j v e = viewed (slice_get hives j) v (sym (slice_get-map view_of hives j) ∙ e)

@@ -1,0 +1,94 @@
+-- What a hive says of its steps, and what it takes in, is what the engine answers and keeps.
+use Rattle.std.proofs.Common.{◌≡◌, ◌⊎◌, ◌↔◌, inl, inr, ℕ, zero, suc, ◌+◌, ◌-◌, ◌<◌, ◌≤◌, max, min, false, List, [], ◌∷◌, ◌++◌, length, map, take, drop, refl, sym, ◌∙◌, ap, subst, arith, Option, Some, None, Result, Ok, Err, slice_get}
+use Rattle.std.specs.Prelude.{slice_set, OnOk, OnErr, IfErr}
+use Rattle.std.proofs.lemmas.Option.{slice_get_within}
+use Rattle.std.proofs.lemmas.List.{length-drop, drop-take, take_all}
+use Rattle.std.proofs.Math.ListN.{drop_of_length-le}
+use Rattle.refusals.specs.declared.refusal.Refusal.{Refusal}
+use Rattle.refusals.specs.declared.refusal.Refusal.TheVariants.{Faulted, NoMemory}
+use Rattle.reg_tree.specs.Maps.{TreeMap}
+use Rattle.reg_tree.specs.declared.element.Element.{Element}
+use Rattle.prefix_law.specs.Promises.{Choice, Spelled, HiveSays}
+use Rattle.prefix_law.proofs.Lists.{le_or_le}
+use Rattle.machine.specs.Machine.{Machine, last_number}
+use Rattle.machine.specs.Steps.{Step}
+use Rattle.machine.specs.declared.event.Event.TheVariants as event
+use Rattle.machine.specs.declared.event.Reply.{Reply}
+use Rattle.transactions.specs.Stores.{StoreView}
+use Rattle.engine_words.specs.Changes.{TimedOp}
+use Rattle.engine_words.specs.Steps.{Says}
+use Rattle.engine_words.specs.declared.Progress.{Progress}
+use Rattle.commit_journal.specs.Journals.{choice_of}
+use Rattle.commit_journal.specs.declared.journal.Journal.{Journal}
+use Rattle.hive_flush.specs.HiveStates.{IsBroken, IsWhole, AreLegalOn, led_to, files_of, memory_of, place_of}
+use Rattle.hive_flush.specs.HiveStates as states
+use Rattle.hive_flush.specs.declared.hive.HiveFile.{HiveFile}
+use Rattle.engine_law.specs.States.{HiveView, IsConsistent}
+use Rattle.engine_law.specs.Answers.{reply_to, after_flush, opened_above, accepted_above, absorbed}
+use Rattle.engine_law.specs.Prefixes.{view_of}
+use Rattle.engine.specs.Parts.{AreSound}
+use Rattle.engine.proofs.Sound.{view_at, hive_sound}
+
+-- The laws that are used
+
+abbrev pub Lacks : Type 0
+Lacks = (machine : Machine) (base : ℕ) (opened : List Element) (journal : Choice (Spelled TimedOp)) (hives : List HiveView) (i : ℕ) (old : HiveView) → IsConsistent machine base opened journal hives → slice_get hives i ≡ Some old
+    → (old.memory.1 ≤ machine.durable) × AreLegalOn i (opened_above base opened old.memory.1 ++ accepted_above machine old.memory.1) old.memory.0
+
+abbrev pub Takes : Type 0
+Takes = (machine : Machine) (base : ℕ) (opened : List Element) (journal : Choice (Spelled TimedOp)) (hives : List HiveView) (i : ℕ) (old : HiveView) → IsConsistent machine base opened journal hives → slice_get hives i ≡ Some old → old.files.next ≡ None
+    → IsConsistent machine base opened journal (slice_set hives i (record { files = old.files; memory = absorbed machine base opened i old.memory }))
+
+abbrev pub Flush : Type 0
+Flush = (machine : Machine) (base : ℕ) (opened : List Element) (journal : Choice (Spelled TimedOp)) (hives : List HiveView) (i : ℕ) (old new : HiveView) (result : Result Progress Refusal) → IsConsistent machine base opened journal hives → machine.faulted ≡ false
+    → slice_get hives i ≡ Some old → new.memory ≡ old.memory → ¬ (result ≡ Err Faulted) → Says (HiveSays old.memory) result old.files new.files
+    → Step machine (event.FlusherStep i) (reply_to result) (after_flush machine result) × IsConsistent (after_flush machine result) base opened journal (slice_set hives i new)
+
+module _ (s : StoreView) (base : ℕ) (opened : List Element) (journal : Journal) (hives : List HiveFile) (a : AreSound s base opened journal hives) (free : s.machine.faulted ≡ false) (k : ℕ) (old : HiveFile) (is : slice_get hives k ≡ Some old) where
+  pub flush_goes : Flush → (new : HiveFile) (result : Result Progress Refusal) → memory_of new ≡ memory_of old → ((result ≡ Err Faulted) ↔ IsBroken old) → Says (HiveSays (memory_of old)) result (files_of old) (files_of new)
+      → Step s.machine (event.FlusherStep k) (reply_to result) (after_flush s.machine result) × IsConsistent (after_flush s.machine result) base opened (choice_of journal) (slice_set (map view_of hives) k (view_of new))
+  flush_goes law new result same broken says = law s.machine base opened (choice_of journal) (map view_of hives) k (view_of old) (view_of new) result a.kept free (view_at hives k old is) same (λ f. a.hives_work free k old is (broken.0 f)) says
+
+  pub up : Lacks → (memory_of old).1 ≤ s.machine.durable
+  up law = (law s.machine base opened (choice_of journal) (map view_of hives) k (view_of old) a.kept (view_at hives k old is)).0
+
+  pub lawful : Lacks → (es : List Element) → es ≡ opened_above base opened (memory_of old).1 ++ accepted_above s.machine (memory_of old).1 → AreLegalOn (place_of old) es (memory_of old).0
+  lawful law es e = subst (λ n. AreLegalOn n es (memory_of old).0) (sym (a.placed.place k old is)) (subst (λ (l : List Element). AreLegalOn k l (memory_of old).0) (sym e)
+      (law s.machine base opened (choice_of journal) (map view_of hives) k (view_of old) a.kept (view_at hives k old is)).1)
+
+  -- what was taken in, or nothing
+  pub taken : Takes → Flush → (new : HiveFile) (es : List Element) (durable : ℕ) (result : Result (Unit {0}) Refusal) → files_of new ≡ files_of old → (files_of old).next ≡ None → durable ≡ s.machine.durable
+      → es ≡ opened_above base opened (memory_of old).1 ++ accepted_above s.machine (memory_of old).1 → OnOk result (memory_of new ≡ (led_to (place_of old) es (memory_of old).0, durable)) → OnErr result (new ≡ old)
+      → place_of new ≡ place_of old → states.store_of new ≡ states.store_of old → IsWhole new → (IsBroken new → IsBroken old) → AreSound s base opened journal (slice_set hives k new)
+  taken takes flush new es durable result files idle d e ok err place owner whole sound =
+      hive_sound s s base opened journal hives k old new a is (kept result ok err) place owner whole (λ _. (free, λ bad. a.hives_work free k old is (sound bad))) refl refl
+    where
+      kept : (r : Result (Unit {0}) Refusal) → OnOk r (memory_of new ≡ (led_to (place_of old) es (memory_of old).0, durable)) → OnErr r (new ≡ old) → IsConsistent s.machine base opened (choice_of journal) (slice_set (map view_of hives) k (view_of new))
+      kept (Ok u) o f =
+          let told : memory_of new ≡ absorbed s.machine base opened k (memory_of old) = o ∙ ap (λ n. (led_to n es (memory_of old).0, durable)) (a.placed.place k old is)
+              ∙ ap (λ (l : List Element). (led_to k l (memory_of old).0, durable)) e ∙ ap (λ n. (led_to k (opened_above base opened (memory_of old).1 ++ accepted_above s.machine (memory_of old).1) (memory_of old).0, n)) d in
+          let view : view_of new ≡ record { files = files_of old; memory = absorbed s.machine base opened k (memory_of old) } = ap (λ (c : Choice (TreeMap × ℕ)). let v : HiveView = record { files = c; memory = memory_of new } in v) files
+              ∙ ap (λ (x : TreeMap × ℕ). let v : HiveView = record { files = files_of old; memory = x } in v) told in
+          subst (λ (v : HiveView). IsConsistent s.machine base opened (choice_of journal) (slice_set (map view_of hives) k v)) (sym view)
+          (takes s.machine base opened (choice_of journal) (map view_of hives) k (view_of old) a.kept (view_at hives k old is) idle)
+      kept (Err w) o f =
+          (flush s.machine base opened (choice_of journal) (map view_of hives) k (view_of old) (view_of new) (Err NoMemory) a.kept free (view_at hives k old is) (ap memory_of f) (λ x. absurd cc) (idle, files)).1
+
+-- What the code hands to a hive is what it lacks
+
+slice_is : (k : ℕ) (l : List Element) → take (length l - k) (drop k l) ≡ drop k l
+slice_is k l = take_all (length l - k) (drop k l) (omega (arith, length-drop k l))
+
+pub opened_is : (x : ℕ) (l : List Element) → take (length l - min x (length l)) (drop (min x (length l)) l) ≡ drop x l
+opened_is x l = slice_is (min x (length l)) l ∙ elim (le_or_le x (length l)) as (λ z. drop (min x (length l)) l ≡ drop x l) [
+  | inl le ↦ let e : min x (length l) ≡ x = omega (arith, le) in ap (λ k. drop k l) e
+  | inr ge ↦ let e : min x (length l) ≡ length l = omega (arith, ge) in ap (λ k. drop k l) e ∙ drop_of_length-le l (omega arith) ∙ sym (drop_of_length-le l ge)
+]
+
+pub accepted_is : (m : Machine) (number from durable : ℕ) → from ≡ max number m.before → durable ≡ m.durable → number ≤ m.durable → m.before ≤ m.durable → take (durable - from) (drop (from - m.before) m.accepted) ≡ accepted_above m number
+accepted_is m number from durable f d le since =
+    let long : durable - from ≡ (m.durable - m.before) - (number - m.before) = omega (arith, f, d, le, since) in
+    let skip : from - m.before ≡ number - m.before = omega (arith, f) in
+    let whole : (number - m.before) + ((m.durable - m.before) - (number - m.before)) ≡ m.durable - m.before = omega (arith, le) in
+    ap (λ n. take n (drop (from - m.before) m.accepted)) long ∙ ap (λ n. take ((m.durable - m.before) - (number - m.before)) (drop n m.accepted)) skip
+    ∙ sym (drop-take (number - m.before) ((m.durable - m.before) - (number - m.before)) m.accepted) ∙ ap (λ n. drop (number - m.before) (take n m.accepted)) whole

@@ -1,0 +1,44 @@
+-- What holds of an engine's parts.
+use Rattle.std.specs.Prelude.{◌≡◌, ℕ, ◌+◌, ◌-◌, ◌≤◌, ⊤, false, Result, Ok, Err, List, length, map, slice_get, Some}
+use Rattle.reg_tree.specs.declared.element.Element.{Element}
+use Rattle.refusals.specs.declared.refusal.Refusal.{Refusal}
+use Rattle.prefix_law.specs.Promises.{Spelled, top}
+use Rattle.engine_words.specs.Changes.{TimedOp}
+use Rattle.engine_words.specs.declared.Progress.{Progress}
+use Rattle.engine_words.specs.declared.Progress.TheVariants as progress
+use Rattle.commit_journal.specs.Store.{room_of}
+use Rattle.engine_law.specs.Answers.{refused_by}
+use Rattle.machine.specs.Machine.{Machine}
+use Rattle.transactions.specs.Stores.{StoreView}
+use Rattle.commit_journal.specs.Store.{Store}
+use Rattle.commit_journal.specs.Journals.{choice_of, store_of}
+use Rattle.commit_journal.specs.Journals as journals
+use Rattle.commit_journal.specs.declared.journal.Journal.{Journal}
+use Rattle.hive_flush.specs.HiveStates.{IsWhole, IsBroken}
+use Rattle.hive_flush.specs.declared.hive.HiveFile.{HiveFile}
+use Rattle.engine_law.specs.States.{IsConsistent}
+use Rattle.engine_law.specs.Prefixes.{ArePlaced, view_of}
+
+-- The store in memory, the journal and the hives of an engine: all that an engine keeps; each hive has its place in the store,
+-- and no repair left; as long as the store isn't faulted the device has failed in no step; and all accepted changes are at
+-- hand.
+pub record AreSound (store : StoreView) (base : ℕ) (opened : List Element) (journal : Journal) (hives : List HiveFile) : Type 0 where
+  pub kept : IsConsistent store.machine base opened (choice_of journal) (map view_of hives)
+  pub placed : ArePlaced (store_of journal) hives
+  pub many : length hives ≡ (store_of journal).hives
+  pub whole : (i : ℕ) (hive : HiveFile) → slice_get hives i ≡ Some hive → IsWhole hive
+  pub journal_works : store.machine.faulted ≡ false → ¬ (journals.IsBroken journal)
+  pub hives_work : store.machine.faulted ≡ false → (i : ℕ) (hive : HiveFile) → slice_get hives i ≡ Some hive → ¬ (IsBroken hive)
+  pub at_hand : store.at_hand ≤ store.machine.before
+
+-- a device call may be on any file
+abbrev pub AnyFile : ℕ → Type 0
+AnyFile f = ⊤
+
+-- The machine after a step of the journal or of a trim, behind which the journal spells this, and before which it had used so
+-- much room: once it is done, what the journal carries is durable, and the room that it no longer uses is free.
+abbrev pub settled_by : Machine → Spelled TimedOp → ℕ → Result Progress Refusal → Machine
+settled_by machine now used (Ok progress.Done) = record machine { durable = top machine.durable now; room = machine.room - (used - (65 + room_of now.elements)) }
+settled_by machine now used (Ok progress.Idle) = machine
+settled_by machine now used (Ok progress.More) = machine
+settled_by machine now used (Err why) = refused_by machine why

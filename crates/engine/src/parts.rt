@@ -1,0 +1,26 @@
+//! The parts of an engine.
+
+use commit_journal::Journal;
+use hive_flush::HiveFile;
+use reg_tree::Element;
+use std::alloc::Global;
+use transactions::Store;
+
+/// The parts of an engine.
+#[derive(Drop)]
+pub(crate) struct Parts<D> {
+    /// Where memory is had.
+    pub alloc: Global,
+    /// The disk, on which file 0 is the journal's and the next ones the hives'.
+    pub disk: D,
+    /// The journal.
+    pub journal: Journal,
+    /// The hives, in their order.
+    pub hives: Vec<HiveFile>,
+    /// What answers each event that makes no step.
+    pub store: Store,
+    /// The changes that the journal spelled at the opening, which are numbered from `base` + 1 on.
+    pub opened: Vec<Element>,
+    /// The number below the first of them.
+    pub base: u64,
+}
