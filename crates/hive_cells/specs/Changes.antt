@@ -177,6 +177,7 @@ pub record Fits (old new : List ℕ) (at size : ℕ) : Type 0 where
   pub free : IsFreeCell new at
   pub least : size ≤ cell_size new at
   pub most : cell_size new at ≤ size + 8
+  pub exact : size + 8 < cell_size old at → cell_size new at ≡ size
   pub within : cell_size new at ≤ cell_size old at
   pub rest : cell_size new at < cell_size old at → IsFreeCell new (at + cell_size new at)
   pub rest_size : cell_size new at < cell_size old at → cell_size new at + cell_size new (at + cell_size new at) ≡ cell_size old at
@@ -184,12 +185,13 @@ pub record Fits (old new : List ℕ) (at size : ℕ) : Type 0 where
   pub cells : (other : ℕ) → other ≢ at → (cell_size new at < cell_size old at → other ≢ at + cell_size new at) → SameCell old new other
   pub written : RewritesWithin old new at (at + cell_size new at + 4)
 
--- a free cell is allocated at an offset, of at least a size and at most 8 bytes more
+-- a free cell is allocated at an offset, of a size, or with all that it has where no more than 8 bytes would be over
 pub record Takes (old new : List ℕ) (at size : ℕ) : Type 0 where
   pub fresh : ¬ IsAllocatedCell old at
   pub begins : IsAllocatedCell new at
   pub least : size ≤ cell_size new at
   pub most : cell_size new at ≤ size + 8
+  pub exact : size + 8 < cell_size old at → cell_size new at ≡ size
   pub others : OthersStay old new at
   pub leaves : LeavesRest old new at (cell_size old at)
   pub written : RewritesWithin old new at (at + cell_size new at + 4)
@@ -219,7 +221,8 @@ FreeRefused bytes offset refusal.TooLarge = MOST_BINS_BYTES < length bytes
 FreeRefused bytes offset (refusal.HiveDamaged zero cause.BadOffset) = (length bytes ≤ MOST_BINS_BYTES) × (¬ IsAllocatedCell bytes offset)
 FreeRefused bytes offset _ = ⊥
 
--- a cell for data of a length is allocated at an offset, from a free cell of some room, and all other cells stay
+-- a cell for data of a length is allocated at an offset, from a free cell of some room, and all other cells stay; it is
+-- longer than the least one only where no more than 8 bytes would be over
 pub record Allocates (old new : List ℕ) (len offset : ℕ) : Type 0 where
   pub room : ℕ
   pub has_place : ¬ HasNoPlace old (least_size len)
@@ -227,6 +230,7 @@ pub record Allocates (old new : List ℕ) (len offset : ℕ) : Type 0 where
   pub begins : IsAllocatedCell new offset
   pub least : least_size len ≤ cell_size new offset
   pub most : cell_size new offset ≤ least_size len + 8
+  pub exact : least_size len + 8 < room → cell_size new offset ≡ least_size len
   pub others : OthersStay old new offset
   pub source : IsRoomFor old new (least_size len) offset room
   pub leaves : LeavesRest old new offset room

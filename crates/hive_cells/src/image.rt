@@ -217,9 +217,9 @@ impl Image {
     }
 
     /// Allocates a cell for data of a length, and answers where it begins. Its size is the length and four
-    /// bytes, rounded up to a multiple of 8, or 8 bytes more. A free cell that is as long is taken; where there is none,
-    /// the least bin for the cell is added behind the data, and its free cell is taken. What is over is one free cell, and
-    /// all other free cells stay. Of the data before, only bytes of the cell and the four bytes behind it are written.
+    /// bytes, rounded up to a multiple of 8, or 8 bytes more where just these would be over. A free cell that is as long is
+    /// taken; where there is none, the least bin for the cell is added behind the data, and its free cell is taken. What is
+    /// over is one free cell, and all other free cells stay. Of the data before, only bytes of the cell and the four bytes behind it are written.
     /// What the new cell's data hold is not said.
     ///
     /// Refused with `TooLarge` exactly where the data are longer than the limit, or no free cell is as long and the

@@ -97,7 +97,7 @@ pub counted_whole : (securities : List Security) (entries : Entries) (row : Row)
 counted_whole securities entries row has here own kids = subst (AreCounted securities) (sym (has.whole row here)) (own, kids)
 
 -- held cells, one more
-take_set : (cells : List Security) (i : ℕ) (new : Security) → i < length cells → take (suc i) (slice_set cells i new) ≡ take i cells ++ new ∷ []
+pub take_set : (cells : List Security) (i : ℕ) (new : Security) → i < length cells → take (suc i) (slice_set cells i new) ≡ take i cells ++ new ∷ []
 take_set [] i new h = absurd (omega (arith, h))
 take_set (c ∷ cells) zero new h = refl
 take_set (c ∷ cells) (suc i) new h = ap (λ xs. c ∷ xs) (take_set cells i new (omega (arith, h)))

@@ -148,7 +148,7 @@ rows_can : (es : Entries) → AllByRecursion (λ (e : List (List ℕ) × Row). I
 rows_can [] h g = tt
 rows_can (e ∷ es) h g = (row_can e.0 e.1 h.0 g.0, rows_can es h.1 g.1)
 
-root_weight : (tree : TreeMap) (root : Entries) → IsNode root → tree ≡ finite.from_sorted root → weight tree ≤ 16_777_216 → entries_weight root ≤ 16_777_216
+pub root_weight : (tree : TreeMap) (root : Entries) → IsNode root → tree ≡ finite.from_sorted root → weight tree ≤ 16_777_216 → entries_weight root ≤ 16_777_216
 root_weight tree root node same light = subst (λ es. entries_weight es ≤ 16_777_216) (entries-from_sorted path_order root node.rises) (subst (λ (t : TreeMap). weight t ≤ 16_777_216) same light)
 
 pub tree_can : (tree : TreeMap) (root : Entries) → IsNode root → tree ≡ finite.from_sorted root → IsSpellable tree → weight tree ≤ 16_777_216 → CanPutKeys root

@@ -1,9 +1,12 @@
 -- Keys that are written with all that is below them, beside the security cells that they name.
-use Rattle.std.specs.Prelude.{◌≡◌, ◌⊎◌, ℕ, ◌<◌, ◌^◌, true, List, [], ◌++◌, length, map, slice_get, Some}
+use Rattle.std.specs.Prelude.{◌≡◌, ◌⊎◌, ℕ, ◌<◌, ◌≤◌, ◌^◌, true, List, [], ◌++◌, length, map, slice_get, Some}
 use Rattle.std.specs.List.{AllByRecursion}
 use Rattle.std.specs.FinMap as finite
 use Rattle.reg_tree_parts.specs.Rows.{Row}
 use Rattle.reg_tree_parts.specs.Nodes.{Entries, root_name}
+use Rattle.refusals.specs.declared.refusal.Refusal.{Refusal}
+use Rattle.refusals.specs.declared.refusal.Refusal.TheVariants as refusal
+use Rattle.refusals.specs.declared.limits.TheConstants.{MOST_WEIGHT, MOST_BINS_BYTES}
 use Rattle.hive_cells.specs.Bins.{Cells}
 use Rattle.hive_shape.specs.Lists.{IsIn}
 use Rattle.hive_shape.specs.Keys.{Parts, Keys, offsets, lent_cells}
@@ -137,3 +140,10 @@ Keeps old new = (descriptor : List ℕ) → Has old descriptor → Has new descr
 -- the cells are held that securities have
 abbrev pub Holding : List Security → Cells → Cells → Type 0
 Holding securities before after = AreHeld securities after
+
+-- why no image is made of a tree of a weight, of at least a size: the tree or the size is over its limit; or neither is, and
+-- memory was not given
+abbrev pub EmitRefused : ℕ → ℕ → Refusal → Type 0
+EmitRefused weight least_size refusal.NoMemory = (weight ≤ MOST_WEIGHT) × (least_size ≤ MOST_BINS_BYTES)
+EmitRefused weight least_size refusal.TooLarge = (MOST_WEIGHT < weight) ⊎ (MOST_BINS_BYTES < least_size)
+EmitRefused weight least_size _ = ⊥

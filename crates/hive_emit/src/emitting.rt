@@ -1,9 +1,11 @@
 //! Whole trees.
-ghost use Rattle.std.specs.Prelude.{◌≡◌, ℕ, ◌<◌, ◌≤◌, length, IfOk};
-ghost use Rattle.hive_cells.specs.Bins.{Cells, Shows};
+ghost use Rattle.std.specs.Prelude.{◌≡◌, ℕ, ◌+◌, ◌<◌, ◌≤◌, length, IfOk, IfErr};
 ghost use Rattle.hive_records.specs.Images.{StandsFor};
+ghost use Rattle.hive_key_writer.specs.Making.{RoomyAt};
 ghost use Rattle.reg_tree.specs.Maps.{weight};
+ghost use Rattle.hive_emit.specs.Emitting.{EmitRefused};
 
+use crate::costs::keys_cost;
 use crate::keys::put_key;
 use crate::security::Securities;
 use hive_cells::Image;
@@ -28,16 +30,23 @@ const PAGE: usize = 4_096;
 // what a bin's header and a cell's size take of its first page
 const HEADERS: usize = 36;
 
-// an image of at least a size with one free cell, and memory for what a tree of a weight may take
+// bytes that are never taken of the free cell, so that each cell gets the size that was reckoned
+const SPARED: usize = 8;
 
-fn room(alloc: Global, weight: u64, least_size: u32) -> Result<Image, Refusal>
-    requires { weight ≤ MOST_WEIGHT }
-    ensures { IfOk result (λ image. least_size ≤ length image.bytes) }
+// an image of at least a size, of one bin with one free cell, in which so many bytes can be taken
+fn room(alloc: Global, needed: usize, least_size: u32) -> Result<Image, Refusal>
+    requires needed { needed + 4_096 ≤ MOST_BINS_BYTES }
+    requires size { least_size ≤ MOST_BINS_BYTES }
+    ensures roomy { IfOk result (λ image. RoomyAt image.bytes 32 needed) }
+    ensures least { IfOk result (λ image. least_size ≤ length image.bytes) }
+    ensures memory { IfErr result (λ why. why ≡ Refusal.NoMemory) }
 {
-    let mut image = Image::open(alloc, Vec::new(alloc))?;
-    let size = (least_size as usize).max(PAGE);
-    image.reserve(weight as usize)?;
-    let at = match image.alloc(size - HEADERS) {
+    let mut image = match Image::open(alloc, Vec::new(alloc)) {
+        Ok(image) => image,
+        Err(unopened) => return Err(unopened.refusal),
+    };
+    let size = (needed + HEADERS + SPARED).max(least_size as usize);
+    let at = match image.alloc(size.max(PAGE) - HEADERS) {
         Ok(at) => at,
         Err(why) => return Err(why),
     };
@@ -47,16 +56,18 @@ fn room(alloc: Global, weight: u64, least_size: u32) -> Result<Image, Refusal>
     }
 }
 
-/// A new image for a tree, of at least a size in bytes.
+/// A new image for a tree, of at least a size in bytes: one bin, as long as it has to be.
 ///
-/// Refused with `TooLarge` where the tree is over the weight or the least size over the limit, and else with `NoMemory`, or
-/// with `TooLarge` where the tree has no place within the limit of bins data.
+/// Refused with `TooLarge` exactly where the tree is over the weight or the least size over the limit of bins data, and else
+/// with `NoMemory` alone.
 pub fn emit(alloc: Global, tree: &Tree, least_size: u32) -> Result<Emitted, Refusal>
     ensures stands { IfOk result (λ emitted. (minor : ℕ) → 4 ≤ minor →
         StandsFor emitted.image.bytes emitted.root minor tree.now) }
     ensures least { IfOk result (λ emitted. least_size ≤ length emitted.image.bytes) }
+    ensures limit { IfOk result (λ emitted. length emitted.image.bytes ≤ MOST_BINS_BYTES) }
     ensures heavy { MOST_WEIGHT < weight tree.now → result ≡ Err Refusal.TooLarge }
     ensures long { MOST_BINS_BYTES < least_size → result ≡ Err Refusal.TooLarge }
+    ensures refused { IfErr result (EmitRefused (weight tree.now) least_size) }
 {
     if MOST_WEIGHT < tree.weight() || MOST_BINS_BYTES < least_size as usize {
         return Err(Refusal::TooLarge);
@@ -65,9 +76,12 @@ pub fn emit(alloc: Global, tree: &Tree, least_size: u32) -> Result<Emitted, Refu
     let mut securities = Securities::new(alloc);
     securities.count_all(alloc, root)?;
     let mut text = Vec::new(alloc);
-    let mut image = room(alloc, tree.weight(), securities.bytes().max(least_size))?;
+    let mut image = room(alloc, securities.cost() + keys_cost(root), least_size)?;
     image.tiles(0);
-    securities.put(&mut image, &mut text)?;
+    match securities.put(&mut image, &mut text) {
+        Ok(()) => {}
+        Err(why) => return Err(why),
+    }
     let at = match put_key(alloc, &mut image, &mut text, &securities, root, NOWHERE) {
         Ok(at) => at,
         Err(why) => return Err(why),

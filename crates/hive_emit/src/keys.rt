@@ -1,19 +1,20 @@
 //! Keys with all that is below them.
-ghost use Rattle.std.specs.Prelude.{◌≡◌, ◌<◌, ◌≤◌, ◌+◌, ◌^◌, [], length, IfOk, OnOk, Some};
+ghost use Rattle.std.specs.Prelude.{◌≡◌, ◌<◌, ◌≤◌, ◌+◌, ◌^◌, [], length, IfOk, IfErr, OnOk, Some};
 ghost use Rattle.std.specs.FinMap as finite;
 ghost use Rattle.reg_tree_parts.specs.Rows.{Row};
 ghost use Rattle.reg_tree_parts.specs.Nodes.{subkeys_of, row_at, HasSubkeys};
 ghost use Rattle.hive_records.specs.ListTexts.{AreOffsets};
 ghost use Rattle.hive_records.specs.KeyTexts.{key_text, RowFits};
 ghost use Rattle.hive_records.specs.Spellings.{name_text};
-ghost use Rattle.hive_key_writer.specs.Making.{Makes, Fills, IsLongCell};
+ghost use Rattle.hive_key_writer.specs.Making.{Makes, Fills, IsLongCell, Uses, Stops};
 ghost use Rattle.hive_emit.specs.Emitting.{CanPutKey, CanPutKeys, AreCounted, PutsKey, PutsKids, OwnAt, ClassAt, NodePlaces};
+ghost use Rattle.hive_emit.specs.Costs.{class_cost, own_cost, below_cost, keys_cost};
 
 use crate::bounds::{Bounds, bounds_of};
 use crate::security::Securities;
 use hive_cells::Image;
 use hive_key_writer::{NOWHERE, fill, new_cell, put_cell, put_kids, put_values};
-use hive_records::{KeyPlaces, is_latin, put_key_node};
+use hive_records::{KeyPlaces, put_key_node, stored_len};
 use refusals::Refusal;
 use reg_tree_parts::Node;
 use std::alloc::Global;
@@ -51,7 +52,10 @@ fn is_plain(node: &Node) -> bool {
 
 // puts a class; answers its cell, or the offset of none where it is empty
 fn put_class(image: &mut Image, class: &[u8]) -> Result<u32, Refusal>
-    ensures { IfOk result (λ at. Makes image.old.bytes image.new.bytes (ClassAt at class.now)) }
+    ensures made { IfOk result (λ at. Makes image.old.bytes image.new.bytes (ClassAt at class.now)) }
+    ensures uses { OnOk result (Uses image.old.bytes image.new.bytes (class_cost
+        (length class.now))) }
+    ensures stops { IfErr result (Stops image.old.bytes (class_cost (length class.now))) }
 {
     if class.is_empty() {
         return Ok(NOWHERE);
@@ -74,8 +78,12 @@ fn put_own(
     requires all { length places.now ≡ length (subkeys_of node.now) }
     requires few { length places.now < 2 ^ 24 }
     requires near { AreOffsets places.now }
-    ensures { IfOk result (λ own. (row : Row) → row_at node.now [] ≡ Some row → Makes
+    ensures made { IfOk result (λ own. (row : Row) → row_at node.now [] ≡ Some row → Makes
         image.old.bytes image.new.bytes (OwnAt own.class own.values own.kids row places.now)) }
+    ensures uses { OnOk result ((row : Row) → row_at node.now [] ≡ Some row → Uses
+        image.old.bytes image.new.bytes (own_cost row (length places.now))) }
+    ensures stops { IfErr result (λ why. (row : Row) → row_at node.now [] ≡ Some row → Stops
+        image.old.bytes (own_cost row (length places.now)) why) }
 {
     let key = node.key();
     let class = match put_class(image, key.class().bytes()) {
@@ -136,6 +144,7 @@ fn fill_key(
         Fills image.old.bytes image.new.bytes at (key_text row its.now)) }
     ensures time { OnOk result ((row : Row) → row_at node.now [] ≡ Some row →
         row.time < 2 ^ 64) }
+    ensures memory { IfErr result (λ why. why ≡ Refusal.NoMemory) }
 {
     let key = node.key();
     let time = key.time();
@@ -146,16 +155,12 @@ fn fill_key(
     Ok(())
 }
 
-// how many bytes a key's record has
-fn record_len(name: &[u16]) -> usize
+/// How many bytes a key's record has.
+pub(crate) fn record_len(name: &[u16]) -> usize
     requires { length (name_text name.now) < 2 ^ 16 }
     ensures { result ≡ 76 + length (name_text name.now) }
 {
-    if is_latin(name) {
-        RECORD_BYTES + name.len()
-    } else {
-        RECORD_BYTES + 2 * name.len()
-    }
+    RECORD_BYTES + stored_len(name) as usize
 }
 
 // puts all subkeys of a key, whose record is to be in a cell; answers their cells
@@ -175,7 +180,9 @@ fn put_subkeys(
         (PutsKids securities.now places.items (subkeys_of node.now))) }
     ensures count { IfOk result (λ places. length places.items ≡ length (subkeys_of node.now)) }
     ensures near { IfOk result (λ places. AreOffsets places.items) }
-    ensures has { IfOk result (λ places. HasSubkeys node.now (subkeys_of node.now)) }
+    ensures has { HasSubkeys node.now (subkeys_of node.now) }
+    ensures uses { OnOk result (Uses image.old.bytes image.new.bytes (below_cost node.now)) }
+    ensures stops { IfErr result (Stops image.old.bytes (below_cost node.now)) }
 {
     let _ = node.key();
     let mut places = Vec::new(alloc);
@@ -193,6 +200,8 @@ fn put_subkeys(
 }
 
 /// Puts a key and all keys below it; answers the cell of its record.
+///
+/// Refused with `NoMemory`, and else only where the image has no free cell with room for all of it, or has several.
 #[cycle(puts)]
 pub(crate) fn put_key(
     alloc: Global,
@@ -205,8 +214,10 @@ pub(crate) fn put_key(
     requires can { CanPutKeys node.now }
     requires counted { AreCounted securities.now node.now }
     requires few { length node.now < 2 ^ 24 }
-    ensures { IfOk result (λ at. Makes image.old.bytes image.new.bytes
+    ensures made { IfOk result (λ at. Makes image.old.bytes image.new.bytes
         (PutsKey securities.now at node.now)) }
+    ensures uses { OnOk result (Uses image.old.bytes image.new.bytes (keys_cost node.now)) }
+    ensures stops { IfErr result (Stops image.old.bytes (keys_cost node.now)) }
 {
     let key = node.key();
     let _time = key.time();

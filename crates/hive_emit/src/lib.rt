@@ -5,6 +5,7 @@
 #![tactic(auto)]
 
 mod bounds;
+mod costs;
 mod emitting;
 mod keys;
 mod security;

@@ -1,11 +1,11 @@
 //! Security cells: one for each distinct descriptor of a tree.
-ghost use Rattle.std.specs.Prelude.{◌≡◌, ◌⊎◌, ◌^◌, ◌<◌, [], length, IsTrue, OnOk};
-ghost use Rattle.hive_key_writer.specs.Making.{Makes};
+ghost use Rattle.std.specs.Prelude.{◌≡◌, ◌⊎◌, ◌+◌, ◌^◌, ◌<◌, ◌≤◌, [], length, IsTrue, IfErr, OnOk};
+ghost use Rattle.hive_key_writer.specs.Making.{Makes, Uses, Stops};
 ghost use Rattle.hive_emit.specs.Emitting.{Has, IsOffsetOf, AreShort, IsCounted, AreCounted, CanPutKeys, Keeps, Holding};
+ghost use Rattle.hive_emit.specs.Costs.{descriptor_cost, row_security_cost, descriptors_cost, security_cost, securities_cost};
 
-use crate::bounds::clamped;
 use hive_cells::Image;
-use hive_key_writer::{NOWHERE, put_cell};
+use hive_key_writer::{NOWHERE, cell_cost, put_cell};
 use hive_records::put_security;
 use refusals::Refusal;
 use reg_tree_parts::{Data, Key, Node};
@@ -66,6 +66,7 @@ impl Securities {
         requires { place < length self.old }
         ensures keeps { Keeps self.old self.new }
         ensures short { AreShort self.old → AreShort self.new }
+        ensures cost { securities_cost self.new ≡ securities_cost self.old }
     {
         self.cells[place].count = self.cells[place].count.saturating_add(1);
     }
@@ -76,6 +77,8 @@ impl Securities {
         ensures keeps { OnOk result (Keeps self.old self.new) }
         ensures short { OnOk result (length descriptor.now < 2 ^ 32 → AreShort self.old
             → AreShort self.new) }
+        ensures cost { OnOk result (securities_cost self.new ≤ securities_cost self.old
+            + descriptor_cost (length descriptor.now)) }
     {
         let bytes = Vec::from_slice(alloc, descriptor.bytes())?;
         self.places.insert(bytes, self.cells.len())?;
@@ -100,6 +103,8 @@ impl Securities {
         ensures keeps { OnOk result (Keeps self.old self.new) }
         ensures short { OnOk result (length descriptor.now < 2 ^ 32 → AreShort self.old
             → AreShort self.new) }
+        ensures cost { OnOk result (securities_cost self.new ≤ securities_cost self.old
+            + descriptor_cost (length descriptor.now)) }
     {
         if let Some(place) = self.place(descriptor.bytes()) {
             if self.is_at(place, descriptor.bytes()) {
@@ -117,6 +122,8 @@ impl Securities {
         ensures keeps { OnOk result (Keeps self.old self.new) }
         ensures short { OnOk result (length key.now.descriptor < 2 ^ 32 → AreShort self.old
             → AreShort self.new) }
+        ensures cost { OnOk result (securities_cost self.new ≤ securities_cost self.old
+            + row_security_cost key.now) }
     {
         if key.descriptor().bytes().is_empty() {
             return Ok(());
@@ -131,6 +138,8 @@ impl Securities {
         ensures counted { OnOk result (AreCounted self.new node.now) }
         ensures keeps { OnOk result (Keeps self.old self.new) }
         ensures short { OnOk result (AreShort self.old → AreShort self.new) }
+        ensures cost { OnOk result (securities_cost self.new ≤ securities_cost self.old
+            + descriptors_cost node.now) }
     {
         self.count_key(alloc, node.key())?;
         for index in 0..node.subkey_count() {
@@ -164,10 +173,13 @@ impl Securities {
     }
 
     /// How many bytes all the cells have.
-    pub(crate) fn bytes(&self) -> u32 {
-        let mut sum = 0u32;
+    pub(crate) fn cost(&self) -> usize
+        requires { securities_cost self.now < 2 ^ 32 }
+        ensures { result ≡ securities_cost self.now }
+    {
+        let mut sum = 0;
         for security in &self.cells {
-            sum = sum.wrapping_add(cell_len(security));
+            sum += security_len(security);
         }
         sum
     }
@@ -175,9 +187,13 @@ impl Securities {
     /// Puts the cells one behind the other, each linked with those before and behind it in a ring. The links are right
     /// where the image is new and has room for all cells in its first bin; they are not read.
     pub(crate) fn put(&mut self, image: &mut Image, text: &mut Vec<u8>) -> Result<(), Refusal>
-        requires { AreShort self.old }
+        requires short { AreShort self.old }
+        requires fits { securities_cost self.old < 2 ^ 31 }
         ensures held { OnOk result (Makes image.old.bytes image.new.bytes (Holding self.new)) }
         ensures keeps { OnOk result (Keeps self.old self.new) }
+        ensures uses { OnOk result (Uses image.old.bytes image.new.bytes
+            (securities_cost self.old)) }
+        ensures stops { IfErr result (Stops image.old.bytes (securities_cost self.old)) }
     {
         let count = self.cells.len();
         let mut previous = self.last_at();
@@ -204,23 +220,27 @@ impl Securities {
     }
 
     // where the last cell is to be
-    fn last_at(&self) -> u32 {
+    fn last_at(&self) -> u32
+        requires { securities_cost self.now < 2 ^ 31 }
+    {
         match self.cells.last() {
             Some(last) => FIRST
-                .wrapping_add(self.bytes())
-                .wrapping_sub(cell_len(last)),
+                .wrapping_add(self.cost() as u32)
+                .wrapping_sub(security_len(last) as u32),
             None => NOWHERE,
         }
     }
 
     // where the cell behind the one at an index is to be, from where that is; the first one is behind the last
-    fn next_at(&self, index: usize, at: u32) -> u32 {
+    fn next_at(&self, index: usize, at: u32) -> u32
+        requires { securities_cost self.now < 2 ^ 31 }
+    {
         match self.cells.get(index) {
             Some(security) => {
                 if index.wrapping_add(1) == self.cells.len() {
                     FIRST
                 } else {
-                    at.wrapping_add(cell_len(security))
+                    at.wrapping_add(security_len(security) as u32)
                 }
             }
             None => FIRST,
@@ -228,14 +248,16 @@ impl Securities {
     }
 }
 
-// the bytes of a security cell before its descriptor, its size included
-const BEFORE: u32 = 24;
+// the bytes of a security cell's data before its descriptor
+const BEFORE: usize = 20;
 
 // where the first cell of an image is
 const FIRST: u32 = 32;
 
 // how many bytes a security cell has
-fn cell_len(security: &Security) -> u32 {
-    let len = clamped(security.descriptor.bytes().len());
-    len.wrapping_add(BEFORE).wrapping_add(7) / 8 * 8
+fn security_len(security: &Security) -> usize
+    requires { security_cost security.now < 2 ^ 32 }
+    ensures { result ≡ security_cost security.now }
+{
+    cell_cost(BEFORE + security.descriptor.bytes().len())
 }

@@ -1,9 +1,12 @@
 -- Changes that are legal leave a tree within the weight.
-use Rattle.std.proofs.Common.{◌≡◌, ◌≤◌, ℕ, Bool, true, false, List, [], ◌∷◌, ◌++◌, refl, ap, ◌∙◌, Option, Some, None, Result, Ok, Err, cond}
+use Rattle.std.proofs.Common.{◌≡◌, ◌≤◌, ℕ, Bool, true, false, List, [], ◌∷◌, ◌++◌, refl, ap, ◌∙◌, Option, Some, None, Result, Ok, Err, cond, ◌⊎◌, inl, inr, ⊎_elim, ◌<◌, arith}
 use Rattle.std.specs.Prelude.{IsOk}
 use Rattle.std.proofs.lemmas.Option.{none-some}
 use Rattle.refusals.specs.declared.refusal.Refusal.{Refusal}
-use Rattle.refusals.specs.declared.limits.TheConstants.{MOST_WEIGHT}
+use Rattle.refusals.specs.declared.refusal.Refusal.TheVariants as refusal
+use Rattle.refusals.specs.declared.limits.TheConstants.{MOST_BINS_BYTES, MOST_WEIGHT}
+use Rattle.hive_emit.specs.Emitting.{EmitRefused}
+use Rattle.hive_flush.specs.Standing.{IsRefusedFor}
 use Rattle.reg_tree.specs.Maps.{TreeMap, IsTree, weight}
 use Rattle.reg_tree.specs.Judgement.{changed, legal_in}
 use Rattle.reg_tree.specs.declared.op.Op.{Op}
@@ -50,3 +53,30 @@ legal_within weights trees [] tree made is within go = within
 legal_within weights trees (op ∷ ops) tree made is within go =
     let step = was_legal (is_legal (legal_in tree op.1)) (replay rules ops (changed tree op.1 op.0)) made go in
     legal_within weights trees ops (changed tree op.1 op.0) made (trees tree is op.1 op.0) (weights tree is op.1 op.0 within (legal_ok (legal_in tree op.1) step.0)) step.1
+
+-- ---- refusals
+
+-- a tree is emitted at a size within the limit
+pub emit_told : (total least : ℕ) (why : Refusal) → least ≤ MOST_BINS_BYTES → EmitRefused total least why → IsRefusedFor total why
+emit_told total least refusal.NoMemory le x = inl refl
+emit_told total least refusal.NotFound le x = elim x [ ]
+emit_told total least refusal.HasSubkeys le x = elim x [ ]
+emit_told total least refusal.BadName le x = elim x [ ]
+emit_told total least refusal.TooDeep le x = elim x [ ]
+emit_told total least refusal.TooLarge le x = ⊎_elim (λ heavy. inr (refl, heavy)) (λ long. absurd (omega (arith, le, long))) x
+emit_told total least refusal.Conflict le x = elim x [ ]
+emit_told total least refusal.NotActive le x = elim x [ ]
+emit_told total least refusal.NoSuchHandle le x = elim x [ ]
+emit_told total least refusal.NoSeat le x = elim x [ ]
+emit_told total least refusal.JournalFull le x = elim x [ ]
+emit_told total least refusal.HistoryFull le x = elim x [ ]
+emit_told total least refusal.DiskFault le x = elim x [ ]
+emit_told total least refusal.Faulted le x = elim x [ ]
+emit_told total least (refusal.HiveDamaged hive cause) le x = elim x [ ]
+emit_told total least refusal.JournalDamaged le x = elim x [ ]
+emit_told total least refusal.Unsupported le x = elim x [ ]
+emit_told total least refusal.Fixed le x = elim x [ ]
+
+-- changes that are legal are refused for memory alone
+pub legal_told : (most total : ℕ) (why : Refusal) → total ≤ most → (why ≡ refusal.NoMemory) ⊎ ((why ≡ refusal.TooLarge) × (most < total)) → why ≡ refusal.NoMemory
+legal_told most total why light told = ⊎_elim (λ none. none) (λ large. absurd (omega (arith, light, large.1))) told

@@ -1,8 +1,9 @@
 -- What a hive's two files hold in a store.
-use Rattle.std.specs.Prelude.{◌≡◌, ℕ, ◌≤◌, nat_eq, ◌&&◌, ◌==◌, if◌then◌else◌, true, false, List, length, Some, None}
+use Rattle.std.specs.Prelude.{◌≡◌, ◌⊎◌, ◌<◌, ℕ, ◌≤◌, nat_eq, ◌&&◌, ◌==◌, if◌then◌else◌, true, false, List, length, Some, None}
 use Rattle.std.specs.Cmp.Lexicographic.{pointwise}
 use Rattle.refusals.specs.declared.refusal.Refusal.{Refusal}
 use Rattle.refusals.specs.declared.refusal.Refusal.TheVariants as refusal
+use Rattle.refusals.specs.declared.limits.TheConstants.{MOST_WEIGHT}
 use Rattle.reg_tree.specs.Maps.{TreeMap}
 use Rattle.base_block.specs.declared.block.BaseBlock.{BaseBlock}
 use Rattle.base_block.specs.Judgements.{IsPrimary}
@@ -42,6 +43,10 @@ with_tree stands bytes root minor store tree b r m s =
 -- the rule that gives none
 abbrev pub no_tree : Standing TreeMap
 no_tree b r m s = None
+
+-- why a tree of a weight is refused: memory was not given, or it is over the limit
+abbrev pub IsRefusedFor : ℕ → Refusal → Type 0
+IsRefusedFor weight why = (why ≡ refusal.NoMemory) ⊎ ((why ≡ refusal.TooLarge) × (MOST_WEIGHT < weight))
 
 -- a refusal tells of a hive with its number, or of a version that isn't known
 abbrev pub IsOfHive : ℕ → Refusal → Type 0

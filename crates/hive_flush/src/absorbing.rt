@@ -1,12 +1,14 @@
 //! What a hive takes into memory.
-ghost use Rattle.std.specs.Prelude.{◌≡◌, ◌⊎◌, ◌<◌, ◌≤◌, ◌++◌, ℕ, true, None, length, Err, IfErr, IfOk, OnOk, OnErr};
+ghost use Rattle.std.specs.Prelude.{◌≡◌, ◌<◌, ◌≤◌, ◌++◌, ℕ, List, true, None, length, Err, IfErr, IfOk, OnOk, OnErr};
 ghost use Rattle.refusals.specs.declared.limits.TheConstants.{MOST_BINS_BYTES, MOST_WEIGHT};
 ghost use Rattle.refusals.specs.declared.refusal.Refusal.TheVariants.{NoMemory, TooLarge};
 ghost use Rattle.reg_tree.specs.Maps.{TreeMap, weight};
 ghost use Rattle.disk_model.specs.FileState.{FileState};
 ghost use Rattle.dirty_vector.specs.Pages.{is_bins_size};
-ghost use Rattle.hive_flush.specs.Standing.{StandsWithin};
-ghost use Rattle.hive_flush.specs.HiveStates.{IsBroken, IsOn, IsWhole, files_of, led_to, memory_of, place_of, store_of};
+ghost use Rattle.base_block.specs.declared.block.TheConstants.{MINOR_VERSION};
+ghost use Rattle.reg_tree.specs.declared.element.Element.{Element as Change};
+ghost use Rattle.hive_flush.specs.Standing.{IsRefusedFor, StandsWithin};
+ghost use Rattle.hive_flush.specs.HiveStates.{AreLegalOn, IsBroken, IsOn, IsWhole, files_of, led_to, memory_of, place_of, store_of};
 
 use crate::hive::HiveFile;
 use crate::planning::plan_fits;
@@ -16,21 +18,16 @@ use hive_emit::{Emitted, emit};
 use hive_files::mark_changes;
 use hive_records::one_tree;
 use refusals::Refusal;
-use refusals::limits::MOST_BINS_BYTES;
+use reg_tree::laws::{trees_stay, weights_stay};
 use reg_tree::{Element, Tree};
 use std::alloc::Global;
-
-// bins data come in bins of this many bytes, or of multiples of it
-const BIN_BYTES: usize = 4_096;
-
-const _: () = prove!(BIN_BYTES == 4_096);
 
 impl HiveFile {
     /// Absorbs changes into memory, one after another, from two slices: what follows the number in memory up to `upto`. A flush
     /// that begins then writes the tree that they lead to. No flush is on its way, and the hive is whole.
     ///
-    /// Refused with `NoMemory`, and with `TooLarge` where the tree that they lead to is over the weight or has no place in an image
-    /// within the limit; nothing has changed then.
+    /// Refused with `NoMemory`, and with `TooLarge` only where the tree that they lead to is over the weight, which legal changes
+    /// never leave; nothing has changed then.
     pub fn absorb(
         &mut self,
         alloc: Global,
@@ -45,6 +42,11 @@ impl HiveFile {
           led_to (place_of self.old) (first.now ++ then.now) (memory_of self.old).0,
           upto,
         )) }
+        ensures refused { IfErr result (IsRefusedFor (weight (led_to (place_of self.old)
+            (first.now ++ then.now) (memory_of self.old).0))) }
+        ensures legal { AreLegalOn (place_of self.old) (first.now ++ then.now)
+            (memory_of self.old).0 → IfErr result (λ why. why ≡ NoMemory) }
+        ensures light { OnOk result (weight (memory_of self.new).0 ≤ MOST_WEIGHT) }
         ensures err { OnErr result (self.new ≡ self.old) }
         ensures files { files_of self.new ≡ files_of self.old }
         ensures on { (primary log : FileState) → IsOn self.old primary log →
@@ -54,10 +56,11 @@ impl HiveFile {
         ensures whole { IsWhole self.new }
         ensures sound { IsBroken self.new → IsBroken self.old }
     {
+        legal_is_light(&self.tree);
         let hive = self.writer.hive;
         let tree = replayed(alloc, self.tree.clone()?, hive, first)?;
         let tree = replayed(alloc, tree, hive, then)?;
-        let (bins, root) = match written(alloc, &tree, self.bins.len()) {
+        let (bins, root) = match written(alloc, &tree, self.pages.bins_size()) {
             Ok(written) => written,
             Err(why) => return Err(why),
         };
@@ -74,7 +77,7 @@ impl HiveFile {
         requires whole { IsWhole self.old }
         requires rest { (files_of self.old).next ≡ None }
         requires ahead { (memory_of self.old).1 ≤ number }
-        requires stands { StandsWithin bins.items root 5 tree }
+        requires stands { StandsWithin bins.items root MINOR_VERSION tree }
         requires size { is_bins_size (length bins.items) ≡ true }
         requires larger { length self.old.bins.items ≤ length bins.items }
         ensures memory { memory_of self.new ≡ (tree, number) }
@@ -102,36 +105,38 @@ impl HiveFile {
     }
 }
 
-/// Bins data of at least a size that stand for a tree, and the root's cell in them.
+/// Bins data of at least a size that stand for a tree, and the root's cell in them. Refused with `TooLarge` exactly where the
+/// tree is over the weight, and else with `NoMemory`.
 pub(crate) fn written(
     alloc: Global,
     tree: &Tree,
     least_size: usize,
 ) -> Result<(Vec<u8>, u32), Refusal>
-    requires { least_size ≤ MOST_BINS_BYTES }
-    ensures stands { IfOk result (λ made. StandsWithin made.0.items made.1 5 tree.now) }
+    requires least { 4096 ≤ least_size }
+    requires most { least_size ≤ MOST_BINS_BYTES }
+    ensures stands { IfOk result (λ made.
+        StandsWithin made.0.items made.1 MINOR_VERSION tree.now) }
     ensures size { IfOk result (λ made. is_bins_size (length made.0.items) ≡ true) }
     ensures least { IfOk result (λ made. least_size ≤ length made.0.items) }
-    ensures refused { IfErr result (λ why. (why ≡ NoMemory) ⊎ (why ≡ TooLarge)) }
+    ensures refused { IfErr result (IsRefusedFor (weight tree.now)) }
     ensures heavy { MOST_WEIGHT < weight tree.now → result ≡ Err TooLarge }
 {
     let _ = tree.root();
     let Emitted { image, root } = match emit(alloc, tree, least_size as u32) {
         Ok(emitted) => emitted,
-        Err(Refusal::NoMemory) => return Err(Refusal::NoMemory),
-        Err(_) => return Err(Refusal::TooLarge),
+        Err(why) => return Err(why),
     };
-    let bins = image.into_bytes();
-    if is_size(bins.len()) {
-        Ok((bins, root))
-    } else {
-        Err(Refusal::TooLarge)
-    }
+    image.tiles(0);
+    Ok((image.into_bytes(), root))
 }
 
-// whether bins data have whole bins, at least one, and are within the limit
-fn is_size(len: usize) -> bool
-    ensures { result ≡ is_bins_size len }
+// a law: changes that are legal leave a tree within the weight
+fn legal_is_light(tree: &Tree)
+    requires { weight tree.now ≤ MOST_WEIGHT }
+    ensures { (hive : ℕ) (changes : List Change) → AreLegalOn hive changes tree.now →
+        weight (led_to hive changes tree.now) ≤ MOST_WEIGHT }
 {
-    len.is_multiple_of(BIN_BYTES) && len >= BIN_BYTES && len <= MOST_BINS_BYTES
+    weights_stay();
+    trees_stay();
+    let _ = tree.root();
 }

@@ -4,3 +4,4 @@ pub mod Datas
 pub mod Valued
 pub mod ValueMaps
 pub mod Leaves
+pub mod Sums

@@ -6,11 +6,11 @@ use Rattle.std.proofs.lemmas.Bool.{cases_eq, cases_lt}
 use Rattle.std.proofs.lemmas.Bool.Decides.{eqb_tells}
 use Rattle.refusals.specs.declared.refusal.Refusal.{Refusal}
 use Rattle.refusals.specs.declared.refusal.Refusal.TheVariants as refusal
-use Rattle.hive_cells.specs.Tiles.{Tiles, BinStart, first_bin, next_bin, CellStart, first_cell, next_cell, IsCell, IsAllocatedCell, cell_size, cell_data, bin_size}
+use Rattle.hive_cells.specs.Tiles.{Tiles, BinStart, first_bin, next_bin, CellStart, first_cell, next_cell, IsCell, IsAllocatedCell, IsFreeCell, cell_size, cell_data, bin_size}
 use Rattle.hive_cells.specs.Bins.{Bins, Cells, Shows}
 use Rattle.hive_cells.specs.Changes.{OthersStay, StaysAt, Allocates, Writes, PlaceRefused, least_size}
 use Rattle.hive_records.specs.Numbers.{nowhere}
-use Rattle.hive_key_writer.specs.Making.{Makes, Opens, Puts, Roomy, Uses, Stops, Fills, IsLongCell, cell_cost}
+use Rattle.hive_key_writer.specs.Making.{Makes, Opens, Puts, RoomyAt, Roomy, Uses, Lands, Stops, Fills, IsLongCell, cell_cost}
 
 -- bins begin at multiples of 4,096, cells at multiples of 8 within the data
 bin_pages : (bytes : List ℕ) (at : ℕ) → BinStart bytes at → at % 4096 ≡ 0
@@ -32,7 +32,7 @@ cell_eights bytes end _ (next_cell from at start is next within) =
     let sum : at ≡ from + cell_size bytes from = next in
     omega (arith, before, eights, sum)
 
-end_within : (bytes : List ℕ) (end at : ℕ) → CellStart bytes end at → end ≤ length bytes
+pub end_within : (bytes : List ℕ) (end at : ℕ) → CellStart bytes end at → end ≤ length bytes
 end_within bytes end _ (first_cell bin at start is ends begins) = let w : bin + bin_size bytes bin ≤ length bytes = is.within in omega (arith, w, ends)
 end_within bytes end _ (next_cell from at start is next within) = end_within bytes end from start
 
@@ -113,37 +113,39 @@ pub long_cell : (old new : List ℕ) (len at : ℕ) → Allocates old new len at
 long_cell old new len at a = (a.begins, (let least : least_size len ≤ cell_size new at = a.least in omega (arith, least)))
 
 -- what is taken of the room
-pub used : (old new : List ℕ) (len at : ℕ) → Allocates old new len at → Uses old new (cell_cost len)
-used old new len at a more r = elim a.source [
+pub landed : (old new : List ℕ) (len at : ℕ) → Allocates old new len at → Lands old new at (cell_cost len)
+landed old new len at a front more r = elim a.source [
   | inl h ↦
-      let here : at ≡ r.at = r.only at h.0 in
-      let long : least_size len + 8 + more < cell_size old r.at = r.long in
+      let here : at ≡ front = r.only at h.0 in
+      let long : least_size len + more + 8 < cell_size old front = r.long in
       let room : cell_size old at ≡ a.room = h.1 in
-      let same : cell_size old at ≡ cell_size old r.at = ap (cell_size old) here in
-      let most : cell_size new at ≤ least_size len + 8 = a.most in
-      let less : cell_size new at < a.room = omega arith in
+      let same : cell_size old at ≡ cell_size old front = ap (cell_size old) here in
+      let exact : cell_size new at ≡ least_size len = a.exact (omega (arith, long, room, same)) in
+      let less : cell_size new at < a.room = omega (arith, long, room, same, exact) in
       let rest : cell_size new at + cell_size new (at + cell_size new at) ≡ a.room = a.leaves.rest_size less in
-      record {
-        limit = let limit : length old ≤ 67108864 = r.limit in let len : length new ≡ length old = h.2 in omega arith;
-        at = at + cell_size new at;
-        free = a.leaves.rest less;
-        long = omega arith;
-        only = λ other free. elim (cases_lt other at) [
-          | inl low ↦ absurd (let e : other ≡ r.at = r.only other ((a.leaves.others other (inl low)).same.0 free) in omega arith)
-          | inr past ↦ elim (cases_lt other (at + a.room)) [
-            | inl inner ↦ a.leaves.alone other free past inner
-            | inr high ↦ absurd (let e : other ≡ r.at = r.only other ((a.leaves.others other (inr high)).same.0 free) in omega arith)
-          ]
-        ];
-      }
-  | inr h ↦ absurd (h.0 (r.at, r.free, (let long : least_size len + 8 + more < cell_size old r.at = r.long in omega arith)))
+      let next : at + cell_size new at ≡ front + least_size len = omega (arith, here, exact) in (
+        here,
+        record {
+          limit = let limit : length old ≤ 67108864 = r.limit in let len : length new ≡ length old = h.2 in omega (arith, limit, len);
+          free = subst (IsFreeCell new) next (a.leaves.rest less);
+          long = let after : cell_size new (at + cell_size new at) ≡ cell_size new (front + least_size len) = ap (cell_size new) next in omega (arith, long, room, same, exact, rest, after);
+          only = λ other free. elim (cases_lt other at) [
+            | inl low ↦ absurd (let e : other ≡ front = r.only other ((a.leaves.others other (inl low)).same.0 free) in omega (arith, e, low, here))
+            | inr past ↦ elim (cases_lt other (at + a.room)) [
+              | inl inner ↦ a.leaves.alone other free past inner ∙ next
+              | inr high ↦ absurd (let e : other ≡ front = r.only other ((a.leaves.others other (inr high)).same.0 free) in omega (arith, e, high, here, less))
+            ]
+          ];
+        },
+      )
+  | inr h ↦ absurd (h.0 (front, r.free, (let long : least_size len + more + 8 < cell_size old front = r.long in omega (arith, long))))
 ]
 
 pub stopped : (old : Bins) (len : ℕ) (why : Refusal) → PlaceRefused old (least_size len) why → Stops old.bytes (cell_cost len) why
 stopped old len refusal.NoMemory h = inl refl
 stopped old len refusal.TooLarge h = inr (λ r. elim h [
-  | inl over ↦ (let limit : length old.bytes ≤ 67108864 = r.limit in let o : 67108864 < length old.bytes = over in omega arith)
-  | inr none ↦ none.0 (r.at, r.free, (let long : least_size len + 8 < cell_size old.bytes r.at = r.long in omega arith))
+  | inl over ↦ (let limit : length old.bytes ≤ 67108864 = r.1.limit in let o : 67108864 < length old.bytes = over in omega arith)
+  | inr none ↦ none.0 (r.0, r.1.free, (let long : least_size len + 8 < cell_size old.bytes r.0 = r.1.long in omega arith))
 ])
 stopped old len refusal.NotFound h = absurd h
 stopped old len refusal.HasSubkeys h = absurd h
@@ -183,11 +185,10 @@ filled old new at text long w is = record {
         (slice_range new (at + 4 + length text) (at + cell_size new at), put_here before at (cell_data new at) at refl ∙ ap Some its),
       );
   len = w.within.len;
-  room = λ more r. record {
+  room = λ front more r. record {
     limit = let limit : length old ≤ 67108864 = r.limit in let len : length new ≡ length old = w.within.len in omega arith;
-    at = r.at;
-    free = (w.free r.at).same.1 r.free;
-    long = let size : cell_size new r.at ≡ cell_size old r.at = (w.free r.at).size r.free in let long : more < cell_size old r.at = r.long in omega arith;
+    free = (w.free front).same.1 r.free;
+    long = let size : cell_size new front ≡ cell_size old front = (w.free front).size r.free in let long : more + 8 < cell_size old front = r.long in omega arith;
     only = λ other free. r.only other ((w.free other).same.0 free);
   };
 }
@@ -218,5 +219,29 @@ put_made old mid new at len text m f = record {
   longer = let a : length old ≤ length mid = m.longer in let b : length new ≡ length mid = f.len in omega arith;
 }
 
+-- what is taken by one thing after another
+roomy_less : (bytes : List ℕ) (front room less : ℕ) → less ≤ room → RoomyAt bytes front room → RoomyAt bytes front less
+roomy_less bytes front room less fewer r = record { limit = r.limit; free = r.free; long = let long : room + 8 < cell_size bytes front = r.long in omega (arith, long, fewer); only = r.only }
+
+pub less_roomy : (bytes : List ℕ) (room less : ℕ) → less ≤ room → Roomy bytes room → Roomy bytes less
+less_roomy bytes room less fewer r = (r.0, roomy_less bytes r.0 room less fewer r.1)
+
+pub lands_used : (old new : List ℕ) (at cost : ℕ) → Lands old new at cost → Uses old new cost
+lands_used old new at cost l more r = (r.0 + cost, (l r.0 more r.1).1)
+
+pub none_used : (bytes : List ℕ) → Uses bytes bytes 0
+none_used bytes more r = subst (Roomy bytes) (let e : 0 + more ≡ more = omega arith in e) r
+
+pub uses_more : (old new : List ℕ) (a b : ℕ) → a ≤ b → Uses old new a → Uses old new b
+uses_more old new a b most u more r = less_roomy new (b - a + more) more (omega arith) (u (b - a + more) (subst (Roomy old) (let e : b + more ≡ a + (b - a + more) = omega (arith, most) in e) r))
+
 pub both_used : (old mid new : List ℕ) (a b : ℕ) → Uses old mid a → Uses mid new b → Uses old new (a + b)
 both_used old mid new a b u v more r = v more (u (b + more) (subst (Roomy old) (let e : a + b + more ≡ a + (b + more) = omega arith in e) r))
+
+-- what stops a later thing stops all of it
+pub stops_later : (old mid : List ℕ) (a b all : ℕ) (why : Refusal) → a + b ≤ all → Uses old mid a → Stops mid b why → Stops old all why
+stops_later old mid a b all why most u (inl none) = inl none
+stops_later old mid a b all why most u (inr full) = inr (λ r. full (u b (less_roomy old all (a + b) most r)))
+
+pub stops_more : (old : List ℕ) (a b : ℕ) (why : Refusal) → a ≤ b → Stops old a why → Stops old b why
+stops_more old a b why most s = stops_later old old 0 a b why (let e : 0 + a ≤ b = omega (arith, most) in e) (none_used old) s

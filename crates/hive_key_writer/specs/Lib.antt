@@ -1,3 +1,4 @@
 pub mod Making
 pub mod Values
 pub mod KeyLists
+pub mod Costs

@@ -41,21 +41,27 @@ pub record Puts (at : ℕ) (text : List ℕ) (before after : Cells) : Type 0 whe
 abbrev pub IsLongCell : List ℕ → ℕ → ℕ → Type 0
 IsLongCell bytes at len = IsAllocatedCell bytes at × (4 + len ≤ cell_size bytes at)
 
--- data within the limit have one free cell, which is longer than some room
-pub record Roomy (bytes : List ℕ) (room : ℕ) : Type 0 where
+-- data within the limit have one free cell, at an offset, which has some room and more than 8 bytes beside
+pub record RoomyAt (bytes : List ℕ) (at room : ℕ) : Type 0 where
   pub limit : length bytes ≤ MOST_BINS_BYTES
-  pub at : ℕ
   pub free : IsFreeCell bytes at
-  pub long : room < cell_size bytes at
+  pub long : room + 8 < cell_size bytes at
   pub only : (other : ℕ) → IsFreeCell bytes other → other ≡ at
+
+abbrev pub Roomy : List ℕ → ℕ → Type 0
+Roomy bytes room = (at : ℕ) × RoomyAt bytes at room
 
 -- so many bytes of the room are used at most: where there was room for them and for more, there is for those more
 abbrev pub Uses : List ℕ → List ℕ → ℕ → Type 0
 Uses old new cost = (more : ℕ) → Roomy old (cost + more) → Roomy new more
 
+-- a cell is taken from the front of the free one, and so many bytes of it are used
+abbrev pub Lands : List ℕ → List ℕ → ℕ → ℕ → Type 0
+Lands old new at cost = (front more : ℕ) → RoomyAt old front (cost + more) → (at ≡ front) × RoomyAt new (front + cost) more
+
 -- what a cell for data of a length takes of the room
 abbrev pub cell_cost : ℕ → ℕ
-cell_cost len = least_size len + 8
+cell_cost len = least_size len
 
 -- why nothing is written: for want of memory, or since there is no such room
 abbrev pub Stops : List ℕ → ℕ → Refusal → Type 0
@@ -65,7 +71,7 @@ Stops old cost why = (why ≡ refusal.NoMemory) ⊎ (Roomy old cost → ⊥)
 pub record Fills (old new : List ℕ) (at : ℕ) (text : List ℕ) : Type 0 where
   pub cells : (before : Cells) → Shows old before → (after : Cells) × Shows new after × SameBut at before after × Holds after at text
   pub len : length new ≡ length old
-  pub room : (more : ℕ) → Roomy old more → Roomy new more
+  pub room : (front more : ℕ) → RoomyAt old front more → RoomyAt new front more
 
 -- things are written one after another, each into cells of its own that were not there
 pub record Lists {A : Type 0} (Is : Cells → A → Type 0) (own : A → List ℕ) (items : List A) (before after : Cells) : Type 0 where

@@ -1,6 +1,6 @@
 //! Cells that are written into an image.
 ghost use Rattle.std.specs.Prelude.{◌≤◌, ◌+◌, ℕ, length, MatchResult};
-ghost use Rattle.hive_key_writer.specs.Making.{Makes, Opens, Puts, Uses, Stops, Fills, IsLongCell, cell_cost};
+ghost use Rattle.hive_key_writer.specs.Making.{Makes, Opens, Puts, Lands, Stops, Fills, IsLongCell, cell_cost};
 
 use hive_cells::Image;
 use refusals::Refusal;
@@ -17,7 +17,7 @@ pub fn new_cell(image: &mut Image, len: usize) -> Result<u32, Refusal>
     ensures { MatchResult result
         (λ at. Makes image.old.bytes image.new.bytes (Opens at len)
         × IsLongCell image.new.bytes at len
-        × Uses image.old.bytes image.new.bytes (cell_cost len))
+        × Lands image.old.bytes image.new.bytes at (cell_cost len))
         (λ why. Stops image.old.bytes (cell_cost len) why) }
 {
     match image.alloc(len) {
@@ -47,7 +47,7 @@ pub fn put_cell(image: &mut Image, text: &[u8], len: usize) -> Result<u32, Refus
     requires { length text.now ≤ len }
     ensures { MatchResult result
         (λ at. Makes image.old.bytes image.new.bytes (Puts at text.now)
-        × Uses image.old.bytes image.new.bytes (cell_cost len))
+        × Lands image.old.bytes image.new.bytes at (cell_cost len))
         (λ why. Stops image.old.bytes (cell_cost len) why) }
 {
     let at = match new_cell(image, len) {

@@ -1,8 +1,9 @@
 //! Data of values that don't lie in their record.
-ghost use Rattle.std.specs.Prelude.{◌<◌, ◌+◌, ◌*◌, ◌^◌, length, IfOk};
+ghost use Rattle.std.specs.Prelude.{◌<◌, ◌+◌, ◌*◌, ◌^◌, length, IfOk, IfErr, OnOk};
 ghost use Rattle.hive_records.specs.BigTexts.{AreFull};
-ghost use Rattle.hive_key_writer.specs.Making.{Makes};
+ghost use Rattle.hive_key_writer.specs.Making.{Makes, Uses, Stops};
 ghost use Rattle.hive_key_writer.specs.Values.{InSegments, DataAt};
+ghost use Rattle.hive_key_writer.specs.Costs.{segments_cost, apart_cost};
 
 use crate::cells::put_cell;
 use hive_cells::Image;
@@ -20,6 +21,9 @@ fn put_segments(alloc: Global, image: &mut Image, content: &[u8]) -> Result<Vec<
     ensures made { IfOk result (λ places. Makes image.old.bytes image.new.bytes
         (InSegments AreFull places.items content.now)) }
     ensures count { IfOk result (λ places. 16_344 * length places.items < length content.now + 16_344) }
+    ensures uses { OnOk result (Uses image.old.bytes image.new.bytes (segments_cost
+        (length content.now))) }
+    ensures stops { IfErr result (Stops image.old.bytes (segments_cost (length content.now))) }
 {
     let mut places = Vec::new(alloc);
     let full = (content.len() - 1) / SEGMENT_BYTES;
@@ -49,7 +53,10 @@ fn put_big(
 ) -> Result<u32, Refusal>
     requires many { 16_344 < length content.now }
     requires few { length content.now < 2 ^ 29 }
-    ensures { IfOk result (λ to. Makes image.old.bytes image.new.bytes (DataAt to content.now)) }
+    ensures made { IfOk result (λ to. Makes image.old.bytes image.new.bytes (DataAt to content.now)) }
+    ensures uses { OnOk result (Uses image.old.bytes image.new.bytes (apart_cost
+        (length content.now))) }
+    ensures stops { IfErr result (Stops image.old.bytes (apart_cost (length content.now))) }
 {
     let places = match put_segments(alloc, image, content) {
         Ok(places) => places,
@@ -77,7 +84,10 @@ pub(crate) fn put_data(
     content: &[u8],
 ) -> Result<u32, Refusal>
     requires { length content.now < 2 ^ 29 }
-    ensures { IfOk result (λ to. Makes image.old.bytes image.new.bytes (DataAt to content.now)) }
+    ensures made { IfOk result (λ to. Makes image.old.bytes image.new.bytes (DataAt to content.now)) }
+    ensures uses { OnOk result (Uses image.old.bytes image.new.bytes (apart_cost
+        (length content.now))) }
+    ensures stops { IfErr result (Stops image.old.bytes (apart_cost (length content.now))) }
 {
     if SEGMENT_BYTES < content.len() {
         return put_big(alloc, image, text, content);

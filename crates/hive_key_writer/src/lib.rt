@@ -4,10 +4,12 @@
 #![tactic(auto)]
 
 mod cells;
+mod costs;
 mod data;
 mod lists;
 mod values;
 
 pub use cells::{NOWHERE, fill, new_cell, put_cell};
+pub use costs::{cell_cost, values_cost};
 pub use lists::{LEAF_MOST, put_kids};
 pub use values::put_values;

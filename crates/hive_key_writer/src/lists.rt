@@ -1,9 +1,10 @@
 //! Lists of a key's subkeys: leaves of at most 500, and a list of leaves where there is more than one.
-ghost use Rattle.std.specs.Prelude.{◌≡◌, ◌<◌, ◌≤◌, ◌+◌, ◌++◌, ◌^◌, ◌*◌, true, false, length, drop, IfOk, OnOk};
+ghost use Rattle.std.specs.Prelude.{◌≡◌, ◌<◌, ◌≤◌, ◌+◌, ◌++◌, ◌^◌, ◌*◌, true, false, length, drop, IfOk, IfErr, OnOk};
 ghost use Rattle.reg_tree_parts.specs.Nodes.{subkeys_of};
 ghost use Rattle.hive_records.specs.ListTexts.{hashed_leaf};
-ghost use Rattle.hive_key_writer.specs.Making.{Makes, Puts};
+ghost use Rattle.hive_key_writer.specs.Making.{Makes, Puts, Uses, Stops};
 ghost use Rattle.hive_key_writer.specs.KeyLists.{leaf_text, placed, ListedLeaves, KidsAt};
+ghost use Rattle.hive_key_writer.specs.Costs.{leaf_cost, leaves_cost, kids_cost};
 
 use crate::cells::{NOWHERE, put_cell};
 use hive_cells::Image;
@@ -74,8 +75,11 @@ fn put_leaf(
     requires few { length places.now ≤ 500 }
     requires within { from + length places.now ≤ length (subkeys_of node.now) }
     requires small { length (subkeys_of node.now) < 2 ^ 24 }
-    ensures { IfOk result (λ at. Makes image.old.bytes image.new.bytes (Puts at (leaf_text plain
-        (placed places.now (drop from (subkeys_of node.now)))))) }
+    ensures made { IfOk result (λ at. Makes image.old.bytes image.new.bytes (Puts at (leaf_text
+        plain (placed places.now (drop from (subkeys_of node.now)))))) }
+    ensures uses { OnOk result (Uses image.old.bytes image.new.bytes (leaf_cost
+        (length places.now))) }
+    ensures stops { IfErr result (Stops image.old.bytes (leaf_cost (length places.now))) }
 {
     text.clear();
     put_leaf_text(text, node, from, places, plain)?;
@@ -99,6 +103,9 @@ fn put_leaves(
     ensures made { IfOk result (λ leaves. Makes image.old.bytes image.new.bytes
         (ListedLeaves plain leaves.items (placed places.now (subkeys_of node.now)))) }
     ensures count { IfOk result (λ leaves. 500 * length leaves.items < length places.now + 500) }
+    ensures uses { OnOk result (Uses image.old.bytes image.new.bytes (leaves_cost
+        (length places.now))) }
+    ensures stops { IfErr result (Stops image.old.bytes (leaves_cost (length places.now))) }
 {
     let mut leaves = Vec::new(alloc);
     for index in 0..places.len().div_ceil(LEAF_MOST) {
@@ -115,6 +122,8 @@ fn put_leaves(
 
 /// Puts the list of a key's subkeys, which have these cells: a leaf of at most 500, or leaves and a list of them. Answers
 /// its cell, or the offset of none where there are no subkeys.
+///
+/// Refused with `NoMemory`, and else only where the image has no free cell with room for all of it, or has several.
 pub fn put_kids(
     alloc: Global,
     image: &mut Image,
@@ -125,8 +134,11 @@ pub fn put_kids(
 ) -> Result<u32, Refusal>
     requires all { length places.now ≡ length (subkeys_of node.now) }
     requires few { length places.now < 2 ^ 24 }
-    ensures { IfOk result (λ list. Makes image.old.bytes image.new.bytes (KidsAt list plain
+    ensures made { IfOk result (λ list. Makes image.old.bytes image.new.bytes (KidsAt list plain
         (placed places.now (subkeys_of node.now)))) }
+    ensures uses { OnOk result (Uses image.old.bytes image.new.bytes (kids_cost
+        (length places.now))) }
+    ensures stops { IfErr result (Stops image.old.bytes (kids_cost (length places.now))) }
 {
     if places.is_empty() {
         return Ok(NOWHERE);

@@ -1,8 +1,9 @@
 //! Values, and the list of a key's values.
-ghost use Rattle.std.specs.Prelude.{◌≡◌, ◌<◌, ◌≤◌, length, IfOk};
+ghost use Rattle.std.specs.Prelude.{◌≡◌, ◌<◌, ◌≤◌, length, sum_by, IfOk, IfErr, OnOk};
 ghost use Rattle.std.specs.FinMap as finite;
-ghost use Rattle.hive_key_writer.specs.Making.{Makes};
+ghost use Rattle.hive_key_writer.specs.Making.{Makes, Uses, Stops};
 ghost use Rattle.hive_key_writer.specs.Values.{ValueAt, CanPut, CanPutAll, ListedValues, ValuesAt};
+ghost use Rattle.hive_key_writer.specs.Costs.{value_cost, values_cost};
 
 use crate::cells::{NOWHERE, put_cell};
 use crate::data::put_data;
@@ -12,8 +13,8 @@ use refusals::Refusal;
 use reg_tree_parts::{Value, Values};
 use std::alloc::Global;
 
-// the most bytes of data that lie in a value's record
-const IN_RECORD_BYTES: usize = 4;
+/// The most bytes of data that lie in a value's record.
+pub(crate) const IN_RECORD_BYTES: usize = 4;
 
 const _: () = prove!(IN_RECORD_BYTES == 4);
 
@@ -21,7 +22,9 @@ const _: () = prove!(IN_RECORD_BYTES == 4);
 fn put_small(image: &mut Image, text: &mut Vec<u8>, value: &Value) -> Result<u32, Refusal>
     requires can { CanPut value.now }
     requires few { length value.now.data ≤ 4 }
-    ensures { IfOk result (λ at. Makes image.old.bytes image.new.bytes (ValueAt at value.now)) }
+    ensures made { IfOk result (λ at. Makes image.old.bytes image.new.bytes (ValueAt at value.now)) }
+    ensures uses { OnOk result (Uses image.old.bytes image.new.bytes (value_cost value.now)) }
+    ensures stops { IfErr result (Stops image.old.bytes (value_cost value.now)) }
 {
     let _kind = value.kind;
     text.clear();
@@ -41,7 +44,9 @@ fn put_large(
 ) -> Result<u32, Refusal>
     requires can { CanPut value.now }
     requires some { 4 < length value.now.data }
-    ensures { IfOk result (λ at. Makes image.old.bytes image.new.bytes (ValueAt at value.now)) }
+    ensures made { IfOk result (λ at. Makes image.old.bytes image.new.bytes (ValueAt at value.now)) }
+    ensures uses { OnOk result (Uses image.old.bytes image.new.bytes (value_cost value.now)) }
+    ensures stops { IfErr result (Stops image.old.bytes (value_cost value.now)) }
 {
     let _kind = value.kind;
     let to = match put_data(alloc, image, text, value.data.bytes()) {
@@ -64,7 +69,9 @@ pub(crate) fn put_value(
     value: &Value,
 ) -> Result<u32, Refusal>
     requires { CanPut value.now }
-    ensures { IfOk result (λ at. Makes image.old.bytes image.new.bytes (ValueAt at value.now)) }
+    ensures made { IfOk result (λ at. Makes image.old.bytes image.new.bytes (ValueAt at value.now)) }
+    ensures uses { OnOk result (Uses image.old.bytes image.new.bytes (value_cost value.now)) }
+    ensures stops { IfErr result (Stops image.old.bytes (value_cost value.now)) }
 {
     if value.data.bytes().len() <= IN_RECORD_BYTES {
         put_small(image, text, value)
@@ -84,6 +91,10 @@ fn put_each(
     ensures made { IfOk result (λ places. Makes image.old.bytes image.new.bytes
         (ListedValues places.items (finite.values values.now))) }
     ensures count { IfOk result (λ places. length places.items ≡ finite.len values.now) }
+    ensures uses { OnOk result (Uses image.old.bytes image.new.bytes (sum_by value_cost
+        (finite.values values.now))) }
+    ensures stops { IfErr result (Stops image.old.bytes (sum_by value_cost
+        (finite.values values.now))) }
 {
     let mut places = Vec::new(alloc);
     for index in 0..values.len() {
@@ -100,6 +111,8 @@ fn put_each(
 }
 
 /// Puts values, and the list of them; answers the list's cell, or the offset of none where there are no values.
+///
+/// Refused with `NoMemory`, and else only where the image has no free cell with room for all of it, or has several.
 pub fn put_values(
     alloc: Global,
     image: &mut Image,
@@ -107,7 +120,10 @@ pub fn put_values(
     values: &Values,
 ) -> Result<u32, Refusal>
     requires { CanPutAll values.now }
-    ensures { IfOk result (λ list. Makes image.old.bytes image.new.bytes (ValuesAt list values.now)) }
+    ensures made { IfOk result (λ list. Makes image.old.bytes image.new.bytes
+        (ValuesAt list values.now)) }
+    ensures uses { OnOk result (Uses image.old.bytes image.new.bytes (values_cost values.now)) }
+    ensures stops { IfErr result (Stops image.old.bytes (values_cost values.now)) }
 {
     if values.len() == 0 {
         return Ok(NOWHERE);

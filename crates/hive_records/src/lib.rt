@@ -31,7 +31,7 @@ pub use image_laws::{keys_are_local, nodes, one_tree, rows_are_spellable, stays}
 pub use joined_laws::{big_data_go_on, descriptors_go_on, keys_go_on, lists_go_on, values_go_on};
 pub use key_node::KeyNode;
 pub use key_places::KeyPlaces;
-pub use names::is_latin;
+pub use names::{is_latin, stored_len};
 pub use numbers::word_at;
 pub use reading_laws::{follows, loops};
 pub use security_cell::Security;

@@ -10,7 +10,7 @@ pub fn is_latin(name: &[u16]) -> bool
 }
 
 /// How many bytes a name is stored in.
-pub(crate) fn stored_len(name: &[u16]) -> u16
+pub fn stored_len(name: &[u16]) -> u16
     requires { length (name_text name.now) < 2 ^ 16 }
     ensures { result ≡ length (name_text name.now) }
 {

@@ -1,10 +1,10 @@
 //! Flushes that are stopped, and what is opened then.
 ghost use Rattle.std.specs.Prelude.{◌≤◌};
 
-use crate::hives::{creation, flushed, fresh, has, left, open, repaired};
-use disk_model::{MemDisk, Plan, Tear};
+use crate::changes::creation;
+use crate::hives::{flushed, fresh, has, left, open, planned, repaired};
+use disk_model::{MemDisk, Tear};
 use std::alloc::Global;
-use std::sync::Arc;
 use std::test::Fail;
 
 // what is opened of a disk: the number, and whether the key of a letter is there
@@ -29,7 +29,7 @@ fn a_flush_that_is_done_is_found_whatever_is_torn(rt: HostRuntime) -> Result<(),
         let mut disk = fresh(alloc, number)?;
         let mut file = open(alloc, &mut disk)?;
         let element = creation(alloc, b'K')?;
-        flushed(alloc, &mut file, &mut disk, element)?;
+        flushed(alloc, &mut file, &mut disk, element, 1)?;
         assert_eq!(rt; file.applied(), 1);
         for tear in [Tear::Old, Tear::New, Tear::Torn] {
             let mut disk = left(alloc, &disk, tear)?;
@@ -44,12 +44,11 @@ fn stopped(alloc: Global, call: u64) -> Result<[(u64, bool); 3], Fail>
     requires { 1 ≤ call }
 {
     let disk = fresh(alloc, 1)?;
-    let plan = Arc::new(alloc, Plan::new())?;
-    let mut disk = disk.crashed(Tear::New, Arc::try_clone(&plan)?)?;
+    let (mut disk, plan) = planned(alloc, &disk, Tear::New)?;
     let mut file = open(alloc, &mut disk)?;
     plan.stop_at(call);
     let element = creation(alloc, b'K')?;
-    let _ = flushed(alloc, &mut file, &mut disk, element);
+    let _ = flushed(alloc, &mut file, &mut disk, element, 1);
     let old = found(alloc, &mut left(alloc, &disk, Tear::Old)?, b'K')?;
     let new = found(alloc, &mut left(alloc, &disk, Tear::New)?, b'K')?;
     let torn = found(alloc, &mut left(alloc, &disk, Tear::Torn)?, b'K')?;

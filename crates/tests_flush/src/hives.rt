@@ -7,14 +7,17 @@ use engine_words::Progress;
 use hive_emit::{Emitted, emit};
 use hive_flush::HiveFile;
 use refusals::Refusal;
-use reg_names::Path;
-use reg_tree::{Element, Op, Ops, Tree};
+use reg_names::{Name, Path};
+use reg_tree::{Element, Tree};
 use std::alloc::{AllocError, Global};
 use std::sync::Arc;
 use uuid::Uuid;
 
 /// The primary file of hive 0.
-const PRIMARY: u32 = 1;
+pub const PRIMARY: u32 = 1;
+
+/// Its log.
+pub const LOG: u32 = 2;
 
 /// More steps than any of these flushes takes.
 const MANY: u32 = 64;
@@ -40,11 +43,15 @@ pub fn left(alloc: Global, disk: &MemDisk, tear: Tear) -> Result<MemDisk, AllocE
     disk.crashed(tear, Arc::new(alloc, Plan::new())?)
 }
 
-/// A change that creates a key below the root, of one letter.
-pub fn creation(alloc: Global, letter: u8) -> Result<Element, Refusal> {
-    let path = Path::parse(alloc, &[u16::from(letter)])?;
-    let ops = Ops::one(alloc, Op::CreateKey { hive: 0, path })?;
-    Ok(Element { moment: 7, ops })
+/// What a crash leaves of a disk, and the plan by which calls on it fail.
+pub fn planned(
+    alloc: Global,
+    disk: &MemDisk,
+    tear: Tear,
+) -> Result<(MemDisk, Arc<Plan>), AllocError> {
+    let plan = Arc::new(alloc, Plan::new())?;
+    let disk = disk.crashed(tear, Arc::try_clone(&plan)?)?;
+    Ok((disk, plan))
 }
 
 /// Hive 0 of the store.
@@ -75,19 +82,20 @@ fn repair_on(
     }
 }
 
-/// Absorbs a change as number 1 and flushes it: how many steps that took.
+/// Absorbs a change under a number and flushes it: how many steps that took.
 pub fn flushed(
     alloc: Global,
     file: &mut HiveFile,
     disk: &mut MemDisk,
     element: Element,
+    number: u64,
 ) -> Result<u32, Refusal> {
-    if !file.is_at_rest() {
+    if !file.is_at_rest() || number < file.number() {
         return Err(Refusal::Conflict);
     }
     let mut changes = Vec::new(alloc);
     changes.push(element)?;
-    match file.absorb(alloc, &changes, &[], 1) {
+    match file.absorb(alloc, &changes, &[], number) {
         Ok(()) => flush_on(file, disk, 0, MANY),
         Err(why) => Err(why),
     }
@@ -112,4 +120,20 @@ fn flush_on(file: &mut HiveFile, disk: &mut MemDisk, made: u32, most: u32) -> Re
 pub fn has(alloc: Global, file: &HiveFile, letter: u8) -> Result<bool, Refusal> {
     let path = Path::parse(alloc, &[u16::from(letter)])?;
     Ok(file.tree().query_info(&path).is_ok())
+}
+
+/// The byte at a place of a value of the root, of one letter; 0 where it isn't there.
+pub fn byte_of(alloc: Global, file: &HiveFile, letter: u8, place: usize) -> Result<u8, Refusal> {
+    let path = Path::root(alloc)?;
+    let name = Name::value(alloc, &[u16::from(letter)])?;
+    let value = file.tree().get_value(&path, name.name())?;
+    Ok(value.data.bytes().get(place).copied().unwrap_or(0))
+}
+
+/// The bytes of a file.
+pub fn bytes_of(alloc: Global, disk: &mut MemDisk, file: u32) -> Result<Vec<u8>, Refusal> {
+    let len = disk.len(file)?;
+    let mut bytes = vec![in alloc; 0u8; len as usize]?;
+    disk.read(file, 0, &mut bytes)?;
+    Ok(bytes)
 }

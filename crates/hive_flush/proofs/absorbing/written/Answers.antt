@@ -1,18 +1,31 @@
-use Rattle.std.proofs.Common.{◌≡◌, ℕ, List, ⊎_elim, sym, subst, arith, Ok, Err, Result}
+use Rattle.std.proofs.Common.{◌≡◌, ℕ, List, length, ⊎_elim, sym, ap, subst, ◌∙◌, arith, Ok, Err, Result}
+use Rattle.std.specs.Prelude.{◌%◌}
 use Rattle.refusals.specs.declared.refusal.Refusal.{Refusal}
-use Rattle.std.proofs.lemmas.Bool.{cases_lt}
+use Rattle.std.proofs.lemmas.Bool.{and_from, cases_lt, eq-eqb, le-leb}
 use Rattle.refusals.specs.declared.refusal.Refusal.TheVariants.{TooLarge}
 use Rattle.reg_tree.specs.Maps.{weight}
+use Rattle.dirty_vector.specs.Pages.{is_bins_size}
 use Rattle.hive_records.specs.Images.{StandsFor}
+use Rattle.hive_flush.proofs.Legal.{emit_told}
 use Rattle.hive_flush.proofs.absorbing.written.Goals as goal
 
 never : {T : Type 0} (x : T) (e : Refusal) → ◌≡◌ {A = Result T Refusal} (Ok x) (Err e) → ⊥
 never x e same = absurd cc
 
-pub returns-then-is_size-clause-stands : goal.returns-then-is_size-clause-stands
-returns-then-is_size-clause-stands c =
+pub returns-in-Err-clause-refused : goal.returns-in-Err-clause-refused
+returns-in-Err-clause-refused c = emit_told _ _ _ c.requires.most c.in-Err.ensures.refused
+
+pub returns-clause-size : goal.returns-clause-size
+returns-clause-size c =
+    let bytes = c.in-Ok.emitted.image.bytes in
+    let n = length bytes in
+    ap (λ (l : List ℕ). is_bins_size (length l)) c.into_bytes.ensures
+    ∙ and_from _ _ (and_from _ _ (eq-eqb (n % 4096) 0 c.tiles.ensures.tiles.pages) (le-leb 4096 n (omega (arith, c.requires.least, c.in-Ok.ensures.least)))) (le-leb n 67108864 c.in-Ok.ensures.limit)
+
+pub returns-clause-stands : goal.returns-clause-stands
+returns-clause-stands c =
     let tree = c.args.tree.now in (
-      subst (λ (l : List ℕ). StandsFor l c.in-Ok.emitted.root 5 tree) (sym c.into_bytes-bins.ensures) (c.in-Ok.ensures.stands 5 (omega arith)),
+      subst (λ (l : List ℕ). StandsFor l c.in-Ok.emitted.root 5 tree) (sym c.into_bytes.ensures) (c.in-Ok.ensures.stands 5 (omega arith)),
       record {
         light = ⊎_elim (λ over. absurd (never c.in-Ok.emitted TooLarge (c.in-Ok.ensures.heavy over))) (λ within. within) (cases_lt 16_777_216 (weight tree));
         shallow = λ path key there. (c.root.ensures.spellable.rows path key there).shallow;

@@ -1,7 +1,8 @@
-use Rattle.std.proofs.Common.{◌≡◌, [], length, take, Some}
+use Rattle.std.proofs.Common.{◌≡◌, ◌≤◌, ◌+◌, [], length, take, sum_by, Some}
 use Rattle.reg_tree_parts.specs.Rows.{Row}
 use Rattle.reg_tree_parts.specs.Nodes.{all_below, row_at, subkeys_of}
 use Rattle.hive_emit.specs.Emitting.{IsCounted, AreCounted, Keeps, AreShort}
+use Rattle.hive_emit.specs.Costs.{securities_cost, row_security_cost, descriptors_cost}
 use Rattle.hive_emit.proofs.security.Securities.+count_all.Given as goal
 
 abbrev pub invariant-loop-index : goal.invariant-loop-index
@@ -9,6 +10,7 @@ invariant-loop-index l = record {
   own : (row : Row) → row_at l.node [] ≡ Some row → IsCounted l.self row;
   kids : AreCounted l.self (all_below (take l.index (subkeys_of l.node)));
   keeps : Keeps l.fn.self l.self;
+  cost : (row : Row) → row_at l.node [] ≡ Some row → securities_cost l.self ≤ securities_cost l.fn.self + row_security_cost row + sum_by (λ k. descriptors_cost k.1) (take l.index (subkeys_of l.node));
   short : AreShort l.fn.self → AreShort l.self;
 }
 

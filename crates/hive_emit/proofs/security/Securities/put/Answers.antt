@@ -1,9 +1,14 @@
-use Rattle.std.proofs.Common.{◌≡◌, ◌<◌, ◌^◌, ◌++◌, List, length, take, sym, ap, ◌∙◌, subst, arith, refl}
+use Rattle.std.proofs.Common.{◌≡◌, ◌<◌, ◌≤◌, ◌+◌, ◌^◌, ◌++◌, List, length, length-append, take, sym, ap, ◌∙◌, subst, arith, refl}
 use Rattle.hive_records.specs.KeyTexts.{security_text}
-use Rattle.hive_key_writer.specs.Making.{Makes, Puts}
+use Rattle.hive_key_writer.specs.Making.{Makes, Puts, Uses, cell_cost}
 use Rattle.hive_emit.specs.declared.security.Security.{Security}
 use Rattle.hive_emit.specs.Emitting.{Holding, Has, AreShort}
-use Rattle.hive_emit.proofs.Securing.{one_held, set_keeps, same_read, short_at, short_set, long_set}
+use Rattle.hive_emit.proofs.Securing.{none_held, one_held, set_keeps, same_read, short_at, short_set, long_set}
+use Rattle.std.proofs.lemmas.List.{take_all}
+use Rattle.hive_records.proofs.Sizes.{long_security}
+use Rattle.hive_key_writer.proofs.NewCells.{none_used, lands_used, stops_later}
+use Rattle.hive_emit.specs.Costs.{securities_cost}
+use Rattle.hive_emit.proofs.KeySums.{uses_put, cost_set, cost_within}
 use Rattle.hive_emit.proofs.security.Securities.put.Goals as goal
 
 pub loop-index-preserved : goal.loop-index-preserved
@@ -20,7 +25,31 @@ loop-index-preserved c =
       made = one_held c.args.image.now.bytes c.loop-index.image.bytes c.put_cell.new.image.bytes items c.loop-index.index c.next_at-next.result c.loop-index.previous c.index-security.result.now.count c.in-Ok.at _ inside refl few
           (subst (λ (s : List Security). Makes c.args.image.now.bytes c.loop-index.image.bytes (Holding (take c.loop-index.index s))) (sym view) c.loop-index.invariant.made)
           (subst (λ t. Makes c.loop-index.image.bytes c.put_cell.new.image.bytes (Puts c.in-Ok.at t)) text c.in-Ok.ensures.0);
+      uses = uses_put c.args.image.now.bytes c.loop-index.image.bytes c.put_cell.new.image.bytes items c.loop-index.index c.len.result _ c.index_mut.result.now.descriptor inside refl (omega (arith, c.len.ensures, ap length c.in_ok-put_security.ensures, ap length c.clear.ensures.items, long_security c.next_at-next.result c.loop-index.previous c.index-security.result.now.count c.bytes.result.now, ap length same, length-append c.clear.new.self.items (security_text c.next_at-next.result c.loop-index.previous c.index-security.result.now.count c.bytes.result.now)))
+          (subst (λ (s : List Security). Uses c.args.image.now.bytes c.loop-index.image.bytes (securities_cost (take c.loop-index.index s))) (sym view) c.loop-index.invariant.uses) (lands_used c.loop-index.image.bytes c.put_cell.new.image.bytes c.in-Ok.at (cell_cost c.len.result) c.in-Ok.ensures.1);
+      cost = cost_set items c.loop-index.index c.index_mut.result.now _ inside c.index_mut.ensures.value refl ∙ ap securities_cost view ∙ c.loop-index.invariant.cost;
       keeps = λ d has. set_keeps items c.loop-index.index c.index_mut.result.now _ inside c.index_mut.ensures.value refl d (subst (λ (s : List Security). Has s d) (sym view) (c.loop-index.invariant.keeps d has));
       short = short_set items c.loop-index.index _ short few;
       len = long_set items c.loop-index.index _ ∙ ap length view ∙ c.loop-index.invariant.len;
     }
+
+pub next_at-next-requires : goal.next_at-next-requires
+next_at-next-requires c = omega (arith, c.loop-index.invariant.cost, c.requires.fits)
+
+pub returns-in-Err-clause-stops : goal.returns-in-Err-clause-stops
+returns-in-Err-clause-stops c =
+    let items : List Security = c.self-in-loop-index.inside.cells.items in
+    let view : items ≡ c.loop-index.self = c.self-in-loop-index.view_is in
+    let inside : c.loop-index.index < length items = omega (arith, c.loop-index-test.true, c.len-count.ensures, ap length c.self.view_is, ap length view, c.loop-index.invariant.len) in
+    let text : c.len.result ≡ 20 + length c.bytes.result.now = omega (arith, c.len.ensures, ap length c.in_ok-put_security.ensures, ap length c.clear.ensures.items, long_security c.next_at-next.result c.loop-index.previous c.index-security.result.now.count c.bytes.result.now, length-append c.clear.new.self.items (security_text c.next_at-next.result c.loop-index.previous c.index-security.result.now.count c.bytes.result.now)) in
+    stops_later c.args.image.now.bytes c.loop-index.image.bytes (securities_cost (take c.loop-index.index items)) (cell_cost c.len.result) (securities_cost c.args.self.now) c.in-Err.why
+    (omega (arith, cost_within items c.loop-index.index c.len.result c.index-security.result.now c.bytes.result.now inside c.index-security.ensures c.bytes.ensures text, ap securities_cost view, c.loop-index.invariant.cost))
+    (subst (λ (s : List Security). Uses c.args.image.now.bytes c.loop-index.image.bytes (securities_cost (take c.loop-index.index s))) (sym view) c.loop-index.invariant.uses) c.in-Err.ensures
+
+pub returns-clause-uses : goal.returns-clause-uses
+returns-clause-uses c =
+    let all : take c.loop-index.index c.loop-index.self ≡ c.loop-index.self = take_all c.loop-index.index c.loop-index.self (omega (arith, c.loop-index-test.false, c.len-count.ensures, ap length c.self.view_is, c.loop-index.invariant.len)) in
+    subst (Uses c.args.image.now.bytes c.loop-index.image.bytes) (ap securities_cost all ∙ c.loop-index.invariant.cost) c.loop-index.invariant.uses
+
+pub loop-index-init : goal.loop-index-init
+loop-index-init c = record { made = none_held c.args.image.now.bytes c.args.self.now; uses = none_used c.args.image.now.bytes; cost = refl; keeps = λ d has. has; short = c.requires.short; len = refl }

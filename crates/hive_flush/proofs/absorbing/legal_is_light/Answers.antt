@@ -1,0 +1,10 @@
+use Rattle.hive_flush.specs.HiveStates.{led_to}
+use Rattle.prefix_law.specs.Changes.{ops_on}
+use Rattle.engine_words.specs.Changes.{timed_elements}
+use Rattle.hive_flush.proofs.Legal.{legal_within}
+use Rattle.hive_flush.proofs.absorbing.legal_is_light.Goals as goal
+
+pub returns : goal.returns
+returns c = λ hive changes legal.
+    let tree = c.args.tree.now in
+    legal_within c.weights_stay.ensures.one c.trees_stay.ensures.one (ops_on hive (timed_elements changes)) tree (led_to hive changes tree) c.root.ensures.tree c.requires legal

@@ -1,0 +1,153 @@
+//! Flushes and repairs of three single dirty pages, stopped at each of their calls.
+ghost use Rattle.std.specs.Prelude.{◌≤◌};
+
+use crate::changes::{change, setting};
+use crate::hives::{byte_of, flushed, fresh, left, open, planned, repaired};
+use disk_model::{MemDisk, Tear};
+use refusals::Refusal;
+use reg_tree::Element;
+use std::alloc::Global;
+use std::test::Fail;
+
+/// What a value tells before the flush, and after it.
+const BEFORE: u8 = 0x11;
+
+const AFTER: u8 = 0x22;
+
+/// Three values of four pages each: where the byte that tells is, one page has it.
+const LETTERS: [u8; 3] = [b'A', b'B', b'C'];
+
+const LEN: usize = 2_000;
+
+const PLACE: usize = 1_000;
+
+/// Every tear.
+const TEARS: [Tear; 3] = [Tear::Old, Tear::New, Tear::Torn];
+
+// sets the three values
+fn telling(alloc: Global, byte: u8) -> Result<Element, Refusal> {
+    let mut ops = Vec::new(alloc);
+    for letter in LETTERS {
+        ops.push(setting(alloc, letter, LEN, PLACE, byte)?)?;
+    }
+    change(ops)
+}
+
+// A disk with a hive in which they tell of before, at number 2. It is flushed twice, so that its image is laid out as the next
+// one of as many bytes is.
+fn begun(alloc: Global) -> Result<MemDisk, Refusal> {
+    let mut disk = fresh(alloc, 1)?;
+    let mut file = open(alloc, &mut disk)?;
+    for number in 1..3 {
+        let element = telling(alloc, BEFORE)?;
+        match flushed(alloc, &mut file, &mut disk, element, number) {
+            Ok(_) => {}
+            Err(why) => return Err(why),
+        }
+    }
+    Ok(disk)
+}
+
+// what is opened of a disk, once it is repaired: the number and what the three values tell
+fn found(alloc: Global, disk: &mut MemDisk) -> Result<(u64, [u8; 3]), Refusal> {
+    let mut file = open(alloc, disk)?;
+    repaired(&mut file, disk)?;
+    let [first, second, third] = LETTERS;
+    let told = [
+        byte_of(alloc, &file, first, PLACE)?,
+        byte_of(alloc, &file, second, PLACE)?,
+        byte_of(alloc, &file, third, PLACE)?,
+    ];
+    Ok((file.applied(), told))
+}
+
+#[test]
+fn three_single_pages_are_ten_calls(rt: HostRuntime) -> Result<(), Fail> {
+    let alloc = rt.alloc();
+    let mut disk = begun(alloc)?;
+    let mut file = open(alloc, &mut disk)?;
+    let element = telling(alloc, AFTER)?;
+    assert_eq!(&rt; flushed(alloc, &mut file, &mut disk, element, 3), Ok(10));
+    assert_eq!(&rt; found(alloc, &mut disk), Ok((3, [AFTER; 3])));
+    Ok(())
+}
+
+// the disk of a flush that was stopped at a call
+fn stopped(alloc: Global, disk: &MemDisk, call: u64) -> Result<MemDisk, Refusal>
+    requires { 1 ≤ call }
+{
+    let (mut disk, plan) = planned(alloc, disk, Tear::New)?;
+    let mut file = open(alloc, &mut disk)?;
+    plan.stop_at(call);
+    let element = telling(alloc, AFTER)?;
+    let _ = flushed(alloc, &mut file, &mut disk, element, 3);
+    Ok(disk)
+}
+
+#[test]
+fn each_stop_of_a_flush_leaves_all_of_one_tree(rt: HostRuntime) -> Result<(), Fail> {
+    let alloc = rt.alloc();
+    let before = (2, [BEFORE; 3]);
+    let after = (3, [AFTER; 3]);
+    let disk = begun(alloc)?;
+    // the log, its sync; the raised sector, its sync, which isn't done: from there on a crash may leave it; three pages and their
+    // sync, the last sector and its sync
+    let outcomes = [
+        [before, before, before],
+        [before, before, before],
+        [before, after, after],
+        [before, after, after],
+        [after, after, after],
+        [after, after, after],
+        [after, after, after],
+        [after, after, after],
+        [after, after, after],
+        [after, after, after],
+    ];
+    for (index, outcome) in outcomes.iter().enumerate() {
+        let call = index as u64 + 1;
+        let stopped = stopped(alloc, &disk, call)?;
+        for (tear, wanted) in TEARS.iter().zip(outcome) {
+            let told = found(alloc, &mut left(alloc, &stopped, *tear)?)?;
+            assert_eq!(&rt; told, *wanted, "call {call}, {tear:?}");
+        }
+    }
+    Ok(())
+}
+
+// what an opening finds of a hive whose repair was stopped at a call and then torn: before a repair, and after one
+fn again(
+    alloc: Global,
+    disk: &MemDisk,
+    call: u64,
+    tear: Tear,
+) -> Result<(u64, (u64, [u8; 3])), Refusal>
+    requires { 1 ≤ call }
+{
+    let (mut disk, plan) = planned(alloc, disk, Tear::New)?;
+    let mut file = open(alloc, &mut disk)?;
+    plan.stop_at(call);
+    let _ = repaired(&mut file, &mut disk);
+    let mut disk = left(alloc, &disk, tear)?;
+    let number = open(alloc, &mut disk)?.number();
+    Ok((number, found(alloc, &mut disk)?))
+}
+
+#[test]
+fn each_stop_of_a_repair_leaves_the_same(rt: HostRuntime) -> Result<(), Fail> {
+    let alloc = rt.alloc();
+    // the raised sector stands, and no page
+    let disk = stopped(alloc, &begun(alloc)?, 8)?;
+    let disk = left(alloc, &disk, Tear::Old)?;
+    let mut whole = left(alloc, &disk, Tear::New)?;
+    let mut file = open(alloc, &mut whole)?;
+    // three pages and their sync, the last sector and its sync
+    assert_eq!(&rt; repaired(&mut file, &mut whole), Ok(6));
+    for call in 1..7 {
+        for tear in TEARS {
+            let told = again(alloc, &disk, call, tear)?;
+            assert_eq!(&rt; told, (3, (3, [AFTER; 3])), "call {call}, {tear:?}");
+        }
+    }
+    Ok(())
+}
