@@ -2,3 +2,4 @@ mod Sound
 mod OnDisk
 mod Journaling
 mod Taking
+mod RunLists

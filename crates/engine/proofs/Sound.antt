@@ -160,3 +160,6 @@ viewed (Some h) v e = (h, refl, same_Some (view_of h) v e)
 
 pub view_of_at : (hives : List HiveFile) (j : ℕ) (v : HiveView) → slice_get (map view_of hives) j ≡ Some v → (h : HiveFile) × (slice_get hives j ≡ Some h) × (view_of h ≡ v)
 view_of_at hives j v e = viewed (slice_get hives j) v (sym (slice_get-map view_of hives j) ∙ e)
+
+pub same_hive : (hives : List HiveFile) (k : ℕ) (a b : HiveFile) → slice_get hives k ≡ Some a → slice_get hives k ≡ Some b → a ≡ b
+same_hive hives k a b x y = same_Some a b (sym x ∙ y)

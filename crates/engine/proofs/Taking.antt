@@ -92,3 +92,12 @@ accepted_is m number from durable f d le since =
     let whole : (number - m.before) + ((m.durable - m.before) - (number - m.before)) ≡ m.durable - m.before = omega (arith, le) in
     ap (λ n. take n (drop (from - m.before) m.accepted)) long ∙ ap (λ n. take ((m.durable - m.before) - (number - m.before)) (drop n m.accepted)) skip
     ∙ sym (drop-take (number - m.before) ((m.durable - m.before) - (number - m.before)) m.accepted) ∙ ap (λ n. drop (number - m.before) (take n m.accepted)) whole
+
+pub handed_is : (m : Machine) (base : ℕ) (opened : List Element) (mem number from durable before first len skip : ℕ) (open_list acc_list : List Element) → number ≡ mem → from ≡ max number before → durable ≡ m.durable → before ≡ m.before → first ≡ number - base → len ≡ length opened → skip ≡ min first len
+    → open_list ≡ opened → acc_list ≡ drop (from - m.before) m.accepted → mem ≤ m.durable → m.before ≤ m.durable
+    → take (length open_list - skip) (drop skip open_list) ++ take (durable - from) acc_list ≡ opened_above base opened mem ++ accepted_above m mem
+handed_is m base opened mem number from durable before first len skip open_list acc_list n f d b fi l sk o a le since =
+    let skip_is : skip ≡ min (mem - base) (length opened) = omega (arith, n, fi, l, sk) in
+    let from_is : from ≡ max mem m.before = omega (arith, n, f, b) in
+    ap (λ (x : List Element). x ++ take (durable - from) acc_list) (ap (λ (x : List Element). take (length x - skip) (drop skip x)) o ∙ ap (λ x. take (length opened - x) (drop x opened)) skip_is ∙ opened_is (mem - base) opened)
+    ∙ ap (λ (x : List Element). opened_above base opened mem ++ x) (ap (take (durable - from)) a ∙ accepted_is m mem from durable from_is d le since)

@@ -55,14 +55,37 @@ impl<D: Disk> Parts<D> {
             };
         }
         if self.hives[place].is_at_rest() {
-            if self.hives[place].applied() >= self.store.durable() {
-                return Reply::Stepped {
-                    progress: machine::Progress::Idle,
-                };
-            }
-            if let Err(refusal) = self.absorb(place) {
-                return Reply::Refused { refusal };
-            }
+            return self.begin(place);
+        }
+        self.flush(place)
+    }
+
+    // the first step of a flush of a hive at rest, where its files lack a durable change
+    fn begin(&mut self, place: usize) -> Reply
+        requires sound { AreSound self.old.store self.old.base self.old.opened.items self.old.journal
+            self.old.hives.items }
+        requires works { self.old.store.machine.faulted ≡ false }
+        requires there { place < length self.old.hives.items }
+        requires rest { (hive : HiveFile) → slice_get self.old.hives.items place ≡ Some hive → (files_of hive).next ≡ None }
+        ensures step { Step self.old.store.machine (Event.FlusherStep place) result self.new.store.machine }
+        ensures sound { AreSound self.new.store self.new.base self.new.opened.items self.new.journal
+            self.new.hives.items }
+        ensures on_disk { D.faithful self.new.disk → AreOnDisk self.old.journal self.old.hives.items
+            (D.state_at self.old.disk (D.clock self.old.disk)) →
+            AreOnDisk self.new.journal self.new.hives.items
+            (D.state_at self.new.disk (D.clock self.new.disk)) }
+        ensures store { store_of self.new.journal ≡ store_of self.old.journal }
+        ensures call { OneCall AnyFile (D.state_at self.old.disk) (D.state_at self.new.disk)
+            (D.clock self.old.disk) (D.clock self.new.disk) }
+        ensures failed { result ≡ reply.Refused DiskFault →
+            D.failures self.old.disk < D.failures self.new.disk }
+        ensures faithful { D.faithful self.new.disk → D.faithful self.old.disk }
+    {
+        if self.hives[place].applied() >= self.store.durable() {
+            return stepped(Progress::Idle);
+        }
+        if let Err(refusal) = self.absorb(place) {
+            return Reply::Refused { refusal };
         }
         self.flush(place)
     }

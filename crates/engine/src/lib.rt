@@ -5,6 +5,10 @@
 //! two say so of each moment, for every disk.
 #![tactic(auto)]
 
+mod engine;
 mod flushes;
 mod parts;
+mod running;
 mod steps;
+
+pub use engine::Engine;

@@ -1,4 +1,5 @@
 //! The parts of an engine.
+ghost use Rattle.std.specs.Prelude.{◌≡◌};
 
 use commit_journal::Journal;
 use hive_flush::HiveFile;
@@ -23,4 +24,13 @@ pub(crate) struct Parts<D> {
     pub opened: Vec<Element>,
     /// The number below the first of them.
     pub base: u64,
+}
+
+impl<D> Parts<D> {
+    /// The disk alone.
+    pub fn into_disk(self) -> D
+        ensures { result ≡ self.disk }
+    {
+        self.disk
+    }
 }

@@ -1,0 +1,45 @@
+//! Whole runs of an engine.
+ghost use Rattle.std.specs.Prelude.{◌≡◌, ◌≤◌, IfOk, OnErr};
+ghost use Rattle.machine.specs.Steps.{Run};
+ghost use Rattle.commit_journal.specs.Journals.{store_of};
+ghost use Rattle.engine_law.specs.Prefixes.{AreOnDisk, IsSafeAt};
+ghost use Rattle.engine_law.specs.Runs.{RunsSafely};
+ghost use Rattle.engine.specs.Parts.{AreSound};
+
+use crate::parts::Parts;
+use disk_model::Disk;
+use engine_law::laws::{crashes_leave_prefixes, safe_runs_go_on};
+use machine::{Event, Reply};
+use std::alloc::{AllocError, Global};
+
+impl<D: Disk> Parts<D> {
+    /// Events, one after another, with their replies.
+    pub fn run(&mut self, alloc: Global, events: Vec<Event>) -> Result<Vec<Reply>, AllocError>
+        requires sound { AreSound self.old.store self.old.base self.old.opened.items self.old.journal
+            self.old.hives.items }
+        requires on_disk { D.faithful self.old.disk → AreOnDisk self.old.journal self.old.hives.items
+            (D.state_at self.old.disk (D.clock self.old.disk)) }
+        ensures crashes { IfOk result (λ replies. D.faithful self.new.disk →
+            RunsSafely (IsSafeAt (store_of self.old.journal) (D.state_at self.new.disk))
+            (D.clock self.old.disk) self.old.store.machine events.items replies.items
+            (D.clock self.new.disk) self.new.store.machine) }
+        ensures run { IfOk result (λ replies.
+            Run self.old.store.machine events.items replies.items self.new.store.machine) }
+        ensures err { OnErr result (self.new ≡ self.old) }
+        ensures sound { AreSound self.new.store self.new.base self.new.opened.items self.new.journal
+            self.new.hives.items }
+        ensures on_disk { D.faithful self.new.disk → AreOnDisk self.new.journal self.new.hives.items
+            (D.state_at self.new.disk (D.clock self.new.disk)) }
+        ensures store { store_of self.new.journal ≡ store_of self.old.journal }
+        ensures faithful { D.faithful self.new.disk → D.faithful self.old.disk }
+    {
+        crashes_leave_prefixes();
+        safe_runs_go_on();
+        let mut replies = Vec::with_capacity(alloc, events.len())?;
+        for event in events {
+            let reply = self.event(event);
+            replies.push_reserved(reply);
+        }
+        Ok(replies)
+    }
+}
