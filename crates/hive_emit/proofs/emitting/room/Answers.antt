@@ -1,4 +1,4 @@
-use Rattle.std.proofs.Common.{◌≡◌, ◌+◌, ◌-◌, ◌≤◌, max, ℕ, List, [], length, sym, ap, ◌∙◌, subst, arith}
+use Rattle.std.proofs.Common.{◌≡◌, ◌-◌, ℕ, List, [], ap, ◌∙◌, subst, arith}
 use Rattle.hive_cells.specs.Bins.{Bins}
 use Rattle.hive_cells.specs.Tiles.{DataRefused}
 use Rattle.hive_cells.specs.Changes.{Allocates}
