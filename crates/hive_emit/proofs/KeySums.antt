@@ -1,21 +1,20 @@
 -- What trees take: sums over keys and descriptors, and that they are less than twice the weight.
-use Rattle.std.proofs.Common.{◌≡◌, ℕ, zero, suc, ◌+◌, ◌*◌, ◌/◌, ◌<◌, ◌≤◌, List, [], ◌∷◌, ◌++◌, length, map, take, sum_by, refl, sym, ◌∙◌, ap, subst, arith, slice_get, get_or, Some}
+use Rattle.std.proofs.Common.{◌≡◌, ℕ, zero, suc, ◌+◌, ◌*◌, ◌<◌, ◌≤◌, List, [], ◌∷◌, ◌++◌, length, map, take, sum_by, refl, sym, ◌∙◌, ap, subst, arith, slice_get, get_or, Some}
 use Rattle.std.specs.Prelude.{slice_set}
 use Rattle.std.specs.List.{AllByRecursion}
 use Rattle.std.specs.FinMap as finite
 use Rattle.std.specs.FinMap.{len-entries}
 use Rattle.std.proofs.lemmas.List.{length-map}
 use Rattle.std.proofs.lemmas.List.Sums.{sum_by-cons, sum_by-append, sum_by_push, sum_by_more_le}
-use Rattle.reg_tree_parts.specs.Rows.{Row, ValueMap, row_weight}
-use Rattle.reg_tree_parts.specs.Weights.{value_weight}
-use Rattle.reg_tree_parts.specs.Nodes.{Entries, below, all_below, entries_of, entries_weight, row_at, root_name, subkeys_of, HasSubkeys, IsNode, AreNodes}
+use Rattle.reg_tree_parts.specs.Rows.{Row, row_weight}
+use Rattle.reg_tree_parts.specs.Nodes.{Entries, below, all_below, entries_weight, row_at, root_name, subkeys_of, HasSubkeys, IsNode, AreNodes}
 use Rattle.hive_records.specs.Spellings.{name_text}
 use Rattle.hive_records.proofs.Sizes.{name_most}
 use Rattle.hive_key_writer.specs.Making.{cell_cost, Uses}
-use Rattle.hive_key_writer.specs.Costs.{value_cost, values_cost}
+use Rattle.hive_key_writer.specs.Costs.{values_cost}
 use Rattle.hive_key_writer.proofs.Sums.{sum_next, sum_within, values_light}
 use Rattle.hive_emit.specs.declared.security.Security.{Security}
-use Rattle.hive_emit.specs.Costs.{class_cost, row_cost, keys_cost, own_cost, below_cost, descriptor_cost, security_cost, securities_cost, row_security_cost, descriptors_cost}
+use Rattle.hive_emit.specs.Costs.{class_cost, row_cost, keys_cost, own_cost, below_cost, security_cost, securities_cost, row_security_cost, descriptors_cost}
 use Rattle.hive_key_writer.proofs.NewCells.{uses_more, both_used}
 use Rattle.hive_emit.proofs.KeyProofs.{found_kid}
 use Rattle.hive_emit.proofs.Securing.{take_set}

@@ -39,6 +39,7 @@ fn room(alloc: Global, needed: usize, least_size: u32) -> Result<Image, Refusal>
     requires size { least_size ≤ MOST_BINS_BYTES }
     ensures roomy { IfOk result (λ image. RoomyAt image.bytes 32 needed) }
     ensures least { IfOk result (λ image. least_size ≤ length image.bytes) }
+    ensures page { IfOk result (λ image. 4_096 ≤ length image.bytes) }
     ensures memory { IfErr result (λ why. why ≡ Refusal.NoMemory) }
 {
     let mut image = match Image::open(alloc, Vec::new(alloc)) {
@@ -56,7 +57,7 @@ fn room(alloc: Global, needed: usize, least_size: u32) -> Result<Image, Refusal>
     }
 }
 
-/// A new image for a tree, of at least a size in bytes: one bin, as long as it has to be.
+/// A new image for a tree, of at least a size in bytes and at least a page of 4,096: one bin, as long as it has to be.
 ///
 /// Refused with `TooLarge` exactly where the tree is over the weight or the least size over the limit of bins data, and else
 /// with `NoMemory` alone.
@@ -64,6 +65,7 @@ pub fn emit(alloc: Global, tree: &Tree, least_size: u32) -> Result<Emitted, Refu
     ensures stands { IfOk result (λ emitted. (minor : ℕ) → 4 ≤ minor →
         StandsFor emitted.image.bytes emitted.root minor tree.now) }
     ensures least { IfOk result (λ emitted. least_size ≤ length emitted.image.bytes) }
+    ensures page { IfOk result (λ emitted. 4_096 ≤ length emitted.image.bytes) }
     ensures limit { IfOk result (λ emitted. length emitted.image.bytes ≤ MOST_BINS_BYTES) }
     ensures heavy { MOST_WEIGHT < weight tree.now → result ≡ Err Refusal.TooLarge }
     ensures long { MOST_BINS_BYTES < least_size → result ≡ Err Refusal.TooLarge }

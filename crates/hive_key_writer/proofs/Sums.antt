@@ -1,19 +1,17 @@
 -- What is taken of the room: sums, and the bounds of values and lists.
-use Rattle.std.proofs.Common.{◌≡◌, ℕ, ◌+◌, ◌*◌, ◌/◌, ◌-◌, ◌<◌, ◌≤◌, Bool, true, false, List, [], ◌∷◌, ◌++◌, length, map, take, sum_by, inl, inr, refl, sym, ◌∙◌, ap, subst, arith, slice_get, Some, nat_le}
+use Rattle.std.proofs.Common.{◌≡◌, ℕ, ◌+◌, ◌*◌, ◌<◌, ◌≤◌, Bool, true, false, List, [], ◌∷◌, length, map, take, sum_by, inl, inr, ◌∙◌, ap, arith, slice_get, Some, nat_le}
 use Rattle.std.specs.Prelude.{if◌then◌else◌}
 use Rattle.std.proofs.lemmas.List.Sums.{sum_by_push, sum_by-take-le, sum_by-cons}
 use Rattle.std.proofs.lemmas.List.{length-map}
 use Rattle.std.proofs.lemmas.Bool.{cases_lt}
-use Rattle.std.specs.FinMap as finite
 use Rattle.reg_tree_parts.specs.declared.value.Value.{Value}
 use Rattle.reg_tree_parts.specs.Weights.{value_weight}
-use Rattle.hive_records.specs.Spellings.{name_text}
 use Rattle.hive_records.specs.ListTexts.{Kid}
 use Rattle.hive_records.specs.ValueTexts.{small_value, large_value}
 use Rattle.hive_records.proofs.Sizes.{name_most, long_small, long_large, long_plain, long_hashed}
 use Rattle.hive_key_writer.specs.Making.{cell_cost}
 use Rattle.hive_key_writer.specs.KeyLists.{leaf_text}
-use Rattle.hive_key_writer.specs.Costs.{segments_cost, apart_cost, data_cost, value_cost, leaf_cost, leaves_cost, kids_cost}
+use Rattle.hive_key_writer.specs.Costs.{segments_cost, apart_cost, data_cost, value_cost, leaf_cost}
 use Rattle.hive_key_writer.proofs.ValueMaps.{take_next}
 
 -- a sum, one more

@@ -1,76 +1,39 @@
 //! What lies where in images.
+use crate::reading::{Head, data, leaf_of, list_of, number, root};
 use crate::trees::{create, image_of, many, set};
-use hive_cells::Looks;
-use hive_emit::Emitted;
-use hive_records::{BigData, KeyNode, Security, SubkeyList, ValueRec, word_at};
+use hive_records::{BigData, Security, ValueRec};
 use refusals::Refusal;
 use std::alloc::Global;
 use std::test::Fail;
 
-// the data of a cell
-fn data(emitted: &Emitted, at: u32) -> Result<&[u8], Refusal> {
-    let mut looks = Looks::new();
-    emitted.image.cell(at, &mut looks)
-}
-
-// the root's record
-fn root(emitted: &Emitted) -> Result<KeyNode<'_>, Refusal> {
-    KeyNode::read(data(emitted, emitted.root)?)
-}
-
-// the number of four bytes at an offset, or 0 past the end
-fn number(bytes: &[u8], at: usize) -> u32 {
-    if 4 <= bytes.len() && at <= bytes.len() - 4 {
-        word_at(bytes, at)
-    } else {
-        0
-    }
-}
-
-// the letters and the number of elements of the root's list
-fn list_of(emitted: &Emitted) -> Result<(u8, u16), Refusal> {
-    let cell = data(emitted, root(emitted)?.subkeys)?;
-    let list = SubkeyList::read(cell)?;
-    Ok((cell.get(1).copied().unwrap_or(0), list.count))
-}
-
-// the letters and the number of elements of the leaf at an index of the root's list of lists
-fn leaf_of(emitted: &Emitted, index: usize) -> Result<(u8, u16), Refusal> {
-    let list = SubkeyList::read(data(emitted, root(emitted)?.subkeys)?)?;
-    let cell = data(emitted, number(list.elements, index.saturating_mul(4)))?;
-    let leaf = SubkeyList::read(cell)?;
-    Ok((cell.get(1).copied().unwrap_or(0), leaf.count))
-}
-
 // what the image of so many subkeys has as the root's list
-fn list_for(alloc: Global, count: usize) -> Result<(u8, u16), Refusal> {
+fn list_for(alloc: Global, count: usize) -> Result<Head, Refusal> {
     let emitted = image_of(alloc, &many(alloc, count)?)?;
     list_of(&emitted)
 }
 
 // what it has as the leaf at an index
-fn leaf_for(alloc: Global, count: usize, index: usize) -> Result<(u8, u16), Refusal> {
+fn leaf_for(alloc: Global, count: usize, index: usize) -> Result<Head, Refusal> {
     let emitted = image_of(alloc, &many(alloc, count)?)?;
     leaf_of(&emitted, index)
 }
 
-// an lh leaf has the letters `lh`, a list of leaves `ri`
 #[test]
 fn lists_have_at_most_500_subkeys_a_leaf(rt: HostRuntime) -> Result<(), Fail> {
     let alloc = rt.alloc();
-    assert_eq!(&rt; list_for(alloc, 1), Ok((b'h', 1)));
-    assert_eq!(&rt; list_for(alloc, 500), Ok((b'h', 500)));
-    assert_eq!(&rt; list_for(alloc, 501), Ok((b'i', 2)));
-    assert_eq!(&rt; list_for(alloc, 1_001), Ok((b'i', 3)));
+    assert_eq!(&rt; list_for(alloc, 1), Ok((*b"lh", 1)));
+    assert_eq!(&rt; list_for(alloc, 500), Ok((*b"lh", 500)));
+    assert_eq!(&rt; list_for(alloc, 501), Ok((*b"ri", 2)));
+    assert_eq!(&rt; list_for(alloc, 1_001), Ok((*b"ri", 3)));
     Ok(())
 }
 
 #[test]
 fn leaves_are_full_but_the_last(rt: HostRuntime) -> Result<(), Fail> {
     let alloc = rt.alloc();
-    assert_eq!(&rt; leaf_for(alloc, 501, 0), Ok((b'h', 500)));
-    assert_eq!(&rt; leaf_for(alloc, 501, 1), Ok((b'h', 1)));
-    assert_eq!(&rt; leaf_for(alloc, 1_001, 2), Ok((b'h', 1)));
+    assert_eq!(&rt; leaf_for(alloc, 501, 0), Ok((*b"lh", 500)));
+    assert_eq!(&rt; leaf_for(alloc, 501, 1), Ok((*b"lh", 1)));
+    assert_eq!(&rt; leaf_for(alloc, 1_001, 2), Ok((*b"lh", 1)));
     Ok(())
 }
 

@@ -5,4 +5,10 @@
 #[cfg(test)]
 mod images;
 #[cfg(test)]
+mod reading;
+#[cfg(test)]
+mod records;
+#[cfg(test)]
+mod spelled;
+#[cfg(test)]
 mod trees;

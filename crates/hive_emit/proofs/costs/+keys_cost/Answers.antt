@@ -1,7 +1,6 @@
-use Rattle.std.proofs.Common.{◌≡◌, ◌+◌, ◌*◌, ◌≤◌, [], take, length, sum_by, Some, sym, ap, subst, ◌∙◌, arith}
+use Rattle.std.proofs.Common.{sum_by, ap, arith}
 use Rattle.std.proofs.lemmas.List.{take_all}
-use Rattle.reg_tree_parts.specs.Rows.{Row}
-use Rattle.reg_tree_parts.specs.Nodes.{row_at, subkeys_of}
+use Rattle.reg_tree_parts.specs.Nodes.{subkeys_of}
 use Rattle.hive_emit.specs.Costs.{row_cost, keys_cost}
 use Rattle.hive_emit.proofs.Owns.{row_same, own_can}
 use Rattle.hive_emit.proofs.KeyProofs.{kids_can, can_kid, kid_there}

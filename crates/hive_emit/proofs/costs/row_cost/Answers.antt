@@ -1,4 +1,4 @@
-use Rattle.std.proofs.Common.{◌≡◌, ◌+◌, ◌≤◌, ℕ, List, length, ap, ◌∙◌, arith}
+use Rattle.std.proofs.Common.{◌≡◌, ◌+◌, ℕ, List, length, ap, ◌∙◌, arith}
 use Rattle.reg_tree_parts.specs.Rows.{Row, ValueMap}
 use Rattle.hive_records.specs.Spellings.{name_text}
 use Rattle.hive_key_writer.specs.Making.{cell_cost}

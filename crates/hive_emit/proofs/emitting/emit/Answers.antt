@@ -1,7 +1,7 @@
-use Rattle.std.proofs.Common.{◌≡◌, ◌+◌, ◌≤◌, ℕ, [], ap, arith, sym, subst}
+use Rattle.std.proofs.Common.{◌≡◌, ◌+◌, ap, arith, sym, subst}
 use Rattle.hive_key_writer.specs.Making.{RoomyAt, Roomy}
 use Rattle.hive_emit.specs.Emitting.{AreShort}
-use Rattle.hive_emit.specs.Costs.{keys_cost, securities_cost, descriptors_cost}
+use Rattle.hive_emit.specs.Costs.{keys_cost, securities_cost}
 use Rattle.hive_emit.proofs.KeySums.{tree_light}
 use Rattle.hive_emit.proofs.Securing.{counted_kept}
 use Rattle.hive_emit.proofs.Wholes.{root_weight, tree_can, tree_few, stands_at_end}

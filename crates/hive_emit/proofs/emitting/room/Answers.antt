@@ -1,4 +1,4 @@
-use Rattle.std.proofs.Common.{◌≡◌, ◌+◌, ◌-◌, ◌≤◌, max, ℕ, List, [], length, sym, ap, ◌∙◌, subst, arith}
+use Rattle.std.proofs.Common.{◌≡◌, ◌-◌, ℕ, List, [], ap, ◌∙◌, subst, arith}
 use Rattle.hive_cells.specs.Bins.{Bins}
 use Rattle.hive_cells.specs.Tiles.{DataRefused}
 use Rattle.hive_cells.specs.Changes.{Allocates}
@@ -20,6 +20,14 @@ returns-in-Ok-free-clause-roomy c =
 
 pub returns-in-Ok-free-clause-least : goal.returns-in-Ok-free-clause-least
 returns-in-Ok-free-clause-least c =
+    let none : c.in-Ok.image.bytes ≡ [] = ap (λ (b : Bins). b.bytes) c.in-Ok.ensures.0 ∙ c.new.ensures.items in
+    let long = (roomy_new c.alloc.new.self.bytes c.free.new.self.bytes (c.max.result - 36) c.in-Ok-alloc.at c.in-Ok-free.field-0 c.args.needed
+    (omega (arith, c.max.ensures, c.max-size.ensures)) (omega (arith, c.max.ensures, c.max-size.ensures, c.requires.needed, c.requires.size))
+    (subst (λ (bytes : List ℕ). Allocates bytes c.alloc.new.self.bytes (c.max.result - 36) c.in-Ok-alloc.at) none c.in-Ok-alloc.ensures.allocated) c.in-Ok-free.ensures.freed).1 in
+    omega (arith, long, c.max.ensures, c.max-size.ensures)
+
+pub returns-in-Ok-free-clause-page : goal.returns-in-Ok-free-clause-page
+returns-in-Ok-free-clause-page c =
     let none : c.in-Ok.image.bytes ≡ [] = ap (λ (b : Bins). b.bytes) c.in-Ok.ensures.0 ∙ c.new.ensures.items in
     let long = (roomy_new c.alloc.new.self.bytes c.free.new.self.bytes (c.max.result - 36) c.in-Ok-alloc.at c.in-Ok-free.field-0 c.args.needed
     (omega (arith, c.max.ensures, c.max-size.ensures)) (omega (arith, c.max.ensures, c.max-size.ensures, c.requires.needed, c.requires.size))

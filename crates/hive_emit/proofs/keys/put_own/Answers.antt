@@ -1,7 +1,7 @@
-use Rattle.std.proofs.Common.{◌≡◌, ◌+◌, ◌≤◌, ℕ, length, sym, ap, subst, arith, ◌∙◌}
+use Rattle.std.proofs.Common.{◌≡◌, ◌+◌, length, sym, ap, subst, arith, ◌∙◌}
 use Rattle.reg_tree_parts.specs.Nodes.{subkeys_of}
 use Rattle.reg_tree_parts.specs.Rows.{Row}
-use Rattle.hive_key_writer.specs.Making.{Makes, Uses, Stops}
+use Rattle.hive_key_writer.specs.Making.{Makes}
 use Rattle.hive_key_writer.specs.Values.{CanPutAll, ValuesAt}
 use Rattle.hive_emit.specs.Emitting.{ClassAt, OwnAt}
 use Rattle.hive_emit.proofs.Owns.{own_made, own_can, row_same}

@@ -1,5 +1,5 @@
-use Rattle.std.proofs.Common.{◌≡◌, ◌+◌, ◌*◌, ◌/◌, sym, ◌∙◌, arith}
-use Rattle.hive_key_writer.specs.Costs.{apart_cost, data_cost}
+use Rattle.std.proofs.Common.{sym, arith}
+use Rattle.hive_key_writer.specs.Costs.{apart_cost}
 use Rattle.hive_key_writer.proofs.Sums.{in_record, apart}
 use Rattle.hive_key_writer.proofs.costs.data_cost.Goals as goal
 

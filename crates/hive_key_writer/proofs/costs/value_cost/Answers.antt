@@ -1,4 +1,4 @@
-use Rattle.std.proofs.Common.{◌≡◌, ◌+◌, ◌<◌, ◌^◌, length, ap, ◌∙◌, arith}
+use Rattle.std.proofs.Common.{length, ap, arith}
 use Rattle.hive_records.specs.Spellings.{name_text}
 use Rattle.hive_key_writer.specs.Costs.{data_cost, value_cost}
 use Rattle.hive_key_writer.proofs.Sums.{data_few}

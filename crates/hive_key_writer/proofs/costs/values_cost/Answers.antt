@@ -1,9 +1,8 @@
-use Rattle.std.proofs.Common.{◌≡◌, ◌+◌, take, sum_by, sym, ap, ◌∙◌, arith}
+use Rattle.std.proofs.Common.{sum_by, sym, ap, arith}
 use Rattle.std.specs.FinMap as finite
 use Rattle.std.proofs.lemmas.List.{take_all}
-use Rattle.hive_key_writer.specs.Values.{CanPut}
 use Rattle.hive_key_writer.specs.Costs.{value_cost}
-use Rattle.hive_key_writer.proofs.ValueMaps.{all_at, not_past, values_long}
+use Rattle.hive_key_writer.proofs.ValueMaps.{not_past, values_long}
 use Rattle.hive_key_writer.proofs.Sums.{sum_next, sum_within}
 use Rattle.hive_key_writer.proofs.costs.values_cost.Goals as goal
 

@@ -1,4 +1,4 @@
-use Rattle.std.proofs.Common.{◌≡◌, ◌+◌, ◌*◌, ◌≤◌, [], ◌++◌, List, ℕ, length, arith, ◌∙◌, ap, subst}
+use Rattle.std.proofs.Common.{◌≡◌, ◌+◌, ◌*◌, ◌++◌, ℕ, length, arith, ◌∙◌, ap, subst}
 use Rattle.hive_records.specs.Fields.{half, word}
 use Rattle.hive_records.specs.ListTexts.{offsets_text}
 use Rattle.hive_key_writer.specs.Making.{Makes, Puts, cell_cost}

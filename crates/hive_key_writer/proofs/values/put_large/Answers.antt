@@ -1,6 +1,6 @@
 use Rattle.std.proofs.Common.{◌≡◌, ◌++◌, ◌+◌, ◌≤◌, ℕ, length, arith, ◌∙◌, ap, subst}
 use Rattle.hive_records.specs.ValueTexts.{large_value}
-use Rattle.hive_key_writer.specs.Making.{Makes, Puts, Uses, Stops, cell_cost}
+use Rattle.hive_key_writer.specs.Making.{Makes, Puts, cell_cost}
 use Rattle.hive_key_writer.specs.Values.{DataAt}
 use Rattle.hive_key_writer.proofs.Valued.{large_made}
 use Rattle.hive_key_writer.specs.Costs.{value_cost, apart_cost}

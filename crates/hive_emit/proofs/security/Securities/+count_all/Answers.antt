@@ -1,4 +1,4 @@
-use Rattle.std.proofs.Common.{List, ℕ, ◌+◌, ◌≤◌, take, sum_by, ap, subst, arith}
+use Rattle.std.proofs.Common.{List, ℕ, take, sum_by, ap, subst, arith}
 use Rattle.std.proofs.lemmas.List.{take_all}
 use Rattle.reg_tree_parts.specs.Rows.{Row}
 use Rattle.reg_tree_parts.specs.Nodes.{Entries, all_below, subkeys_of}

@@ -1,6 +1,5 @@
-use Rattle.std.proofs.Common.{◌≡◌, ◌<◌, List, length, ap, ◌∙◌, sym, arith}
-use Rattle.hive_emit.specs.declared.security.Security.{Security}
-use Rattle.hive_emit.specs.Costs.{security_cost, securities_cost}
+use Rattle.std.proofs.Common.{◌≡◌, ◌<◌, length, ap, ◌∙◌, arith}
+use Rattle.hive_emit.specs.Costs.{securities_cost}
 use Rattle.hive_emit.proofs.KeySums.{one_within}
 use Rattle.hive_emit.proofs.security.Securities.next_at.Goals as goal
 

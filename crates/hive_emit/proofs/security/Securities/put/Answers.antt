@@ -1,4 +1,4 @@
-use Rattle.std.proofs.Common.{◌≡◌, ◌<◌, ◌≤◌, ◌+◌, ◌^◌, ◌++◌, List, length, length-append, take, sym, ap, ◌∙◌, subst, arith, refl}
+use Rattle.std.proofs.Common.{◌≡◌, ◌<◌, ◌+◌, ◌^◌, ◌++◌, List, length, length-append, take, sym, ap, ◌∙◌, subst, arith, refl}
 use Rattle.hive_records.specs.KeyTexts.{security_text}
 use Rattle.hive_key_writer.specs.Making.{Makes, Puts, Uses, cell_cost}
 use Rattle.hive_emit.specs.declared.security.Security.{Security}
