@@ -2,6 +2,7 @@
 
 A case is a title, the file's bytes, and the texts of which one is printed; the status is 0 where that begins with `hive`.
 """
+import os
 from dataclasses import dataclass
 
 from maker import NONE, SEGMENT, Key, Value, head, hive, mended, u16, u32, u64
@@ -185,8 +186,28 @@ def limits():
         yield Case(f"a tree that weighs {over} more than it may", file, [TOO_LARGE if over else text])
 
 
+def examples():
+    """The files of examples/, whose trees are those of the scripts beside them."""
+    folder = os.path.join(os.path.dirname(os.path.abspath(__file__)), "..", "..", "examples")
+    first, later = 133536384000000000, 133536384600000000
+    software = lines(f"key 0: {later}", f"key 0:Software {first}", f"key 0:Software\\Vendor {first}",
+                     f"key 0:Software\\Vendor\\Product {first}", "val @ 1 " + utf16("Product"), "val Cache 3 -",
+                     "val Flags 4 01000000", "val Version 1 " + utf16("1.2"), f"key 0:System {later}",
+                     f"key 0:System\\Control%0020Set {later}", f"key 0:System\\Select {later}", "val Current 4 02000000")
+    by_hivex = lines("key 0: 0", "key 0:Software 0", "key 0:Software\\Vendor 0", "val @ 1 " + utf16("Vendor"),
+                     "val Flags 4 01000000", "val Version 1 " + utf16("1.2"), "key 0:System 0")
+    for name, text in (("software.dat", software), ("by_hivex.dat", by_hivex)):
+        with open(os.path.join(folder, name), "rb") as file:
+            yield Case(f"examples/{name}", file.read(), [text])
+
+
+def utf16(text):
+    """A text as a value has it, with the unit 0 at its end, in hex digits."""
+    return (text + "\0").encode("utf-16-le").hex()
+
+
 def all_cases():
-    for made in (names_and_order, values, files, cells, lists, bad_names, limits):
+    for made in (names_and_order, values, files, cells, lists, bad_names, limits, examples):
         yield from made()
 
 
