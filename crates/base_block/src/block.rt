@@ -1,6 +1,6 @@
 //! A base block, read from a sector and written to one.
 
-ghost use Rattle.std.specs.Prelude.{◌≡◌, ◌+◌, ◌≤◌, ◌<◌, ◌^◌, ◌++◌, true, length};
+ghost use Rattle.std.specs.Prelude.{◌≡◌, ◌+◌, ◌≤◌, ◌<◌, ◌^◌, ◌++◌, true, length, take, IfSome, IfNone};
 ghost use Rattle.base_block.specs.Layout.{block_at, number_at, sector_of, fresh_primary, body_of, put_at, zeros, AllFit, is_clean_block};
 ghost use Rattle.byteorder.specs.Endian.{little_bytes};
 
@@ -17,6 +17,11 @@ pub const MINOR_VERSION: u32 = 5;
 
 /// The file format of the profile.
 pub const FILE_FORMAT: u32 = 1;
+
+// the bytes of a first sector, in which all fields are
+const SECTOR_BYTES: usize = 512;
+
+const _: () = prove!(SECTOR_BYTES == 512);
 
 // the clustering factor, which is never read
 const CLUSTERING_FACTOR: u32 = 1;
@@ -98,6 +103,20 @@ impl BaseBlock {
             applied: AppliedNumber(u64_at(sector, 192)),
             sum_is_right: u32_at(sector, 508) == sum_of_front(sector),
         }
+    }
+
+    /// The fields of the first sector of a file that begins with these bytes, where they have one.
+    pub fn read_first(bytes: &[u8]) -> Option<BaseBlock>
+        ensures some { IfSome result (λ block. (block ≡ block_at (take 512 bytes.now))
+            × (512 ≤ length bytes.now)) }
+        ensures none { IfNone result (length bytes.now < 512) }
+    {
+        if bytes.len() < SECTOR_BYTES {
+            return None;
+        }
+        let mut sector = [0; SECTOR_BYTES];
+        sector.copy_from_slice(&bytes[..SECTOR_BYTES]);
+        Some(BaseBlock::read(&sector))
     }
 
     /// The sector of these fields: each at its offset, the clustering factor 1, the right sum, and zeros

@@ -76,12 +76,7 @@ fn block_in(sector: &[u8]) -> Option<BaseBlock>
     ensures some { IfSome result (λ block. (block ≡ block_of sector.now) × (512 ≤ length sector.now)) }
     ensures none { IfNone result (length sector.now < 512) }
 {
-    if sector.len() < SECTOR_BYTES as usize {
-        return None;
-    }
-    let mut first = [0; 512];
-    first.copy_from_slice(&sector[..512]);
-    Some(BaseBlock::read(&first))
+    BaseBlock::read_first(sector)
 }
 
 // what a clean primary file holds, whose block this is

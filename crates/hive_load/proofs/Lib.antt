@@ -3,3 +3,4 @@ pub mod Shuffled
 pub mod Levels
 pub mod Ends
 pub mod Bound
+pub mod Untiled

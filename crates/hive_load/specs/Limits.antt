@@ -5,7 +5,7 @@ use Rattle.refusals.specs.declared.refusal.Refusal.TheVariants as refusal
 use Rattle.refusals.specs.declared.limits.TheConstants.{MOST_PATH_NAMES, MOST_WEIGHT}
 use Rattle.reg_tree_parts.specs.Rows.{Row}
 use Rattle.reg_tree.specs.Maps.{TreeMap, row, weight}
-use Rattle.hive_cells.specs.Tiles.{IsAllocatedCell}
+use Rattle.hive_cells.specs.Tiles.{IsAllocatedCell, DataRefused}
 use Rattle.hive_cells.specs.Bins.{Cells, Shows}
 use Rattle.hive_shape.specs.Lists.{IsIn}
 use Rattle.hive_shape.specs.Faults.{Deeper}
@@ -16,6 +16,10 @@ use Rattle.hive_records.specs.Images.{splits, StandsFor, FaultFor}
 pub record IsWithin (tree : TreeMap) : Type 0 where
   pub light : weight tree ≤ MOST_WEIGHT
   pub shallow : (path : List (List ℕ)) (key : Row) → row tree path ≡ Some key → length path ≤ MOST_PATH_NAMES
+
+-- the data stand, from the root's offset on, for the tree, and it is within the limits
+abbrev pub StandsWithin : List ℕ → ℕ → ℕ → TreeMap → Type 0
+StandsWithin bytes root minor tree = StandsFor bytes root minor tree × IsWithin tree
 
 -- a tree stands that weighs too much; a key that can be read lies too deep
 abbrev pub IsTooHeavy : List ℕ → ℕ → ℕ → Type 0
@@ -30,6 +34,10 @@ LoadRefused bytes root minor why =
     (why ≡ refusal.NoMemory)
     ⊎ (((why ≡ refusal.TooLarge) × (IsTooHeavy bytes root minor ⊎ IsTooDeep bytes root minor))
     ⊎ FaultFor bytes root minor why)
+
+-- so it is of data whose bins and cells needn't tile
+abbrev pub BinsRefused : List ℕ → ℕ → ℕ → Refusal → Type 0
+BinsRefused bytes root minor why = DataRefused bytes why ⊎ LoadRefused bytes root minor why
 
 -- every allocated cell of the data is in the list
 abbrev pub AreAllCells : List ℕ → List ℕ → Type 0

@@ -6,9 +6,11 @@
 //! before its bytes are known to be there.
 #![tactic(auto)]
 
+mod bins;
 mod keys;
 pub mod laws;
 mod siblings;
 mod tree;
 
+pub use crate::bins::load_bins;
 pub use crate::tree::load;

@@ -3,3 +3,4 @@ pub mod Reads
 pub mod Lines
 pub mod Grammar
 pub mod Replies
+pub mod Statuses

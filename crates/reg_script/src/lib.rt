@@ -3,7 +3,7 @@
 //! [`read_line`] reads the bytes of one line as a [`Line`], or says that they are none. A line is understood whole or not at
 //! all: paths and names stand in it as texts of units ([`Text`]), and whether they may be names is judged by whoever carries
 //! the line out. What a line is answered is a [`ReplyLine`], which writes its text into any writer without taking memory,
-//! so that a change that was accepted is always told.
+//! so that a change that was accepted is always told. [`Status`] is how a run went.
 //!
 //! What is promised: a line is read exactly where the grammar spells it, and no bytes spell two lines ([`grammar`]); a reply
 //! has one text.
@@ -16,12 +16,16 @@ mod numbers;
 mod reading;
 mod reply;
 mod requests;
+mod status;
 mod texts;
 mod unread;
 mod words;
+mod writing;
 
 pub use label::{LONGEST_LABEL, Label};
 pub use line::{Line, Place, Request, Text};
 pub use reading::read_line;
 pub use reply::ReplyLine;
+pub use status::Status;
 pub use unread::Unread;
+pub use writing::{write_data, write_name};

@@ -1,19 +1,14 @@
 //! The replies to the lines of a script, and their text.
-ghost use Rattle.std.specs.Prelude.{◌≡◌, ◌∷◌, ◌≤◌, OnOk, length};
+ghost use Rattle.std.specs.Prelude.{OnOk};
 ghost use Rattle.std.specs.Io.KnownBytes.{Appends};
-ghost use Rattle.std.specs.List.{flat_map};
-ghost use Rattle.std.specs.Int.{w16, to_be_bytes};
-ghost use Rattle.hex.specs.Hex.{encode_lower};
-ghost use Rattle.reg_script.specs.Replies.{reply_text, reply_line, unit_text, name_text, names_text, data_text};
+ghost use Rattle.reg_script.specs.Replies.{reply_line, names_text};
 
+use crate::writing::{write_data, write_name};
 use refusals::Refusal;
 use reg_names::Name;
 use reg_tree::{Data, Names};
 use std::io;
 use std::io::Write;
-
-/// Bytes that are written as hex digits at once.
-const PIECE: usize = 512;
 
 /// What a line of a script is answered.
 #[derive(Drop)]
@@ -157,83 +152,4 @@ fn write_names<W: Write>(writer: &mut W, names: &[Name]) -> io::Result<()>
         write_name(writer, name.units())?;
     }
     Ok(())
-}
-
-fn write_name<W: Write>(writer: &mut W, name: &[u16]) -> io::Result<()>
-    ensures { OnOk result (Appends (W.contents writer.old) (W.contents writer.new)
-        (name_text name.now)) }
-{
-    match name {
-        [] => writer.write_all(b"@"),
-        [0x40] => writer.write_all(b"%0040"),
-        _ => write_units(writer, name),
-    }
-}
-
-fn write_units<W: Write>(writer: &mut W, units: &[u16]) -> io::Result<()>
-    ensures { OnOk result (Appends (W.contents writer.old) (W.contents writer.new)
-        (flat_map unit_text units.now)) }
-{
-    for unit in units {
-        write_unit(writer, *unit)?;
-    }
-    Ok(())
-}
-
-fn write_unit<W: Write>(writer: &mut W, unit: u16) -> io::Result<()>
-    ensures { OnOk result (Appends (W.contents writer.old) (W.contents writer.new)
-        (unit_text unit)) }
-{
-    match unit {
-        0x21..=0x24 | 0x26..=0x7e => writer.write_all(&[unit as u8]),
-        _ => write_escape(writer, unit),
-    }
-}
-
-// the unit by its number
-fn write_escape<W: Write>(writer: &mut W, unit: u16) -> io::Result<()>
-    ensures { OnOk result (Appends (W.contents writer.old) (W.contents writer.new)
-        (37 ∷ encode_lower (to_be_bytes w16 unit))) }
-{
-    writer.write_all(b"%")?;
-    write_hex(writer, &unit.to_be_bytes())
-}
-
-fn write_data<W: Write>(writer: &mut W, bytes: &[u8]) -> io::Result<()>
-    ensures { OnOk result (Appends (W.contents writer.old) (W.contents writer.new)
-        (data_text bytes.now)) }
-{
-    if bytes.is_empty() {
-        writer.write_all(b"-")
-    } else {
-        write_hex(writer, bytes)
-    }
-}
-
-// the bytes as pairs of hex digits, a piece at a time
-fn write_hex<W: Write>(writer: &mut W, bytes: &[u8]) -> io::Result<()>
-    ensures { OnOk result (Appends (W.contents writer.old) (W.contents writer.new)
-        (encode_lower bytes.now)) }
-{
-    let mut rest = bytes;
-    while !rest.is_empty() {
-        let (piece, others) = rest.split_at(rest.len().min(PIECE));
-        write_piece(writer, piece)?;
-        rest = others;
-    }
-    Ok(())
-}
-
-// at most a piece of bytes as pairs of hex digits
-fn write_piece<W: Write>(writer: &mut W, piece: &[u8]) -> io::Result<()>
-    requires { length piece.now ≤ PIECE }
-    ensures { OnOk result (Appends (W.contents writer.old) (W.contents writer.new)
-        (encode_lower piece.now)) }
-{
-    let mut digits = [0u8; 2 * PIECE];
-    let digits = &mut digits[..2 * piece.len()];
-    if hex::encode_to_slice(piece, digits).is_err() {
-        unreachable!()
-    }
-    writer.write_all(digits)
 }

@@ -1,6 +1,6 @@
 //! What the program says where it can't begin its work.
 use refusals::Refusal;
-use regtx_parts::Status;
+use reg_script::Status;
 use std::alloc::{AllocError, AllocFailed};
 use std::io;
 use thiserror::Error;
@@ -11,6 +11,9 @@ pub enum Fault {
     /// The words of the command line are not understood, a request for help or version among them.
     #[error("wrong words")]
     WrongWords,
+    /// A file that the command line names can't be read.
+    #[error("cannot read file")]
+    CannotReadFile,
     /// Memory was asked for and not given.
     #[error("{0}")]
     Refused(Refusal),
@@ -21,7 +24,7 @@ impl Fault {
     pub fn status(&self) -> Status {
         match self {
             Fault::WrongWords => Status::Wrong,
-            Fault::Refused(_) => Status::Refused,
+            Fault::CannotReadFile | Fault::Refused(_) => Status::Refused,
         }
     }
 }

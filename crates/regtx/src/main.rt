@@ -1,15 +1,19 @@
-//! The program `regtx`: reads the words of its command line, and leaves the work to `regtx_parts`.
+//! The program `regtx`: reads the words of its command line, and leaves the work to `regtx_parts` and `hive_dump`.
 //!
-//! Everything is printed to standard output, each reply at once where the script comes from a pipe or a keyboard. The status is 0 where no reply was a refusal, 1 where one was, the script
-//! can't be read or a write fails, and 2 at a line that is none or at wrong words.
+//! Everything is printed to standard output, each reply at once where a script comes from a pipe or a keyboard. The status
+//! is 0 where no refusal was printed, 1 where one was, a script or a file can't be read or a write fails, and 2 at a line that
+//! is none or at wrong words.
 #![tactic(auto)]
 
 mod fault;
 mod words;
 
 use crate::fault::Fault;
-use crate::words::script_asked;
-use regtx_parts::{Status, play, refuse_script};
+use crate::words::{Task, task_asked};
+use hive_dump::{DumpFault, dump};
+use refusals::Refusal;
+use reg_script::Status;
+use regtx_parts::{play, refuse_script};
 use std::alloc::Global;
 use std::fs::File;
 use std::io::{BufReader, BufWriter, LineWriter, Write};
@@ -30,9 +34,16 @@ fn main(rt: HostRuntime) -> ExitCode {
 
 // does what the words ask for; a write that fails ends it with the status of a refusal
 fn run<R: Files + Print + Env + AllocGlobal>(rt: &R) -> Result<Status, Fault> {
+    let words = words_given(rt, rt.alloc())?;
+    match task_asked(rt.alloc(), &words)? {
+        Task::Play { script } => play_script(rt, script),
+        Task::Dump { file } => dump_file(rt, file),
+    }
+}
+
+// plays the script of this path
+fn play_script<R: Files + Print + AllocGlobal>(rt: &R, script: &str) -> Result<Status, Fault> {
     let alloc = rt.alloc();
-    let words = words_given(rt, alloc)?;
-    let script = script_asked(alloc, &words)?;
     let played = if is_at_hand(rt, script) {
         let mut writer = BufWriter::new(alloc, io::writer(rt))?;
         play_file(rt, script, &mut writer)?
@@ -42,6 +53,24 @@ fn run<R: Files + Print + Env + AllocGlobal>(rt: &R) -> Result<Status, Fault> {
         play_file(rt, script, &mut writer)?
     };
     Ok(played.unwrap_or(Status::Refused))
+}
+
+// prints the hive in the file of this path
+fn dump_file<R: Files + Print + AllocGlobal>(rt: &R, path: &str) -> Result<Status, Fault> {
+    let alloc = rt.alloc();
+    let mut writer = BufWriter::new(alloc, io::writer(rt))?;
+    let mut file = match File::open(rt, path) {
+        Ok(file) => file,
+        Err(error) if error.kind() == io::ErrorKind::OutOfMemory => {
+            return Err(Fault::Refused(Refusal::NoMemory));
+        }
+        Err(_) => return Err(Fault::CannotReadFile),
+    };
+    match dump(alloc, &mut file, &mut writer) {
+        Ok(status) => Ok(status),
+        Err(DumpFault::CannotRead) => Err(Fault::CannotReadFile),
+        Err(DumpFault::CannotWrite) => Ok(Status::Refused),
+    }
 }
 
 // whether reading the script waits for nobody, as that of a plain file

@@ -5,14 +5,14 @@ use Rattle.std.specs.Io.KnownBytes.{Appends, Keeps}
 use Rattle.reg_script.specs.Replies.{reply_line}
 use Rattle.reg_script.proofs.Written.{appends_more}
 use Rattle.reg_script.specs.declared.reply.ReplyLine.TheVariants as reply
-use Rattle.regtx_parts.specs.Endings.{with_refusal}
+use Rattle.reg_script.specs.Statuses.{with_refusal}
 use Rattle.regtx_parts.specs.Scripts.{Script, fresh_script, hives_asked, line_asked}
 use Rattle.regtx_parts.specs.Plays.{lines_of, AreFirst, AreReadOf, WereRead, wrong_text, Ends, PlaysOn, IsPlayed, IsPlayedOn}
 use Rattle.regtx_parts.specs.Turns.{TakesLine, Turns}
 use Rattle.regtx_parts.specs.declared.ending.Ending.{Ending}
 use Rattle.regtx_parts.specs.declared.ending.Ending.TheVariants.{Ended, Broken, OutOfMemory}
-use Rattle.regtx_parts.specs.declared.ending.Status.{Status}
-use Rattle.regtx_parts.specs.declared.ending.Status.TheVariants.{Clean, Refused, Wrong}
+use Rattle.reg_script.specs.declared.status.Status.{Status}
+use Rattle.reg_script.specs.declared.status.Status.TheVariants.{Clean, Refused, Wrong}
 use Rattle.regtx_parts.specs.declared.runner.Turn.TheVariants.{Replied}
 
 -- a write, and nothing more

@@ -1,4 +1,3 @@
-pub mod Endings
 pub mod Requests
 pub mod Waits
 pub mod Scripts

@@ -9,11 +9,11 @@ use Rattle.reg_script.specs.declared.line.Line.{Line}
 use Rattle.reg_script.specs.declared.reply.ReplyLine.{ReplyLine}
 use Rattle.reg_script.specs.declared.reply.ReplyLine.TheVariants as reply
 use Rattle.regtx_parts.specs.Scripts.{Script, Answers, fresh_script, hives_asked, line_asked}
-use Rattle.regtx_parts.specs.Endings.{with_refusal}
+use Rattle.reg_script.specs.Statuses.{with_refusal}
 use Rattle.regtx_parts.specs.declared.ending.Ending.{Ending}
 use Rattle.regtx_parts.specs.declared.ending.Ending.TheVariants.{Ended, Broken, OutOfMemory}
-use Rattle.regtx_parts.specs.declared.ending.Status.{Status}
-use Rattle.regtx_parts.specs.declared.ending.Status.TheVariants.{Clean, Refused, Wrong}
+use Rattle.reg_script.specs.declared.status.Status.{Status}
+use Rattle.reg_script.specs.declared.status.Status.TheVariants.{Clean, Refused, Wrong}
 
 -- the lines of a script: each ends with the byte 10, which the last may lack
 abbrev pub with_byte : ℕ → List (List ℕ) → List (List ℕ)

@@ -13,5 +13,5 @@ mod replies;
 mod runner;
 mod waiting;
 
-pub use ending::Status;
+pub use reg_script::Status;
 pub use runner::{play, refuse_script};

@@ -6,10 +6,10 @@ ghost use Rattle.regtx_parts.specs.Plays.{Ends, WereRead, IsPlayed, IsPlayedOn, 
 ghost use Rattle.regtx_parts.specs.Players.{script_of};
 ghost use Rattle.regtx_parts.specs.Turns.{TakesLine, Turns};
 
-use crate::ending::{Ending, Status};
+use crate::ending::Ending;
 use crate::player::Player;
 use refusals::Refusal;
-use reg_script::ReplyLine;
+use reg_script::{ReplyLine, Status};
 use std::alloc::{AllocError, Global};
 use std::io;
 use std::io::{BufRead, Write};

@@ -1,5 +1,5 @@
 use Rattle.std.proofs.Common.{sym, subst}
-use Rattle.regtx_parts.specs.Endings.{with_refusal}
+use Rattle.reg_script.specs.Statuses.{with_refusal}
 use Rattle.regtx_parts.specs.Players.{script_of}
 use Rattle.regtx_parts.specs.Plays.{IsPlayedOn}
 use Rattle.regtx_parts.specs.Turns.{Turns}

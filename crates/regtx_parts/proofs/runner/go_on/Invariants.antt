@@ -1,8 +1,8 @@
 use Rattle.std.proofs.Common.{ℕ, List, Option}
-use Rattle.regtx_parts.specs.Endings.{with_refusal}
+use Rattle.reg_script.specs.Statuses.{with_refusal}
 use Rattle.regtx_parts.specs.Players.{script_of}
 use Rattle.regtx_parts.specs.Plays.{IsPlayedOn}
-use Rattle.regtx_parts.specs.declared.ending.Status.{Status}
+use Rattle.reg_script.specs.declared.status.Status.{Status}
 use Rattle.regtx_parts.proofs.runner.go_on.Given as goal
 
 -- however the run goes on from here, it is the whole run with the refusals so far

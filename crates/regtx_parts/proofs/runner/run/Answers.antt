@@ -5,7 +5,7 @@ use Rattle.regtx_parts.specs.Scripts.{hives_asked, fresh_script}
 use Rattle.regtx_parts.specs.Players.{script_of}
 use Rattle.regtx_parts.specs.Plays.{Ends, IsPlayed, IsPlayedOn, wrong_text}
 use Rattle.regtx_parts.specs.declared.ending.Ending.TheVariants.{OutOfMemory}
-use Rattle.regtx_parts.specs.declared.ending.Status.TheVariants.{Wrong}
+use Rattle.reg_script.specs.declared.status.Status.TheVariants.{Wrong}
 use Rattle.regtx_parts.proofs.Runs.{begins, begins_wrong, begins_without_memory, if_ok}
 use Rattle.regtx_parts.proofs.runner.run.Goals as goal
 

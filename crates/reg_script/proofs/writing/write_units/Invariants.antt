@@ -2,7 +2,7 @@ use Rattle.std.proofs.Common.{take}
 use Rattle.std.specs.List.{flat_map}
 use Rattle.std.specs.Io.KnownBytes.{Appends}
 use Rattle.reg_script.specs.Replies.{unit_text}
-use Rattle.reg_script.proofs.reply.write_units.Given as goal
+use Rattle.reg_script.proofs.writing.write_units.Given as goal
 
 -- the text of those so far was written
 abbrev pub invariant-loop-unit : goal.invariant-loop-unit

@@ -1,7 +1,7 @@
 -- The numbers with which the program ends.
 use Rattle.std.specs.Prelude.{ℕ, Bool, true, false}
-use Rattle.regtx_parts.specs.declared.ending.Status.{Status}
-use Rattle.regtx_parts.specs.declared.ending.Status.TheVariants.{Clean, Refused, Wrong}
+use Rattle.reg_script.specs.declared.status.Status.{Status}
+use Rattle.reg_script.specs.declared.status.Status.TheVariants.{Clean, Refused, Wrong}
 
 -- 0 where no reply was a refusal, 1 where one was, 2 at a line that is none
 abbrev pub code_of : Status → ℕ

@@ -2,7 +2,7 @@ use Rattle.std.proofs.Common.{[], ◌++◌, ◌≡◌, ◌∙◌, ap, refl, appe
 use Rattle.std.proofs.lemmas.List.{take-append-drop}
 use Rattle.hex.specs.Hex.{encode_lower}
 use Rattle.reg_script.proofs.Written.{appends_no_digits, appends_both, encoded_in_parts}
-use Rattle.reg_script.proofs.reply.write_hex.Goals as goal
+use Rattle.reg_script.proofs.writing.write_hex.Goals as goal
 
 pub loop-rest-init : goal.loop-rest-init
 loop-rest-init g c = ([], appends_no_digits (g.W.Write.contents c.args.writer.now), refl)

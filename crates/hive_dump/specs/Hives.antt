@@ -1,0 +1,43 @@
+-- Which tree the bytes of a hive's primary file hold, where they are read without a log, and why they hold none.
+use Rattle.std.specs.Prelude.{◌≡◌, ℕ, ◌+◌, ◌≤◌, ◌<◌, true, false, List, [], ◌++◌, length}
+use Rattle.refusals.specs.declared.refusal.Refusal.{Refusal}
+use Rattle.refusals.specs.declared.refusal.Refusal.TheVariants as refusal
+use Rattle.refusals.specs.declared.refusal.Cause.TheVariants as cause
+use Rattle.base_block.specs.declared.block.BaseBlock.{BaseBlock}
+use Rattle.base_block.specs.Judgements.{IsPrimary, PrimaryRefused}
+use Rattle.base_block.specs.Layout.{is_clean_block}
+use Rattle.dirt_log.specs.WholeLog.{block_of}
+use Rattle.dirt_log.specs.Held.{is_clean_file, IsOwn}
+use Rattle.reg_tree.specs.Maps.{TreeMap}
+use Rattle.hive_load.specs.Limits.{StandsWithin, BinsRefused}
+
+-- the file is clean, and its base block, which is this, is that of a primary file of the profile
+pub record HasBlock (file : List ℕ) (block : BaseBlock) : Type 0 where
+  pub clean : is_clean_file file ≡ true
+  pub read : block ≡ block_of file
+  pub judged : IsPrimary block
+
+-- so it is; the bins data are there, whatever follows them; and they stand for the tree, which is within the limits
+pub record HoldsHive (file : List ℕ) (tree : TreeMap) : Type 0 where
+  pub block : BaseBlock
+  pub bins : List ℕ
+  pub has : HasBlock file block
+  pub own : IsOwn file block bins
+  pub tree_is : StandsWithin bins block.root block.minor tree
+
+-- why a file holds none, by what stands in its bytes
+pub data NoHive (file : List ℕ) : Refusal → Type 0 where
+  -- it has no first sector
+  no_sector : length file < 512 → NoHive file (refusal.HiveDamaged 0 cause.Truncated)
+  -- the sum is wrong, or the two numbers differ
+  not_clean : 512 ≤ length file → is_clean_block (block_of file) ≡ false → NoHive file (refusal.HiveDamaged 0 cause.NotClean)
+  -- the base block is outside the profile
+  not_usable : (why : Refusal) → is_clean_file file ≡ true → PrimaryRefused (block_of file) why → NoHive file why
+  -- the file ends before its bins data do
+  not_whole : (block : BaseBlock) → HasBlock file block → length file < 4096 + block.bins_size → NoHive file (refusal.HiveDamaged 0 cause.Truncated)
+  -- the bins data stand for no tree within the limits, or memory for them was not given
+  not_loaded : (why : Refusal) (block : BaseBlock) (bins : List ℕ) → HasBlock file block → IsOwn file block bins → BinsRefused bins block.root block.minor why → NoHive file why
+
+-- bytes are the first of a file, and all of it where they are fewer than 4,096
+abbrev pub IsFront : List ℕ → List ℕ → Type 0
+IsFront front file = (rest : List ℕ) × (file ≡ front ++ rest) × (length front < 4096 → rest ≡ [])

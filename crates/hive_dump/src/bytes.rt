@@ -1,0 +1,57 @@
+//! Bytes of a reader, as far as there are any.
+ghost use Rattle.std.specs.Prelude.{◌≡◌, ◌≤◌, ◌<◌, length, take, IfOk};
+ghost use Rattle.std.specs.Io.KnownBytes.{Consumes, IsAtEnd};
+
+use std::alloc::Global;
+use std::io;
+use std::io::{ErrorKind, Read};
+
+/// The most bytes for which room is made before those ahead of them are there.
+const PIECE_BYTES: usize = 65_536;
+
+/// Fills a buffer as far as the reader has bytes; answers how many there were. Fewer than the buffer has are the last.
+pub(crate) fn fill<R: Read>(reader: &mut R, buffer: &mut [u8]) -> io::Result<usize>
+    ensures within { IfOk result (λ count. count ≤ length buffer.new) }
+    ensures bytes { IfOk result (λ count. Consumes (R.remaining reader.old) (R.remaining reader.new)
+        (take count buffer.new)) }
+    ensures end { IfOk result (λ count. count < length buffer.new → IsAtEnd (R.remaining reader.new)) }
+{
+    let mut count = 0;
+    'reads: for _ in 0..u64::MAX {
+        if count == buffer.len() {
+            return Ok(count);
+        }
+        match reader.read(&mut buffer[count..]) {
+            Ok(0) => return Ok(count),
+            Ok(more) => count += more,
+            Err(error) => {
+                if error.kind() != ErrorKind::Interrupted {
+                    return Err(error);
+                }
+            }
+        }
+    }
+    // a reader that is interrupted so often isn't read on
+    Err(io::Error::from(ErrorKind::Interrupted))
+}
+
+/// So many bytes as are asked for, or all that are left where those are fewer. Room is made a piece at a time.
+pub(crate) fn read_part<R: Read>(alloc: Global, reader: &mut R, size: usize) -> io::Result<Vec<u8>>
+    ensures within { IfOk result (λ part. length part.items ≤ size) }
+    ensures bytes { IfOk result (λ part. Consumes (R.remaining reader.old) (R.remaining reader.new)
+        part.items) }
+    ensures end { IfOk result (λ part. length part.items < size → IsAtEnd (R.remaining reader.new)) }
+{
+    let mut part = Vec::new(alloc);
+    'pieces: while part.len() < size {
+        let from = part.len();
+        let most = (size - from).min(PIECE_BYTES);
+        part.resize(from + most, 0)?;
+        let count = fill(reader, &mut part[from..])?;
+        part.truncate(from + count);
+        if count < most {
+            return Ok(part);
+        }
+    }
+    Ok(part)
+}

@@ -1,0 +1,83 @@
+//! The dump itself.
+ghost use Rattle.std.specs.Prelude.{◌≡◌, ◌++◌, ◌∷◌, [], IfOk, Err};
+ghost use Rattle.std.specs.Io.KnownBytes.{Appends, Keeps};
+ghost use Rattle.refusals.specs.Refusals.{refusal_text};
+ghost use Rattle.tree_text.specs.TreeTexts.{tree_text};
+ghost use Rattle.hive_dump.specs.declared.dumping.DumpFault.TheVariants.{CannotWrite};
+ghost use Rattle.hive_dump.specs.Dumps.{IsDumped};
+
+use crate::hive::{Untold, read_hive};
+use refusals::Refusal;
+use reg_script::Status;
+use reg_tree::Tree;
+use std::alloc::Global;
+use std::io;
+use std::io::{Read, Write};
+use tree_text::write_tree;
+
+/// The number as which the hive of a file is told.
+const HIVE: u8 = 0;
+
+const _: () = prove!(HIVE == 0);
+
+/// Why a dump ended before its text was written whole.
+#[derive(Clone, Copy, Debug, PartialEq, Eq)]
+pub enum DumpFault {
+    /// The file can't be read, or read on. Nothing was written.
+    CannotRead,
+    /// A write failed.
+    CannotWrite,
+}
+
+impl From<io::Error> for DumpFault {
+    ghost from_gives = { λ _ fault. fault ≡ CannotWrite };
+
+    fn from(_: io::Error) -> DumpFault {
+        DumpFault::CannotWrite
+    }
+}
+
+/// Writes the text of the tree that a hive's primary file holds, as that of hive 0, or of why it holds none, and answers the
+/// status. The file is read from where the reader stands: its base block, and as many bytes of bins data as that says. What
+/// follows is left unread.
+///
+/// Refused, in the text, with `HiveDamaged` of hive 0 where the file ends early (`Truncated`), isn't clean (`NotClean`), has
+/// a wrong base block (`BadBase`), or its bins data don't stand for a tree; with `Unsupported` for a version, a format, a
+/// type or a flag outside the profile; with `TooLarge` for bins data, a tree's weight or a path over the limits; and with
+/// `NoMemory`. Nothing is written before the whole tree is in memory, and writing takes none.
+pub fn dump<R: Read, W: Write>(
+    alloc: Global,
+    reader: &mut R,
+    writer: &mut W,
+) -> Result<Status, DumpFault>
+    ensures dumped { IfOk result (λ status. IsDumped (R.remaining reader.old) (W.contents writer.old)
+        (W.contents writer.new) status) }
+    ensures unread { result ≡ Err DumpFault.CannotRead →
+        Keeps (W.contents writer.old) (W.contents writer.new) }
+{
+    match read_hive(alloc, reader) {
+        Ok(tree) => Ok(tell_tree(writer, &tree)?),
+        Err(Untold::Refused(why)) => Ok(tell_refusal(writer, why)?),
+        Err(Untold::Unreadable) => Err(DumpFault::CannotRead),
+    }
+}
+
+// writes the text of a tree
+fn tell_tree<W: Write>(writer: &mut W, tree: &Tree) -> io::Result<Status>
+    ensures { IfOk result (λ status. (status ≡ Status.Clean)
+        × Appends (W.contents writer.old) (W.contents writer.new) (tree_text 0 tree.now)) }
+{
+    write_tree(writer, HIVE, tree)?;
+    writer.flush()?;
+    Ok(Status::Clean)
+}
+
+// writes the line of a refusal
+fn tell_refusal<W: Write>(writer: &mut W, why: Refusal) -> io::Result<Status>
+    ensures { IfOk result (λ status. (status ≡ Status.Refused)
+        × Appends (W.contents writer.old) (W.contents writer.new) (refusal_text why ++ 10 ∷ [])) }
+{
+    writeln!(writer, "{why}")?;
+    writer.flush()?;
+    Ok(Status::Refused)
+}

@@ -1,0 +1,219 @@
+"""Files that are dumped, with what is printed of each: the rules are those of docs/FORMATS.md and docs/SCRIPTS.md.
+
+A case is a title, the file's bytes, and the texts of which one is printed; the status is 0 where that begins with `hive`.
+"""
+import os
+from dataclasses import dataclass
+
+from maker import NONE, SEGMENT, Key, Value, head, hive, mended, u16, u32, u64
+
+
+@dataclass
+class Case:
+    title: str
+    file: bytes
+    texts: list
+
+    def status(self):
+        return 0 if self.texts[0].startswith(b"hive") else 1
+
+
+def damaged(cause):
+    return f"E15 HiveDamaged 0 {cause}\n".encode()
+
+
+UNSUPPORTED, TOO_LARGE = b"E17 Unsupported\n", b"E6 TooLarge\n"
+
+
+def lines(*texts):
+    return "".join(text + "\n" for text in ("hive 0", *texts)).encode()
+
+
+def case(title, root, *texts):
+    """A tree, and the lines that are printed of it."""
+    return Case(title, hive(root)[0], [lines(*texts)])
+
+
+def refused(title, file, *texts):
+    return Case(title, file, list(texts))
+
+
+def patched(file, at, some):
+    """The file with other bytes at an offset of its bins data."""
+    at += 4_096
+    return file[:at] + some + file[at + len(some):]
+
+
+def names_and_order():
+    yield case("the root alone", Key("ROOT"), "key 0: 0")
+    yield case("the root's own name is no part of a path, whatever it is", Key(""), "key 0: 0")
+    yield case("times are told as numbers", Key("r", 2 ** 64 - 1), "key 0: 18446744073709551615")
+    tree = Key("r", 1, [Key("b", 2, [Key("d", 3), Key("C", 4)]), Key("A", 5), Key("a-", 6)])
+    wanted = ["key 0: 1", "key 0:A 5", "key 0:a- 6", "key 0:b 2", "key 0:b\\C 4", "key 0:b\\d 3"]
+    for leaf in (b"lh", b"lf", b"li"):
+        tree.leaf = leaf
+        yield case(f"keys come in the order of folded names, whatever that of the list {leaf.decode()}", tree, *wanted)
+    tree.many = 2
+    yield case("and of a list of lists", tree, *wanted)
+    yield case("a beginning comes first, its subkeys before the next name",
+               Key("r", 0, [Key("ab"), Key("a", 0, [Key("z")]), Key("a ")]),
+               "key 0: 0", "key 0:a 0", "key 0:a\\z 0", "key 0:a%0020 0", "key 0:ab 0")
+    yield case("`Z`, `[`, `_` and the grave accent come before a brace, small letters as capitals",
+               Key("r", 0, [Key("{"), Key("z"), Key("`"), Key("_"), Key("["), Key("Y")]),
+               *("key 0:" + name + " 0" for name in ["", "Y", "z", "[", "_", "`", "{"]))
+    yield case("blanks, percent signs and units past ASCII by their numbers",
+               Key("r", 0, [Key("a b"), Key("50%"), Key("\u00c4"), Key("\u4e2d\u00e4"), Key("~\x7f")]),
+               "key 0: 0", "key 0:50%0025 0", "key 0:a%0020b 0", "key 0:~%007f 0", "key 0:%00c4 0", "key 0:%4e2d%00e4 0")
+    yield case("a key named `@` is spelled by its number", Key("r", 0, [Key("@"), Key("@@")]),
+               "key 0: 0", "key 0:%0040 0", "key 0:@@ 0")
+
+
+def values():
+    named = [Value("b", 1, b"12345"), Value("", 3, b"\x01"), Value("A", 0xffff_ffff), Value("@", 4, b"abcd"), Value("a b", 0, b"xy")]
+    yield case("values come in the order of folded names behind their key, the empty name as `@`, no data as `-`",
+               Key("r", 7, [Key("k", 8, [], [Value("v", 2, b"\xff")])], named),
+               "key 0: 7", "val @ 3 01", "val %0040 4 61626364", "val A 4294967295 -", "val a%0020b 0 7879",
+               "val b 1 3132333435", "key 0:k 8", "val v 2 ff")
+    for size in (1, 3, 4, 5, SEGMENT, SEGMENT + 1, 2 * SEGMENT, 2 * SEGMENT + 1, 1_048_576):
+        data = bytes(at * 7 % 251 for at in range(size))
+        yield case(f"data of {size} bytes", Key("r", 0, [], [Value("v", 3, data)]), "key 0: 0", "val v 3 " + data.hex())
+    cell = 32
+    record = b"vk" + u16(1) + u32(3, cell, 5) + u16(1, 0) + b"v"
+    file, _ = hive(Key("r", 0, [], [Value("x", 0, b"abcdefgh"), Value("", record=record)]))
+    yield refused("a small size without its top bit names a cell, here one that another value has", file, damaged("Shared"))
+    file, _ = hive(Key("r", 0, [], [Value("", record=b"vk" + u16(1) + u32(0, 12_345, 5) + u16(1, 0) + b"v")]))
+    yield Case("at size 0 the offset is unread", file, [lines("key 0: 0", "val v 5 -")])
+    shared = [Key("a", 0, [], [], 0, b"descriptor"), Key("b", 0, [], [], 0, b"descriptor")]
+    yield case("a descriptor that two keys name, and a class: neither is printed",
+               Key("r", 0, shared, [], 0, b"other", b"class"), "key 0: 0", "key 0:a 0", "key 0:b 0")
+
+
+def files():
+    file, _ = hive(Key("r", 9, [], [Value("v", 1, b"x")]))
+    text = lines("key 0: 9", "val v 1 78")
+    yield Case("bytes behind the bins data are unread", file + b"more", [text])
+    yield Case("so are the name, the clustering factor and the store's fields",
+               mended(file[:44] + u32(7) + b"n" * 64 + b"?" * 88 + file[200:]), [text])
+    for size in (0, 1, 511, 512, 4_095, 4_096, 4_097, len(file) - 1):
+        yield refused(f"a file that ends behind {size} bytes", file[:size], damaged("Truncated"))
+    yield refused("two numbers that differ", hive(Key("r"), primary=2)[0], damaged("NotClean"))
+    yield refused("so in a file of 600 bytes", hive(Key("r"), primary=2)[0][:600], damaged("NotClean"))
+    yield refused("a wrong sum", file[:508] + bytes([file[508] ^ 1]) + file[509:], damaged("NotClean"))
+    yield refused("512 zeros: their sum is 1", bytes(512), damaged("NotClean"))
+    yield refused("another signature", hive(Key("r"), signature=b"rege")[0], damaged("BadBase"))
+    for name, number in (("major", 0), ("major", 2), ("minor", 6), ("minor", 2), ("format", 0), ("format", 2),
+                         ("kind", 1), ("kind", 2), ("kind", 3)):
+        yield refused(f"{name} {number}", hive(Key("r"), **{name: number})[0], UNSUPPORTED)
+    bins = file[4_096:]
+    yield refused("no bins data", head(32, 0) + bins, damaged("BadBase"))
+    yield refused("bins data of 4,097 bytes", head(32, 4_097) + bins + b"\0", damaged("BadBase"))
+    yield refused("bins data of 4 KiB past the limit", head(32, 67_108_864 + 4_096) + bins, TOO_LARGE)
+    yield refused("bins data of the limit that aren't there", head(32, 67_108_864) + bins, damaged("Truncated"))
+
+
+def cells():
+    file, places = hive(Key("r", 0, [Key("a"), Key("b")]))
+    root = places["r"]
+    yield refused("a bin's signature", patched(file, 0, b"hbim"), damaged("BadBin"))
+    yield refused("a bin's own offset", patched(file, 4, u32(4_096)), damaged("BadBin"))
+    yield refused("a bin's size past the data", patched(file, 8, u32(8_192)), damaged("BadBin"))
+    yield refused("a bin's size of no page", patched(file, 8, u32(4_097)), damaged("BadBin"))
+    yield refused("a cell's size of no multiple of 8", patched(file, 32, u32(2 ** 32 - 84)), damaged("BadCell"))
+    yield refused("a cell's size of 0", patched(file, 32, u32(0)), damaged("BadCell"))
+    yield refused("a cell past its bin", patched(file, 32, u32(2 ** 32 - 8_192)), damaged("BadCell"))
+    for at in (0, 4, 33, root + 8, 4_096, NONE):
+        yield refused(f"a root at {at}", head(at, 4_096) + file[4_096:], damaged("BadOffset"))
+    size = int.from_bytes(file[4_096 + root:4_100 + root], "little", signed=True)
+    yield refused("a root in a free cell", patched(file, root, u32(-size)), damaged("BadOffset"))
+    yield refused("a root that is no key node", patched(file, root + 4, b"nx"), damaged("BadRecord"))
+    yield refused("a key's name past its cell", patched(file, root + 4 + 72, u16(60_000)), damaged("BadRecord"))
+    yield refused("a subkey that is the root", patched(file, offsets(file, root) + 4, u32(root)), damaged("Shared"))
+    yield refused("a subkey twice", patched(file, offsets(file, root) + 12, u32(places["a"])), damaged("Shared"))
+    yield refused("a subkey nowhere", patched(file, offsets(file, root) + 4, u32(NONE)), damaged("BadOffset"))
+    yield refused("a flag that says that a handle stands for the values", patched(file, root + 4 + 2, u16(0x60)), UNSUPPORTED)
+    yield refused("a security cell that is none", patched(file, root + 4 + 44, u32(places["a"])), damaged("BadRecord"), damaged("Shared"))
+
+
+def offsets(file, at):
+    """Where the elements of the list of a key's subkeys begin, less the bytes of the cell's size, in the bins data."""
+    return int.from_bytes(file[4_096 + at + 4 + 28:4_096 + at + 4 + 32], "little") + 4
+
+
+def lists():
+    tree = Key("r", 0, [Key("a"), Key("b"), Key("c")], many=2)
+    file, places = hive(tree)
+    bins = file[4_096:]
+    first = offsets(file, places["r"])
+    above = first - 4
+    leaf = int.from_bytes(bins[first + 4:first + 8], "little")
+    yield refused("a list of lists in a list of lists", patched(file, leaf + 4, b"ri"), damaged("BadList"))
+    yield refused("a list of lists that names itself", patched(file, first + 4, u32(above)), damaged("BadList"), damaged("Shared"))
+    yield refused("a list that a list of lists names twice", patched(file, first + 8, u32(leaf)), damaged("Shared"))
+    yield refused("a list of no kind", patched(file, leaf + 4, b"lx"), damaged("BadList"))
+    yield refused("a list longer than its cell", patched(file, leaf + 6, u16(900)), damaged("BadList"))
+    for count in (2, 4):
+        yield refused(f"three subkeys that are said to be {count}", patched(file, places["r"] + 4 + 20, u32(count)), damaged("BadList"))
+    yield Case("no subkeys: the offset beside the 0 is unread", patched(file, places["r"] + 4 + 20, u32(0)), [lines("key 0: 0")])
+
+
+def bad_names():
+    yield refused("two subkeys of one folded name", hive(Key("r", 0, [Key("a"), Key("A")]))[0], damaged("BadName"))
+    yield refused("two values of one folded name", hive(Key("r", 0, [], [Value("v"), Value("V")]))[0], damaged("BadName"))
+    yield refused("two values without a name", hive(Key("r", 0, [], [Value(""), Value("")]))[0], damaged("BadName"))
+    yield refused("a subkey without a name", hive(Key("r", 0, [Key("")]))[0], damaged("BadName"))
+    yield refused("a backslash in a key's name", hive(Key("r", 0, [Key("a\\b")]))[0], damaged("BadName"))
+    yield refused("so in the root's", hive(Key("\\"))[0], damaged("BadName"))
+    yield case("a backslash in a value's name", Key("r", 0, [], [Value("a\\b", 1)]), "key 0: 0", "val a\\b 1 -")
+    yield refused("a name in UTF-16 of an odd length", hive(Key("abc", patch={2: u16(0)}))[0], damaged("BadName"))
+
+
+def limits():
+    def deep(names):
+        root = below = Key("r", 0)
+        for _ in range(names):
+            below.keys = [Key("k", 5)]
+            below = below.keys[0]
+        return root
+    yield case("a path of 512 names", deep(512), "key 0: 0", *("key 0:" + "\\".join(["k"] * level) + " 5" for level in range(1, 513)))
+    yield refused("a path of 513 names", hive(deep(513))[0], TOO_LARGE)
+    # 192 and 2 for the root, 16 times 128 and 2, and the data
+    full = 16_777_216 - 194 - 16 * 130
+    for over in (0, 1):
+        sizes = [full // 16] * 15 + [full // 16 + full % 16 + over]
+        held = [Value(chr(97 + at), 3, bytes(size)) for at, size in enumerate(sizes)]
+        file, _ = hive(Key("r", 0, [], held))
+        text = lines("key 0: 0", *(f"val {value.name} 3 " + value.data.hex() for value in held))
+        yield Case(f"a tree that weighs {over} more than it may", file, [TOO_LARGE if over else text])
+
+
+def examples():
+    """The files of examples/, whose trees are those of the scripts beside them."""
+    folder = os.path.join(os.path.dirname(os.path.abspath(__file__)), "..", "..", "examples")
+    first, later = 133536384000000000, 133536384600000000
+    software = lines(f"key 0: {later}", f"key 0:Software {first}", f"key 0:Software\\Vendor {first}",
+                     f"key 0:Software\\Vendor\\Product {first}", "val @ 1 " + utf16("Product"), "val Cache 3 -",
+                     "val Flags 4 01000000", "val Version 1 " + utf16("1.2"), f"key 0:System {later}",
+                     f"key 0:System\\Control%0020Set {later}", f"key 0:System\\Select {later}", "val Current 4 02000000")
+    by_hivex = lines("key 0: 0", "key 0:Software 0", "key 0:Software\\Vendor 0", "val @ 1 " + utf16("Vendor"),
+                     "val Flags 4 01000000", "val Version 1 " + utf16("1.2"), "key 0:System 0")
+    for name, text in (("software.dat", software), ("by_hivex.dat", by_hivex)):
+        with open(os.path.join(folder, name), "rb") as file:
+            yield Case(f"examples/{name}", file.read(), [text])
+
+
+def utf16(text):
+    """A text as a value has it, with the unit 0 at its end, in hex digits."""
+    return (text + "\0").encode("utf-16-le").hex()
+
+
+def all_cases():
+    for made in (names_and_order, values, files, cells, lists, bad_names, limits, examples):
+        yield from made()
+
+
+def every_kind(size=SEGMENT + 1):
+    """A small hive with records of each kind; one value has so many bytes of data."""
+    tree = Key("ROOT", 1, [Key("wide \u4e2d", 2, [Key("x", 3)], [Value("big", 3, bytes(size))]),
+                           Key("a", 4, [], [Value("", 1, b"abcdef"), Value("n", 4, b"\1\0\0\0")], 0, b"descriptor"),
+                           Key("b", 5, [], [], 0, b"descriptor", b"class")], many=2)
+    return hive(tree)[0]
