@@ -83,7 +83,11 @@ some_spelled below (e ∷ es) not = omega arith
 pub may_begin : (m : Machine) (base : ℕ) (opened : List Element) (journal : Choice (Spelled TimedOp)) (hives : List HiveFile) → journal.next ≡ None → (last : ℕ) → last ≡ top 0 journal.now → ¬ (last ≡ 0) → (durable : ℕ) → durable ≡ m.durable
     → ((i : ℕ) (hive : HiveFile) → slice_get hives i ≡ Some hive → durable ≤ (files_of hive).now.1) → MayTrim m base opened journal (map view_of hives)
 may_begin m base opened journal hives idle last is some durable d have =
-    inr (idle, some_spelled journal.now.below journal.now.elements (λ z. some (is ∙ z)), λ j v at.
-    let w = view_of_at hives j v at in
-    ap (ops_on j) (seg_none (known_elements (life_of m base opened)) (v.files.now.1 - base) (m.durable - base)
-    (let le = have j w.0 w.1 in let same = ap (λ (x : HiveView). x.files.now.1) w.2 in omega (arith, le, same, d))))
+    inr (
+      idle,
+      some_spelled journal.now.below journal.now.elements (λ z. some (is ∙ z)),
+      λ j v at.
+          let w = view_of_at hives j v at in
+          ap (ops_on j) (seg_none (known_elements (life_of m base opened)) (v.files.now.1 - base) (m.durable - base)
+          (let le = have j w.0 w.1 in let same = ap (λ (x : HiveView). x.files.now.1) w.2 in omega (arith, le, same, d))),
+    )

@@ -66,9 +66,9 @@ module _ (s : StoreView) (base : ℕ) (opened : List Element) (journal : Journal
       kept : (r : Result (Unit {0}) Refusal) → OnOk r (memory_of new ≡ (led_to (place_of old) es (memory_of old).0, durable)) → OnErr r (new ≡ old) → IsConsistent s.machine base opened (choice_of journal) (slice_set (map view_of hives) k (view_of new))
       kept (Ok u) o f =
           let told : memory_of new ≡ absorbed s.machine base opened k (memory_of old) = o ∙ ap (λ n. (led_to n es (memory_of old).0, durable)) (a.placed.place k old is)
-              ∙ ap (λ (l : List Element). (led_to k l (memory_of old).0, durable)) e ∙ ap (λ n. (led_to k (opened_above base opened (memory_of old).1 ++ accepted_above s.machine (memory_of old).1) (memory_of old).0, n)) d in
+          ∙ ap (λ (l : List Element). (led_to k l (memory_of old).0, durable)) e ∙ ap (λ n. (led_to k (opened_above base opened (memory_of old).1 ++ accepted_above s.machine (memory_of old).1) (memory_of old).0, n)) d in
           let view : view_of new ≡ record { files = files_of old; memory = absorbed s.machine base opened k (memory_of old) } = ap (λ (c : Choice (TreeMap × ℕ)). let v : HiveView = record { files = c; memory = memory_of new } in v) files
-              ∙ ap (λ (x : TreeMap × ℕ). let v : HiveView = record { files = files_of old; memory = x } in v) told in
+          ∙ ap (λ (x : TreeMap × ℕ). let v : HiveView = record { files = files_of old; memory = x } in v) told in
           subst (λ (v : HiveView). IsConsistent s.machine base opened (choice_of journal) (slice_set (map view_of hives) k v)) (sym view)
           (takes s.machine base opened (choice_of journal) (map view_of hives) k (view_of old) a.kept (view_at hives k old is) idle)
       kept (Err w) o f =

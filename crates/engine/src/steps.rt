@@ -172,8 +172,7 @@ impl<D: Disk> Parts<D> {
     {
         match come {
             Ok(Progress::Done) => {
-                self.store
-                    .free(used.saturating_sub(self.journal.used()));
+                self.store.free(used.saturating_sub(self.journal.used()));
                 let last = self.journal.last_number();
                 if last > 0 {
                     self.store.settle(last);

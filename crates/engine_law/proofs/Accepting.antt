@@ -90,14 +90,22 @@ module _ (base : ℕ) (opened : List Element) (journal : Choice (Spelled TimedOp
   onward_is : (old new : Machine) → old.durable ≤ last_number old → Stays old new ⊎ Grows old new → (now next : Spelled TimedOp) → (next ≡ nothing) ⊎ IsBatch old now next → (next ≡ nothing) ⊎ IsBatch new now next
   onward_is old new known c now next (inl e) = inl e
   onward_is old new known (inl s) now next (inr (count, some, few, is)) =
-      inr (count, some, subst (λ (l : List Element). count ≤ length l) (sym (pending_same old new s)) few,
-      is ∙ ap (λ n. record { below = floor n now; elements = now.elements ++ take count (timed_elements (pending old)) }) (sym s.durable)
-      ∙ ap (λ (l : List Element). record { below = floor new.durable now; elements = now.elements ++ take count (timed_elements l) }) (sym (pending_same old new s)))
+      inr (
+        count,
+        some,
+        subst (λ (l : List Element). count ≤ length l) (sym (pending_same old new s)) few,
+        is ∙ ap (λ n. record { below = floor n now; elements = now.elements ++ take count (timed_elements (pending old)) }) (sym s.durable)
+            ∙ ap (λ (l : List Element). record { below = floor new.durable now; elements = now.elements ++ take count (timed_elements l) }) (sym (pending_same old new s)),
+      )
   onward_is old new known (inr g) now next (inr (count, some, few, is)) =
       let more = pending_more old new known g in
-      inr (count, some, omega (arith, few, ap length more, length-append (pending old) (g.element ∷ [])),
-      is ∙ ap (λ n. record { below = floor n now; elements = now.elements ++ take count (timed_elements (pending old)) }) (sym g.durable)
-      ∙ ap (λ (l : List _). record { below = floor new.durable now; elements = now.elements ++ l }) (sym (ap (λ (l : List Element). take count (timed_elements l)) more ∙ first_stay count (pending old) g.element few)))
+      inr (
+        count,
+        some,
+        omega (arith, few, ap length more, length-append (pending old) (g.element ∷ [])),
+        is ∙ ap (λ n. record { below = floor n now; elements = now.elements ++ take count (timed_elements (pending old)) }) (sym g.durable)
+            ∙ ap (λ (l : List _). record { below = floor new.durable now; elements = now.elements ++ l }) (sym (ap (λ (l : List Element). take count (timed_elements l)) more ∙ first_stay count (pending old) g.element few)),
+      )
 
   room_is : (old new : Machine) → old.durable ≤ last_number old → Stays old new ⊎ Grows old new → (used : ℕ) → old.room ≡ used + room_of (timed_elements (pending old)) → new.room ≡ used + room_of (timed_elements (pending new))
   room_is old new known (inl s) used e = s.room ∙ e ∙ ap (λ (l : List Element). used + room_of (timed_elements l)) (sym (pending_same old new s))

@@ -206,17 +206,19 @@ module _ (keeps : Keeps) (fits : Fits) (m : Machine) (base : ℕ) (opened : List
   unfolding Goes
   broke says =
       let c = steps m base opened journal hives i k old is DiskFault v same says in
-      let step : Step m (event.FlusherStep k) (reply.Refused refusal.DiskFault) (failed m) = inr (nothing_wrong, record { free = none_wrong; told = refl; failed = omega arith; next = refl }) in
-      (step, record {
-        kept = keeps m (failed m) (event.FlusherStep k) (reply.Refused refusal.DiskFault) i.kept step;
-        fits = fits m (failed m) (event.FlusherStep k) (reply.Refused refusal.DiskFault) i.kept step i.fits;
-        law = c.law;
-        begun = c.begun;
-        all = c.all;
-        own = c.own;
-        onward = c.onward;
-        room = c.room;
-      })
+      let step : Step m (event.FlusherStep k) (reply.Refused refusal.DiskFault) (failed m) = inr (nothing_wrong, record { free = none_wrong; told = refl; failed = omega arith; next = refl }) in (
+        step,
+        record {
+          kept = keeps m (failed m) (event.FlusherStep k) (reply.Refused refusal.DiskFault) i.kept step;
+          fits = fits m (failed m) (event.FlusherStep k) (reply.Refused refusal.DiskFault) i.kept step i.fits;
+          law = c.law;
+          begun = c.begun;
+          all = c.all;
+          own = c.own;
+          onward = c.onward;
+          room = c.room;
+        },
+      )
 
   hungry : HiveSays old.memory NoMemory old.files v.files → Goes (Err refusal.NoMemory)
   unfolding Goes

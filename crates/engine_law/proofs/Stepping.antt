@@ -123,9 +123,13 @@ module _ (keeps : Keeps) (fits : Fits) (m : Machine) (base : ℕ) (opened : List
   batch_onward (count, some, few, idle, is) next e =
       let told : next ≡ record { below = floor (m.durable + 1 - 1) old.now; elements = old.now.elements ++ take count (timed_elements (pending m)) } = same_Some next _ (sym e ∙ ap (λ (c : Choice (Spelled TimedOp)). c.next) is) in
       let one : m.durable + 1 - 1 ≡ m.durable = omega arith in
-      inr (count, some, omega (arith, few, length-map (pending m) timed_element),
-      told ∙ ap (λ n. record { below = floor n old.now; elements = old.now.elements ++ take count (timed_elements (pending m)) }) one
-      ∙ ap (λ (s : Spelled TimedOp). record { below = floor m.durable s; elements = s.elements ++ take count (timed_elements (pending m)) }) (sym (ap (λ (c : Choice (Spelled TimedOp)). c.now) is)))
+      inr (
+        count,
+        some,
+        omega (arith, few, length-map (pending m) timed_element),
+        told ∙ ap (λ n. record { below = floor n old.now; elements = old.now.elements ++ take count (timed_elements (pending m)) }) one
+            ∙ ap (λ (s : Spelled TimedOp). record { below = floor m.durable s; elements = s.elements ++ take count (timed_elements (pending m)) }) (sym (ap (λ (c : Choice (Spelled TimedOp)). c.now) is)),
+      )
 
   begins_or_not : (BeginsBatch (m.durable + 1) (timed_elements (pending m)) old new) ⊎ (new ≡ old) → ((next : Spelled TimedOp) → new.next ≡ Some next → (next ≡ nothing) ⊎ IsBatch m new.now next) × (new.now ≡ old.now)
   begins_or_not (inl b) = (batch_onward b, ap (λ (c : Choice (Spelled TimedOp)). c.now) b.4)
@@ -231,7 +235,7 @@ module _ (keeps : Keeps) (fits : Fits) (m : Machine) (base : ℕ) (opened : List
       let e = ended says in
       let l = journal_law Done (top m.durable new.now) (m.room - freed old new) says refl in
       let step : Step m event.JournalStep (reply.Stepped stepped.Done) (moved_to m (top m.durable new.now) (m.room - freed old new)) =
-          record { free = not_faulted m free; next = refl; grows = e.rises; within = omega (arith, l.fits.to_last, last_is m base opened i.begun); room = e.keeps_room; idle = λ f. absurd cc } in
+      record { free = not_faulted m free; next = refl; grows = e.rises; within = omega (arith, l.fits.to_last, last_is m base opened i.begun); room = e.keeps_room; idle = λ f. absurd cc } in
       (step, consistent (top m.durable new.now) (m.room - freed old new) event.JournalStep (reply.Stepped stepped.Done) step l (settled_onward (top m.durable new.now) (m.room - freed old new) says) e.room_is)
 
   journal_hungry : JournalSays (m.durable + 1) (timed_elements (pending m)) NoMemory old new → Goes event.JournalStep (Err refusal.NoMemory)
@@ -287,7 +291,7 @@ module _ (keeps : Keeps) (fits : Fits) (m : Machine) (base : ℕ) (opened : List
         let l = trim_law Done (top m.durable new.now) (m.room - freed old new) idle_has says refl in
         let same : top m.durable new.now ≡ m.durable = ap (λ (c : Choice (Spelled TimedOp)). top m.durable c.now) says.2 ∙ ap (top m.durable) x_is ∙ (let f : m.durable + 0 ≡ m.durable = omega arith in f) in
         let step : Step m event.TrimStep (reply.Stepped stepped.Done) (moved_to m (top m.durable new.now) (m.room - freed old new)) =
-            record { free = not_faulted m free; next = ap (λ n. record m { durable = n; room = m.room - freed old new }) same; room = e.keeps_room } in
+        record { free = not_faulted m free; next = ap (λ n. record m { durable = n; room = m.room - freed old new }) same; room = e.keeps_room } in
         (step, consistent (top m.durable new.now) (m.room - freed old new) event.TrimStep (reply.Stepped stepped.Done) step l (settled_onward (top m.durable new.now) (m.room - freed old new) says) e.room_is)
 
     trim_failed : TrimSays DiskFault old new → Goes event.TrimStep (Err refusal.DiskFault)

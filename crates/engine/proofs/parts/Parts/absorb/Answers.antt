@@ -42,7 +42,7 @@ returns-clause-sound g c =
     let same = same_hive s.hives.items c.args.place c.index.result.now c.index_mut.result.now at is in
     let le = up s.store s.base s.opened.items s.journal s.hives.items c.requires.sound c.requires.works c.args.place c.index_mut.result.now is c.hive_steps_keep.ensures.lacks in
     let are = handed_is s.store.machine s.base s.opened.items (memory_of c.index_mut.result.now).1 c.number-number.result c.max-from.result c.durable-durable.result c.before-before.result c.saturating_sub.result c.len.result c.min-skipped.result c.deref.result.now c.above.result.now
-        (c.number-number.ensures ∙ ap (λ h. (memory_of h).1) same) c.max-from.ensures c.durable-durable.ensures.durable c.before-before.ensures c.saturating_sub.ensures (c.len.ensures ∙ sym c.deref.ensures.len ∙ ap length c.deref.ensures.value) c.min-skipped.ensures c.deref.ensures.value c.above.ensures.changes le c.requires.sound.kept.kept.within.opened in
+    (c.number-number.ensures ∙ ap (λ h. (memory_of h).1) same) c.max-from.ensures c.durable-durable.ensures.durable c.before-before.ensures c.saturating_sub.ensures (c.len.ensures ∙ sym c.deref.ensures.len ∙ ap length c.deref.ensures.value) c.min-skipped.ensures c.deref.ensures.value c.above.ensures.changes le c.requires.sound.kept.kept.within.opened in
     taken s.store s.base s.opened.items s.journal s.hives.items c.requires.sound c.requires.works c.args.place c.index_mut.result.now is c.hive_steps_keep.ensures.takes c.hive_steps_keep.ensures.step c.absorb.new.self _ c.durable-durable.result c.absorb.result
     c.absorb.ensures.files (c.requires.rest c.index_mut.result.now is) c.durable-durable.ensures.durable are c.absorb.ensures.memory c.absorb.ensures.err c.absorb.ensures.place c.absorb.ensures.store c.absorb.ensures.whole c.absorb.ensures.sound
 
@@ -60,5 +60,5 @@ returns-clause-refused g c =
     let same = same_hive s.hives.items c.args.place c.index.result.now c.index_mut.result.now at is in
     let le = up s.store s.base s.opened.items s.journal s.hives.items c.requires.sound c.requires.works c.args.place c.index_mut.result.now is c.hive_steps_keep.ensures.lacks in
     let are = handed_is s.store.machine s.base s.opened.items (memory_of c.index_mut.result.now).1 c.number-number.result c.max-from.result c.durable-durable.result c.before-before.result c.saturating_sub.result c.len.result c.min-skipped.result c.deref.result.now c.above.result.now
-        (c.number-number.ensures ∙ ap (λ h. (memory_of h).1) same) c.max-from.ensures c.durable-durable.ensures.durable c.before-before.ensures c.saturating_sub.ensures (c.len.ensures ∙ sym c.deref.ensures.len ∙ ap length c.deref.ensures.value) c.min-skipped.ensures c.deref.ensures.value c.above.ensures.changes le c.requires.sound.kept.kept.within.opened in
+    (c.number-number.ensures ∙ ap (λ h. (memory_of h).1) same) c.max-from.ensures c.durable-durable.ensures.durable c.before-before.ensures c.saturating_sub.ensures (c.len.ensures ∙ sym c.deref.ensures.len ∙ ap length c.deref.ensures.value) c.min-skipped.ensures c.deref.ensures.value c.above.ensures.changes le c.requires.sound.kept.kept.within.opened in
     c.absorb.ensures.legal (lawful s.store s.base s.opened.items s.journal s.hives.items c.requires.sound c.requires.works c.args.place c.index_mut.result.now is c.hive_steps_keep.ensures.lacks _ are)

@@ -18,7 +18,7 @@ returns-clause-step g c =
     let s = c.args.self.now in
     let is = at_place s.hives.items c.args.place c.index_mut.result.now c.requires.there c.index_mut.ensures.value in
     let goes = flush_goes s.store s.base s.opened.items s.journal s.hives.items c.requires.sound c.requires.works c.args.place c.index_mut.result.now is c.hive_steps_keep.ensures.step c.step-come.new.self c.step-come.result
-        c.step-come.ensures.memory c.step-come.ensures.faulted c.step-come.ensures.says in
+    c.step-come.ensures.memory c.step-come.ensures.faulted c.step-come.ensures.says in
     subst (λ r. Step s.store.machine (event.FlusherStep c.args.place) r c.answer.new.self.store.machine) (sym c.answer.ensures.reply)
     (subst (λ (m : Machine). Step s.store.machine (event.FlusherStep c.args.place) (reply_to c.step-come.result) m) (sym c.answer.ensures.machine) goes.0)
 
@@ -27,7 +27,7 @@ returns-clause-sound g c =
     let s = c.args.self.now in
     let is = at_place s.hives.items c.args.place c.index_mut.result.now c.requires.there c.index_mut.ensures.value in
     let goes = flush_goes s.store s.base s.opened.items s.journal s.hives.items c.requires.sound c.requires.works c.args.place c.index_mut.result.now is c.hive_steps_keep.ensures.step c.step-come.new.self c.step-come.result
-        c.step-come.ensures.memory c.step-come.ensures.faulted c.step-come.ensures.says in
+    c.step-come.ensures.memory c.step-come.ensures.faulted c.step-come.ensures.says in
     subst (λ p. AreSound p.store p.base p.opened.items p.journal p.hives.items) (sym c.answer.ensures.rest)
     (flush_sound s.store c.answer.new.self.store s.base s.opened.items s.journal s.hives.items c.args.place c.index_mut.result.now c.step-come.new.self c.step-come.result c.requires.sound c.requires.works is goes.1
     c.step-come.ensures.place c.step-come.ensures.store c.step-come.ensures.whole c.step-come.ensures.broken.0 c.answer.ensures.machine c.answer.ensures.at_hand)

@@ -12,14 +12,14 @@ pub returns-clause-step : goal.returns-clause-step
 returns-clause-step g c =
     let s = c.args.self.now in
     let goes = trim_goes s.store s.base s.opened.items s.journal s.hives.items c.requires.sound c.journal_steps_keep.ensures.trim c.trim_step-result.new.self c.trim_step-result.result (sym c.is_faulted.ensures ∙ c.if-is_faulted.false)
-        (c.may_trim.ensures c.if-not-may_trim.false) c.trim_step-result.ensures.faulted c.trim_step-result.ensures.says in
+    (c.may_trim.ensures c.if-not-may_trim.false) c.trim_step-result.ensures.faulted c.trim_step-result.ensures.says in
     told event.TrimStep s.store.machine c.settle.new.self.store.machine (choice_of s.journal) (choice_of c.trim_step-result.new.self) c.used-used.result c.trim_step-result.result c.settle.result goes.0 c.settle.ensures.reply c.used-used.ensures c.settle.ensures.machine
 
 pub returns-clause-sound : goal.returns-clause-sound
 returns-clause-sound g c =
     let s = c.args.self.now in
     let goes = trim_goes s.store s.base s.opened.items s.journal s.hives.items c.requires.sound c.journal_steps_keep.ensures.trim c.trim_step-result.new.self c.trim_step-result.result (sym c.is_faulted.ensures ∙ c.if-is_faulted.false)
-        (c.may_trim.ensures c.if-not-may_trim.false) c.trim_step-result.ensures.faulted c.trim_step-result.ensures.says in
+    (c.may_trim.ensures c.if-not-may_trim.false) c.trim_step-result.ensures.faulted c.trim_step-result.ensures.says in
     subst (λ p. AreSound p.store p.base p.opened.items p.journal p.hives.items) (sym c.settle.ensures.rest)
     (journal_sound s.store c.settle.new.self.store s.base s.opened.items s.journal c.trim_step-result.new.self s.hives.items c.trim_step-result.result c.requires.sound (sym c.is_faulted.ensures ∙ c.if-is_faulted.false) goes.1 c.trim_step-result.ensures.same
     c.trim_step-result.ensures.broken.0 (c.settle.ensures.machine ∙ settled_is s.store.machine (choice_of s.journal) (choice_of c.trim_step-result.new.self) c.used-used.result c.trim_step-result.result c.used-used.ensures) c.settle.ensures.at_hand)
