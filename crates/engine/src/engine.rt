@@ -1,21 +1,31 @@
 //! The engine as its callers see it: what it keeps is in its type, so that no call asks for it.
-ghost use Rattle.std.specs.Prelude.{◌≡◌, ◌<◌, ◌≤◌, IfOk, OnErr};
-ghost use Rattle.refusals.specs.declared.refusal.Refusal.TheVariants.{DiskFault};
+ghost use Rattle.std.specs.Prelude.{◌≡◌, ◌+◌, ◌<◌, ◌≤◌, [], ℕ, IfErr, IfOk, OnErr, Some, length, map, slice_get};
+ghost use Rattle.refusals.specs.declared.refusal.Refusal.TheVariants.{DiskFault, NoMemory};
 ghost use Rattle.disk_model.specs.Call.{OneCall};
-ghost use Rattle.machine.specs.Machine.{trees_now};
+ghost use Rattle.machine.specs.Machine.{opened_machine, trees_now};
+ghost use Rattle.commit_journal.specs.Store.{room_of};
+ghost use Rattle.commit_journal.specs.Journals.{choice_of, store_of, IsBroken};
+ghost use Rattle.hive_flush.specs.HiveStates.{IsWhole};
+ghost use Rattle.hive_flush.specs.HiveStates as states;
+ghost use Rattle.hive_flush.specs.declared.hive.HiveFile.{HiveFile};
+ghost use Rattle.engine_law.specs.Openings.{IsFound};
 ghost use Rattle.machine.specs.Steps.{Step, Run};
 ghost use Rattle.machine.specs.declared.event.Reply.TheVariants as reply;
-ghost use Rattle.engine_law.specs.Prefixes.{IsSafeAt};
+ghost use Rattle.engine_law.specs.Prefixes.{AreOnDisk, ArePlaced, IsSafeAt, view_of};
 ghost use Rattle.engine_law.specs.Runs.{RunsSafely};
 ghost use Rattle.engine.specs.Parts.{AnyFile};
 
 use crate::parts::Parts;
+use commit_journal::Journal;
 use disk_model::Disk;
-use engine_law::laws::crashes_leave_prefixes;
+use engine_law::laws::{crashes_leave_prefixes, openings_begin};
+use hive_flush::HiveFile;
 use machine::{Event, Reply};
-use reg_tree::Trees;
+use refusals::Refusal;
+use reg_tree::{Element, Trees};
 use std::alloc::{AllocError, Global};
 use std::marker::Model;
+use transactions::Store;
 
 /// An engine over a disk, seen by contracts as its machine, its disk, and the store that its files are of.
 ///
@@ -51,7 +61,70 @@ impl<D: Disk> Model for Engine<D> {
     } };
 }
 
+/// What an opening found of a store: its journal and hives, and what they recover together.
+#[derive(Drop)]
+pub struct Found {
+    /// The journal, with nothing on its way.
+    pub journal: Journal,
+    /// The hives in their order, each whole and with nothing on its way.
+    pub hives: Vec<HiveFile>,
+    /// The trees that are recovered.
+    pub trees: Trees,
+    /// The number that is recovered.
+    pub number: u64,
+    /// The changes that the journal spells.
+    pub opened: Vec<Element>,
+    /// The number below the first of them, or the recovered number where there is none.
+    pub base: u64,
+}
+
 impl<D: Disk> Engine<D> {
+    /// An engine that goes on from what an opening found on a disk.
+    ///
+    /// Refused for want of memory alone; the disk is handed back then.
+    pub fn new(alloc: Global, disk: D, found: Found) -> Result<Engine<D>, (Refusal, D)>
+        requires found { IsFound found.trees found.number found.base found.opened.items
+            (choice_of found.journal) (map view_of found.hives.items) }
+        requires placed { ArePlaced (store_of found.journal) found.hives.items }
+        requires many { length found.hives.items ≡ (store_of found.journal).hives }
+        requires whole { (i : ℕ) (hive : HiveFile) →
+            slice_get found.hives.items i ≡ Some hive → IsWhole hive × ¬ (states.IsBroken hive) }
+        requires works { ¬ (IsBroken found.journal) }
+        requires on_disk { D.faithful disk → AreOnDisk found.journal found.hives.items
+            (D.state_at disk (D.clock disk)) }
+        ensures machine { IfOk result (λ engine. engine.machine
+            ≡ record (opened_machine found.trees found.number [] 0)
+            { room = 65 + room_of (choice_of found.journal).now.elements }) }
+        ensures disk { IfOk result (λ engine. engine.disk ≡ disk) }
+        ensures store { IfOk result (λ engine. engine.store ≡ store_of found.journal) }
+        ensures refused { IfErr result (λ back. (back.0 ≡ NoMemory) × (back.1 ≡ disk)) }
+    {
+        openings_begin();
+        let room = found.journal.used();
+        let Found {
+            journal,
+            hives,
+            trees,
+            number,
+            opened,
+            base,
+        } = found;
+        let Ok(store) = Store::new(alloc, trees, number, room) else {
+            return Err((Refusal::NoMemory, disk));
+        };
+        Ok(Engine {
+            parts: Parts {
+                alloc,
+                disk,
+                journal,
+                hives,
+                store,
+                opened,
+                base,
+            },
+        })
+    }
+
     /// One event: a step of the machine, with at most one call of the device.
     ///
     /// A crash before, within or after it leaves a prefix of the changes accepted before the event at the moment at which it

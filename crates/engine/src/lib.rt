@@ -11,4 +11,4 @@ mod parts;
 mod running;
 mod steps;
 
-pub use engine::Engine;
+pub use engine::{Engine, Found};

@@ -17,7 +17,7 @@ use Rattle.prefix_law.specs.Memory.{with_memory}
 use Rattle.prefix_law.proofs.Lists.{drop_nil}
 use Rattle.prefix_law.proofs.KeepSteps.{begun}
 use Rattle.prefix_law.proofs.MemoryCounts.{remembered}
-use Rattle.machine.specs.Machine.{Machine, opened_machine}
+use Rattle.machine.specs.Machine.{Machine, opened_machine, room_with}
 use Rattle.machine.specs.Kept.{IsKept}
 use Rattle.engine_words.specs.Changes.{TimedOp, rules, timed_element, timed_elements}
 use Rattle.engine_law.specs.States.{HiveView}
@@ -68,3 +68,8 @@ module _ (trees : List TreeMap) (n failures base : ℕ) (opened : List Element) 
     onward = λ next e. absurd (none-some next (sym (ap (λ (c : Choice (Spelled TimedOp)). c.next) found.journal_is) ∙ e));
     room = omega (arith, rooms_are opened, ap (λ (c : Choice (Spelled TimedOp)). room_of c.now.elements) found.journal_is, ap (λ (l : List Element). room_of (timed_elements l)) (nothing_left (n - n) [] refl));
   }
+
+  pub begins_told : ((ts : List TreeMap) (number : ℕ) (es : List Element) (f : ℕ) → AreTrees ts → number ≤ GREATEST_NUMBER → IsKept (opened_machine ts number es f)) → IsConsistent (record (opened_machine trees n [] failures) { room = 65 + room_of journal.now.elements }) base opened journal hives
+  begins_told kept =
+      let room : room_with opened ≡ 65 + room_of journal.now.elements = omega (arith, rooms_are opened, ap (λ (c : Choice (Spelled TimedOp)). room_of c.now.elements) found.journal_is) in
+      subst (λ r. IsConsistent (record (opened_machine trees n [] failures) { room = r }) base opened journal hives) room (begins kept)

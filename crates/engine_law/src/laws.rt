@@ -29,12 +29,14 @@ ghost use Rattle.engine_law.specs.Openings.{IsFound};
 
 use reg_tree::{Op, Tree};
 
-/// What an opening finds begins a life in which all is kept.
+/// What an opening finds begins a life in which all is kept: the machine is as it is opened, its room that of the changes which the
+/// journal spells.
 pub fn openings_begin()
     ensures { (trees : List TreeMap) (number failures base : ℕ) (opened : List Element)
         (journal : Choice (Spelled TimedOp)) (hives : List HiveView) →
         IsFound trees number base opened journal hives →
-        IsConsistent (opened_machine trees number opened failures) base opened journal hives }
+        IsConsistent (record (opened_machine trees number [] failures)
+        { room = 65 + room_of journal.now.elements }) base opened journal hives }
 {
     machine::laws::states_are_kept();
 }
