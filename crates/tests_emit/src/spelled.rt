@@ -40,7 +40,7 @@ pub fn key_record(
     record.extend_from_slice(&offset(security).to_le_bytes())?;
     record.extend_from_slice(&offset(12).to_le_bytes())?;
     record.resize(72, 0)?;
-    record.push(name.len() as u8)?;
+    record.push(u8::try_from(name.len()).unwrap_or(0))?;
     record.push(0)?;
     record.push(class)?;
     record.push(0)?;
