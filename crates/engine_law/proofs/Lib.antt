@@ -1,6 +1,6 @@
-mod HiveLists
-mod Bridge
-mod Room
+pub mod HiveLists
+pub mod Bridge
+pub mod Room
 mod Accepting
 mod Beginning
 mod Handing

@@ -1,0 +1,53 @@
+-- What a crash leaves of an opened store.
+use Rattle.std.proofs.Common.{◌≡◌, ℕ, ◌+◌, ◌-◌, ◌≤◌, List, [], length, map, refl, sym, ◌∙◌, subst, arith}
+use Rattle.std.proofs.lemmas.List.{length-map}
+use Rattle.reg_tree.specs.Maps.{TreeMap}
+use Rattle.reg_tree.specs.Sequences.{after_elements}
+use Rattle.reg_tree.specs.declared.element.Element.{Element}
+use Rattle.prefix_law.specs.Promises.{Choice, Spelled}
+use Rattle.prefix_law.proofs.Lists.{take_nil}
+use Rattle.disk_model.specs.FileState.{FileState}
+use Rattle.disk_model.specs.Crash.{LeavesHonest}
+use Rattle.disk_model.specs.StoreFiles.{IsPrimary}
+use Rattle.machine.specs.Machine.{Machine, opened_machine}
+use Rattle.engine_words.specs.Changes.{TimedOp}
+use Rattle.commit_journal.specs.Store.{Store, room_of}
+use Rattle.commit_journal.specs.Journals.{choice_of, store_of}
+use Rattle.commit_journal.specs.declared.journal.Journal.{Journal}
+use Rattle.hive_flush.specs.declared.hive.HiveFile.{HiveFile}
+use Rattle.engine_law.specs.States.{HiveView, IsConsistent}
+use Rattle.engine_law.specs.Openings.{IsFound}
+use Rattle.engine_law.specs.Prefixes.{AreOnDisk, ArePlaced, IsSafeAt, Recover, view_of}
+use Rattle.recovery.specs.Kept.{IsKept}
+use Rattle.recovery.specs.Recovered.{IsRecovered}
+use Rattle.recovery.specs.declared.found.Found.{Found}
+
+-- The laws that are used
+
+abbrev pub Begins : Type 0
+Begins = (trees : List TreeMap) (number failures base : ℕ) (opened : List Element) (journal : Choice (Spelled TimedOp)) (hives : List HiveView) → IsFound trees number base opened journal hives
+    → IsConsistent (record (opened_machine trees number [] failures) { room = 65 + room_of journal.now.elements }) base opened journal hives
+
+abbrev pub Safe : Type 0
+Safe = (store : Store) (machine : Machine) (base : ℕ) (opened : List Element) (journal : Journal) (hives : List HiveFile) (states : ℕ → ℕ → FileState) (moment : ℕ) → IsConsistent machine base opened (choice_of journal) (map view_of hives)
+    → store_of journal ≡ store → ArePlaced store hives → AreOnDisk journal hives (states moment) → IsSafeAt store states moment machine
+
+-- an opened store's files recover what was found, whatever a crash leaves of them
+pub still_recovered : Begins → Safe → (found : Found) → IsKept found → (states : ℕ → ℕ → FileState) (moment : ℕ) → AreOnDisk found.journal found.hives.items (states moment)
+    → (files : ℕ → List ℕ) → LeavesHonest IsPrimary (states moment) files → IsRecovered files (store_of found.journal) found.number found.trees
+still_recovered begins safe found kept states moment on files left =
+    let begun = begins found.trees found.number 0 found.base found.opened.items (choice_of found.journal) (map view_of found.hives.items) kept.recovers in
+    let p = safe (store_of found.journal) _ found.base found.opened.items found.journal found.hives.items states moment begun refl kept.placed on files left in
+    let long : length found.trees ≡ (store_of found.journal).hives = sym begun.all ∙ length-map found.hives.items view_of ∙ kept.many in
+    let number : p.0 ≡ found.number = omega (arith, p.1, p.2) in
+    record {
+      store_is = kept.store;
+      many = long;
+      recovers = subst (λ n. Recover (store_of found.journal) n files found.number found.trees) long
+          (subst (λ n. Recover (store_of found.journal) (length found.trees) files n found.trees) number
+          (subst (λ (es : List Element). Recover (store_of found.journal) (length found.trees) files p.0 (after_elements found.trees es)) (take_nil (p.0 - found.number)) p.3));
+    }
+
+-- a moment that is past is as it was
+pub same_moment : (old new : ℕ → ℕ → FileState) (clock : ℕ) → ((k f : ℕ) → k ≤ clock → new k f ≡ old k f) → old clock ≡ new clock
+same_moment old new clock past = sym (λ i f. past clock f (omega arith) i)

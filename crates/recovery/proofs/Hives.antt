@@ -1,0 +1,93 @@
+-- Hives are opened one after another.
+use Rattle.std.proofs.Common.{◌≡◌, ◌⊎◌, inl, inr, ℕ, ◌<◌, List, [], ◌∷◌, ◌++◌, length, refl, sym, ◌∙◌, ap, subst, arith, Some, slice_get}
+use Rattle.std.proofs.lemmas.Bool.{cases_eq}
+use Rattle.std.proofs.lemmas.Option.{slice_get_within}
+use Rattle.refusals.specs.declared.refusal.Refusal.{Refusal}
+use Rattle.prefix_law.specs.Promises.{settled}
+use Rattle.disk_model.specs.FileState.{FileState, at_rest}
+use Rattle.disk_model.specs.StoreFiles.{IsOfHive, primary_file, log_file, journal_file}
+use Rattle.hive_files.specs.Frames.{FailsBy, IsSyncedOrSame}
+use Rattle.hive_flush.specs.Standing.{HoldsUnder, NothingHeld}
+use Rattle.hive_flush.specs.HiveStates.{IsBroken, IsOn, files_of, memory_of, place_of}
+use Rattle.hive_flush.specs.HiveStates as states
+use Rattle.hive_flush.specs.declared.hive.HiveFile.{HiveFile}
+use Rattle.engine_law.proofs.HiveLists.{each_pushed}
+use Rattle.recovery.specs.Reading.{AreOpened, IsNoHive, IsOpened}
+
+-- what a read gives stays by a sync, and one sync after another is one
+pub seen_same : (old new : FileState) → IsSyncedOrSame old new → new.seen ≡ old.seen
+seen_same old new (inl same) = ap (λ (s : FileState). s.seen) same
+seen_same old new (inr syncs) = ap (λ (s : FileState). s.seen) syncs
+
+pub synced_on : (old mid new : FileState) → IsSyncedOrSame old mid → IsSyncedOrSame mid new → IsSyncedOrSame old new
+synced_on old mid new first (inl same) = subst (IsSyncedOrSame old) (sym same) first
+synced_on old mid new first (inr syncs) = inr (syncs ∙ ap at_rest (seen_same old mid first))
+
+-- a file is of a hive, or not
+of_hive : (i f : ℕ) → IsOfHive i f ⊎ ¬ (IsOfHive i f)
+of_hive i f = elim (cases_eq f (primary_file i)) [
+  | inl e ↦ inl (inl e)
+  | inr ne ↦ elim (cases_eq f (log_file i)) [ inl e ↦ inl (inr e) | inr other ↦ inr (λ either. elim (either) [ inl e ↦ ne e | inr e ↦ other e ]) ]
+]
+
+module _ (before after : Type 0) (back : after → before) (store : List ℕ) (then mid now : ℕ → FileState) (hives : List HiveFile) (a : AreOpened before store then mid hives)
+    (k : ℕ) (many : length hives ≡ k) (others : (f : ℕ) → ¬ (IsOfHive k f) → now f ≡ mid f) (synced : after → (f : ℕ) → IsOfHive k f → IsSyncedOrSame (mid f) (now f)) where
+  pub files_synced : after → (f : ℕ) → IsSyncedOrSame (then f) (now f)
+  files_synced faithful f = synced_on (then f) (mid f) (now f) (a.files (back faithful) f) (elim (of_hive k f) [ inl its ↦ synced faithful f its | inr other ↦ inl (others f other) ])
+
+  was_seen : after → (f : ℕ) → (mid f).seen ≡ (then f).seen
+  was_seen faithful f = seen_same (then f) (mid f) (a.files (back faithful) f)
+
+  -- those before stay as they are
+  earlier : (i : ℕ) (h : HiveFile) → slice_get hives i ≡ Some h → IsOpened after store then now i h
+  earlier i h is =
+      let o = a.each i h is in
+      let lt = slice_get_within hives i h is in
+      record {
+        rests = o.rests;
+        place = o.place;
+        owner = o.owner;
+        works = o.works;
+        held = λ faithful. o.held (back faithful);
+        on = λ faithful.
+            subst (λ (s : FileState). IsOn h s (now (log_file i))) (sym (others (primary_file i) (λ f. elim (f) [ inl e ↦ omega (arith, e, lt, many) | inr e ↦ omega (arith, e, lt, many) ])))
+            (subst (λ (s : FileState). IsOn h (mid (primary_file i)) s) (sym (others (log_file i) (λ f. elim (f) [ inl e ↦ omega (arith, e, lt, many) | inr e ↦ omega (arith, e, lt, many) ]))) (o.on (back faithful)));
+      }
+
+  pub one_more : (hive : HiveFile) → files_of hive ≡ settled (memory_of hive) → place_of hive ≡ k → states.store_of hive ≡ store → ¬ (IsBroken hive)
+      → (after → HoldsUnder store (mid (primary_file k)).seen (mid (log_file k)).seen (memory_of hive))
+      → (after → IsOn hive (now (primary_file k)) (now (log_file k))) → AreOpened after store then now (hives ++ hive ∷ [])
+  one_more hive rests place owner works held on = record {
+    each = each_pushed hives hive (IsOpened after store then now) earlier (subst (λ n. IsOpened after store then now n hive) (sym many) (record {
+      rests = rests;
+      place = place;
+      owner = owner;
+      works = works;
+      held = λ faithful. subst (λ (p : List ℕ). HoldsUnder store p (then (log_file k)).seen (memory_of hive)) (was_seen faithful (primary_file k))
+          (subst (λ (l : List ℕ). HoldsUnder store (mid (primary_file k)).seen l (memory_of hive)) (was_seen faithful (log_file k)) (held faithful));
+      on = on;
+    }));
+    files = files_synced;
+    journal = others journal_file (λ f. elim (f) [ inl e ↦ omega (arith, e) | inr e ↦ omega (arith, e) ]) ∙ a.journal;
+  }
+
+  -- a hive that could not be opened
+  pub refused : (count : ℕ) (why : Refusal) (rose risen : Type 0) → (rose → risen) → k < count
+      → FailsBy rose (NothingHeld after k store (mid (primary_file k)).seen (mid (log_file k)).seen) why
+      → FailsBy risen (IsNoHive after store count then) why
+  refused count why rose risen up lt (inl none) = inl none
+  refused count why rose risen up lt (inr (inl (fault, r))) = inr (inl (fault, up r))
+  refused count why rose risen up lt (inr (inr (tells, none))) =
+      inr (inr (
+        (k, tells),
+        λ faithful. (
+          k,
+          lt,
+          λ held holds. none faithful held
+              (subst (λ (p : List ℕ). HoldsUnder store p (mid (log_file k)).seen held) (sym (was_seen faithful (primary_file k)))
+              (subst (λ (l : List ℕ). HoldsUnder store (then (primary_file k)).seen l held) (sym (was_seen faithful (log_file k))) holds)),
+        ),
+      ))
+
+pub none_yet : (faithful : Type 0) (store : List ℕ) (state : ℕ → FileState) → AreOpened faithful store state state []
+none_yet faithful store state = record { each = λ i hive is. absurd cc; files = λ f g. inl refl; journal = refl }

@@ -1,0 +1,6 @@
+pub mod Replays
+mod Together
+mod Hives
+mod Openings
+mod Repairs
+mod Crashes

@@ -1,0 +1,50 @@
+-- A step of a hive's repair keeps what an opened store keeps.
+use Rattle.std.proofs.Common.{◌≡◌, ◌⊎◌, inl, inr, ℕ, ◌<◌, List, length, map, refl, sym, ◌∙◌, ap, subst, Some, slice_get, get_or, Result, Ok, Err}
+use Rattle.std.specs.Prelude.{slice_set, IfErr, OnOk}
+use Rattle.std.specs.Global.{Vec}
+use Rattle.std.proofs.lemmas.Option.{slice_get_read}
+use Rattle.std.proofs.lemmas.List.{length-set}
+use Rattle.std.proofs.Math.Seq.{map-set_same}
+use Rattle.refusals.specs.declared.refusal.Refusal.{Refusal}
+use Rattle.refusals.specs.declared.refusal.Refusal.TheVariants as refusal
+use Rattle.engine_words.specs.declared.Progress.{Progress}
+use Rattle.commit_journal.specs.Journals.{choice_of, store_of}
+use Rattle.hive_flush.specs.HiveStates.{IsBroken, files_of, memory_of, place_of}
+use Rattle.hive_flush.specs.HiveStates as states
+use Rattle.hive_flush.specs.declared.hive.HiveFile.{HiveFile}
+use Rattle.engine_law.specs.States.{HiveView}
+use Rattle.engine_law.specs.Openings.{IsFound}
+use Rattle.engine_law.specs.Prefixes.{ArePlaced, view_of}
+use Rattle.engine_law.proofs.HiveLists.{each_hive}
+use Rattle.recovery.specs.Kept.{AllWork, IsKept}
+use Rattle.recovery.specs.declared.found.Found.{Found}
+
+pub views_on : (hives : List HiveFile) (k : ℕ) (old new : HiveFile) → old ≡ get_or hives k old → files_of new ≡ files_of old → memory_of new ≡ memory_of old → map view_of (slice_set hives k new) ≡ map view_of hives
+views_on hives k old new is files memory =
+    let same : view_of new ≡ view_of old = λ i. record { files = files i; memory = memory i } in
+    map-set_same view_of hives k new old (same ∙ ap view_of is)
+
+pub kept_on : (found : Found) (k : ℕ) (old new : HiveFile) (then : Vec HiveFile) → then.items ≡ slice_set found.hives.items k new → IsKept found → k < length found.hives.items → old ≡ get_or found.hives.items k old
+    → files_of new ≡ files_of old → memory_of new ≡ memory_of old → place_of new ≡ place_of old → states.store_of new ≡ states.store_of old → IsKept (record found { hives = then })
+kept_on found k old new then are kept lt value files memory place owner =
+    let is = slice_get_read found.hives.items (length found.hives.items) k old refl lt value in
+    record {
+      recovers = subst (λ (v : List HiveView). IsFound found.trees found.number found.base found.opened.items (choice_of found.journal) v) (sym (ap (map view_of) are ∙ views_on found.hives.items k old new value files memory)) kept.recovers;
+      store = kept.store;
+      placed = subst (λ (hs : List HiveFile). ArePlaced (store_of found.journal) hs) (sym are) (record {
+        place = each_hive found.hives.items k old new is (λ j h. place_of h ≡ j) (place ∙ kept.placed.place k old is) (λ j h ne at. kept.placed.place j h at);
+        owner = each_hive found.hives.items k old new is (λ j h. states.store_of h ≡ (store_of found.journal).id) (owner ∙ kept.placed.owner k old is) (λ j h ne at. kept.placed.owner j h at);
+      });
+      many = ap (λ (hs : List HiveFile). length hs) are ∙ length-set found.hives.items k new ∙ kept.many;
+      works = kept.works;
+    }
+
+pub works_on : (hives : List HiveFile) (k : ℕ) (old new : HiveFile) → slice_get hives k ≡ Some old → (result : Result Progress Refusal) → AllWork hives → (IsBroken new → IsBroken old ⊎ (result ≡ Err refusal.DiskFault)) → OnOk result (AllWork (slice_set hives k new))
+works_on hives k old new is (Ok come) all broken = each_hive hives k old new is (λ j h. ¬ (IsBroken h)) (λ bad. elim (broken bad) [ inl was ↦ all k old is was | inr f ↦ absurd cc ]) (λ j h ne at. all j h at)
+works_on hives k old new is (Err why) all broken = tt
+
+-- a hive that works is refused a step only by the device
+pub only_fault : (result : Result Progress Refusal) → IfErr result (λ why. (why ≡ refusal.DiskFault) ⊎ (why ≡ refusal.Faulted)) → (result ≡ Err refusal.Faulted → ⊥) → IfErr result (λ why. why ≡ refusal.DiskFault)
+only_fault (Ok come) told free = tt
+only_fault (Err why) (inl fault) free = fault
+only_fault (Err why) (inr faulted) free = absurd (free (ap Err faulted))

@@ -1,0 +1,282 @@
+-- What a journal and hives recover together, and where they recover nothing.
+use Rattle.std.proofs.Common.{◌≡◌, inl, inr, ℕ, zero, suc, Bool, ◌+◌, ◌<◌, ◌≤◌, List, [], ◌∷◌, ◌++◌, length, map, refl, sym, ◌∙◌, ap, subst, arith, Some, None, get_or, slice_get}
+use Rattle.std.specs.Prelude.{min, if◌then◌else◌}
+use Rattle.std.proofs.lemmas.Bool.{cases_lt, eq-eqb}
+use Rattle.std.specs.List.{AllByRecursion}
+use Rattle.std.proofs.lemmas.Option.{none-some, same_Some, slice_get_within, slice_get-get_or}
+use Rattle.std.proofs.lemmas.List.{length-map}
+use Rattle.refusals.specs.declared.limits.TheConstants.{GREATEST_NUMBER}
+use Rattle.reg_tree.specs.Maps.{TreeMap, IsTree}
+use Rattle.reg_tree.specs.Fresh.{fresh_tree}
+use Rattle.reg_tree.specs.Sequences.{AreTrees}
+use Rattle.reg_tree.specs.Operations.{hive_of}
+use Rattle.reg_tree.specs.declared.op.Op.{Op}
+use Rattle.reg_tree.specs.declared.element.Element.{Element}
+use Rattle.prefix_law.specs.Changes as law
+use Rattle.prefix_law.specs.Promises.{Choice, Spelled, settled, floor, top}
+use Rattle.prefix_law.specs.Recovery.{Recovers, IsLastNumber}
+use Rattle.prefix_law.specs.Files.{IsLastNumberOf}
+use Rattle.prefix_law.specs.Life.{NamesHive}
+use Rattle.prefix_law.proofs.OfFiles.{files_once, files_recover}
+use Rattle.disk_model.specs.StoreFiles.{primary_file, log_file, journal_file}
+use Rattle.engine_words.specs.Changes.{TimedOp, rules, timed, timed_element, timed_elements}
+use Rattle.element_text.specs.Text.{Fits, OpFits}
+use Rattle.commit_journal.specs.Text.{spelled}
+use Rattle.commit_journal.specs.Store.{Store, IsStore, texts}
+use Rattle.commit_journal.specs.Journals.{IsBroken, choice_of, store_of, value_in}
+use Rattle.commit_journal.specs.OnDisk as phase
+use Rattle.commit_journal.specs.declared.journal.Phase.{Phase}
+use Rattle.commit_journal.specs.declared.journal.Phase.TheVariants.{Quiet, BodyWritten, BodySynced, GateWritten, TrimWritten, Broken}
+use Rattle.commit_journal.specs.declared.journal.Journal.{Journal}
+use Rattle.hive_flush.specs.Standing.{HoldsUnder}
+use Rattle.hive_flush.specs.HiveStates.{files_of, memory_of}
+use Rattle.hive_flush.specs.declared.hive.HiveFile.{HiveFile}
+use Rattle.engine_law.specs.States.{HiveView, tree_of}
+use Rattle.engine_law.specs.Openings.{held_if, held_by, IsFound}
+use Rattle.engine_law.specs.Prefixes.{Holds, Recover, Spells, view_of}
+use Rattle.engine_law.proofs.HiveLists.{at_slot, view_at, viewed}
+use Rattle.engine_law.proofs.Bridge.{all_allowed}
+use Rattle.recovery.specs.Reading.{AreAtRest, AreOf, IsNumber, LeadTo, SomeLeadsNowhere, greatest, replayed_on}
+use Rattle.recovery.specs.Kept.{IsKept}
+use Rattle.recovery.specs.Recovered.{IsRecovered}
+use Rattle.recovery.specs.declared.found.Found.{Found}
+
+-- The laws that are used
+
+abbrev pub OneStore : Type 0
+OneStore = (bytes : List ℕ) (a b : Store) (x y : Spelled TimedOp) → IsStore a → IsStore b → spelled (texts a) bytes ≡ Some x → spelled (texts b) bytes ≡ Some y → a ≡ b
+
+abbrev pub OneHeld : Type 0
+OneHeld = (store primary log : List ℕ) (x y : TreeMap × ℕ) → HoldsUnder store primary log x → HoldsUnder store primary log y → x ≡ y
+
+-- Numbers
+
+pub below_greatest : (hives : List HiveFile) (i : ℕ) (hive : HiveFile) → slice_get hives i ≡ Some hive → (files_of hive).now.1 ≤ greatest hives
+below_greatest [] i hive is = absurd cc
+below_greatest (h ∷ hs) zero hive is = omega (arith, ap (λ (f : HiveFile). (files_of f).now.1) (same_Some h hive is))
+below_greatest (h ∷ hs) (suc i) hive is = let rest = below_greatest hs i hive is in omega (arith, rest)
+
+-- the greatest number is that of some hive
+abbrev HasGreatest : List HiveFile → Type 0
+HasGreatest hives = (i : ℕ) × (hive : HiveFile) × (slice_get hives i ≡ Some hive) × ((files_of hive).now.1 ≡ greatest hives)
+
+pub some_greatest : (hives : List HiveFile) → 0 < length hives → HasGreatest hives
+some_greatest [] some = absurd (omega (arith, some))
+some_greatest (h ∷ []) some = (0, h, refl, omega arith)
+some_greatest (h ∷ g ∷ gs) some = elim (cases_lt (greatest (g ∷ gs)) (files_of h).now.1) [
+  | inl less ↦ (0, h, refl, omega (arith, less))
+  | inr more ↦ let rest = some_greatest (g ∷ gs) (omega arith) in (suc rest.0, rest.1, rest.2, omega (arith, more, rest.3))
+]
+
+-- A change on the store's hives names one of them
+
+on_own : (o : ℕ × TimedOp) (os : List (ℕ × TimedOp)) → law.on_hive o.0 (o ∷ os) ≡ o.1 ∷ law.on_hive o.0 os
+on_own o os = ap (λ (b : Bool). if b then o.1 ∷ law.on_hive o.0 os else law.on_hive o.0 os) (eq-eqb o.0 o.0 refl)
+
+names_one : (hives : ℕ) (e : Element) → Fits hives e → NamesHive hives (timed_element e)
+names_one hives e fit = by_ops e.ops fit.some fit.ops
+  where
+    by_ops : (ops : List Op) → 1 ≤ length ops → AllByRecursion (OpFits hives) ops → NamesHive hives (map (timed e.moment) ops)
+    by_ops [] some each = absurd (omega (arith, some))
+    by_ops (op ∷ ops) some each = (hive_of op, each.0.hive, (e.moment, op), law.on_hive (hive_of op) (map (timed e.moment) ops), on_own (timed e.moment op) (map (timed e.moment) ops))
+
+pub all_name : (hives : ℕ) (es : List Element) → AllByRecursion (Fits hives) es → AllByRecursion (NamesHive hives) (timed_elements es)
+all_name hives [] fit = tt
+all_name hives (e ∷ es) fit = (names_one hives e fit.0, all_name hives es fit.1)
+
+-- What is found
+
+abbrev pub spelled_as : ℕ → List Element → Spelled TimedOp
+spelled_as below elements = record { below = below; elements = timed_elements elements }
+
+module _ (journal : Journal) (below : ℕ) (elements : List Element) (hives : List HiveFile) (rest : AreAtRest journal below elements hives) where
+  abbrev its : Spelled TimedOp
+  its = spelled_as below elements
+
+  now_is : (choice_of journal).now ≡ its
+  now_is = ap (λ (c : Choice (Spelled TimedOp)). c.now) rest.choice
+
+  memory_is : (i : ℕ) (hive : HiveFile) → slice_get hives i ≡ Some hive → (files_of hive).now ≡ memory_of hive
+  memory_is i hive is = ap (λ (c : Choice (TreeMap × ℕ)). c.now) (rest.rest i hive is)
+
+  held_is : (i : ℕ) (hive : HiveFile) → slice_get hives i ≡ Some hive → held_by (map view_of hives) i ≡ memory_of hive
+  held_is i hive is = ap held_if (view_at hives i hive is) ∙ memory_is i hive is
+
+  -- the number, told by what the journal says
+  pub number_is : (last number : ℕ) → last ≡ top 0 (choice_of journal).now → IsNumber last hives number → IsNumber (top 0 its) hives number
+  number_is last number e is = subst (λ n. IsNumber n hives number) (e ∙ ap (top 0) now_is) is
+
+  -- the hive at a place that is there
+  at : (i : ℕ) → i < length hives → (hive : HiveFile) × (slice_get hives i ≡ Some hive)
+  at = at_slot hives
+
+  last_of : (number : ℕ) → IsNumber (top 0 its) hives number → IsLastNumber (length hives) (λ i. (held_by (map view_of hives) i).1) below (timed_elements elements) number
+  last_of number is = by_elements elements refl is
+    where
+      none_below : 0 < 0 + 0 → ⊥
+      none_below lt = absurd (omega (arith, lt))
+
+      by_elements : (es : List Element) → elements ≡ es → IsNumber (top 0 (spelled_as below es)) hives number → IsLastNumber (length hives) (λ i. (held_by (map view_of hives) i).1) below (timed_elements es) number
+      by_elements [] e (inl (some, n)) = absurd (none_below some)
+      by_elements [] e (inr (none, n)) =
+          let g = some_greatest hives (omega (arith, rest.many, rest.store.some_hives)) in
+          (g.0, slice_get_within hives g.0 g.1 g.2, ap (λ (x : TreeMap × ℕ). x.1) (held_is g.0 g.1 g.2 ∙ sym (memory_is g.0 g.1 g.2)) ∙ g.3 ∙ sym n)
+      by_elements (x ∷ xs) e (inl (some, n)) = n
+      by_elements (x ∷ xs) e (inr (none, n)) = absurd (omega (arith, none))
+
+  module _ (number base : ℕ) (trees : List TreeMap) (is : IsNumber (top 0 its) hives number) (within : (i : ℕ) (hive : HiveFile) → slice_get hives i ≡ Some hive → (files_of hive).now.1 ≤ min number GREATEST_NUMBER)
+      (base_is : base ≡ floor number its) (many : length trees ≡ length hives) (are : AreTrees trees) (lead : LeadTo its hives trees) where
+    limit : number ≤ GREATEST_NUMBER
+    limit = by_number is
+      where
+        by_number : IsNumber (top 0 its) hives number → number ≤ GREATEST_NUMBER
+        by_number (inl (some, n)) = omega (arith, n, rest.numbers, ap (top 0) now_is)
+        by_number (inr (none, n)) =
+            let g = some_greatest hives (omega (arith, rest.many, rest.store.some_hives)) in
+            let w = within g.0 g.1 g.2 in
+            omega (arith, w, g.3, n)
+
+    recovers : Recovers rules GREATEST_NUMBER (length trees) its (held_by (map view_of hives)) number (tree_of trees)
+    recovers = record {
+      last = subst (λ n. IsLastNumber n (λ i. (held_by (map view_of hives) i).1) below (timed_elements elements) number) (sym many) (last_of number is);
+      limit = limit;
+      not_above = λ i lt.
+          let h = at i (omega (arith, lt, many)) in
+          let w = within i h.0 h.1 in
+          omega (arith, w, ap (λ (x : TreeMap × ℕ). x.1) (held_is i h.0 h.1 ∙ sym (memory_is i h.0 h.1)));
+      tree = λ i lt.
+          let h = at i (omega (arith, lt, many)) in
+          ap (replayed_on its i) (held_is i h.0 h.1) ∙ lead i h.0 (tree_of trees i) h.1 (slice_get-get_or trees i fresh_tree lt);
+      allowed = λ i lt. all_allowed i number (tree_of trees i);
+    }
+
+    pub is_found : IsFound trees number base elements (choice_of journal) (map view_of hives)
+    is_found = record {
+      below = below;
+      journal_is = rest.choice;
+      base_is = base_is;
+      each = λ i view e. let v = viewed hives i view e in subst (λ (w : HiveView). w.files ≡ settled w.memory) v.2 (rest.rest i v.0 v.1);
+      all = length-map hives view_of ∙ sym many;
+      recovers = recovers;
+      named = all_name (length trees) elements (subst (λ n. AllByRecursion (Fits n) elements) (sym rest.many ∙ sym many) rest.fit);
+      are_trees = are;
+    }
+
+-- One tree more
+
+each_more : {X : Type 0} (xs : List X) (x : X) (P : ℕ → X → Type 0) → ((i : ℕ) (y : X) → slice_get xs i ≡ Some y → P i y) → P (length xs) x → (i : ℕ) (y : X) → slice_get (xs ++ x ∷ []) i ≡ Some y → P i y
+each_more [] x P each last zero y is = subst (P 0) (same_Some x y is) last
+each_more [] x P each last (suc i) y is = absurd cc
+each_more (z ∷ zs) x P each last zero y is = each 0 y is
+each_more (z ∷ zs) x P each last (suc i) y is = each_more zs x (λ j w. P (suc j) w) (λ j w at. each (suc j) w at) last i y is
+
+pub trees_pushed : (trees : List TreeMap) (tree : TreeMap) → AreTrees trees → IsTree tree → AreTrees (trees ++ tree ∷ [])
+trees_pushed trees tree are is = each_more trees tree (λ i t. IsTree t) are is
+
+pub lead_pushed : (journal : Spelled TimedOp) (hives : List HiveFile) (trees : List TreeMap) (tree : TreeMap) (place : ℕ) → length trees ≡ place → (hive : HiveFile) → slice_get hives place ≡ Some hive → LeadTo journal hives trees
+    → replayed_on journal place (memory_of hive) ≡ Some tree → LeadTo journal hives (trees ++ tree ∷ [])
+lead_pushed journal hives trees tree place many hive is lead made = λ i h t at got.
+    each_more trees tree (λ j u. (g : HiveFile) → slice_get hives j ≡ Some g → replayed_on journal j (memory_of g) ≡ Some u) (λ j u was g there. lead j g u there was)
+    (λ g there. subst (λ n. replayed_on journal n (memory_of g) ≡ Some tree) (sym many)
+    (subst (λ (x : HiveFile). replayed_on journal place (memory_of x) ≡ Some tree) (same_Some hive g (sym is ∙ subst (λ n. slice_get hives n ≡ Some g) many there)) made)) i t got h at
+
+-- Files that are of a journal and hives, and recover something
+
+number_of : (es : List Element) (has : (i k : ℕ) → Type 0) (hives below number : ℕ) → 0 < top 0 (spelled_as below es) → IsLastNumberOf has hives below (timed_elements es) number → number ≡ top 0 (spelled_as below es)
+number_of [] has hives below number some last = absurd (omega (arith, some))
+number_of (x ∷ xs) has hives below number some last = last
+
+module _ (one_store : OneStore) (one_held : OneHeld) (journal : Journal) (below : ℕ) (elements : List Element) (hives : List HiveFile) (rest : AreAtRest journal below elements hives)
+    (files : ℕ → List ℕ) (of : AreOf files journal hives) (store : Store) (number : ℕ) (trees : List TreeMap) (r : IsRecovered files store number trees) where
+  which : store ≡ store_of journal
+  which = one_store (files journal_file) store (store_of journal) r.recovers.journal (choice_of journal).now r.store_is rest.store r.recovers.spelled of.spells
+
+  spelled_is : r.recovers.journal ≡ spelled_as below elements
+  spelled_is = same_Some _ _ (sym r.recovers.spelled ∙ ap (λ (s : Store). spelled (texts s) (files journal_file)) which ∙ of.spells) ∙ now_is journal below elements hives rest
+
+  there : (i : ℕ) (hive : HiveFile) → slice_get hives i ≡ Some hive → i < store.hives
+  there i hive is = omega (arith, slice_get_within hives i hive is, rest.many, ap (λ (s : Store). s.hives) which)
+
+  holds_same : (i : ℕ) (hive : HiveFile) (is : slice_get hives i ≡ Some hive) → (r.recovers.each i (there i hive is)).held ≡ memory_of hive
+  holds_same i hive is = one_held (store_of journal).id (files (primary_file i)) (files (log_file i)) _ (memory_of hive)
+      (subst (λ (s : Store). HoldsUnder s.id (files (primary_file i)) (files (log_file i)) (r.recovers.each i (there i hive is)).held) which (r.recovers.each i (there i hive is)).holds_it) (of.holds i hive is)
+
+  -- each hive's number is not above the recovered one, and each is led to its tree
+  not_above : (i : ℕ) (hive : HiveFile) → slice_get hives i ≡ Some hive → (memory_of hive).1 ≤ number
+  not_above i hive is = omega (arith, (r.recovers.each i (there i hive is)).not_above, ap (λ (x : TreeMap × ℕ). x.1) (holds_same i hive is))
+
+  leads : (i : ℕ) (hive : HiveFile) → slice_get hives i ≡ Some hive → replayed_on (spelled_as below elements) i (memory_of hive) ≡ Some (tree_of trees i)
+  leads i hive is = sym (ap (λ (j : Spelled TimedOp). replayed_on j i (memory_of hive)) spelled_is) ∙ sym (ap (replayed_on r.recovers.journal i) (holds_same i hive is)) ∙ (r.recovers.each i (there i hive is)).replayed
+
+  pub none_nowhere : SomeLeadsNowhere (spelled_as below elements) hives → ⊥
+  none_nowhere (i, hive, is, none) = none-some (tree_of trees i) (sym none ∙ leads i hive is)
+
+  -- the number is that of the last change that the journal spells
+  last_is : 0 < top 0 (spelled_as below elements) → number ≡ top 0 (spelled_as below elements)
+  last_is some = number_of elements _ store.hives below number some (subst (λ (j : Spelled TimedOp). IsLastNumberOf _ store.hives j.below j.elements number) spelled_is r.recovers.last)
+
+  pub none_above : (own : ℕ) → IsNumber (top 0 (spelled_as below elements)) hives own → (i : ℕ) (hive : HiveFile) → slice_get hives i ≡ Some hive → min own GREATEST_NUMBER < (files_of hive).now.1 → ⊥
+  none_above own is i hive at above =
+      let low = not_above i hive at in
+      let same = ap (λ (x : TreeMap × ℕ). x.1) (memory_is journal below elements hives rest i hive at) in
+      by_number is low same
+    where
+      by_number : IsNumber (top 0 (spelled_as below elements)) hives own → (memory_of hive).1 ≤ number → (files_of hive).now.1 ≡ (memory_of hive).1 → ⊥
+      by_number (inl (some, n)) low same = let l = last_is some in omega (arith, above, low, same, n, l, r.recovers.limit)
+      by_number (inr (none, n)) low same = let g = below_greatest hives i hive at in omega (arith, above, low, same, n, g, r.recovers.limit)
+
+-- files that are of what was found recover what was found
+pub of_found : (trees : List TreeMap) (number base : ℕ) (opened : List Element) (journal : Journal) (hives : List HiveFile) → IsFound trees number base opened (choice_of journal) (map view_of hives)
+    → IsStore (store_of journal) → length hives ≡ (store_of journal).hives → (files : ℕ → List ℕ) → AreOf files journal hives → IsRecovered files (store_of journal) number trees
+of_found trees number base opened journal hives found store many files of =
+    let long : length trees ≡ (store_of journal).hives = sym found.all ∙ length-map hives view_of ∙ many in
+    record {
+      store_is = store;
+      many = long;
+      recovers = subst (λ n. Recover (store_of journal) n files number trees) long
+          (files_recover rules (Spells (store_of journal)) (Holds (store_of journal)) GREATEST_NUMBER (length trees) files (spelled_as found.below opened) (held_by (map view_of hives)) number (tree_of trees)
+          (of.spells ∙ ap (λ (c : Choice (Spelled TimedOp)). Some c.now) found.journal_is) (λ i lt. holds i (omega (arith, lt, long, many))) found.recovers);
+    }
+  where
+    holds : (i : ℕ) → i < length hives → HoldsUnder (store_of journal).id (files (primary_file i)) (files (log_file i)) (held_by (map view_of hives) i)
+    holds i lt =
+        let h = at_slot hives i lt in
+        let view = view_at hives i h.0 h.1 in
+        subst (HoldsUnder (store_of journal).id (files (primary_file i)) (files (log_file i)))
+        (sym (ap (λ (c : Choice (TreeMap × ℕ)). c.now) (found.each i (view_of h.0) view)) ∙ sym (ap held_if view)) (of.holds i h.0 h.1)
+
+-- a journal with nothing on its way has not failed
+pub settled_works : (journal : Journal) (now : Spelled TimedOp) → choice_of journal ≡ settled now → IsBroken journal → ⊥
+settled_works journal now is = by_phase journal.phase (ap (λ (c : Choice (Spelled TimedOp)). c.next) is)
+  where
+    by_phase : (p : Phase) → (value_in journal.stands p).choice.next ≡ None → (value_in journal.stands p).phase ≡ phase.Phase.Broken → ⊥
+    by_phase Quiet none e = absurd cc
+    by_phase (BodyWritten batch) none e = absurd cc
+    by_phase (BodySynced batch) none e = absurd cc
+    by_phase (GateWritten batch) none e = absurd cc
+    by_phase TrimWritten none e = absurd cc
+    by_phase (Broken ahead) none e = absurd cc
+
+pub kept_is : (found : Found) (below : ℕ) → AreAtRest found.journal below found.opened.items found.hives.items → IsFound found.trees found.number found.base found.opened.items (choice_of found.journal) (map view_of found.hives.items) → IsKept found
+kept_is found below rest recovers = record {
+  recovers = recovers;
+  store = rest.store;
+  placed = record { place = rest.place; owner = rest.owner };
+  many = rest.many;
+  works = settled_works found.journal _ rest.choice;
+}
+
+-- lists as long as one another whose entries are the same
+same_lists : {X : Type 0} (d : X) (xs ys : List X) → length xs ≡ length ys → ((i : ℕ) → i < length xs → get_or xs i d ≡ get_or ys i d) → xs ≡ ys
+same_lists d [] [] long each = refl
+same_lists d [] (y ∷ ys) long each = absurd (omega (arith, long))
+same_lists d (x ∷ xs) [] long each = absurd (omega (arith, long))
+same_lists d (x ∷ xs) (y ∷ ys) long each = λ i. each 0 (omega arith) i ∷ same_lists d xs ys (omega (arith, long)) (λ j lt. each (suc j) (omega (arith, lt))) i
+
+-- files recover one number and one list of trees at most, as one store
+pub recovered_once : OneStore → OneHeld → (files : ℕ → List ℕ) (a b : Store) (n m : ℕ) (ts us : List TreeMap) → IsRecovered files a n ts → IsRecovered files b m us → (a ≡ b) × (n ≡ m) × (ts ≡ us)
+recovered_once one_store one_held files a b n m ts us x y =
+    let which : b ≡ a = one_store (files journal_file) b a y.recovers.journal x.recovers.journal y.store_is x.store_is y.recovers.spelled x.recovers.spelled in
+    let other : Recover a a.hives files m us = subst (λ (s : Store). Recover s s.hives files m us) which y.recovers in
+    let once = files_once rules (Spells a) (Holds a) GREATEST_NUMBER a.hives (λ bytes s t e f. same_Some s t (sym e ∙ f)) (λ p l u v h k. one_held a.id p l u v h k) files n m (tree_of ts) (tree_of us) x.recovers other in
+    (sym which, once.0, same_lists fresh_tree ts us (x.many ∙ ap (λ (s : Store). s.hives) (sym which) ∙ sym y.many) (λ i lt. once.1 i (omega (arith, lt, x.many))))

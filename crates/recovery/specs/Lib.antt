@@ -1,0 +1,4 @@
+pub mod Recovered
+pub mod Reading
+pub mod Kept
+pub mod Shown

@@ -1,0 +1,89 @@
+-- What is read of a store's files, before it is judged.
+use Rattle.std.specs.Prelude.{◌≡◌, ◌⊎◌, ℕ, ◌<◌, ◌≤◌, List, [], ◌∷◌, length, max, slice_get, Option, Some, None}
+use Rattle.std.specs.List.{AllByRecursion}
+use Rattle.refusals.specs.declared.refusal.Refusal.{Refusal}
+use Rattle.refusals.specs.declared.limits.TheConstants.{GREATEST_NUMBER}
+use Rattle.reg_tree.specs.Maps.{TreeMap}
+use Rattle.reg_tree.specs.declared.element.Element.{Element}
+use Rattle.prefix_law.specs.Changes.{ops_on, replay}
+use Rattle.prefix_law.specs.Promises.{Spelled, settled, top}
+use Rattle.prefix_law.specs.Recovery.{above}
+use Rattle.disk_model.specs.FileState.{FileState}
+use Rattle.disk_model.specs.StoreFiles.{primary_file, log_file, journal_file}
+use Rattle.engine_words.specs.Changes.{TimedOp, rules, timed_elements}
+use Rattle.element_text.specs.Text.{Fits}
+use Rattle.commit_journal.specs.Text.{spelled}
+use Rattle.commit_journal.specs.Store.{IsStore}
+use Rattle.commit_journal.specs.Journals.{choice_of, store_of, texts_of}
+use Rattle.commit_journal.specs.declared.journal.Journal.{Journal}
+use Rattle.hive_files.specs.Frames.{IsSyncedOrSame}
+use Rattle.hive_flush.specs.Standing.{HoldsUnder, IsOfHive}
+use Rattle.hive_flush.specs.HiveStates.{IsBroken, IsOn, files_of, memory_of, place_of}
+use Rattle.hive_flush.specs.HiveStates as states
+use Rattle.hive_flush.specs.declared.hive.HiveFile.{HiveFile}
+
+-- A hive is opened as the i-th of a store: nothing is on its way, and the device hasn't failed in a step of it; it holds what its
+-- files held at one moment, and they are as it says at a later one.
+pub record IsOpened (faithful : Type 0) (store : List ℕ) (then now : ℕ → FileState) (i : ℕ) (hive : HiveFile) : Type 0 where
+  pub rests : files_of hive ≡ settled (memory_of hive)
+  pub place : place_of hive ≡ i
+  pub owner : states.store_of hive ≡ store
+  pub works : ¬ (IsBroken hive)
+  pub held : faithful → HoldsUnder store (then (primary_file i)).seen (then (log_file i)).seen (memory_of hive)
+  pub on : faithful → IsOn hive (now (primary_file i)) (now (log_file i))
+
+-- The first hives of a store are opened, so many as there are in the list, and no file was written to meanwhile, that of the
+-- journal not even synced.
+pub record AreOpened (faithful : Type 0) (store : List ℕ) (then now : ℕ → FileState) (hives : List HiveFile) : Type 0 where
+  pub each : (i : ℕ) (hive : HiveFile) → slice_get hives i ≡ Some hive → IsOpened faithful store then now i hive
+  pub files : faithful → (f : ℕ) → IsSyncedOrSame (then f) (now f)
+  pub journal : now journal_file ≡ then journal_file
+
+-- some hive of so many holds nothing
+abbrev pub SomeHoldsNothing : List ℕ → ℕ → (ℕ → FileState) → Type 0
+SomeHoldsNothing store count state = (i : ℕ) × (i < count)
+    × ((held : TreeMap × ℕ) → HoldsUnder store (state (primary_file i)).seen (state (log_file i)).seen held → ⊥)
+
+-- a refusal tells of one of the hives, and some hive holds nothing where the device has answered as it should
+abbrev pub IsNoHive : Type 0 → List ℕ → ℕ → (ℕ → FileState) → Refusal → Type 0
+IsNoHive faithful store count state why = ((i : ℕ) × IsOfHive i why) × (faithful → SomeHoldsNothing store count state)
+
+-- A journal and hives, all of one store and with nothing on their way; the journal spells these changes, each of which is a
+-- change on the store's hives.
+pub record AreAtRest (journal : Journal) (below : ℕ) (elements : List Element) (hives : List HiveFile) : Type 0 where
+  pub store : IsStore (store_of journal)
+  pub choice : choice_of journal ≡ settled (record { below = below; elements = timed_elements elements })
+  pub fit : AllByRecursion (Fits (store_of journal).hives) elements
+  pub numbers : top 0 (choice_of journal).now ≤ GREATEST_NUMBER
+  pub many : length hives ≡ (store_of journal).hives
+  pub rest : (i : ℕ) (hive : HiveFile) → slice_get hives i ≡ Some hive → files_of hive ≡ settled (memory_of hive)
+  pub place : (i : ℕ) (hive : HiveFile) → slice_get hives i ≡ Some hive → place_of hive ≡ i
+  pub owner : (i : ℕ) (hive : HiveFile) → slice_get hives i ≡ Some hive → states.store_of hive ≡ (store_of journal).id
+
+-- Files spell what a journal says that stands, and hold what the hives have in memory.
+pub record AreOf (files : ℕ → List ℕ) (journal : Journal) (hives : List HiveFile) : Type 0 where
+  pub spells : spelled (texts_of journal) (files journal_file) ≡ Some (choice_of journal).now
+  pub holds : (i : ℕ) (hive : HiveFile) → slice_get hives i ≡ Some hive
+      → HoldsUnder (store_of journal).id (files (primary_file i)) (files (log_file i)) (memory_of hive)
+
+-- the greatest number of what stands in a hive's files
+abbrev pub greatest : List HiveFile → ℕ
+greatest [] = 0
+greatest (hive ∷ hives) = max (files_of hive).now.1 (greatest hives)
+
+-- the number of a store: that of the journal's last change, where it is above 0, or else the greatest of a hive
+abbrev pub IsNumber : ℕ → List HiveFile → ℕ → Type 0
+IsNumber last hives number = ((0 < last) × (number ≡ last)) ⊎ ((last ≡ 0) × (number ≡ greatest hives))
+
+-- What the changes of a journal above a hive's own number make of what it has in memory: each is legal where its turn comes.
+abbrev pub replayed_on : Spelled TimedOp → ℕ → TreeMap × ℕ → Option TreeMap
+replayed_on journal i memory = replay rules (ops_on i (above memory.1 journal)) memory.0
+
+-- the first trees, so many as there are, are those to which the journal leads from what the hives have in memory
+abbrev pub LeadTo : Spelled TimedOp → List HiveFile → List TreeMap → Type 0
+LeadTo journal hives trees = (i : ℕ) (hive : HiveFile) (tree : TreeMap) → slice_get hives i ≡ Some hive → slice_get trees i ≡ Some tree
+    → replayed_on journal i (memory_of hive) ≡ Some tree
+
+-- from what some hive has in memory the journal leads nowhere, since a change isn't legal there
+abbrev pub SomeLeadsNowhere : Spelled TimedOp → List HiveFile → Type 0
+SomeLeadsNowhere journal hives = (i : ℕ) × (hive : HiveFile) × (slice_get hives i ≡ Some hive) × (replayed_on journal i (memory_of hive) ≡ None)

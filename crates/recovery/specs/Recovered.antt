@@ -1,0 +1,35 @@
+-- What the files of a store recover.
+use Rattle.std.specs.Prelude.{◌≡◌, ℕ, List, length}
+use Rattle.refusals.specs.declared.refusal.Refusal.{Refusal}
+use Rattle.refusals.specs.declared.refusal.Refusal.TheVariants as refusal
+use Rattle.reg_tree.specs.Maps.{TreeMap}
+use Rattle.disk_model.specs.FileState.{FileState}
+use Rattle.commit_journal.specs.Store.{Store, IsStore}
+use Rattle.engine_law.specs.Prefixes.{Recover}
+
+-- Files are those of a store, and recover a number and trees: the journal's header tells the store, with its number of hives, and
+-- there is a tree for each.
+pub record IsRecovered (files : ℕ → List ℕ) (store : Store) (number : ℕ) (trees : List TreeMap) : Type 0 where
+  pub store_is : IsStore store
+  pub many : length trees ≡ store.hives
+  pub recovers : Recover store store.hives files number trees
+
+-- the files are those of no store, or recover nothing
+abbrev pub NothingRecovered : (ℕ → List ℕ) → Type 0
+NothingRecovered files = (store : Store) (number : ℕ) (trees : List TreeMap) → IsRecovered files store number trees → ⊥
+
+-- what a read gives of each file
+abbrev pub seen_in : (ℕ → FileState) → ℕ → List ℕ
+seen_in state f = (state f).seen
+
+-- a refusal tells of the files: of a hive with its number, of a version that isn't known, or of the journal
+abbrev pub TellsOfFiles : Refusal → Type 0
+TellsOfFiles (refusal.HiveDamaged hive cause) = Unit {0}
+TellsOfFiles refusal.Unsupported = Unit {0}
+TellsOfFiles refusal.JournalDamaged = Unit {0}
+TellsOfFiles _ = ⊥
+
+-- why files are refused as those of a store: it is told of them, and they recover nothing, where the device has answered as it
+-- should
+abbrev pub IsNoStore : Type 0 → (ℕ → List ℕ) → Refusal → Type 0
+IsNoStore faithful files why = TellsOfFiles why × (faithful → NothingRecovered files)

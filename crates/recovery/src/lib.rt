@@ -1,0 +1,20 @@
+//! Opening a store: the number and the trees that its files recover.
+//!
+//! The journal and the hives are each read by themselves. Together they recover one number and one tree for each hive: that which
+//! its files hold, with the changes of the journal above the hive's own number. [`open`] answers them, and refuses files only where
+//! they recover nothing. Hives that were being written as the power went are repaired after that, a device call a step; whatever a
+//! crash leaves meanwhile recovers the same.
+#![tactic(auto)]
+
+mod found;
+pub mod laws;
+mod numbers;
+mod opened;
+mod opening;
+mod reading;
+mod recovering;
+mod repairing;
+mod replaying;
+
+pub use found::Found;
+pub use opened::{Opened, open};

@@ -1,0 +1,42 @@
+//! The number of a store: that of the journal's last change, or else the greatest of a hive.
+ghost use Rattle.std.specs.Prelude.{◌≡◌, ℕ, ◌<◌, ◌≤◌, None, Some, length, slice_get};
+ghost use Rattle.hive_flush.specs.HiveStates.{files_of};
+ghost use Rattle.hive_flush.specs.declared.hive.HiveFile.{HiveFile};
+ghost use Rattle.recovery.specs.Reading.{IsNumber, greatest};
+
+use hive_flush::HiveFile;
+
+/// The number of a store whose journal's last change has this number, where it is above 0.
+pub(crate) fn number_of(last: u64, hives: &[HiveFile]) -> u64
+    ensures { IsNumber last hives.now result }
+{
+    if last > 0 {
+        last
+    } else {
+        greatest_number(hives)
+    }
+}
+
+// the greatest number of what stands in a hive's files; 0 where there is no hive
+fn greatest_number(hives: &[HiveFile]) -> u64
+    ensures { result ≡ greatest hives.now }
+{
+    let mut greatest = 0;
+    for hive in hives {
+        greatest = hive.applied().max(greatest);
+    }
+    greatest
+}
+
+/// The first hive with a number above a limit.
+pub(crate) fn first_above(hives: &[HiveFile], limit: u64) -> Option<u8>
+    requires few { length hives.now ≤ 256 }
+    ensures none { result ≡ None → (i : ℕ) (hive : HiveFile) → slice_get hives.now i ≡ Some hive →
+        (files_of hive).now.1 ≤ limit }
+    ensures some { (place : ℕ) → result ≡ Some place → (place < length hives.now) ×
+        ((hive : HiveFile) → slice_get hives.now place ≡ Some hive →
+        limit < (files_of hive).now.1) }
+{
+    let place = hives.iter().position(|hive| hive.applied() > limit)?;
+    Some(place as u8)
+}

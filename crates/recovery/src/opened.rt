@@ -1,0 +1,210 @@
+//! A store that was opened, as its callers see it, and its repair: what it keeps is in its type.
+ghost use Rattle.std.specs.Prelude.{◌≡◌, ◌⊎◌, ◌↔◌, ℕ, ◌+◌, ◌<◌, ◌≤◌, List, IsTrue, Ok, Err, IfErr, IfOk, false, true};
+ghost use Rattle.refusals.specs.declared.refusal.Refusal.TheVariants.{DiskFault, Faulted};
+ghost use Rattle.engine_words.specs.declared.Progress.TheVariants as Progress;
+ghost use Rattle.disk_model.specs.Call.{Extends, OneCall, HasFailed};
+ghost use Rattle.disk_model.specs.Crash.{LeavesHonest};
+ghost use Rattle.disk_model.specs.StoreFiles.{IsPrimary};
+ghost use Rattle.hive_files.specs.Frames.{FailsBy, IsSyncedOrSame};
+ghost use Rattle.engine_law.specs.Prefixes.{AreOnDisk};
+ghost use Rattle.recovery.specs.Kept.{AllWork, IsKept};
+ghost use Rattle.recovery.specs.Recovered.{IsNoStore, IsRecovered, seen_in};
+ghost use Rattle.recovery.specs.Shown.{AnyFile, IsWhole, store_of};
+
+use crate::found::Found;
+use crate::opening::find;
+use disk_model::Disk;
+use engine_law::laws::{crashes_leave_prefixes, openings_begin};
+use engine_words::Progress;
+use refusals::Refusal;
+use reg_tree::Trees;
+use std::alloc::Global;
+use std::marker::Model;
+use uuid::Uuid;
+
+/// A store that was opened: a disk, and what its files recover.
+///
+/// Where the disk is faithful, whatever a crash leaves of the files, with honest first sectors of the primary files, recovers the
+/// same number and trees.
+#[derive(Drop)]
+pub struct Opened<D: Disk> {
+    disk: D,
+    found: Found,
+    failed: bool,
+}
+
+impl<D: Disk> Model for Opened<D> {
+    ghost use Rattle.std.specs.Prelude.{◌≡◌, false};
+    ghost use Rattle.engine_law.specs.Prefixes.{AreOnDisk};
+    ghost use Rattle.recovery.specs.Kept.{AllWork, IsKept};
+    ghost use Rattle.recovery.specs.Shown.{Shown, shown_code};
+
+    ghost Value = { Shown D };
+
+    ghost coded = { shown_code D.code };
+
+    ghost view = { λ inside. record {
+      disk = inside.disk;
+      found = inside.found;
+      failed = inside.failed;
+    } };
+
+    ghost invariant = { λ inside. record {
+      kept : IsKept inside.found;
+      works : inside.failed ≡ false → AllWork inside.found.hives.items;
+      on_disk : D.faithful inside.disk → AreOnDisk inside.found.journal
+          inside.found.hives.items (D.state_at inside.disk (D.clock inside.disk));
+    } };
+}
+
+/// Opens the store that is on a disk: the number and the trees that its files recover. Hives that were being written as the
+/// power went are to be repaired before anything else, by [`Opened::repair_step`].
+///
+/// Each file that is read is synced first, so that nothing which was found is lost at the next crash.
+///
+/// Refused with `HiveDamaged` of a hive, `Unsupported` or `JournalDamaged` only where the files recover nothing; with `DiskFault`
+/// where the device failed; and with `NoMemory`. The disk is handed back then; no file changes but by its sync.
+pub fn open<D: Disk>(alloc: Global, disk: D) -> Result<Opened<D>, (Refusal, D)>
+    ensures recovered { IfOk result (λ opened. D.faithful opened.disk →
+        IsRecovered (seen_in (D.state_at disk (D.clock disk)))
+        (store_of opened) opened.found.number opened.found.trees) }
+    ensures works { IfOk result (λ opened. opened.failed ≡ false) }
+    ensures fails { IfErr result (λ back. FailsBy (D.failures disk < D.failures back.1)
+        (IsNoStore (D.faithful back.1) (seen_in (D.state_at disk (D.clock disk)))) back.0) }
+    ensures synced { IfOk result (λ opened. D.faithful opened.disk → (f : ℕ) →
+        IsSyncedOrSame (D.state_at disk (D.clock disk) f)
+        (D.state_at opened.disk (D.clock opened.disk) f)) }
+    ensures back { IfErr result (λ back. D.faithful back.1 → (f : ℕ) →
+        IsSyncedOrSame (D.state_at disk (D.clock disk) f)
+        (D.state_at back.1 (D.clock back.1) f)) }
+    ensures time { IfOk result (λ opened. Extends (D.state_at disk) (D.state_at opened.disk)
+        (D.clock disk) (D.clock opened.disk)) }
+    ensures back_time { IfErr result (λ back. Extends (D.state_at disk) (D.state_at back.1)
+        (D.clock disk) (D.clock back.1)) }
+    ensures faithful { IfOk result (λ opened. D.faithful opened.disk → D.faithful disk) }
+    ensures back_faithful { IfErr result (λ back. D.faithful back.1 → D.faithful disk) }
+{
+    let mut disk = disk;
+    match find(alloc, &mut disk) {
+        Ok(found) => Ok(Opened {
+            disk,
+            found,
+            failed: false,
+        }),
+        Err(why) => Err((why, disk)),
+    }
+}
+
+impl<D: Disk> Opened<D> {
+    /// The number that is recovered: that of the last change which the trees have.
+    pub fn number(&self) -> u64
+        ensures { result ≡ self.now.found.number }
+    {
+        self.found.number
+    }
+
+    /// The trees that are recovered.
+    pub fn trees(&self) -> &Trees
+        ensures { result.now ≡ self.now.found.trees }
+    {
+        &self.found.trees
+    }
+
+    /// The id of the store.
+    pub fn id(&self) -> Uuid
+        ensures { result ≡ (store_of self.now).id }
+    {
+        self.found.journal.id()
+    }
+
+    /// Whether no repair is left, and the device hasn't failed in one.
+    pub fn is_whole(&self) -> bool
+        ensures { IsTrue result ↔ IsWhole self.now }
+    {
+        !self.failed && self.found.hives.iter().all(|hive| hive.is_whole())
+    }
+
+    /// One step of the repair, of the first hive that needs one: at most one device call. `More` where others follow, `Done`
+    /// where it was the last one, and `Idle` where no repair is left.
+    ///
+    /// Whatever a crash leaves before, within or after it recovers the same number and trees. Takes no memory. Refused with
+    /// `DiskFault` where the device failed in the call, and with `Faulted` exactly where it had failed in an earlier one: the
+    /// store is to be opened again then.
+    pub fn repair_step(&mut self) -> Result<Progress, Refusal>
+        ensures same { self.new.found ≡ record self.old.found { hives = self.new.found.hives } }
+        ensures store { store_of self.new ≡ store_of self.old }
+        ensures idle { (result ≡ Ok Progress.Idle) → IsWhole self.old × (self.new ≡ self.old) }
+        ensures done { (result ≡ Ok Progress.Done) → IsWhole self.new }
+        ensures refused { IfErr result (λ why. (why ≡ DiskFault) ⊎ (why ≡ Faulted)) }
+        ensures faulted { (result ≡ Err Faulted) ↔ (self.old.failed ≡ true) }
+        ensures still { (result ≡ Err Faulted) → self.new ≡ self.old }
+        ensures before { D.faithful self.new.disk → (files : ℕ → List ℕ) →
+            LeavesHonest IsPrimary (D.state_at self.new.disk (D.clock self.old.disk)) files →
+            IsRecovered files (store_of self.old) self.old.found.number self.old.found.trees }
+        ensures after { D.faithful self.new.disk → (files : ℕ → List ℕ) →
+            LeavesHonest IsPrimary (D.state_at self.new.disk (D.clock self.new.disk)) files →
+            IsRecovered files (store_of self.old) self.old.found.number self.old.found.trees }
+        ensures call { OneCall AnyFile (D.state_at self.old.disk) (D.state_at self.new.disk)
+            (D.clock self.old.disk) (D.clock self.new.disk) }
+        ensures failures { HasFailed result (D.failures self.old.disk)
+            (D.failures self.new.disk) }
+        ensures faithful { D.faithful self.new.disk → D.faithful self.old.disk }
+    {
+        openings_begin();
+        crashes_leave_prefixes();
+        if self.failed {
+            return Err(Refusal::Faulted);
+        }
+        let Some(place) = self.found.unrepaired() else {
+            return Ok(Progress::Idle);
+        };
+        if let Err(why) = self.found.repair(&mut self.disk, place) {
+            self.failed = true;
+            return Err(why);
+        }
+        Ok(self.found.repaired())
+    }
+
+    /// The disk.
+    pub fn disk(&self) -> &D
+        ensures { result.now ≡ self.now.disk }
+    {
+        &self.disk
+    }
+
+    /// The disk, without what was found.
+    pub fn into_disk(self) -> D
+        ensures { result ≡ self.disk }
+    {
+        self.disk
+    }
+
+    /// The disk, and what was found on it.
+    pub fn into_parts(self) -> (D, Found)
+        ensures disk { result.0 ≡ self.disk }
+        ensures found { result.1 ≡ self.found }
+        ensures kept { IsKept result.1 }
+        ensures works { self.failed ≡ false → AllWork result.1.hives.items }
+        ensures on_disk { D.faithful result.0 → AreOnDisk result.1.journal result.1.hives.items
+            (D.state_at result.0 (D.clock result.0)) }
+    {
+        (self.disk, self.found)
+    }
+
+    /// A store of its parts again, where the device hasn't failed.
+    pub fn from_parts(disk: D, found: Found) -> Opened<D>
+        requires kept { IsKept found }
+        requires works { AllWork found.hives.items }
+        requires on_disk { D.faithful disk → AreOnDisk found.journal found.hives.items
+            (D.state_at disk (D.clock disk)) }
+        ensures disk { result.disk ≡ disk }
+        ensures found { result.found ≡ found }
+        ensures works { result.failed ≡ false }
+    {
+        Opened {
+            disk,
+            found,
+            failed: false,
+        }
+    }
+}
