@@ -1,5 +1,5 @@
 -- Hives of a list, and what the law sees of them.
-use Rattle.std.proofs.Common.{◌≡◌, ◌≢◌, ◌⊎◌, inl, inr, ℕ, zero, suc, ◌+◌, ◌<◌, ◌≤◌, List, [], ◌∷◌, ◌++◌, length, map, refl, sym, ◌∙◌, ap, subst, arith, Option, Some, None, slice_get, option_map}
+use Rattle.std.proofs.Common.{◌≡◌, ◌≢◌, inl, inr, ℕ, zero, suc, ◌<◌, List, [], ◌∷◌, ◌++◌, length, map, refl, sym, ◌∙◌, ap, subst, arith, Option, Some, None, slice_get, option_map}
 use Rattle.std.specs.Prelude.{slice_set}
 use Rattle.std.proofs.lemmas.Bool.{cases_eq}
 use Rattle.std.proofs.lemmas.Option.{none-some, same_Some, slice_get_cases, slice_get_within, slice_get-map}
@@ -28,12 +28,13 @@ viewed hives i view e = of_slot (slice_get hives i) (sym (slice_get-map view_of 
     of_slot None e = absurd (none-some view e)
     of_slot (Some hive) e = (hive, refl, same_Some (view_of hive) view e)
 
-get_same : {A : Type 0} (hs : List A) (i : ℕ) (v : A) → i < length hs → slice_get (slice_set hs i v) i ≡ Some v
+-- an entry that was set, and the others
+pub get_same : {A : Type 0} (hs : List A) (i : ℕ) (v : A) → i < length hs → slice_get (slice_set hs i v) i ≡ Some v
 get_same [] i v lt = absurd (omega (arith, lt))
 get_same (h ∷ hs) zero v lt = refl
 get_same (h ∷ hs) (suc i) v lt = get_same hs i v (omega (arith, lt))
 
-get_other : {A : Type 0} (hs : List A) (i j : ℕ) (v : A) → j ≢ i → slice_get (slice_set hs i v) j ≡ slice_get hs j
+pub get_other : {A : Type 0} (hs : List A) (i j : ℕ) (v : A) → j ≢ i → slice_get (slice_set hs i v) j ≡ slice_get hs j
 get_other [] i j v ne = refl
 get_other (h ∷ hs) zero zero v ne = absurd (ne refl)
 get_other (h ∷ hs) zero (suc j) v ne = refl

@@ -1,4 +1,4 @@
-mod HiveLists
+pub mod HiveLists
 mod Bridge
 mod Room
 mod Accepting
