@@ -8,3 +8,4 @@ mod Stepping
 mod Flushing
 mod Standing
 mod Running
+mod Receipts
