@@ -3,7 +3,10 @@ use Rattle.std.proofs.Common.{◌≡◌, ◌⊎◌, ◌↔◌, inl, inr, ℕ, �
 use Rattle.std.specs.List.{AllByRecursion}
 use Rattle.std.proofs.lemmas.List.{length-map}
 use Rattle.refusals.specs.declared.refusal.Refusal.{Refusal}
-use Rattle.refusals.specs.declared.refusal.Refusal.TheVariants.{Faulted}
+use Rattle.refusals.specs.declared.refusal.Refusal.TheVariants.{Faulted, DiskFault}
+use Rattle.disk_model.specs.FileState.{FileState}
+use Rattle.disk_model.specs.Call.{OneCall, HasFailed}
+use Rattle.disk_model.specs.StoreFiles.{IsJournal}
 use Rattle.reg_tree.specs.declared.element.Element.{Element}
 use Rattle.prefix_law.specs.Promises.{Choice, Spelled, nothing, top, JournalSays, TrimSays}
 use Rattle.prefix_law.specs.Life.{known_elements, ops_in}
@@ -13,14 +16,14 @@ use Rattle.machine.specs.Machine.{Machine, pending}
 use Rattle.machine.specs.Steps.{Step}
 use Rattle.machine.specs.declared.event.Event.{Event}
 use Rattle.machine.specs.declared.event.Event.TheVariants as event
-use Rattle.machine.specs.declared.event.Reply.{Reply}
 use Rattle.transactions.specs.Stores.{StoreView}
 use Rattle.engine_words.specs.Changes.{TimedOp, timed_elements}
 use Rattle.engine_words.specs.Steps.{Says}
 use Rattle.engine_words.specs.declared.Progress.{Progress}
 use Rattle.commit_journal.specs.Store.{room_of}
 use Rattle.commit_journal.specs.Handed.{IsHanded, IsShort}
-use Rattle.commit_journal.specs.Journals.{choice_of, store_of}
+use Rattle.commit_journal.specs.OnDisk.{is_on}
+use Rattle.commit_journal.specs.Journals.{choice_of, store_of, texts_of, value_of}
 use Rattle.commit_journal.specs.Journals as journals
 use Rattle.commit_journal.specs.declared.journal.Journal.{Journal}
 use Rattle.hive_flush.specs.HiveStates.{files_of}
@@ -28,8 +31,13 @@ use Rattle.hive_flush.specs.declared.hive.HiveFile.{HiveFile}
 use Rattle.engine_law.specs.States.{HiveView, life_of, IsConsistent}
 use Rattle.engine_law.specs.Answers.{reply_to, after_step, MayTrim, HaveAll}
 use Rattle.engine_law.specs.Prefixes.{view_of}
-use Rattle.engine.specs.Parts.{AreSound, settled_by}
-use Rattle.engine.proofs.Sound.{settled_is, view_of_at}
+use Rattle.engine_law.proofs.HiveLists.{viewed}
+use Rattle.engine.specs.Parts.{AreSound, IsSound, settled_by}
+use Rattle.engine.specs.Events.{GoesOn}
+use Rattle.engine.specs.declared.parts.Parts.{Parts}
+use Rattle.engine.proofs.Sound.{settled_is, journal_sound}
+use Rattle.engine.proofs.OnDisk.{journal_writes}
+use Rattle.engine.proofs.Frames.{any_call, has_failed}
 
 -- The laws that are used
 
@@ -69,11 +77,27 @@ module _ (s : StoreView) (base : ℕ) (opened : List Element) (old : Journal) (h
       → Step s.machine event.TrimStep (reply_to result) (after_step s.machine (choice_of old) (choice_of new) result) × IsConsistent (after_step s.machine (choice_of old) (choice_of new) result) base opened (choice_of new) (map view_of hives)
   trim_goes law new result free may broken says = law s.machine base opened (choice_of old) (choice_of new) (map view_of hives) result a.kept free may (λ f. a.journal_works free (broken.0 f)) says
 
--- the answer and the machine, as the code has them
-pub told : (e : Event) (m t : Machine) (old new : Choice (Spelled TimedOp)) (used : ℕ) (result : Result Progress Refusal) (answer : Reply) → Step m e (reply_to result) (after_step m old new result) → answer ≡ reply_to result → used ≡ 65 + room_of old.now.elements
-    → t ≡ settled_by m new.now used result → Step m e answer t
-told e m t old new used result answer step is used_is t_is =
-    subst (λ r. Step m e r t) (sym is) (subst (λ x. Step m e (reply_to result) x) (sym (t_is ∙ settled_is m old new used result used_is)) step)
+-- A call of the journal, and what the store is told behind it
+module _ {D : Type 0} (states : D → ℕ → ℕ → FileState) (clock failures : D → ℕ) (is_faithful : D → Type 0) (e : Event) where
+  pub journal_goes_on : (s : Parts D) (new : Journal) (disk : D) (store : StoreView) (come : Result Progress Refusal) (used : ℕ) → IsSound s → s.store.machine.faulted ≡ false
+      → Step s.store.machine e (reply_to come) (after_step s.store.machine (choice_of s.journal) (choice_of new) come)
+      × IsConsistent (after_step s.store.machine (choice_of s.journal) (choice_of new) come) s.base s.opened.items (choice_of new) (map view_of s.hives.items)
+      → used ≡ 65 + room_of (choice_of s.journal).now.elements → store.machine ≡ settled_by s.store.machine (choice_of new).now used come → store.at_hand ≡ s.store.at_hand
+      → store_of new ≡ store_of s.journal → (journals.IsBroken new → journals.IsBroken s.journal ⊎ (come ≡ Err DiskFault))
+      → (is_faithful disk → is_on (texts_of s.journal) (value_of s.journal) (states s.disk (clock s.disk) 0) → is_on (texts_of s.journal) (value_of new) (states disk (clock disk) 0))
+      → OneCall IsJournal (states s.disk) (states disk) (clock s.disk) (clock disk) → HasFailed come (failures s.disk) (failures disk) → (is_faithful disk → is_faithful s.disk)
+      → GoesOn states clock failures is_faithful e (reply_to come) s (record s { disk = disk; journal = new; store = store })
+  journal_goes_on s new disk store come used sound free goes used_is told hand same broken on call fails faithful =
+      let is : store.machine ≡ after_step s.store.machine (choice_of s.journal) (choice_of new) come = told ∙ settled_is s.store.machine (choice_of s.journal) (choice_of new) used come used_is in
+      record {
+        step = subst (λ (m : Machine). Step s.store.machine e (reply_to come) m) (sym is) goes.0;
+        sound = journal_sound s.store store s.base s.opened.items s.journal new s.hives.items come sound free goes.1 same broken is hand;
+        on_disk = λ f there. journal_writes s.journal new s.hives.items (states s.disk (clock s.disk)) (states disk (clock disk)) there call.others same (on f);
+        store = same;
+        call = any_call IsJournal (states s.disk) (states disk) (clock s.disk) (clock disk) call;
+        failed = has_failed come (failures s.disk) (failures disk) fails;
+        faithful = faithful;
+      }
 
 -- a trim may begin where each hive's number is not below the durable one
 some_spelled : (below : ℕ) (es : List (List (ℕ × TimedOp))) → ¬ (top 0 (record { below = below; elements = es }) ≡ 0) → 0 < length es
@@ -87,7 +111,7 @@ may_begin m base opened journal hives idle last is some durable d have =
       idle,
       some_spelled journal.now.below journal.now.elements (λ z. some (is ∙ z)),
       λ j v at.
-          let w = view_of_at hives j v at in
+          let w = viewed hives j v at in
           ap (ops_on j) (seg_none (known_elements (life_of m base opened)) (v.files.now.1 - base) (m.durable - base)
           (let le = have j w.0 w.1 in let same = ap (λ (x : HiveView). x.files.now.1) w.2 in omega (arith, le, same, d))),
     )

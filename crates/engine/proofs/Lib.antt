@@ -1,4 +1,5 @@
 mod Sound
+mod Frames
 mod OnDisk
 mod Journaling
 mod Taking

@@ -11,9 +11,8 @@ ghost use Rattle.hive_flush.specs.declared.hive.HiveFile.{HiveFile};
 ghost use Rattle.engine_law.specs.Openings.{IsFound};
 ghost use Rattle.machine.specs.Steps.{Step, Run};
 ghost use Rattle.machine.specs.declared.event.Reply.TheVariants as reply;
-ghost use Rattle.engine_law.specs.Prefixes.{AreOnDisk, ArePlaced, IsSafeAt, view_of};
+ghost use Rattle.engine_law.specs.Prefixes.{AnyFile, AreOnDisk, ArePlaced, IsSafeAt, view_of};
 ghost use Rattle.engine_law.specs.Runs.{RunsSafely};
-ghost use Rattle.engine.specs.Parts.{AnyFile};
 
 use crate::parts::Parts;
 use commit_journal::Journal;
@@ -39,7 +38,7 @@ pub struct Engine<D: Disk> {
 impl<D: Disk> Model for Engine<D> {
     ghost use Rattle.commit_journal.specs.Journals.{store_of};
     ghost use Rattle.engine_law.specs.Prefixes.{AreOnDisk};
-    ghost use Rattle.engine.specs.Parts.{AreSound};
+    ghost use Rattle.engine.specs.Parts.{IsSound};
     ghost use Rattle.engine.specs.Shown.{Shown, shown_code};
 
     ghost Value = { Shown D };
@@ -53,8 +52,7 @@ impl<D: Disk> Model for Engine<D> {
     } };
 
     ghost invariant = { λ inside. record {
-      sound : AreSound inside.parts.store inside.parts.base inside.parts.opened.items
-          inside.parts.journal inside.parts.hives.items;
+      sound : IsSound inside.parts;
       on_disk : D.faithful inside.parts.disk → AreOnDisk inside.parts.journal
           inside.parts.hives.items
           (D.state_at inside.parts.disk (D.clock inside.parts.disk));
