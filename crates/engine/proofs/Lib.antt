@@ -1,4 +1,6 @@
 mod Sound
+mod Namings
+mod Idling
 mod Frames
 mod OnDisk
 mod Journaling

@@ -72,11 +72,15 @@ step_faults m old new result free still e = true≢false (sym (ap (λ r. (after_
 flush_faults : (m : Machine) (result : Result Progress Refusal) → (after_flush m result).faulted ≡ false → result ≡ Err refusal.DiskFault → ⊥
 flush_faults m result still e = true≢false (sym (ap (λ r. (after_flush m r).faulted) e) ∙ still)
 
+pub refused_accepted : (m : Machine) (why : Refusal) → (refused_by m why).accepted ≡ m.accepted
+refused_accepted m refusal.DiskFault = refl
+refused_accepted m _ = refl
+
 refused_before : (m : Machine) (why : Refusal) → (refused_by m why).before ≡ m.before
 refused_before m refusal.DiskFault = refl
 refused_before m _ = refl
 
-step_before : (m : Machine) (old new : Choice (Spelled TimedOp)) (result : Result Progress Refusal) → (after_step m old new result).before ≡ m.before
+pub step_before : (m : Machine) (old new : Choice (Spelled TimedOp)) (result : Result Progress Refusal) → (after_step m old new result).before ≡ m.before
 step_before m old new (Ok progress.Done) = refl
 step_before m old new (Ok progress.Idle) = refl
 step_before m old new (Ok progress.More) = refl

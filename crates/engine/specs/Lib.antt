@@ -1,3 +1,4 @@
+pub mod Naming
 pub mod Parts
 pub mod Events
 pub mod Shown

@@ -1,5 +1,5 @@
 //! The engine as its callers see it: what it keeps is in its type, so that no call asks for it.
-ghost use Rattle.std.specs.Prelude.{◌≡◌, ◌+◌, ◌<◌, ◌≤◌, [], ℕ, IfErr, IfOk, OnErr, Some, length, map, slice_get};
+ghost use Rattle.std.specs.Prelude.{◌≡◌, ◌+◌, ◌<◌, ◌≤◌, [], ℕ, false, IfErr, IfOk, OnErr, Some, length, map, slice_get};
 ghost use Rattle.refusals.specs.declared.refusal.Refusal.TheVariants.{DiskFault, NoMemory};
 ghost use Rattle.disk_model.specs.Call.{OneCall};
 ghost use Rattle.machine.specs.Machine.{opened_machine, trees_now};
@@ -8,16 +8,19 @@ ghost use Rattle.commit_journal.specs.Journals.{choice_of, store_of, IsBroken};
 ghost use Rattle.hive_flush.specs.HiveStates.{IsWhole};
 ghost use Rattle.hive_flush.specs.HiveStates as states;
 ghost use Rattle.hive_flush.specs.declared.hive.HiveFile.{HiveFile};
+ghost use Rattle.engine_law.specs.Idle.{IdlesExactly};
 ghost use Rattle.engine_law.specs.Openings.{IsFound};
 ghost use Rattle.machine.specs.Steps.{Step, Run};
 ghost use Rattle.machine.specs.declared.event.Reply.TheVariants as reply;
 ghost use Rattle.engine_law.specs.Prefixes.{AnyFile, AreOnDisk, ArePlaced, IsSafeAt, view_of};
-ghost use Rattle.engine_law.specs.Runs.{RunsSafely};
+ghost use Rattle.engine_law.specs.Runs.{IsHeld, RunsSafely};
+ghost use Rattle.std.specs.List.{AllByRecursion};
 
+use crate::naming::Naming;
 use crate::parts::Parts;
 use commit_journal::Journal;
 use disk_model::Disk;
-use engine_law::laws::{crashes_leave_prefixes, openings_begin};
+use engine_law::laws::{crashes_leave_prefixes, openings_begin, receipts_are_durable};
 use hive_flush::HiveFile;
 use machine::{Event, Reply};
 use refusals::Refusal;
@@ -36,8 +39,9 @@ pub struct Engine<D: Disk> {
 }
 
 impl<D: Disk> Model for Engine<D> {
-    ghost use Rattle.commit_journal.specs.Journals.{store_of};
-    ghost use Rattle.engine_law.specs.Prefixes.{AreOnDisk};
+    ghost use Rattle.std.specs.Prelude.{map};
+    ghost use Rattle.commit_journal.specs.Journals.{choice_of, store_of};
+    ghost use Rattle.engine_law.specs.Prefixes.{AnyFile, AreOnDisk, view_of};
     ghost use Rattle.engine.specs.Parts.{IsSound};
     ghost use Rattle.engine.specs.Shown.{Shown, shown_code};
 
@@ -49,6 +53,10 @@ impl<D: Disk> Model for Engine<D> {
       machine = inside.parts.store.machine;
       disk = inside.parts.disk;
       store = store_of inside.parts.journal;
+      base = inside.parts.base;
+      opened = inside.parts.opened.items;
+      journal = choice_of inside.parts.journal;
+      hives = map view_of inside.parts.hives.items;
     } };
 
     ghost invariant = { λ inside. record {
@@ -110,6 +118,11 @@ impl<D: Disk> Engine<D> {
         let Ok(store) = Store::new(alloc, trees, number, room) else {
             return Err((Refusal::NoMemory, disk));
         };
+        let count = journal.hives();
+        let Ok(mut naming) = Naming::new(alloc, usize::from(count)) else {
+            return Err((Refusal::NoMemory, disk));
+        };
+        naming.count_in(base, &opened);
         Ok(Engine {
             parts: Parts {
                 alloc,
@@ -119,6 +132,7 @@ impl<D: Disk> Engine<D> {
                 store,
                 opened,
                 base,
+                naming,
             },
         })
     }
@@ -126,7 +140,7 @@ impl<D: Disk> Engine<D> {
     /// One event: a step of the machine, with at most one call of the device.
     ///
     /// A crash before, within or after it leaves a prefix of the changes accepted before the event at the moment at which it
-    /// began, and of those accepted then at the moment at which it ended.
+    /// began, and of those accepted then at the moment at which it ended. A step is idle exactly where there is nothing to do.
     pub fn event(&mut self, event: Event) -> Reply
         ensures step { Step self.old.machine event result self.new.machine }
         ensures before { D.faithful self.new.disk → IsSafeAt self.old.store
@@ -137,6 +151,8 @@ impl<D: Disk> Engine<D> {
             (D.clock self.old.disk) (D.clock self.new.disk) }
         ensures failed { result ≡ reply.Refused DiskFault →
             D.failures self.old.disk < D.failures self.new.disk }
+        ensures idle { self.old.machine.faulted ≡ false → IdlesExactly event result self.old.machine
+            self.old.base self.old.opened self.old.journal self.old.hives }
         ensures store { self.new.store ≡ self.old.store }
         ensures faithful { D.faithful self.new.disk → D.faithful self.old.disk }
     {
@@ -146,7 +162,7 @@ impl<D: Disk> Engine<D> {
 
     /// A whole run. The replies are those of a run of the machine. Each event makes at most one call of the device, so each moment
     /// of the run is that of some boundary between two events; and at each boundary, at its own moment, whatever a crash leaves
-    /// is a prefix of the changes accepted up to there.
+    /// is a prefix of the changes accepted up to there. Each receipt is of a number that is durable at the end.
     ///
     /// Refused, before any event, for want of memory alone.
     pub fn run(&mut self, alloc: Global, events: Vec<Event>) -> Result<Vec<Reply>, AllocError>
@@ -155,10 +171,13 @@ impl<D: Disk> Engine<D> {
         ensures crashes { IfOk result (λ replies. D.faithful self.new.disk →
             RunsSafely (IsSafeAt self.old.store (D.state_at self.new.disk)) (D.clock self.old.disk)
             self.old.machine events.items replies.items (D.clock self.new.disk) self.new.machine) }
+        ensures receipts { IfOk result (λ replies.
+            AllByRecursion (IsHeld self.new.machine.durable) replies.items) }
         ensures err { OnErr result (self.new ≡ self.old) }
         ensures store { self.new.store ≡ self.old.store }
         ensures faithful { D.faithful self.new.disk → D.faithful self.old.disk }
     {
+        receipts_are_durable();
         self.parts.run(alloc, events)
     }
 

@@ -1,11 +1,13 @@
 //! The flush of one hive.
-ghost use Rattle.std.specs.Prelude.{◌≡◌, ◌<◌, ℕ, false, length, slice_get, None, Some, IfErr};
+ghost use Rattle.std.specs.Prelude.{◌≡◌, ◌↔◌, ◌<◌, ℕ, false, length, map, slice_get, None, Some, IfErr, Ok};
 ghost use Rattle.refusals.specs.declared.refusal.Refusal.TheVariants.{NoMemory};
 ghost use Rattle.disk_model.specs.FileState.{FileState};
 ghost use Rattle.hive_flush.specs.HiveStates.{files_of};
 ghost use Rattle.hive_flush.specs.declared.hive.HiveFile.{HiveFile};
 ghost use Rattle.engine_law.specs.Answers.{reply_to};
-ghost use Rattle.engine_law.specs.Prefixes.{AreOnDisk};
+ghost use Rattle.engine_law.specs.Idle.{HasAll, IsFlushed};
+ghost use Rattle.engine_law.specs.Prefixes.{AreOnDisk, view_of};
+ghost use Rattle.engine_words.specs.declared.Progress.TheVariants as Progress;
 ghost use Rattle.engine.specs.Events.{GoesOn};
 ghost use Rattle.engine.specs.Parts.{IsSound};
 ghost use Rattle.machine.specs.declared.event.Event.TheVariants as Event;
@@ -20,8 +22,11 @@ impl<D: Disk> Parts<D> {
     /// A step of a hive's flush: the next call of one that is on its way, or the first of one of what the hive lacks.
     pub fn flusher_step(&mut self, hive: u8) -> Result<Progress, Refusal>
         requires sound { IsSound self.old }
-        ensures { GoesOn D.state_at D.clock D.failures D.faithful
+        ensures goes_on { GoesOn D.state_at D.clock D.failures D.faithful
             (Event.FlusherStep hive) (reply_to result) self.old self.new }
+        ensures idle { self.old.store.machine.faulted ≡ false → (result ≡ Ok Progress.Idle) ↔
+            IsFlushed self.old.store.machine self.old.base self.old.opened.items
+            (map view_of self.old.hives.items) hive }
     {
         self.working()?;
         let place = usize::from(hive);
@@ -41,10 +46,13 @@ impl<D: Disk> Parts<D> {
         requires there { place < length self.old.hives.items }
         requires rest { (hive : HiveFile) → slice_get self.old.hives.items place ≡ Some hive →
             (files_of hive).next ≡ None }
-        ensures { GoesOn D.state_at D.clock D.failures D.faithful
+        ensures goes_on { GoesOn D.state_at D.clock D.failures D.faithful
             (Event.FlusherStep place) (reply_to result) self.old self.new }
+        ensures idle { (hive : HiveFile) → slice_get self.old.hives.items place ≡ Some hive →
+            (result ≡ Ok Progress.Idle) ↔ HasAll self.old.store.machine self.old.base
+            self.old.opened.items place (view_of hive) }
     {
-        if self.hives[place].applied() >= self.store.durable() {
+        if self.hives[place].applied() >= self.naming.last[place] {
             return Ok(Progress::Idle);
         }
         self.absorb(place)?;
@@ -81,8 +89,9 @@ impl<D: Disk> Parts<D> {
         requires sound { IsSound self.old }
         requires works { self.old.store.machine.faulted ≡ false }
         requires there { place < length self.old.hives.items }
-        ensures { GoesOn D.state_at D.clock D.failures D.faithful
+        ensures goes_on { GoesOn D.state_at D.clock D.failures D.faithful
             (Event.FlusherStep place) (reply_to result) self.old self.new }
+        ensures busy { ¬ (result ≡ Ok Progress.Idle) }
     {
         hive_steps_keep();
         let come = self.hives[place].step(&mut self.disk);

@@ -7,6 +7,7 @@
 
 mod engine;
 mod flushes;
+mod naming;
 mod parts;
 mod running;
 mod steps;

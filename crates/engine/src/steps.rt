@@ -1,21 +1,25 @@
 //! The steps of an engine: a batch of the journal, a trim, a flush of a hive.
-ghost use Rattle.std.specs.Prelude.{◌≡◌, ◌≤◌, ℕ, false, true, map, slice_get, IfErr, Ok, OnOk};
+ghost use Rattle.std.specs.Prelude.{◌≡◌, ◌↔◌, ◌-◌, ◌<◌, ◌≤◌, ℕ, false, true, length, map, slice_get, take, IfErr, Ok, OnOk, Some};
 ghost use Rattle.refusals.specs.declared.refusal.Refusal.TheVariants.{Faulted};
 ghost use Rattle.prefix_law.specs.Promises.{top};
-ghost use Rattle.machine.specs.Machine.{last_number};
+ghost use Rattle.machine.specs.Machine.{last_number, pending};
 ghost use Rattle.machine.specs.Steps.{is_step};
 ghost use Rattle.commit_journal.specs.Journals.{choice_of};
 ghost use Rattle.hive_flush.specs.HiveStates.{files_of};
 ghost use Rattle.engine_words.specs.declared.Progress.TheVariants as Progress;
 ghost use Rattle.hive_flush.specs.declared.hive.HiveFile.{HiveFile};
 ghost use Rattle.engine_law.specs.Answers.{MayTrim, after_flush, reply_to};
+ghost use Rattle.engine_law.specs.Idle.{IdlesExactly, IsSettled, IsTrimmed};
 ghost use Rattle.engine_law.specs.Prefixes.{view_of};
 ghost use Rattle.engine.specs.Events.{GoesOn};
+ghost use Rattle.engine.specs.Naming.{HasCounted};
 ghost use Rattle.engine.specs.Parts.{IsSound, settled_by};
 
 use crate::parts::Parts;
 use disk_model::Disk;
-use engine_law::laws::{events_keep, journal_steps_keep, pending_may_be_handed};
+use engine_law::laws::{
+    events_keep, journal_steps_keep, pending_may_be_handed, receipts_are_durable,
+};
 use engine_words::Progress;
 use hive_flush::HiveFile;
 use machine::laws::{steps_alone_fail, steps_alone_settle};
@@ -26,8 +30,11 @@ impl<D: Disk> Parts<D> {
     /// Any event: a step of the machine, with at most one call of the device.
     pub fn event(&mut self, event: Event) -> Reply
         requires sound { IsSound self.old }
-        ensures { GoesOn D.state_at D.clock D.failures D.faithful
+        ensures goes_on { GoesOn D.state_at D.clock D.failures D.faithful
             event result self.old self.new }
+        ensures idle { self.old.store.machine.faulted ≡ false → IdlesExactly event result
+            self.old.store.machine self.old.base self.old.opened.items
+            (choice_of self.old.journal) (map view_of self.old.hives.items) }
     {
         match event {
             Event::JournalStep => replied(self.journal_step()),
@@ -41,8 +48,11 @@ impl<D: Disk> Parts<D> {
     fn calm_event(&mut self, event: Event) -> Reply
         requires calm { is_step event ≡ false }
         requires sound { IsSound self.old }
-        ensures { GoesOn D.state_at D.clock D.failures D.faithful
+        ensures goes_on { GoesOn D.state_at D.clock D.failures D.faithful
             event result self.old self.new }
+        ensures idle { IdlesExactly event result
+            self.old.store.machine self.old.base self.old.opened.items
+            (choice_of self.old.journal) (map view_of self.old.hives.items) }
     {
         events_keep();
         steps_alone_fail();
@@ -67,12 +77,14 @@ impl<D: Disk> Parts<D> {
         requires sound { IsSound self.old }
         ensures goes_on { GoesOn D.state_at D.clock D.failures D.faithful
             Event.JournalStep (reply_to result) self.old self.new }
-        ensures idle { result ≡ Ok Progress.Idle →
-            self.new.store.machine.durable ≡ last_number self.new.store.machine }
+        ensures idle { self.old.store.machine.faulted ≡ false →
+            (result ≡ Ok Progress.Idle) ↔ IsSettled self.old.store.machine
+            (choice_of self.old.journal) }
     {
         self.working()?;
         pending_may_be_handed();
         journal_steps_keep();
+        receipts_are_durable();
         let durable = self.store.durable();
         let used = self.journal.used();
         let pending = self.store.above(durable);
@@ -84,11 +96,15 @@ impl<D: Disk> Parts<D> {
     // a step of a trim: its second call, or its first where the hives have all that the journal spells
     fn trim_step(&mut self) -> Result<Progress, Refusal>
         requires sound { IsSound self.old }
-        ensures { GoesOn D.state_at D.clock D.failures D.faithful
+        ensures goes_on { GoesOn D.state_at D.clock D.failures D.faithful
             Event.TrimStep (reply_to result) self.old self.new }
+        ensures idle { self.old.store.machine.faulted ≡ false → (result ≡ Ok Progress.Idle) ↔
+            IsTrimmed self.old.store.machine self.old.base self.old.opened.items
+            (choice_of self.old.journal) (map view_of self.old.hives.items) }
     {
         self.working()?;
         journal_steps_keep();
+        receipts_are_durable();
         if !self.may_trim() {
             return Ok(Progress::Idle);
         }
@@ -100,8 +116,12 @@ impl<D: Disk> Parts<D> {
 
     // whether a step of a trim may be made
     fn may_trim(&self) -> bool
-        ensures { result ≡ true → MayTrim self.now.store.machine self.now.base self.now.opened.items
-            (choice_of self.now.journal) (map view_of self.now.hives.items) }
+        requires sound { IsSound self.now }
+        requires works { self.now.store.machine.faulted ≡ false }
+        ensures yes { result ≡ true → MayTrim self.now.store.machine self.now.base
+            self.now.opened.items (choice_of self.now.journal) (map view_of self.now.hives.items) }
+        ensures no { result ≡ false → IsTrimmed self.now.store.machine self.now.base
+            self.now.opened.items (choice_of self.now.journal) (map view_of self.now.hives.items) }
     {
         if self.journal.is_trimming() {
             return true;
@@ -109,7 +129,7 @@ impl<D: Disk> Parts<D> {
         if self.journal.is_halfway() || self.journal.last_number() == 0 {
             return false;
         }
-        all_hold(&self.hives, self.store.durable())
+        all_have(&self.hives, &self.naming.last)
     }
 
     // takes in what a step of the journal or of a trim has come to, before which the journal had used so much room
@@ -119,16 +139,26 @@ impl<D: Disk> Parts<D> {
         requires known { come ≡ Ok Progress.Done →
             top self.old.store.machine.durable (choice_of self.old.journal).now
             ≤ last_number self.old.store.machine }
+        requires opened { self.old.store.machine.before ≤ self.old.store.machine.durable }
+        requires at_hand { self.old.store.at_hand ≤ self.old.store.machine.durable }
         ensures machine { self.new.store.machine
             ≡ settled_by self.old.store.machine (choice_of self.old.journal).now used come }
-        ensures rest { self.new ≡ record self.old { store = self.new.store } }
+        ensures rest { self.new ≡ record self.old {
+          store = self.new.store; naming = self.new.naming } }
         ensures at_hand { self.new.store.at_hand ≡ self.old.store.at_hand }
+        ensures naming { HasCounted self.old.naming.last.items self.old.store.machine.durable
+            (take (self.new.store.machine.durable - self.old.store.machine.durable)
+            (pending self.old.store.machine)) self.new.naming.last.items }
     {
         match come {
             Ok(Progress::Done) => {
                 self.store.free(used.saturating_sub(self.journal.used()));
+                let durable = self.store.durable();
                 let last = self.journal.last_number();
                 if last > 0 {
+                    let count = last.saturating_sub(durable) as usize;
+                    let settled = &self.store.above(durable)[..count];
+                    self.naming.count_in(durable, settled);
                     self.store.settle(last);
                 }
             }
@@ -149,12 +179,21 @@ impl<D: Disk> Parts<D> {
     }
 }
 
-// whether each hive's files have all changes up to a number
-fn all_hold(hives: &[HiveFile], number: u64) -> bool
-    ensures { result ≡ true → (i : ℕ) (hive : HiveFile) → slice_get hives.now i ≡ Some hive →
-        number ≤ (files_of hive).now.1 }
+// whether each hive's files have the last change that names it
+fn all_have(hives: &[HiveFile], last: &[u64]) -> bool
+    requires many { length last.now ≡ length hives.now }
+    ensures all { result ≡ true → (i m : ℕ) (hive : HiveFile) → slice_get hives.now i ≡ Some hive →
+        slice_get last.now i ≡ Some m → m ≤ (files_of hive).now.1 }
+    ensures some { result ≡ false → (i : ℕ) × (m : ℕ) × (hive : HiveFile) ×
+        (slice_get hives.now i ≡ Some hive) × (slice_get last.now i ≡ Some m) ×
+        ((files_of hive).now.1 < m) }
 {
-    hives.iter().all(|hive| hive.applied() >= number)
+    for (place, hive) in hives.iter().enumerate() {
+        if hive.applied() < last[place] {
+            return false;
+        }
+    }
+    true
 }
 
 // what a step is answered: how far it has come, or why it was refused
