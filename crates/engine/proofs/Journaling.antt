@@ -1,26 +1,32 @@
 -- What the journal says of its steps is what the engine answers and keeps.
-use Rattle.std.proofs.Common.{◌≡◌, ◌⊎◌, ◌↔◌, inl, inr, ℕ, ◌+◌, ◌-◌, ◌<◌, ◌≤◌, true, false, List, [], ◌∷◌, length, map, drop, refl, sym, ◌∙◌, ap, subst, arith, Option, Some, None, Result, Ok, Err, slice_get}
+use Rattle.std.proofs.Common.{◌≡◌, ◌⊎◌, ◌↔◌, inl, inr, ℕ, ◌+◌, ◌-◌, ◌<◌, ◌≤◌, true, false, List, [], ◌∷◌, length, get_or, map, take, drop, refl, sym, ◌∙◌, ap, subst, arith, Option, Some, None, Result, Ok, Err, slice_get}
 use Rattle.std.specs.List.{AllByRecursion}
 use Rattle.std.proofs.lemmas.List.{length-map}
 use Rattle.refusals.specs.declared.refusal.Refusal.{Refusal}
-use Rattle.refusals.specs.declared.refusal.Refusal.TheVariants.{Faulted}
+use Rattle.refusals.specs.declared.refusal.Refusal.TheVariants.{Faulted, DiskFault}
+use Rattle.disk_model.specs.FileState.{FileState}
+use Rattle.disk_model.specs.Call.{OneCall, HasFailed}
+use Rattle.disk_model.specs.StoreFiles.{IsJournal}
 use Rattle.reg_tree.specs.declared.element.Element.{Element}
 use Rattle.prefix_law.specs.Promises.{Choice, Spelled, nothing, top, JournalSays, TrimSays}
 use Rattle.prefix_law.specs.Life.{known_elements, ops_in}
 use Rattle.prefix_law.specs.Changes.{ops_on}
 use Rattle.prefix_law.proofs.Lists.{seg_none}
-use Rattle.machine.specs.Machine.{Machine, pending}
-use Rattle.machine.specs.Steps.{Step}
+use Rattle.machine.specs.Machine.{Machine, last_number, pending}
+use Rattle.machine.specs.Kept.{IsKept}
+use Rattle.machine.specs.Steps.{Step, Run}
+use Rattle.machine.specs.declared.event.Reply.{Reply}
 use Rattle.machine.specs.declared.event.Event.{Event}
 use Rattle.machine.specs.declared.event.Event.TheVariants as event
-use Rattle.machine.specs.declared.event.Reply.{Reply}
 use Rattle.transactions.specs.Stores.{StoreView}
 use Rattle.engine_words.specs.Changes.{TimedOp, timed_elements}
 use Rattle.engine_words.specs.Steps.{Says}
 use Rattle.engine_words.specs.declared.Progress.{Progress}
+use Rattle.engine_words.specs.declared.Progress.TheVariants as progress
 use Rattle.commit_journal.specs.Store.{room_of}
 use Rattle.commit_journal.specs.Handed.{IsHanded, IsShort}
-use Rattle.commit_journal.specs.Journals.{choice_of, store_of}
+use Rattle.commit_journal.specs.OnDisk.{is_on}
+use Rattle.commit_journal.specs.Journals.{choice_of, store_of, texts_of, value_of}
 use Rattle.commit_journal.specs.Journals as journals
 use Rattle.commit_journal.specs.declared.journal.Journal.{Journal}
 use Rattle.hive_flush.specs.HiveStates.{files_of}
@@ -28,8 +34,20 @@ use Rattle.hive_flush.specs.declared.hive.HiveFile.{HiveFile}
 use Rattle.engine_law.specs.States.{HiveView, life_of, IsConsistent}
 use Rattle.engine_law.specs.Answers.{reply_to, after_step, MayTrim, HaveAll}
 use Rattle.engine_law.specs.Prefixes.{view_of}
-use Rattle.engine.specs.Parts.{AreSound, settled_by}
-use Rattle.engine.proofs.Sound.{settled_is, view_of_at}
+use Rattle.engine_law.specs.Runs.{IsHeld}
+use Rattle.engine.specs.Naming.{AreLastNaming, HasCounted}
+use Rattle.engine.specs.declared.naming.Naming.{Naming}
+use Rattle.engine_law.proofs.HiveLists.{viewed}
+use Rattle.engine.specs.Parts.{AreSound, IsSound, settled_by}
+use Rattle.engine.specs.Events.{GoesOn}
+use Rattle.engine.specs.declared.parts.Parts.{Parts}
+use Rattle.engine.proofs.Sound.{settled_is, journal_sound, refused_accepted, step_before}
+use Rattle.engine.proofs.Namings.{naming_settles}
+use Rattle.engine.proofs.OnDisk.{journal_writes}
+use Rattle.engine.proofs.Idling.{has_all}
+use Rattle.engine_law.specs.Idle.{HasAll}
+use Rattle.std.proofs.lemmas.Option.{slice_get_within, slice_get-get_or}
+use Rattle.engine.proofs.Frames.{any_call, has_failed}
 
 -- The laws that are used
 
@@ -69,25 +87,75 @@ module _ (s : StoreView) (base : ℕ) (opened : List Element) (old : Journal) (h
       → Step s.machine event.TrimStep (reply_to result) (after_step s.machine (choice_of old) (choice_of new) result) × IsConsistent (after_step s.machine (choice_of old) (choice_of new) result) base opened (choice_of new) (map view_of hives)
   trim_goes law new result free may broken says = law s.machine base opened (choice_of old) (choice_of new) (map view_of hives) result a.kept free may (λ f. a.journal_works free (broken.0 f)) says
 
--- the answer and the machine, as the code has them
-pub told : (e : Event) (m t : Machine) (old new : Choice (Spelled TimedOp)) (used : ℕ) (result : Result Progress Refusal) (answer : Reply) → Step m e (reply_to result) (after_step m old new result) → answer ≡ reply_to result → used ≡ 65 + room_of old.now.elements
-    → t ≡ settled_by m new.now used result → Step m e answer t
-told e m t old new used result answer step is used_is t_is =
-    subst (λ r. Step m e r t) (sym is) (subst (λ x. Step m e (reply_to result) x) (sym (t_is ∙ settled_is m old new used result used_is)) step)
+-- where something is spelled the last number is that of the last change
+pub top_same : (d : ℕ) (s : Spelled TimedOp) → 0 < top 0 s → top d s ≡ top 0 s
+top_same d s some = by_list s.below s.elements some
+  where
+    by_list : (below : ℕ) (es : List (List (ℕ × TimedOp))) → 0 < top {Op = TimedOp} 0 (record { below = below; elements = es }) → top {Op = TimedOp} d (record { below = below; elements = es }) ≡ top {Op = TimedOp} 0 (record { below = below; elements = es })
+    by_list below [] some = absurd (omega (arith, some))
+    by_list below (e ∷ es) some = refl
 
--- a trim may begin where each hive's number is not below the durable one
-some_spelled : (below : ℕ) (es : List (List (ℕ × TimedOp))) → ¬ (top 0 (record { below = below; elements = es }) ≡ 0) → 0 < length es
-some_spelled below [] not = absurd (not refl)
-some_spelled below (e ∷ es) not = omega arith
+-- no durable number falls
+abbrev pub Rises : Type 0
+Rises = (old new : Machine) (e : Event) (r : Reply) → IsKept old → Step old e r new → old.durable ≤ new.durable
 
-pub may_begin : (m : Machine) (base : ℕ) (opened : List Element) (journal : Choice (Spelled TimedOp)) (hives : List HiveFile) → journal.next ≡ None → (last : ℕ) → last ≡ top 0 journal.now → ¬ (last ≡ 0) → (durable : ℕ) → durable ≡ m.durable
-    → ((i : ℕ) (hive : HiveFile) → slice_get hives i ≡ Some hive → durable ≤ (files_of hive).now.1) → MayTrim m base opened journal (map view_of hives)
-may_begin m base opened journal hives idle last is some durable d have =
+pub rises_by : ((old new : Machine) (es : List Event) (rs : List Reply) → IsKept old → Run old es rs new → (old.durable ≤ new.durable) × AllByRecursion (IsHeld new.durable) rs) → Rises
+rises_by law old new e r kept step = (law old new (e ∷ []) (r ∷ []) kept (new, step, refl)).0
+
+-- what was accepted stays in a step, and what is durable then is known
+step_accepted : (m : Machine) (old new : Choice (Spelled TimedOp)) (result : Result Progress Refusal) → (after_step m old new result).accepted ≡ m.accepted
+step_accepted m old new (Ok progress.Done) = refl
+step_accepted m old new (Ok progress.Idle) = refl
+step_accepted m old new (Ok progress.More) = refl
+step_accepted m old new (Err why) = refused_accepted m why
+
+settled_within : (m t : Machine) (base : ℕ) (opened : List Element) (old new : Choice (Spelled TimedOp)) (hives : List HiveView) (result : Result Progress Refusal) → IsConsistent (after_step m old new result) base opened new hives → t ≡ after_step m old new result → t.durable ≤ last_number m
+settled_within m t base opened old new hives result kept is = omega (arith, kept.kept.within.known, ap (λ (x : Machine). x.durable) is, step_before m old new result, ap (λ (l : List Element). length l) (step_accepted m old new result))
+
+-- A call of the journal, and what the store is told behind it
+module _ {D : Type 0} (states : D → ℕ → ℕ → FileState) (clock failures : D → ℕ) (is_faithful : D → Type 0) (e : Event) where
+  pub journal_goes_on : (s : Parts D) (new : Journal) (disk : D) (store : StoreView) (naming : Naming) (come : Result Progress Refusal) (used : ℕ) → IsSound s → s.store.machine.faulted ≡ false
+      → Step s.store.machine e (reply_to come) (after_step s.store.machine (choice_of s.journal) (choice_of new) come)
+      × IsConsistent (after_step s.store.machine (choice_of s.journal) (choice_of new) come) s.base s.opened.items (choice_of new) (map view_of s.hives.items)
+      → used ≡ 65 + room_of (choice_of s.journal).now.elements → store.machine ≡ settled_by s.store.machine (choice_of new).now used come → store.at_hand ≡ s.store.at_hand → Rises
+      → HasCounted s.naming.last.items s.store.machine.durable (take (store.machine.durable - s.store.machine.durable) (pending s.store.machine)) naming.last.items
+      → store_of new ≡ store_of s.journal → (journals.IsBroken new → journals.IsBroken s.journal ⊎ (come ≡ Err DiskFault))
+      → (is_faithful disk → is_on (texts_of s.journal) (value_of s.journal) (states s.disk (clock s.disk) 0) → is_on (texts_of s.journal) (value_of new) (states disk (clock disk) 0))
+      → OneCall IsJournal (states s.disk) (states disk) (clock s.disk) (clock disk) → HasFailed come (failures s.disk) (failures disk) → (is_faithful disk → is_faithful s.disk)
+      → GoesOn states clock failures is_faithful e (reply_to come) s (record s { disk = disk; journal = new; store = store; naming = naming })
+  journal_goes_on s new disk store naming come used sound free goes used_is told hand rises counted same broken on call fails faithful =
+      let is : store.machine ≡ after_step s.store.machine (choice_of s.journal) (choice_of new) come = told ∙ settled_is s.store.machine (choice_of s.journal) (choice_of new) used come used_is in
+      record {
+        step = subst (λ (m : Machine). Step s.store.machine e (reply_to come) m) (sym is) goes.0;
+        sound = record {
+          holds = journal_sound s.store store s.base s.opened.items s.journal new s.hives.items come sound.holds free goes.1 same broken is hand;
+          naming = naming_settles s.store.machine store.machine s.base s.opened.items s.naming.last.items naming.last.items sound.holds.kept.begun sound.holds.kept.kept.within.opened sound.holds.kept.kept.within.known
+              (subst (λ (m : Machine). s.store.machine.durable ≤ m.durable) (sym is) (rises s.store.machine (after_step s.store.machine (choice_of s.journal) (choice_of new) come) e (reply_to come) sound.holds.kept.kept goes.0))
+              (settled_within s.store.machine store.machine s.base s.opened.items (choice_of s.journal) (choice_of new) (map view_of s.hives.items) come goes.1 is)
+              (ap (λ (m : Machine). m.accepted) is ∙ step_accepted s.store.machine (choice_of s.journal) (choice_of new) come) sound.naming counted.last;
+          named = counted.many ∙ sound.named;
+        };
+        on_disk = λ f there. journal_writes s.journal new s.hives.items (states s.disk (clock s.disk)) (states disk (clock disk)) there call.others same (on f);
+        store = same;
+        call = any_call IsJournal (states s.disk) (states disk) (clock s.disk) (clock disk) call;
+        failed = has_failed come (failures s.disk) (failures disk) fails;
+        faithful = faithful;
+      }
+
+-- a trim may begin where each hive's number is not below that of the last change that names it
+pub may_begin : (m : Machine) (base : ℕ) (opened : List Element) (journal : Choice (Spelled TimedOp)) (hives : List HiveFile) (numbers : List ℕ) → AreLastNaming m base opened numbers → length numbers ≡ length hives → journal.next ≡ None → ¬ (top 0 journal.now ≡ 0)
+    → ((i number : ℕ) (hive : HiveFile) → slice_get hives i ≡ Some hive → slice_get numbers i ≡ Some number → number ≤ (files_of hive).now.1) → MayTrim m base opened journal (map view_of hives)
+may_begin m base opened journal hives numbers naming named rests some have =
     inr (
-      idle,
-      some_spelled journal.now.below journal.now.elements (λ z. some (is ∙ z)),
-      λ j v at.
-          let w = view_of_at hives j v at in
-          ap (ops_on j) (seg_none (known_elements (life_of m base opened)) (v.files.now.1 - base) (m.durable - base)
-          (let le = have j w.0 w.1 in let same = ap (λ (x : HiveView). x.files.now.1) w.2 in omega (arith, le, same, d))),
+      rests,
+      some_spelled journal.now.below journal.now.elements some,
+      λ i v at.
+          let w = viewed hives i v at in
+          let lt = slice_get_within hives i w.0 w.1 in
+          let there = slice_get-get_or numbers i 0 (omega (arith, lt, named)) in
+          subst (HasAll m base opened i) w.2 ((has_all m base opened numbers naming i (get_or numbers i 0) w.0 there).1 (have i (get_or numbers i 0) w.0 w.1 there)),
     )
+  where
+    some_spelled : (below : ℕ) (es : List (List (ℕ × TimedOp))) → ¬ (top 0 (record { below = below; elements = es }) ≡ 0) → 0 < length es
+    some_spelled below [] not = absurd (not refl)
+    some_spelled below (e ∷ es) not = omega arith

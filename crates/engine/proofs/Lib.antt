@@ -1,4 +1,7 @@
 mod Sound
+mod Namings
+mod Idling
+mod Frames
 mod OnDisk
 mod Journaling
 mod Taking

@@ -10,7 +10,7 @@ use Rattle.commit_journal.specs.declared.journal.Journal.{Journal}
 use Rattle.hive_flush.specs.HiveStates.{IsOn}
 use Rattle.hive_flush.specs.declared.hive.HiveFile.{HiveFile}
 use Rattle.engine_law.specs.Prefixes.{AreOnDisk}
-use Rattle.engine.proofs.Sound.{each_hive}
+use Rattle.engine_law.proofs.HiveLists.{each_hive}
 
 -- a call on the journal's file
 pub journal_moves : (old new : Journal) (hives : List HiveFile) (a b : ℕ → FileState) → AreOnDisk old hives a → ((f : ℕ) → ¬ (IsJournal f) → b f ≡ a f) → is_on (texts_of new) (value_of new) (b journal_file) → AreOnDisk new hives b
@@ -24,16 +24,6 @@ pub hive_moves : (journal : Journal) (hives : List HiveFile) (k : ℕ) (old new 
 hive_moves journal hives k old new a is on keeps = record {
   spells = on.spells;
   each = each_hive hives k old new is (λ j h. IsOn h (a (primary_file j)) (a (log_file j))) (keeps (a (primary_file k)) (a (log_file k)) (on.each k old is)) (λ j h ne at. on.each j h at);
-}
-
--- a call on a hive's files
-pub hive_writes : (journal : Journal) (hives : List HiveFile) (k : ℕ) (old new : HiveFile) (a b : ℕ → FileState) → slice_get hives k ≡ Some old → AreOnDisk journal hives a → ((f : ℕ) → ¬ (IsOfHive k f) → b f ≡ a f)
-    → IsOn new (b (primary_file k)) (b (log_file k)) → AreOnDisk journal (slice_set hives k new) b
-hive_writes journal hives k old new a b is on others own = record {
-  spells = subst (is_on (texts_of journal) (value_of journal)) (sym (others journal_file (λ f. elim (f) [ inl e ↦ omega (arith, e) | inr e ↦ omega (arith, e) ]))) on.spells;
-  each = each_hive hives k old new is (λ j h. IsOn h (b (primary_file j)) (b (log_file j))) own
-      (λ j h ne at. subst (λ (s : FileState). IsOn h s (b (log_file j))) (sym (others (primary_file j) (λ f. elim (f) [ inl e ↦ absurd (ne (omega (arith, e))) | inr e ↦ omega (arith, e) ])))
-      (subst (λ (s : FileState). IsOn h (a (primary_file j)) s) (sym (others (log_file j) (λ f. elim (f) [ inl e ↦ omega (arith, e) | inr e ↦ absurd (ne (omega (arith, e))) ]))) (on.each j h at)));
 }
 
 -- a step of the journal

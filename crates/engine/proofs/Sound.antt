@@ -24,6 +24,7 @@ use Rattle.hive_flush.specs.declared.hive.HiveFile.{HiveFile}
 use Rattle.engine_law.specs.States.{HiveView, IsConsistent}
 use Rattle.engine_law.specs.Answers.{after_step, after_flush, refused_by}
 use Rattle.engine_law.specs.Prefixes.{ArePlaced, view_of}
+use Rattle.engine_law.proofs.HiveLists.{each_hive}
 use Rattle.engine.specs.Parts.{AreSound, settled_by}
 
 -- an event that makes no step
@@ -71,11 +72,15 @@ step_faults m old new result free still e = true≢false (sym (ap (λ r. (after_
 flush_faults : (m : Machine) (result : Result Progress Refusal) → (after_flush m result).faulted ≡ false → result ≡ Err refusal.DiskFault → ⊥
 flush_faults m result still e = true≢false (sym (ap (λ r. (after_flush m r).faulted) e) ∙ still)
 
+pub refused_accepted : (m : Machine) (why : Refusal) → (refused_by m why).accepted ≡ m.accepted
+refused_accepted m refusal.DiskFault = refl
+refused_accepted m _ = refl
+
 refused_before : (m : Machine) (why : Refusal) → (refused_by m why).before ≡ m.before
 refused_before m refusal.DiskFault = refl
 refused_before m _ = refl
 
-step_before : (m : Machine) (old new : Choice (Spelled TimedOp)) (result : Result Progress Refusal) → (after_step m old new result).before ≡ m.before
+pub step_before : (m : Machine) (old new : Choice (Spelled TimedOp)) (result : Result Progress Refusal) → (after_step m old new result).before ≡ m.before
 step_before m old new (Ok progress.Done) = refl
 step_before m old new (Ok progress.Idle) = refl
 step_before m old new (Ok progress.More) = refl
@@ -104,30 +109,6 @@ journal_sound s t base opened old new hives result a free kept same broken is ha
 pub at_place : {H : Type 0} (hives : List H) (k : ℕ) (h : H) → k < length hives → h ≡ get_or hives k h → slice_get hives k ≡ Some h
 at_place hives k h lt e = slice_get_read hives (length hives) k h refl lt e
 
-pub view_at : (hives : List HiveFile) (k : ℕ) (h : HiveFile) → slice_get hives k ≡ Some h → slice_get (map view_of hives) k ≡ Some (view_of h)
-view_at hives k h is = slice_get-map view_of hives k ∙ ap (option_map view_of) is
-
-get_same : {A : Type 0} (hs : List A) (i : ℕ) (v : A) → i < length hs → slice_get (slice_set hs i v) i ≡ Some v
-get_same [] i v lt = absurd (omega (arith, lt))
-get_same (h ∷ hs) zero v lt = refl
-get_same (h ∷ hs) (suc i) v lt = get_same hs i v (omega (arith, lt))
-
-get_other : {A : Type 0} (hs : List A) (i j : ℕ) (v : A) → j ≢ i → slice_get (slice_set hs i v) j ≡ slice_get hs j
-get_other [] i j v ne = refl
-get_other (h ∷ hs) zero zero v ne = absurd (ne refl)
-get_other (h ∷ hs) zero (suc j) v ne = refl
-get_other (h ∷ hs) (suc i) zero v ne = refl
-get_other (h ∷ hs) (suc i) (suc j) v ne = get_other hs i j v (λ e. ne (ap suc e))
-
--- what holds of the new hive and of all others
-pub each_hive : (hives : List HiveFile) (k : ℕ) (old new : HiveFile) → slice_get hives k ≡ Some old → (P : ℕ → HiveFile → Type 0) → P k new → ((j : ℕ) (h : HiveFile) → j ≢ k → slice_get hives j ≡ Some h → P j h)
-    → (j : ℕ) (h : HiveFile) → slice_get (slice_set hives k new) j ≡ Some h → P j h
-each_hive hives k old new is P own others j h at = elim (cases_eq j k) as (λ z. P j h) [
-  | inl e ↦ let there : slice_get (slice_set hives k new) k ≡ Some h = subst (λ n. slice_get (slice_set hives k new) n ≡ Some h) e at in
-      subst (λ n. P n h) (sym e) (subst (P k) (same_Some new h (sym (get_same hives k new (slice_get_within hives k old is)) ∙ there)) own)
-  | inr ne ↦ others j h ne (sym (get_other hives k j new ne) ∙ at)
-]
-
 -- a hive that has taken something in, or made a step
 pub hive_sound : (s t : StoreView) (base : ℕ) (opened : List Element) (journal : Journal) (hives : List HiveFile) (k : ℕ) (old new : HiveFile) → AreSound s base opened journal hives → slice_get hives k ≡ Some old
     → IsConsistent t.machine base opened (choice_of journal) (slice_set (map view_of hives) k (view_of new)) → place_of new ≡ place_of old → states.store_of new ≡ states.store_of old → IsWhole new
@@ -152,14 +133,6 @@ flush_sound s t base opened journal hives k old new result a free is kept place 
     hive_sound s t base opened journal hives k old new a is (subst (λ (m : Machine). IsConsistent m base opened (choice_of journal) (slice_set (map view_of hives) k (view_of new))) (sym told) kept) place owner whole
     (λ still. (free, λ bad. elim (broken bad) [ inl b ↦ a.hives_work free k old is b | inr f ↦ flush_faults s.machine result (ap (λ (m : Machine). m.faulted) (sym told) ∙ still) f ]))
     (ap (λ (m : Machine). m.before) told ∙ flush_before s.machine result) hand
-
--- the hive that a view is of
-viewed : (o : Option HiveFile) (v : HiveView) → option_map view_of o ≡ Some v → (h : HiveFile) × (o ≡ Some h) × (view_of h ≡ v)
-viewed None v e = absurd (none-some v e)
-viewed (Some h) v e = (h, refl, same_Some (view_of h) v e)
-
-pub view_of_at : (hives : List HiveFile) (j : ℕ) (v : HiveView) → slice_get (map view_of hives) j ≡ Some v → (h : HiveFile) × (slice_get hives j ≡ Some h) × (view_of h ≡ v)
-view_of_at hives j v e = viewed (slice_get hives j) v (sym (slice_get-map view_of hives j) ∙ e)
 
 pub same_hive : (hives : List HiveFile) (k : ℕ) (a b : HiveFile) → slice_get hives k ≡ Some a → slice_get hives k ≡ Some b → a ≡ b
 same_hive hives k a b x y = same_Some a b (sym x ∙ y)

@@ -27,7 +27,8 @@ use Rattle.engine_law.specs.States.{HiveView, IsConsistent}
 use Rattle.engine_law.specs.Answers.{reply_to, after_flush, opened_above, accepted_above, absorbed}
 use Rattle.engine_law.specs.Prefixes.{view_of}
 use Rattle.engine.specs.Parts.{AreSound}
-use Rattle.engine.proofs.Sound.{view_at, hive_sound}
+use Rattle.engine_law.proofs.HiveLists.{view_at}
+use Rattle.engine.proofs.Sound.{hive_sound}
 
 -- The laws that are used
 

@@ -1,2 +1,4 @@
+pub mod Naming
 pub mod Parts
+pub mod Events
 pub mod Shown

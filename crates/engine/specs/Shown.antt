@@ -1,16 +1,46 @@
 -- What contracts see of an engine.
-use Rattle.std.specs.Prelude.{ℕ, List, refl}
-use Rattle.std.specs.Coded.{Coded, code_by, coded×, coded_ℕ, coded_list}
+use Rattle.std.specs.Prelude.{ℕ, List, Option, refl}
+use Rattle.std.specs.Coded.{Coded, code_by, coded×, coded_ℕ, coded_list, coded_option}
+use Rattle.std.specs.FinMap as finite
+use Rattle.reg_tree_parts.specs.Rows.{row_code}
+use Rattle.reg_tree.specs.Maps.{TreeMap}
+use Rattle.reg_tree.specs.contracts.element.Element as element
+use Rattle.reg_tree.specs.contracts.op.Op as op
+use Rattle.reg_tree.specs.declared.element.Element.{Element}
+use Rattle.prefix_law.specs.Promises.{Choice, Spelled}
+use Rattle.engine_words.specs.Changes.{TimedOp}
 use Rattle.machine.specs.Machine.{Machine}
 use Rattle.transactions.specs.Stores.{machine_code}
 use Rattle.commit_journal.specs.Store.{Store}
+use Rattle.engine_law.specs.States.{HiveView}
 
--- the machine, the disk, and the store that the files are of
+-- the machine; the disk; the store that the files are of; the changes that the journal spelled at the opening, and the number
+-- below the first of them; what surely stands and what is on its way of the journal and of each hive, and the hive's memory
 pub record Shown (D : Type 0) : Type 0 where
   pub machine : Machine
   pub disk : D
   pub store : Store
+  pub base : ℕ
+  pub opened : List Element
+  pub journal : Choice (Spelled TimedOp)
+  pub hives : List HiveView
+
+abbrev pub held_code : Coded (TreeMap × ℕ)
+held_code = coded× (finite.code (coded_list (coded_list coded_ℕ)) row_code) coded_ℕ
+
+abbrev pub choice_code : {X : Type 0} → Coded X → Coded (Choice X)
+choice_code {X = X} code = code_by (X × Option X) (coded× code (coded_option code)) (λ c. (c.now, c.next)) (λ p. record { now = p.0; next = p.1 }) (λ _. refl)
+
+abbrev pub spelled_code : Coded (Spelled TimedOp)
+spelled_code = code_by (ℕ × List (List (ℕ × TimedOp))) (coded× coded_ℕ (coded_list (coded_list (coded× coded_ℕ (coded× coded_ℕ op.the_row.coded)))))
+    (λ s. (s.below, s.elements)) (λ p. record { below = p.0; elements = p.1 }) (λ _. refl)
+
+abbrev pub hive_code : Coded HiveView
+hive_code = code_by (Choice (TreeMap × ℕ) × (TreeMap × ℕ)) (coded× (choice_code held_code) held_code) (λ h. (h.files, h.memory)) (λ p. record { files = p.0; memory = p.1 }) (λ _. refl)
 
 abbrev pub shown_code : {D : Type 0} → Coded D → Coded (Shown D)
-shown_code {D = D} code = code_by (Machine × (D × (List ℕ × ℕ))) (coded× machine_code (coded× code (coded× (coded_list coded_ℕ) coded_ℕ)))
-    (λ s. (s.machine, (s.disk, (s.store.id, s.store.hives)))) (λ p. record { machine = p.0; disk = p.1.0; store = record { id = p.1.1.0; hives = p.1.1.1 } }) (λ _. refl)
+shown_code {D = D} code =
+    code_by (Machine × (D × ((List ℕ × ℕ) × (ℕ × (List Element × (Choice (Spelled TimedOp) × List HiveView))))))
+    (coded× machine_code (coded× code (coded× (coded× (coded_list coded_ℕ) coded_ℕ) (coded× coded_ℕ (coded× (coded_list element.the_row.coded) (coded× (choice_code spelled_code) (coded_list hive_code)))))))
+    (λ s. (s.machine, (s.disk, ((s.store.id, s.store.hives), (s.base, (s.opened, (s.journal, s.hives)))))))
+    (λ p. record { machine = p.0; disk = p.1.0; store = record { id = p.1.1.0.0; hives = p.1.1.0.1 }; base = p.1.1.1.0; opened = p.1.1.1.1.0; journal = p.1.1.1.1.1.0; hives = p.1.1.1.1.1.1 }) (λ _. refl)

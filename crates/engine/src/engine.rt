@@ -1,28 +1,28 @@
 //! The engine as its callers see it: what it keeps is in its type, so that no call asks for it.
-ghost use Rattle.std.specs.Prelude.{◌≡◌, ◌+◌, ◌<◌, ◌≤◌, [], ℕ, IfErr, IfOk, OnErr, Some, length, map, slice_get};
+ghost use Rattle.std.specs.Prelude.{◌≡◌, ◌+◌, ◌<◌, ◌≤◌, ◌^◌, [], ℕ, false, IfErr, IfOk, OnErr, length, map, replicate};
 ghost use Rattle.refusals.specs.declared.refusal.Refusal.TheVariants.{DiskFault, NoMemory};
 ghost use Rattle.disk_model.specs.Call.{OneCall};
 ghost use Rattle.machine.specs.Machine.{opened_machine, trees_now};
 ghost use Rattle.commit_journal.specs.Store.{room_of};
-ghost use Rattle.commit_journal.specs.Journals.{choice_of, store_of, IsBroken};
-ghost use Rattle.hive_flush.specs.HiveStates.{IsWhole};
-ghost use Rattle.hive_flush.specs.HiveStates as states;
-ghost use Rattle.hive_flush.specs.declared.hive.HiveFile.{HiveFile};
-ghost use Rattle.engine_law.specs.Openings.{IsFound};
+ghost use Rattle.commit_journal.specs.Journals.{choice_of};
+ghost use Rattle.commit_journal.specs.Journals as journals;
+ghost use Rattle.recovery.specs.Shown.{IsWhole, store_of};
+ghost use Rattle.engine_law.specs.Idle.{IdlesExactly};
 ghost use Rattle.machine.specs.Steps.{Step, Run};
 ghost use Rattle.machine.specs.declared.event.Reply.TheVariants as reply;
-ghost use Rattle.engine_law.specs.Prefixes.{AreOnDisk, ArePlaced, IsSafeAt, view_of};
-ghost use Rattle.engine_law.specs.Runs.{RunsSafely};
-ghost use Rattle.engine.specs.Parts.{AnyFile};
+ghost use Rattle.engine_law.specs.Prefixes.{AnyFile, IsSafeAt, view_of};
+ghost use Rattle.engine_law.specs.Runs.{IsHeld, RunsSafely};
+ghost use Rattle.std.specs.List.{AllByRecursion};
+ghost use Rattle.engine.specs.Naming.{HasCounted};
 
+use crate::naming::Naming;
 use crate::parts::Parts;
-use commit_journal::Journal;
 use disk_model::Disk;
-use engine_law::laws::{crashes_leave_prefixes, openings_begin};
-use hive_flush::HiveFile;
+use engine_law::laws::{crashes_leave_prefixes, openings_begin, receipts_are_durable};
 use machine::{Event, Reply};
+use recovery::{Found, Opened};
 use refusals::Refusal;
-use reg_tree::{Element, Trees};
+use reg_tree::Trees;
 use std::alloc::{AllocError, Global};
 use std::marker::Model;
 use transactions::Store;
@@ -37,9 +37,10 @@ pub struct Engine<D: Disk> {
 }
 
 impl<D: Disk> Model for Engine<D> {
-    ghost use Rattle.commit_journal.specs.Journals.{store_of};
-    ghost use Rattle.engine_law.specs.Prefixes.{AreOnDisk};
-    ghost use Rattle.engine.specs.Parts.{AreSound};
+    ghost use Rattle.std.specs.Prelude.{map};
+    ghost use Rattle.commit_journal.specs.Journals.{choice_of, store_of};
+    ghost use Rattle.engine_law.specs.Prefixes.{AnyFile, AreOnDisk, view_of};
+    ghost use Rattle.engine.specs.Parts.{IsSound};
     ghost use Rattle.engine.specs.Shown.{Shown, shown_code};
 
     ghost Value = { Shown D };
@@ -50,77 +51,48 @@ impl<D: Disk> Model for Engine<D> {
       machine = inside.parts.store.machine;
       disk = inside.parts.disk;
       store = store_of inside.parts.journal;
+      base = inside.parts.base;
+      opened = inside.parts.opened.items;
+      journal = choice_of inside.parts.journal;
+      hives = map view_of inside.parts.hives.items;
     } };
 
     ghost invariant = { λ inside. record {
-      sound : AreSound inside.parts.store inside.parts.base inside.parts.opened.items
-          inside.parts.journal inside.parts.hives.items;
+      sound : IsSound inside.parts;
       on_disk : D.faithful inside.parts.disk → AreOnDisk inside.parts.journal
           inside.parts.hives.items
           (D.state_at inside.parts.disk (D.clock inside.parts.disk));
     } };
 }
 
-/// What an opening found of a store: its journal and hives, and what they recover together.
-#[derive(Drop)]
-pub struct Found {
-    /// The journal, with nothing on its way.
-    pub journal: Journal,
-    /// The hives in their order, each whole and with nothing on its way.
-    pub hives: Vec<HiveFile>,
-    /// The trees that are recovered.
-    pub trees: Trees,
-    /// The number that is recovered.
-    pub number: u64,
-    /// The changes that the journal spells.
-    pub opened: Vec<Element>,
-    /// The number below the first of them, or the recovered number where there is none.
-    pub base: u64,
-}
-
 impl<D: Disk> Engine<D> {
-    /// An engine that goes on from what an opening found on a disk.
+    /// An engine that goes on from an opened store, of which no repair is left.
     ///
-    /// Refused for want of memory alone; the disk is handed back then.
-    pub fn new(alloc: Global, disk: D, found: Found) -> Result<Engine<D>, (Refusal, D)>
-        requires found { IsFound found.trees found.number found.base found.opened.items
-            (choice_of found.journal) (map view_of found.hives.items) }
-        requires placed { ArePlaced (store_of found.journal) found.hives.items }
-        requires many { length found.hives.items ≡ (store_of found.journal).hives }
-        requires whole { (i : ℕ) (hive : HiveFile) →
-            slice_get found.hives.items i ≡ Some hive → IsWhole hive × ¬ (states.IsBroken hive) }
-        requires works { ¬ (IsBroken found.journal) }
-        requires on_disk { D.faithful disk → AreOnDisk found.journal found.hives.items
-            (D.state_at disk (D.clock disk)) }
+    /// Refused for want of memory alone; the opened store is handed back then.
+    pub fn new(alloc: Global, opened: Opened<D>) -> Result<Engine<D>, (Refusal, Opened<D>)>
+        requires whole { IsWhole opened }
         ensures machine { IfOk result (λ engine. engine.machine
-            ≡ record (opened_machine found.trees found.number [] 0)
-            { room = 65 + room_of (choice_of found.journal).now.elements }) }
-        ensures disk { IfOk result (λ engine. engine.disk ≡ disk) }
-        ensures store { IfOk result (λ engine. engine.store ≡ store_of found.journal) }
-        ensures refused { IfErr result (λ back. (back.0 ≡ NoMemory) × (back.1 ≡ disk)) }
+            ≡ record (opened_machine opened.found.trees opened.found.number [] 0)
+            { room = 65 + room_of (choice_of opened.found.journal).now.elements }) }
+        ensures disk { IfOk result (λ engine. engine.disk ≡ opened.disk) }
+        ensures store { IfOk result (λ engine. engine.store ≡ store_of opened) }
+        ensures refused { IfErr result (λ back. (back.0 ≡ NoMemory) × (back.1 ≡ opened)) }
     {
         openings_begin();
-        let room = found.journal.used();
-        let Found {
-            journal,
-            hives,
-            trees,
-            number,
-            opened,
-            base,
-        } = found;
-        let Ok(store) = Store::new(alloc, trees, number, room) else {
-            return Err((Refusal::NoMemory, disk));
+        let (disk, found) = opened.into_parts();
+        let Ok((store, naming)) = begun(alloc, &found) else {
+            return Err((Refusal::NoMemory, Opened::from_parts(disk, found)));
         };
         Ok(Engine {
             parts: Parts {
                 alloc,
                 disk,
-                journal,
-                hives,
+                journal: found.journal,
+                hives: found.hives,
                 store,
-                opened,
-                base,
+                opened: found.opened,
+                base: found.base,
+                naming,
             },
         })
     }
@@ -128,7 +100,7 @@ impl<D: Disk> Engine<D> {
     /// One event: a step of the machine, with at most one call of the device.
     ///
     /// A crash before, within or after it leaves a prefix of the changes accepted before the event at the moment at which it
-    /// began, and of those accepted then at the moment at which it ended.
+    /// began, and of those accepted then at the moment at which it ended. A step is idle exactly where there is nothing to do.
     pub fn event(&mut self, event: Event) -> Reply
         ensures step { Step self.old.machine event result self.new.machine }
         ensures before { D.faithful self.new.disk → IsSafeAt self.old.store
@@ -139,6 +111,8 @@ impl<D: Disk> Engine<D> {
             (D.clock self.old.disk) (D.clock self.new.disk) }
         ensures failed { result ≡ reply.Refused DiskFault →
             D.failures self.old.disk < D.failures self.new.disk }
+        ensures idle { self.old.machine.faulted ≡ false → IdlesExactly event result self.old.machine
+            self.old.base self.old.opened self.old.journal self.old.hives }
         ensures store { self.new.store ≡ self.old.store }
         ensures faithful { D.faithful self.new.disk → D.faithful self.old.disk }
     {
@@ -148,7 +122,7 @@ impl<D: Disk> Engine<D> {
 
     /// A whole run. The replies are those of a run of the machine. Each event makes at most one call of the device, so each moment
     /// of the run is that of some boundary between two events; and at each boundary, at its own moment, whatever a crash leaves
-    /// is a prefix of the changes accepted up to there.
+    /// is a prefix of the changes accepted up to there. Each receipt is of a number that is durable at the end.
     ///
     /// Refused, before any event, for want of memory alone.
     pub fn run(&mut self, alloc: Global, events: Vec<Event>) -> Result<Vec<Reply>, AllocError>
@@ -157,10 +131,13 @@ impl<D: Disk> Engine<D> {
         ensures crashes { IfOk result (λ replies. D.faithful self.new.disk →
             RunsSafely (IsSafeAt self.old.store (D.state_at self.new.disk)) (D.clock self.old.disk)
             self.old.machine events.items replies.items (D.clock self.new.disk) self.new.machine) }
+        ensures receipts { IfOk result (λ replies.
+            AllByRecursion (IsHeld self.new.machine.durable) replies.items) }
         ensures err { OnErr result (self.new ≡ self.old) }
         ensures store { self.new.store ≡ self.old.store }
         ensures faithful { D.faithful self.new.disk → D.faithful self.old.disk }
     {
+        receipts_are_durable();
         self.parts.run(alloc, events)
     }
 
@@ -184,4 +161,22 @@ impl<D: Disk> Engine<D> {
     {
         self.parts.into_disk()
     }
+}
+
+// the store in memory of what was found, and of each hive the last change that names it
+fn begun(alloc: Global, found: &Found) -> Result<(Store, Naming), AllocError>
+    requires numbers { found.now.base + length found.now.opened.items < 2 ^ 64 }
+    ensures machine { IfOk result (λ it. it.0.machine
+        ≡ record (opened_machine found.now.trees found.now.number [] 0)
+        { room = 65 + room_of (choice_of found.now.journal).now.elements }) }
+    ensures at_hand { IfOk result (λ it. it.0.at_hand ≡ found.now.number) }
+    ensures counted { IfOk result (λ it. HasCounted
+        (replicate (journals.store_of found.now.journal).hives 0) found.now.base found.now.opened.items
+        it.1.last.items) }
+{
+    let trees = found.trees.try_clone(alloc)?;
+    let store = Store::new(alloc, trees, found.number, found.journal.used())?;
+    let mut naming = Naming::new(alloc, usize::from(found.journal.hives()))?;
+    naming.count_in(found.base, &found.opened);
+    Ok((store, naming))
 }

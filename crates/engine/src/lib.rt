@@ -7,8 +7,9 @@
 
 mod engine;
 mod flushes;
+mod naming;
 mod parts;
 mod running;
 mod steps;
 
-pub use engine::{Engine, Found};
+pub use engine::Engine;

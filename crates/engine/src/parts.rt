@@ -1,6 +1,7 @@
 //! The parts of an engine.
 ghost use Rattle.std.specs.Prelude.{◌≡◌};
 
+use crate::naming::Naming;
 use commit_journal::Journal;
 use hive_flush::HiveFile;
 use reg_tree::Element;
@@ -24,6 +25,8 @@ pub(crate) struct Parts<D> {
     pub opened: Vec<Element>,
     /// The number below the first of them.
     pub base: u64,
+    /// Of each hive the last durable change that names it.
+    pub naming: Naming,
 }
 
 impl<D> Parts<D> {

@@ -4,7 +4,7 @@ ghost use Rattle.machine.specs.Steps.{Run};
 ghost use Rattle.commit_journal.specs.Journals.{store_of};
 ghost use Rattle.engine_law.specs.Prefixes.{AreOnDisk, IsSafeAt};
 ghost use Rattle.engine_law.specs.Runs.{RunsSafely};
-ghost use Rattle.engine.specs.Parts.{AreSound};
+ghost use Rattle.engine.specs.Parts.{IsSound};
 
 use crate::parts::Parts;
 use disk_model::Disk;
@@ -15,8 +15,7 @@ use std::alloc::{AllocError, Global};
 impl<D: Disk> Parts<D> {
     /// Events, one after another, with their replies.
     pub fn run(&mut self, alloc: Global, events: Vec<Event>) -> Result<Vec<Reply>, AllocError>
-        requires sound { AreSound self.old.store self.old.base self.old.opened.items self.old.journal
-            self.old.hives.items }
+        requires sound { IsSound self.old }
         requires on_disk { D.faithful self.old.disk → AreOnDisk self.old.journal self.old.hives.items
             (D.state_at self.old.disk (D.clock self.old.disk)) }
         ensures crashes { IfOk result (λ replies. D.faithful self.new.disk →
@@ -26,8 +25,7 @@ impl<D: Disk> Parts<D> {
         ensures run { IfOk result (λ replies.
             Run self.old.store.machine events.items replies.items self.new.store.machine) }
         ensures err { OnErr result (self.new ≡ self.old) }
-        ensures sound { AreSound self.new.store self.new.base self.new.opened.items self.new.journal
-            self.new.hives.items }
+        ensures sound { IsSound self.new }
         ensures on_disk { D.faithful self.new.disk → AreOnDisk self.new.journal self.new.hives.items
             (D.state_at self.new.disk (D.clock self.new.disk)) }
         ensures store { store_of self.new.journal ≡ store_of self.old.journal }

@@ -1,24 +1,25 @@
 //! The steps of an engine: a batch of the journal, a trim, a flush of a hive.
-ghost use Rattle.std.specs.Prelude.{◌≡◌, ◌⊎◌, ◌+◌, ◌<◌, ◌≤◌, ℕ, false, true, length, map, slice_get, slice_set, None, Some, Ok, Err, IfErr, OnErr, OnOk, Result};
-ghost use Rattle.refusals.specs.declared.refusal.Refusal.TheVariants.{DiskFault, NoMemory};
+ghost use Rattle.std.specs.Prelude.{◌≡◌, ◌↔◌, ◌-◌, ◌<◌, ◌≤◌, ℕ, false, true, length, map, slice_get, take, IfErr, Ok, OnOk, Some};
+ghost use Rattle.refusals.specs.declared.refusal.Refusal.TheVariants.{Faulted};
 ghost use Rattle.prefix_law.specs.Promises.{top};
-ghost use Rattle.disk_model.specs.Call.{OneCall};
-ghost use Rattle.machine.specs.Machine.{last_number};
-ghost use Rattle.machine.specs.Steps.{Step, is_step};
-ghost use Rattle.machine.specs.declared.event.Progress.TheVariants as progress;
-ghost use Rattle.machine.specs.declared.event.Reply.TheVariants as reply;
-ghost use Rattle.commit_journal.specs.Store.{room_of};
-ghost use Rattle.commit_journal.specs.Journals.{choice_of, store_of};
-ghost use Rattle.hive_flush.specs.HiveStates.{files_of, memory_of};
+ghost use Rattle.machine.specs.Machine.{last_number, pending};
+ghost use Rattle.machine.specs.Steps.{is_step};
+ghost use Rattle.commit_journal.specs.Journals.{choice_of};
+ghost use Rattle.hive_flush.specs.HiveStates.{files_of};
 ghost use Rattle.engine_words.specs.declared.Progress.TheVariants as Progress;
 ghost use Rattle.hive_flush.specs.declared.hive.HiveFile.{HiveFile};
-ghost use Rattle.engine_law.specs.Answers.{reply_to, refused_by, MayTrim};
-ghost use Rattle.engine_law.specs.Prefixes.{AreOnDisk, view_of};
-ghost use Rattle.engine.specs.Parts.{AreSound, AnyFile, settled_by};
+ghost use Rattle.engine_law.specs.Answers.{MayTrim, after_flush, reply_to};
+ghost use Rattle.engine_law.specs.Idle.{IdlesExactly, IsSettled, IsTrimmed};
+ghost use Rattle.engine_law.specs.Prefixes.{view_of};
+ghost use Rattle.engine.specs.Events.{GoesOn};
+ghost use Rattle.engine.specs.Naming.{HasCounted};
+ghost use Rattle.engine.specs.Parts.{IsSound, settled_by};
 
 use crate::parts::Parts;
 use disk_model::Disk;
-use engine_law::laws::{events_keep, journal_steps_keep, pending_may_be_handed};
+use engine_law::laws::{
+    events_keep, journal_steps_keep, pending_may_be_handed, receipts_are_durable,
+};
 use engine_words::Progress;
 use hive_flush::HiveFile;
 use machine::laws::{steps_alone_fail, steps_alone_settle};
@@ -28,26 +29,17 @@ use refusals::Refusal;
 impl<D: Disk> Parts<D> {
     /// Any event: a step of the machine, with at most one call of the device.
     pub fn event(&mut self, event: Event) -> Reply
-        requires sound { AreSound self.old.store self.old.base self.old.opened.items self.old.journal
-            self.old.hives.items }
-        ensures step { Step self.old.store.machine event result self.new.store.machine }
-        ensures sound { AreSound self.new.store self.new.base self.new.opened.items self.new.journal
-            self.new.hives.items }
-        ensures on_disk { D.faithful self.new.disk → AreOnDisk self.old.journal self.old.hives.items
-            (D.state_at self.old.disk (D.clock self.old.disk)) →
-            AreOnDisk self.new.journal self.new.hives.items
-            (D.state_at self.new.disk (D.clock self.new.disk)) }
-        ensures store { store_of self.new.journal ≡ store_of self.old.journal }
-        ensures call { OneCall AnyFile (D.state_at self.old.disk) (D.state_at self.new.disk)
-            (D.clock self.old.disk) (D.clock self.new.disk) }
-        ensures failed { result ≡ reply.Refused DiskFault →
-            D.failures self.old.disk < D.failures self.new.disk }
-        ensures faithful { D.faithful self.new.disk → D.faithful self.old.disk }
+        requires sound { IsSound self.old }
+        ensures goes_on { GoesOn D.state_at D.clock D.failures D.faithful
+            event result self.old self.new }
+        ensures idle { self.old.store.machine.faulted ≡ false → IdlesExactly event result
+            self.old.store.machine self.old.base self.old.opened.items
+            (choice_of self.old.journal) (map view_of self.old.hives.items) }
     {
         match event {
-            Event::JournalStep => self.journal_step(),
-            Event::FlusherStep { hive } => self.flusher_step(hive),
-            Event::TrimStep => self.trim_step(),
+            Event::JournalStep => replied(self.journal_step()),
+            Event::FlusherStep { hive } => replied(self.flusher_step(hive)),
+            Event::TrimStep => replied(self.trim_step()),
             calm => self.calm_event(calm),
         }
     }
@@ -55,21 +47,12 @@ impl<D: Disk> Parts<D> {
     // an event that makes no step
     fn calm_event(&mut self, event: Event) -> Reply
         requires calm { is_step event ≡ false }
-        requires sound { AreSound self.old.store self.old.base self.old.opened.items self.old.journal
-            self.old.hives.items }
-        ensures step { Step self.old.store.machine event result self.new.store.machine }
-        ensures sound { AreSound self.new.store self.new.base self.new.opened.items self.new.journal
-            self.new.hives.items }
-        ensures on_disk { D.faithful self.new.disk → AreOnDisk self.old.journal self.old.hives.items
-            (D.state_at self.old.disk (D.clock self.old.disk)) →
-            AreOnDisk self.new.journal self.new.hives.items
-            (D.state_at self.new.disk (D.clock self.new.disk)) }
-        ensures store { store_of self.new.journal ≡ store_of self.old.journal }
-        ensures call { OneCall AnyFile (D.state_at self.old.disk) (D.state_at self.new.disk)
-            (D.clock self.old.disk) (D.clock self.new.disk) }
-        ensures failed { result ≡ reply.Refused DiskFault →
-            D.failures self.old.disk < D.failures self.new.disk }
-        ensures faithful { D.faithful self.new.disk → D.faithful self.old.disk }
+        requires sound { IsSound self.old }
+        ensures goes_on { GoesOn D.state_at D.clock D.failures D.faithful
+            event result self.old self.new }
+        ensures idle { IdlesExactly event result
+            self.old.store.machine self.old.base self.old.opened.items
+            (choice_of self.old.journal) (map view_of self.old.hives.items) }
     {
         events_keep();
         steps_alone_fail();
@@ -77,76 +60,68 @@ impl<D: Disk> Parts<D> {
         self.store.event(event)
     }
 
-    // a step of the journal: the next call of what is on its way, or the first of a batch of what is pending
-    fn journal_step(&mut self) -> Reply
-        requires sound { AreSound self.old.store self.old.base self.old.opened.items self.old.journal
-            self.old.hives.items }
-        ensures step { Step self.old.store.machine Event.JournalStep result self.new.store.machine }
-        ensures idle { result ≡ reply.Stepped progress.Idle →
-            self.new.store.machine.durable ≡ last_number self.new.store.machine }
-        ensures sound { AreSound self.new.store self.new.base self.new.opened.items self.new.journal
-            self.new.hives.items }
-        ensures on_disk { D.faithful self.new.disk → AreOnDisk self.old.journal self.old.hives.items
-            (D.state_at self.old.disk (D.clock self.old.disk)) →
-            AreOnDisk self.new.journal self.new.hives.items
-            (D.state_at self.new.disk (D.clock self.new.disk)) }
-        ensures store { store_of self.new.journal ≡ store_of self.old.journal }
-        ensures call { OneCall AnyFile (D.state_at self.old.disk) (D.state_at self.new.disk)
-            (D.clock self.old.disk) (D.clock self.new.disk) }
-        ensures failed { result ≡ reply.Refused DiskFault →
-            D.failures self.old.disk < D.failures self.new.disk }
-        ensures faithful { D.faithful self.new.disk → D.faithful self.old.disk }
+    /// Refuses each step once the device has failed.
+    pub fn working(&self) -> Result<(), Refusal>
+        ensures works { OnOk result (self.now.store.machine.faulted ≡ false) }
+        ensures faulted { IfErr result (λ why.
+            (self.now.store.machine.faulted ≡ true) × (why ≡ Faulted)) }
     {
         if self.store.is_faulted() {
-            return Reply::Refused {
-                refusal: Refusal::Faulted,
-            };
+            return Err(Refusal::Faulted);
         }
+        Ok(())
+    }
+
+    // a step of the journal: the next call of what is on its way, or the first of a batch of what is pending
+    fn journal_step(&mut self) -> Result<Progress, Refusal>
+        requires sound { IsSound self.old }
+        ensures goes_on { GoesOn D.state_at D.clock D.failures D.faithful
+            Event.JournalStep (reply_to result) self.old self.new }
+        ensures idle { self.old.store.machine.faulted ≡ false →
+            (result ≡ Ok Progress.Idle) ↔ IsSettled self.old.store.machine
+            (choice_of self.old.journal) }
+    {
+        self.working()?;
         pending_may_be_handed();
         journal_steps_keep();
+        receipts_are_durable();
         let durable = self.store.durable();
         let used = self.journal.used();
         let pending = self.store.above(durable);
-        let result = self.journal.step(&mut self.disk, durable + 1, pending);
-        self.settle(result, used)
+        let come = self.journal.step(&mut self.disk, durable + 1, pending);
+        self.settle(come, used);
+        come
     }
 
     // a step of a trim: its second call, or its first where the hives have all that the journal spells
-    fn trim_step(&mut self) -> Reply
-        requires sound { AreSound self.old.store self.old.base self.old.opened.items self.old.journal
-            self.old.hives.items }
-        ensures step { Step self.old.store.machine Event.TrimStep result self.new.store.machine }
-        ensures sound { AreSound self.new.store self.new.base self.new.opened.items self.new.journal
-            self.new.hives.items }
-        ensures on_disk { D.faithful self.new.disk → AreOnDisk self.old.journal self.old.hives.items
-            (D.state_at self.old.disk (D.clock self.old.disk)) →
-            AreOnDisk self.new.journal self.new.hives.items
-            (D.state_at self.new.disk (D.clock self.new.disk)) }
-        ensures store { store_of self.new.journal ≡ store_of self.old.journal }
-        ensures call { OneCall AnyFile (D.state_at self.old.disk) (D.state_at self.new.disk)
-            (D.clock self.old.disk) (D.clock self.new.disk) }
-        ensures failed { result ≡ reply.Refused DiskFault →
-            D.failures self.old.disk < D.failures self.new.disk }
-        ensures faithful { D.faithful self.new.disk → D.faithful self.old.disk }
+    fn trim_step(&mut self) -> Result<Progress, Refusal>
+        requires sound { IsSound self.old }
+        ensures goes_on { GoesOn D.state_at D.clock D.failures D.faithful
+            Event.TrimStep (reply_to result) self.old self.new }
+        ensures idle { self.old.store.machine.faulted ≡ false → (result ≡ Ok Progress.Idle) ↔
+            IsTrimmed self.old.store.machine self.old.base self.old.opened.items
+            (choice_of self.old.journal) (map view_of self.old.hives.items) }
     {
-        if self.store.is_faulted() {
-            return Reply::Refused {
-                refusal: Refusal::Faulted,
-            };
-        }
+        self.working()?;
         journal_steps_keep();
+        receipts_are_durable();
         if !self.may_trim() {
-            return stepped(Progress::Idle);
+            return Ok(Progress::Idle);
         }
         let used = self.journal.used();
-        let result = self.journal.trim_step(&mut self.disk);
-        self.settle(result, used)
+        let come = self.journal.trim_step(&mut self.disk);
+        self.settle(come, used);
+        come
     }
 
     // whether a step of a trim may be made
     fn may_trim(&self) -> bool
-        ensures { result ≡ true → MayTrim self.now.store.machine self.now.base self.now.opened.items
-            (choice_of self.now.journal) (map view_of self.now.hives.items) }
+        requires sound { IsSound self.now }
+        requires works { self.now.store.machine.faulted ≡ false }
+        ensures yes { result ≡ true → MayTrim self.now.store.machine self.now.base
+            self.now.opened.items (choice_of self.now.journal) (map view_of self.now.hives.items) }
+        ensures no { result ≡ false → IsTrimmed self.now.store.machine self.now.base
+            self.now.opened.items (choice_of self.now.journal) (map view_of self.now.hives.items) }
     {
         if self.journal.is_trimming() {
             return true;
@@ -154,67 +129,84 @@ impl<D: Disk> Parts<D> {
         if self.journal.is_halfway() || self.journal.last_number() == 0 {
             return false;
         }
-        all_hold(&self.hives, self.store.durable())
+        all_have(&self.hives, &self.naming.last)
     }
 
     // takes in what a step of the journal or of a trim has come to, before which the journal had used so much room
-    fn settle(&mut self, come: Result<Progress, Refusal>, used: u64) -> Reply
+    fn settle(&mut self, come: Result<Progress, Refusal>, used: u64)
         requires works { self.old.store.machine.faulted ≡ false }
         requires room { used ≤ self.old.store.machine.room }
         requires known { come ≡ Ok Progress.Done →
             top self.old.store.machine.durable (choice_of self.old.journal).now
             ≤ last_number self.old.store.machine }
-        ensures reply { result ≡ reply_to come }
+        requires opened { self.old.store.machine.before ≤ self.old.store.machine.durable }
+        requires at_hand { self.old.store.at_hand ≤ self.old.store.machine.durable }
         ensures machine { self.new.store.machine
             ≡ settled_by self.old.store.machine (choice_of self.old.journal).now used come }
-        ensures rest { self.new ≡ record self.old { store = self.new.store } }
+        ensures rest { self.new ≡ record self.old {
+          store = self.new.store;
+          naming = self.new.naming;
+        } }
         ensures at_hand { self.new.store.at_hand ≡ self.old.store.at_hand }
+        ensures naming { HasCounted self.old.naming.last.items self.old.store.machine.durable
+            (take (self.new.store.machine.durable - self.old.store.machine.durable)
+            (pending self.old.store.machine)) self.new.naming.last.items }
     {
         match come {
             Ok(Progress::Done) => {
                 self.store.free(used.saturating_sub(self.journal.used()));
+                let durable = self.store.durable();
                 let last = self.journal.last_number();
                 if last > 0 {
+                    let count = last.saturating_sub(durable) as usize;
+                    let settled = &self.store.above(durable)[..count];
+                    self.naming.count_in(durable, settled);
                     self.store.settle(last);
                 }
-                stepped(Progress::Done)
             }
-            Ok(come) => stepped(come),
-            Err(why) => self.refuse(why),
+            _ => self.mark(come),
         }
     }
 
-    /// Refuses a step; where the device has failed in it the store is faulted
-    pub fn refuse(&mut self, why: Refusal) -> Reply
+    /// Takes in what a step has come to that settles nothing: where the device has failed in it the store is faulted.
+    pub fn mark(&mut self, come: Result<Progress, Refusal>)
         requires works { self.old.store.machine.faulted ≡ false }
-        ensures reply { result ≡ reply.Refused why }
-        ensures machine { self.new.store.machine ≡ refused_by self.old.store.machine why }
+        ensures machine { self.new.store.machine ≡ after_flush self.old.store.machine come }
         ensures rest { self.new ≡ record self.old { store = self.new.store } }
         ensures at_hand { self.new.store.at_hand ≡ self.old.store.at_hand }
     {
-        if why == Refusal::DiskFault {
+        if let Err(Refusal::DiskFault) = come {
             self.store.fail();
         }
-        Reply::Refused { refusal: why }
     }
 }
 
-// whether each hive's files have all changes up to a number
-fn all_hold(hives: &[HiveFile], number: u64) -> bool
-    ensures { result ≡ true → (i : ℕ) (hive : HiveFile) → slice_get hives.now i ≡ Some hive →
-        number ≤ (files_of hive).now.1 }
+// whether each hive's files have the last change that names it
+fn all_have(hives: &[HiveFile], last: &[u64]) -> bool
+    requires many { length last.now ≡ length hives.now }
+    ensures all { result ≡ true → (i m : ℕ) (hive : HiveFile) → slice_get hives.now i ≡ Some hive →
+        slice_get last.now i ≡ Some m → m ≤ (files_of hive).now.1 }
+    ensures some { result ≡ false → (i : ℕ) × (m : ℕ) × (hive : HiveFile) ×
+        (slice_get hives.now i ≡ Some hive) × (slice_get last.now i ≡ Some m) ×
+        ((files_of hive).now.1 < m) }
 {
-    hives.iter().all(|hive| hive.applied() >= number)
+    for (place, hive) in hives.iter().enumerate() {
+        if hive.applied() < last[place] {
+            return false;
+        }
+    }
+    true
 }
 
-/// How far a step has come.
-pub(crate) fn stepped(come: Progress) -> Reply
-    ensures { result ≡ reply_to (Ok come) }
+// what a step is answered: how far it has come, or why it was refused
+fn replied(come: Result<Progress, Refusal>) -> Reply
+    ensures { result ≡ reply_to come }
 {
     let progress = match come {
-        Progress::Idle => machine::Progress::Idle,
-        Progress::More => machine::Progress::More,
-        Progress::Done => machine::Progress::Done,
+        Ok(Progress::Idle) => machine::Progress::Idle,
+        Ok(Progress::More) => machine::Progress::More,
+        Ok(Progress::Done) => machine::Progress::Done,
+        Err(refusal) => return Reply::Refused { refusal },
     };
     Reply::Stepped { progress }
 }

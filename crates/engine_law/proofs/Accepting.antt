@@ -1,6 +1,6 @@
 -- An event that makes no step keeps what the engine keeps.
-use Rattle.std.proofs.Common.{◌≡◌, ◌⊎◌, inl, inr, ℕ, ◌+◌, ◌-◌, ◌<◌, ◌≤◌, false, List, [], ◌∷◌, ◌++◌, length, map, take, drop, refl, sym, ◌∙◌, ap, subst, arith, Option, Some, slice_get}
-use Rattle.std.proofs.lemmas.List.{map-append, length-append, length-map, drop-append-le}
+use Rattle.std.proofs.Common.{◌≡◌, ◌⊎◌, inl, inr, ℕ, ◌+◌, ◌-◌, ◌<◌, ◌≤◌, false, List, [], ◌∷◌, ◌++◌, length, map, take, drop, refl, sym, ◌∙◌, ap, subst, arith, Some, slice_get}
+use Rattle.std.proofs.lemmas.List.{map-append, length-append, drop-append-le}
 use Rattle.refusals.specs.declared.limits.TheConstants.{GREATEST_NUMBER, MOST_JOURNAL_BYTES}
 use Rattle.reg_tree.specs.Maps.{TreeMap}
 use Rattle.reg_tree.specs.declared.element.Element.{Element}
@@ -19,7 +19,7 @@ use Rattle.machine.specs.declared.event.Reply.{Reply}
 use Rattle.engine_words.specs.Changes.{TimedOp, rules, timed, timed_element, timed_elements}
 use Rattle.commit_journal.specs.Store.{room_of}
 use Rattle.engine_law.specs.States.{HiveView, tree_of, life_of, state_of, IsBatch, IsConsistent}
-use Rattle.engine_law.proofs.Bridge.{all_long, last_is, number_is, tree_is, trees_at_last, run_ops, names, all_allowed}
+use Rattle.engine_law.proofs.Bridge.{all_long, last_is, tree_is, trees_at_last, run_ops, names, all_allowed}
 use Rattle.engine_law.proofs.Room.{one_more_room, first_stay}
 
 -- The machine's laws that are used

@@ -1,7 +1,6 @@
 -- What an opening finds begins a life.
-use Rattle.std.proofs.Common.{◌≡◌, ◌≢◌, ◌⊎◌, inl, inr, ℕ, ◌+◌, ◌-◌, ◌<◌, ◌≤◌, drop, List, [], ◌∷◌, ◌++◌, length, map, get_or, refl, sym, ◌∙◌, ap, subst, arith, Option, Some, None, slice_get}
-use Rattle.std.specs.List.{AllByRecursion}
-use Rattle.std.proofs.lemmas.Option.{none-some, same_Some, slice_get-get_or, slice_get_within}
+use Rattle.std.proofs.Common.{◌≡◌, inl, ℕ, ◌+◌, ◌-◌, ◌<◌, ◌≤◌, drop, List, [], ◌∷◌, length, refl, sym, ◌∙◌, ap, subst, arith, Option, Some, None, slice_get}
+use Rattle.std.proofs.lemmas.Option.{none-some, slice_get-get_or}
 use Rattle.std.proofs.lemmas.List.{length-map}
 use Rattle.refusals.specs.declared.limits.TheConstants.{GREATEST_NUMBER}
 use Rattle.reg_tree.specs.Maps.{TreeMap}
@@ -9,19 +8,19 @@ use Rattle.reg_tree.specs.Fresh.{fresh_tree}
 use Rattle.reg_tree.specs.Sequences.{AreTrees}
 use Rattle.reg_tree.specs.declared.element.Element.{Element}
 use Rattle.prefix_law.specs.Promises.{Choice, Spelled, settled, under_way, floor}
-use Rattle.prefix_law.specs.Recovery.{Recovers, IsLastNumber}
-use Rattle.prefix_law.specs.Life.{Life, NamesHive, opened_life}
+use Rattle.prefix_law.specs.Recovery.{IsLastNumber}
+use Rattle.prefix_law.specs.Life.{Life}
 use Rattle.prefix_law.specs.Kept.{State, opened_state}
 use Rattle.prefix_law.specs.Kept as law
 use Rattle.prefix_law.specs.Memory.{with_memory}
 use Rattle.prefix_law.proofs.Lists.{drop_nil}
 use Rattle.prefix_law.proofs.KeepSteps.{begun}
 use Rattle.prefix_law.proofs.MemoryCounts.{remembered}
-use Rattle.machine.specs.Machine.{Machine, opened_machine, room_with}
+use Rattle.machine.specs.Machine.{opened_machine, room_with}
 use Rattle.machine.specs.Kept.{IsKept}
 use Rattle.engine_words.specs.Changes.{TimedOp, rules, timed_element, timed_elements}
 use Rattle.engine_law.specs.States.{HiveView}
-use Rattle.engine_law.specs.States.{tree_of, counted, files_in, life_of, state_of, IsConsistent}
+use Rattle.engine_law.specs.States.{tree_of, counted, files_in, state_of, IsConsistent}
 use Rattle.commit_journal.specs.Store.{room_of}
 use Rattle.engine_law.proofs.Room.{rooms_are}
 use Rattle.engine_law.specs.Openings.{held_if, held_by, IsFound}

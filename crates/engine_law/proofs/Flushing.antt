@@ -1,8 +1,8 @@
 -- What a hive takes in and what its flush steps say keep what the engine keeps.
-use Rattle.std.proofs.Common.{◌≡◌, ◌≢◌, ◌⊎◌, inl, inr, ℕ, zero, suc, ◌+◌, ◌-◌, ◌<◌, ◌≤◌, false, cond, Result, Ok, Err, List, [], ◌∷◌, ◌++◌, length, get_or, map, take, drop, refl, sym, ◌∙◌, ap, subst, arith, Option, Some, None, slice_get}
+use Rattle.std.proofs.Common.{◌≡◌, ◌⊎◌, inl, inr, ℕ, zero, suc, ◌+◌, ◌-◌, ◌<◌, ◌≤◌, false, cond, Result, Ok, Err, List, [], ◌∷◌, ◌++◌, length, get_or, take, drop, refl, sym, ◌∙◌, ap, subst, arith, Option, Some, None, slice_get}
 use Rattle.std.specs.Prelude.{slice_set, is_some}
-use Rattle.std.proofs.lemmas.Option.{none-some, same_Some, slice_get_within, slice_get-get_or}
-use Rattle.std.proofs.lemmas.List.{length-map, drop-map, take-map, map-append, length-set, append_assoc}
+use Rattle.std.proofs.lemmas.Option.{same_Some, slice_get_within, slice_get-get_or}
+use Rattle.std.proofs.lemmas.List.{length-map, drop-map, take-map, map-append, length-set}
 use Rattle.std.proofs.lemmas.Bool.{cases_eq}
 use Rattle.refusals.specs.declared.limits.TheConstants.{GREATEST_NUMBER}
 use Rattle.refusals.specs.declared.refusal.Refusal.{Refusal}
@@ -21,7 +21,7 @@ use Rattle.prefix_law.specs.Memory.{with_memory, IsOfMemory}
 use Rattle.prefix_law.proofs.Lists.{drop_nil}
 use Rattle.prefix_law.proofs.ClausesSuffice.{may_absorb}
 use Rattle.prefix_law.proofs.MemoryCounts.{memory_absorbs, memory_flushes}
-use Rattle.machine.specs.Machine.{Machine, last_number, fault, first_of, refused_if}
+use Rattle.machine.specs.Machine.{Machine, fault, first_of, refused_if}
 use Rattle.machine.specs.Steps.{Step, no_hive}
 use Rattle.machine.specs.declared.event.Event.TheVariants as event
 use Rattle.machine.specs.declared.event.Reply.TheVariants as reply
@@ -30,23 +30,12 @@ use Rattle.engine_words.specs.Steps.{Says}
 use Rattle.engine_words.specs.declared.Progress.{Progress}
 use Rattle.engine_words.specs.declared.Progress.TheVariants as progress
 use Rattle.engine_law.specs.States.{HiveView, counted, files_in, life_of, state_of, IsConsistent}
-use Rattle.engine_law.specs.Answers.{stepped_to, reply_to, failed, after_flush, opened_above, accepted_above, absorbed}
+use Rattle.engine_law.specs.Answers.{reply_to, failed, after_flush, opened_above, accepted_above, absorbed}
+use Rattle.engine_law.proofs.HiveLists.{get_same, get_other}
 use Rattle.engine_law.proofs.Bridge.{number_is, last_is}
 use Rattle.engine_law.proofs.Accepting.{Keeps}
 
 -- One hive of a list with another view
-
-pub get_same : {A : Type 0} (hs : List A) (i : ℕ) (v : A) → i < length hs → slice_get (slice_set hs i v) i ≡ Some v
-get_same [] i v lt = absurd (omega (arith, lt))
-get_same (h ∷ hs) zero v lt = refl
-get_same (h ∷ hs) (suc i) v lt = get_same hs i v (omega (arith, lt))
-
-pub get_other : {A : Type 0} (hs : List A) (i j : ℕ) (v : A) → j ≢ i → slice_get (slice_set hs i v) j ≡ slice_get hs j
-get_other [] i j v ne = refl
-get_other (h ∷ hs) zero zero v ne = absurd (ne refl)
-get_other (h ∷ hs) zero (suc j) v ne = refl
-get_other (h ∷ hs) (suc i) zero v ne = refl
-get_other (h ∷ hs) (suc i) (suc j) v ne = get_other hs i j v (λ e. ne (ap suc e))
 
 others_stay : (most : ℕ) (hs : List HiveView) (i : ℕ) (v : HiveView) → OthersStay most i (files_in hs) (files_in (slice_set hs i v))
 others_stay most hs i v = λ j lt. elim (cases_eq j i) as (λ z. (j ≡ i) ⊎ (files_in (slice_set hs i v) j ≡ files_in hs j)) [ inl e ↦ inl e | inr ne ↦ inr (ap counted (get_other hs i j v ne)) ]

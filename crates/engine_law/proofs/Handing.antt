@@ -1,14 +1,10 @@
 -- What is pending may be handed to the journal.
-use Rattle.std.proofs.Common.{◌≡◌, ℕ, zero, suc, ◌+◌, ◌-◌, ◌<◌, ◌≤◌, List, [], ◌∷◌, ◌++◌, length, drop, refl, sym, ◌∙◌, ap, subst, arith, Option, Some, None, Ok, slice_get}
+use Rattle.std.proofs.Common.{◌≡◌, ℕ, zero, suc, ◌+◌, ◌-◌, List, [], ◌∷◌, length, drop, sym, ◌∙◌, ap, subst, arith}
 use Rattle.std.specs.List.{AllByRecursion}
-use Rattle.std.proofs.lemmas.Option.{slice_get_within}
 use Rattle.std.proofs.lemmas.List.{drop-map}
-use Rattle.refusals.specs.declared.limits.TheConstants.{GREATEST_NUMBER, MOST_JOURNAL_BYTES}
+use Rattle.refusals.specs.declared.limits.TheConstants.{GREATEST_NUMBER}
 use Rattle.reg_tree.specs.Maps.{TreeMap}
-use Rattle.reg_tree.specs.Operations.{hive_of}
 use Rattle.reg_tree.specs.Judgement.{applied}
-use Rattle.reg_tree.specs.declared.op.Op.{Op}
-use Rattle.reg_tree.specs.declared.op.Legality.TheVariants.{Legal}
 use Rattle.reg_tree.specs.declared.element.Element.{Element}
 use Rattle.prefix_law.specs.Changes as law
 use Rattle.prefix_law.specs.Promises.{Choice, Spelled, MayFollow}
@@ -16,7 +12,7 @@ use Rattle.prefix_law.specs.Kept.{State}
 use Rattle.prefix_law.specs.Kept as kept
 use Rattle.prefix_law.specs.Steps.{pending_elements}
 use Rattle.machine.specs.Machine.{Machine, pending}
-use Rattle.machine.specs.Kept.{AreLegalChanges, AreLegalHistory}
+use Rattle.machine.specs.Kept.{AreLegalHistory}
 use Rattle.engine_words.specs.Changes.{TimedOp, rules, timed_element, timed_elements}
 use Rattle.commit_journal.specs.Handed.{IsHanded, OnHives, IsShort}
 use Rattle.commit_journal.specs.Store.{room_of}

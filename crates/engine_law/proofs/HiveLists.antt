@@ -1,5 +1,5 @@
 -- Hives of a list, and what the law sees of them.
-use Rattle.std.proofs.Common.{◌≡◌, ◌≢◌, ◌⊎◌, inl, inr, ℕ, zero, suc, ◌+◌, ◌<◌, ◌≤◌, List, [], ◌∷◌, ◌++◌, length, map, refl, sym, ◌∙◌, ap, subst, arith, Option, Some, None, slice_get, option_map}
+use Rattle.std.proofs.Common.{◌≡◌, ◌≢◌, inl, inr, ℕ, zero, suc, ◌<◌, List, [], ◌∷◌, ◌++◌, length, map, refl, sym, ◌∙◌, ap, subst, arith, Option, Some, None, slice_get, option_map}
 use Rattle.std.specs.Prelude.{slice_set}
 use Rattle.std.proofs.lemmas.Bool.{cases_eq}
 use Rattle.std.proofs.lemmas.Option.{none-some, same_Some, slice_get_cases, slice_get_within, slice_get-map}
@@ -28,12 +28,13 @@ viewed hives i view e = of_slot (slice_get hives i) (sym (slice_get-map view_of 
     of_slot None e = absurd (none-some view e)
     of_slot (Some hive) e = (hive, refl, same_Some (view_of hive) view e)
 
-get_same : {A : Type 0} (hs : List A) (i : ℕ) (v : A) → i < length hs → slice_get (slice_set hs i v) i ≡ Some v
+-- an entry that was set, and the others
+pub get_same : {A : Type 0} (hs : List A) (i : ℕ) (v : A) → i < length hs → slice_get (slice_set hs i v) i ≡ Some v
 get_same [] i v lt = absurd (omega (arith, lt))
 get_same (h ∷ hs) zero v lt = refl
 get_same (h ∷ hs) (suc i) v lt = get_same hs i v (omega (arith, lt))
 
-get_other : {A : Type 0} (hs : List A) (i j : ℕ) (v : A) → j ≢ i → slice_get (slice_set hs i v) j ≡ slice_get hs j
+pub get_other : {A : Type 0} (hs : List A) (i j : ℕ) (v : A) → j ≢ i → slice_get (slice_set hs i v) j ≡ slice_get hs j
 get_other [] i j v ne = refl
 get_other (h ∷ hs) zero zero v ne = absurd (ne refl)
 get_other (h ∷ hs) zero (suc j) v ne = refl
@@ -49,13 +50,13 @@ each_hive hives k old new is P own others j h at = elim (cases_eq j k) as (λ z.
   | inr ne ↦ others j h ne (sym (get_other hives k j new ne) ∙ at)
 ]
 
--- what holds of each hive and of one behind them
-pub each_pushed : (hives : List HiveFile) (hive : HiveFile) (P : ℕ → HiveFile → Type 0) → ((i : ℕ) (h : HiveFile) → slice_get hives i ≡ Some h → P i h) → P (length hives) hive
-    → (i : ℕ) (h : HiveFile) → slice_get (hives ++ hive ∷ []) i ≡ Some h → P i h
-each_pushed [] hive P each last zero h is = subst (P 0) (same_Some hive h is) last
-each_pushed [] hive P each last (suc i) h is = absurd cc
-each_pushed (x ∷ xs) hive P each last zero h is = each 0 h is
-each_pushed (x ∷ xs) hive P each last (suc i) h is = each_pushed xs hive (λ j g. P (suc j) g) (λ j g at. each (suc j) g at) last i h is
+-- what holds of each entry and of one behind them
+pub each_pushed : {X : Type 0} (xs : List X) (last : X) (P : ℕ → X → Type 0) → ((i : ℕ) (x : X) → slice_get xs i ≡ Some x → P i x) → P (length xs) last
+    → (i : ℕ) (x : X) → slice_get (xs ++ last ∷ []) i ≡ Some x → P i x
+each_pushed [] last P each its zero x is = subst (P 0) (same_Some last x is) its
+each_pushed [] last P each its (suc i) x is = absurd cc
+each_pushed (y ∷ ys) last P each its zero x is = each 0 x is
+each_pushed (y ∷ ys) last P each its (suc i) x is = each_pushed ys last (λ j z. P (suc j) z) (λ j z at. each (suc j) z at) its i x is
 
 -- a call on a hive's files leaves all others on the disk
 pub hive_writes : (journal : Journal) (hives : List HiveFile) (k : ℕ) (old new : HiveFile) (a b : ℕ → FileState) → slice_get hives k ≡ Some old → AreOnDisk journal hives a → ((f : ℕ) → ¬ (IsOfHive k f) → b f ≡ a f)

@@ -1,6 +1,6 @@
 pub mod HiveLists
 pub mod Bridge
-pub mod Room
+mod Room
 mod Accepting
 mod Beginning
 mod Handing
@@ -8,3 +8,4 @@ mod Stepping
 mod Flushing
 mod Standing
 mod Running
+mod Receipts

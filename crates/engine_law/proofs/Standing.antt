@@ -1,5 +1,5 @@
 -- What a crash leaves stands for a prefix, at each moment of an event.
-use Rattle.std.proofs.Common.{◌≡◌, ◌≢◌, ◌⊎◌, inl, inr, ℕ, ◌+◌, ◌*◌, ◌<◌, ◌≤◌, List, [], ◌∷◌, ◌++◌, length, map, refl, sym, ◌∙◌, ap, subst, arith, Option, Some, None, slice_get, option_map}
+use Rattle.std.proofs.Common.{◌≡◌, ℕ, ◌+◌, ◌*◌, ◌<◌, ◌≤◌, List, length, map, refl, sym, ◌∙◌, subst, arith, Option, Some, None, slice_get}
 use Rattle.std.proofs.lemmas.Option.{none-some, slice_get-get_or}
 use Rattle.refusals.specs.declared.limits.TheConstants.{GREATEST_NUMBER}
 use Rattle.reg_tree.specs.Maps.{TreeMap}
@@ -12,7 +12,6 @@ use Rattle.prefix_law.proofs.MemoryCounts.{left_with_memory}
 use Rattle.disk_model.specs.FileState.{FileState}
 use Rattle.disk_model.specs.FileState as file
 use Rattle.disk_model.specs.Sector.{IsHonest}
-use Rattle.disk_model.specs.Call.{OneCall}
 use Rattle.disk_model.specs.Crash.{LeavesHonest}
 use Rattle.disk_model.specs.StoreFiles.{IsPrimary, primary_file, log_file, journal_file}
 use Rattle.commit_journal.specs.OnDisk.{is_on}
@@ -27,10 +26,10 @@ use Rattle.hive_flush.specs.HiveStates.{IsOn}
 use Rattle.hive_flush.specs.HiveStates as states
 use Rattle.hive_flush.specs.Standing.{HoldsUnder}
 use Rattle.hive_flush.specs.declared.hive.HiveFile.{HiveFile}
-use Rattle.machine.specs.Machine.{Machine, last_number}
+use Rattle.machine.specs.Machine.{Machine}
 use Rattle.engine_words.specs.Changes.{TimedOp, rules}
-use Rattle.engine_law.specs.States.{HiveView, tree_of, counted, files_in, life_of, state_of, IsConsistent}
-use Rattle.engine_law.specs.Prefixes.{Spells, Holds, view_of, trees_after, IsPrefix, IsSafeAt, AreOnDisk, ArePlaced}
+use Rattle.engine_law.specs.States.{HiveView, counted, state_of, IsConsistent}
+use Rattle.engine_law.specs.Prefixes.{Spells, Holds, view_of, IsPrefix, IsSafeAt, AreOnDisk, ArePlaced}
 use Rattle.engine_law.proofs.HiveLists.{viewed}
 use Rattle.engine_law.proofs.Bridge.{last_is, tree_of_is}
 

@@ -1,28 +1,23 @@
 -- Steps of the journal, of a trim and of a flush keep what the engine keeps, and are steps of the machine.
-use Rattle.std.proofs.Common.{◌≡◌, ◌≢◌, ◌⊎◌, inl, inr, ℕ, zero, suc, ◌+◌, ◌-◌, ◌<◌, ◌≤◌, Bool, true, false, cond, Result, Ok, Err, List, [], ◌∷◌, ◌++◌, length, get_or, map, take, drop, refl, sym, ◌∙◌, ap, subst, arith, Option, Some, None, slice_get}
-use Rattle.std.specs.Prelude.{slice_set, is_some}
-use Rattle.std.proofs.lemmas.Option.{none-some, same_Some, slice_get_within, slice_get-get_or}
-use Rattle.std.proofs.lemmas.List.{length-map, length-drop, length-take, drop-map, drop-take, take-map, take_all, map-append, length-set, length-append, take-append-drop}
-use Rattle.std.proofs.lemmas.Bool.{cases_eq}
+use Rattle.std.proofs.Common.{◌≡◌, ◌⊎◌, inl, inr, ℕ, zero, suc, ◌+◌, ◌-◌, ◌<◌, ◌≤◌, false, Result, Ok, Err, List, [], ◌∷◌, ◌++◌, length, take, drop, refl, sym, ◌∙◌, ap, subst, arith, Option, Some, None, slice_get}
+use Rattle.std.proofs.lemmas.Option.{none-some, same_Some, slice_get-get_or}
+use Rattle.std.proofs.lemmas.List.{length-map, length-drop, length-take, drop-map, length-append, take-append-drop}
 use Rattle.refusals.specs.declared.limits.TheConstants.{GREATEST_NUMBER, MOST_JOURNAL_BYTES}
 use Rattle.refusals.specs.declared.refusal.Refusal.{Refusal}
 use Rattle.refusals.specs.declared.refusal.Refusal.TheVariants as refusal
-use Rattle.reg_tree.specs.Maps.{TreeMap}
 use Rattle.reg_tree.specs.Fresh.{fresh_tree}
 use Rattle.reg_tree.specs.declared.element.Element.{Element}
 use Rattle.prefix_law.specs.Changes as law
 use Rattle.prefix_law.specs.Changes.{AreLegal, ops_on, replay, applied}
-use Rattle.prefix_law.specs.Promises.{Choice, Spelled, nothing, settled, under_way, floor, floor_of, top, Ends, MayFollow, BeginsBatch, Answer, Answer.Idle, Answer.More, Answer.Done, Answer.NoMemory, Answer.DiskFault, JournalSays, TrimSays, HiveSays}
-use Rattle.prefix_law.specs.Life.{Life, known_elements, ops_in}
+use Rattle.prefix_law.specs.Promises.{Choice, Spelled, nothing, settled, under_way, floor, floor_of, top, Ends, BeginsBatch, Answer, Answer.Idle, Answer.More, Answer.Done, Answer.NoMemory, Answer.DiskFault, JournalSays, TrimSays}
+use Rattle.prefix_law.specs.Life.{ops_in}
 use Rattle.prefix_law.specs.Kept as law_kept
-use Rattle.prefix_law.specs.Steps.{pending_elements, OthersStay, MayTrim}
-use Rattle.prefix_law.specs.Calls.{MemoryFits, durable_after}
-use Rattle.prefix_law.specs.Memory.{with_memory, IsOfMemory}
+use Rattle.prefix_law.specs.Steps.{pending_elements, MayTrim}
+use Rattle.prefix_law.specs.Calls.{durable_after}
 use Rattle.prefix_law.proofs.Lists.{drop_nil}
-use Rattle.prefix_law.proofs.ClausesSuffice.{journal_step, trim_step, trim_test, may_absorb}
-use Rattle.prefix_law.proofs.MemoryCounts.{memory_absorbs, memory_flushes}
-use Rattle.machine.specs.Machine.{Machine, last_number, fault, first_of, refused_if, pending, room_with}
-use Rattle.machine.specs.Steps.{Step, Journals, Trims, Flushes, KeepsRoom, no_hive}
+use Rattle.prefix_law.proofs.ClausesSuffice.{journal_step, trim_step, trim_test}
+use Rattle.machine.specs.Machine.{Machine, fault, refused_if, pending}
+use Rattle.machine.specs.Steps.{Step, StepFails, KeepsRoom}
 use Rattle.machine.specs.declared.event.Event.{Event}
 use Rattle.machine.specs.declared.event.Event.TheVariants as event
 use Rattle.machine.specs.declared.event.Progress.TheVariants as stepped
@@ -33,7 +28,7 @@ use Rattle.engine_words.specs.Steps.{Says}
 use Rattle.engine_words.specs.declared.Progress.{Progress}
 use Rattle.engine_words.specs.declared.Progress.TheVariants as progress
 use Rattle.commit_journal.specs.Store.{room_of}
-use Rattle.engine_law.specs.States.{HiveView, counted, files_in, life_of, state_of, IsBatch, IsConsistent}
+use Rattle.engine_law.specs.States.{HiveView, counted, life_of, state_of, IsBatch, IsConsistent}
 use Rattle.engine_law.specs.Answers.{stepped_to, reply_to, failed, freed, after_step, after_flush, HaveAll}
 use Rattle.engine_law.specs.Answers as answers
 use Rattle.engine_law.proofs.Bridge.{number_is, last_is}
@@ -198,24 +193,31 @@ module _ (keeps : Keeps) (m : Machine) (base : ℕ) (opened : List Element) (old
   ended : Ends old new → Ended (top m.durable new.now) (m.room - freed old new)
   ended (x, was, is) = ended_of x is (i.onward x was)
 
-  -- the device failed in a step
-  after_fault : (e : Event) → Step m e (reply.Refused refusal.DiskFault) (failed m) → law_kept.IsKept rules GREATEST_NUMBER (length m.opened) (state_of m base opened new hives)
-      → ((next : Spelled TimedOp) → new.next ≡ Some next → (next ≡ nothing) ⊎ IsBatch m new.now next) → m.room ≡ 65 + room_of new.now.elements + room_of (timed_elements (pending m)) → IsConsistent (failed m) base opened new hives
-  after_fault e step l onward room = record {
-    kept = keeps m (failed m) e (reply.Refused refusal.DiskFault) i.kept step;
-    fits = i.fits;
-    law = l;
-    begun = i.begun;
-    all = i.all;
-    own = i.own;
-    onward = onward;
-    room = room;
-  }
-
   -- Steps of the journal
 
   Goes : Event → Result Progress Refusal → Type 0
   Goes e result = Step m e (reply_to result) (after_step m old new result) × IsConsistent (after_step m old new result) base opened new hives
+
+  -- the device failed in a step, which may have begun something: what stood stands
+  broke : StepFails m (fault m) refusal.DiskFault (failed m)
+  broke = inr (not_faulted m free, record { free = not_faulted m free; told = refl; failed = omega arith; next = refl })
+
+  failed_goes : (e : Event) → Step m e (reply.Refused refusal.DiskFault) (failed m) → law_kept.IsKept rules GREATEST_NUMBER (length m.opened) (state_of m base opened new hives)
+      → ((next : Spelled TimedOp) → new.next ≡ Some next → (next ≡ nothing) ⊎ IsBatch m new.now next) × (new.now ≡ old.now) → Goes e (Err refusal.DiskFault)
+  unfolding Goes
+  failed_goes e step l b = (
+    step,
+    record {
+      kept = keeps m (failed m) e (reply.Refused refusal.DiskFault) i.kept step;
+      fits = i.fits;
+      law = l;
+      begun = i.begun;
+      all = i.all;
+      own = i.own;
+      onward = b.0;
+      room = same_room b.1;
+    },
+  )
 
   journal_idle : JournalSays (m.durable + 1) (timed_elements (pending m)) Idle old new → Goes event.JournalStep (Ok progress.Idle)
   unfolding Goes
@@ -250,13 +252,6 @@ module _ (keeps : Keeps) (m : Machine) (base : ℕ) (opened : List Element) (old
       let step : Step m event.JournalStep (reply.Refused refusal.NoMemory) m = inl (inr refl, refl) in
       (step, consistent m.durable m.room (omega arith) (omega arith) event.JournalStep (reply.Refused refusal.NoMemory) step (journal_law NoMemory m.durable m.room says refl) (same_onward says.1) (same_room (ap (λ (c : Choice (Spelled TimedOp)). c.now) says.1)))
 
-  journal_failed : JournalSays (m.durable + 1) (timed_elements (pending m)) DiskFault old new → Goes event.JournalStep (Err refusal.DiskFault)
-  unfolding Goes
-  journal_failed says =
-      let b = begins_or_not says in
-      let step : Step m event.JournalStep (reply.Refused refusal.DiskFault) (failed m) = inr (not_faulted m free, record { free = not_faulted m free; told = refl; failed = omega arith; next = refl }) in
-      (step, after_fault event.JournalStep step (journal_law DiskFault m.durable m.room says refl) b.0 (same_room b.1))
-
   pub journal_goes : (result : Result Progress Refusal) → Says (JournalSays (m.durable + 1) (timed_elements (pending m))) result old new → (result ≡ Err refusal.Faulted → ⊥)
       → Step m event.JournalStep (reply_to result) (after_step m old new result) × IsConsistent (after_step m old new result) base opened new hives
   unfolding Goes
@@ -264,7 +259,7 @@ module _ (keeps : Keeps) (m : Machine) (base : ℕ) (opened : List Element) (old
   journal_goes (Ok progress.More) says sound = journal_more says
   journal_goes (Ok progress.Done) says sound = journal_done says
   journal_goes (Err refusal.NoMemory) says sound = journal_hungry says
-  journal_goes (Err refusal.DiskFault) says sound = journal_failed says
+  journal_goes (Err refusal.DiskFault) says sound = failed_goes event.JournalStep broke (journal_law DiskFault m.durable m.room says refl) (begins_or_not says)
   journal_goes (Err refusal.Faulted) says sound = absurd (sound refl)
   journal_goes (Err _) says sound = absurd says
 
@@ -300,16 +295,9 @@ module _ (keeps : Keeps) (m : Machine) (base : ℕ) (opened : List Element) (old
         record { free = not_faulted m free; next = ap (λ n. record m { durable = n; room = m.room - freed old new }) same; room = e.keeps_room } in
         (step, consistent (top m.durable new.now) (m.room - freed old new) e.rises (omega arith) event.TrimStep (reply.Stepped stepped.Done) step l (settled_onward (top m.durable new.now) (m.room - freed old new) says) e.room_is)
 
-    trim_failed : TrimSays DiskFault old new → Goes event.TrimStep (Err refusal.DiskFault)
-    unfolding Goes
-    trim_failed says =
-        let b = trims_or_not says in
-        let step : Step m event.TrimStep (reply.Refused refusal.DiskFault) (failed m) = inr (not_faulted m free, record { free = not_faulted m free; told = refl; failed = omega arith; next = refl }) in
-        (step, after_fault event.TrimStep step (trim_law DiskFault m.durable m.room idle_has says refl) b.0 (same_room b.1))
-      where
-        trims_or_not : ((old.next ≡ None) × (new ≡ under_way old.now nothing)) ⊎ (new ≡ old) → ((next : Spelled TimedOp) → new.next ≡ Some next → (next ≡ nothing) ⊎ IsBatch m new.now next) × (new.now ≡ old.now)
-        trims_or_not (inl b) = (λ next is. inl (same_Some next nothing (sym is ∙ ap (λ (c : Choice (Spelled TimedOp)). c.next) b.1)), ap (λ (c : Choice (Spelled TimedOp)). c.now) b.1)
-        trims_or_not (inr e) = (same_onward e, ap (λ (c : Choice (Spelled TimedOp)). c.now) e)
+    trims_or_not : ((old.next ≡ None) × (new ≡ under_way old.now nothing)) ⊎ (new ≡ old) → ((next : Spelled TimedOp) → new.next ≡ Some next → (next ≡ nothing) ⊎ IsBatch m new.now next) × (new.now ≡ old.now)
+    trims_or_not (inl b) = (λ next is. inl (same_Some next nothing (sym is ∙ ap (λ (c : Choice (Spelled TimedOp)). c.next) b.1)), ap (λ (c : Choice (Spelled TimedOp)). c.now) b.1)
+    trims_or_not (inr e) = (same_onward e, ap (λ (c : Choice (Spelled TimedOp)). c.now) e)
 
     pub trim_goes : (result : Result Progress Refusal) → Says TrimSays result old new → (result ≡ Err refusal.Faulted → ⊥)
         → Step m event.TrimStep (reply_to result) (after_step m old new result) × IsConsistent (after_step m old new result) base opened new hives
@@ -318,6 +306,6 @@ module _ (keeps : Keeps) (m : Machine) (base : ℕ) (opened : List Element) (old
     trim_goes (Ok progress.More) says sound = trim_more says
     trim_goes (Ok progress.Done) says sound = trim_done says
     trim_goes (Err refusal.NoMemory) says sound = absurd says
-    trim_goes (Err refusal.DiskFault) says sound = trim_failed says
+    trim_goes (Err refusal.DiskFault) says sound = failed_goes event.TrimStep broke (trim_law DiskFault m.durable m.room idle_has says refl) (trims_or_not says)
     trim_goes (Err refusal.Faulted) says sound = absurd (sound refl)
     trim_goes (Err _) says sound = absurd says

@@ -3,3 +3,4 @@ pub mod Prefixes
 pub mod Runs
 pub mod Openings
 pub mod Answers
+pub mod Idle

@@ -1,5 +1,5 @@
 -- What a crash leaves of an engine: the headline's words.
-use Rattle.std.specs.Prelude.{◌≡◌, ℕ, ◌+◌, ◌-◌, ◌≤◌, List, length, take, slice_get, Some}
+use Rattle.std.specs.Prelude.{◌≡◌, ℕ, ◌-◌, ◌≤◌, List, length, take, slice_get, Some, ⊤}
 use Rattle.refusals.specs.declared.limits.TheConstants.{GREATEST_NUMBER}
 use Rattle.reg_tree.specs.Maps.{TreeMap}
 use Rattle.reg_tree.specs.Sequences.{after_elements}
@@ -51,6 +51,10 @@ IsSafeAt store states moment machine = (files : ℕ → List ℕ) → LeavesHone
 -- what the law sees of a hive
 abbrev pub view_of : HiveFile → HiveView
 view_of hive = record { files = states.files_of hive; memory = states.memory_of hive }
+
+-- a device call may be on any file
+abbrev pub AnyFile : ℕ → Type 0
+AnyFile f = ⊤
 
 -- The journal and each hive are on the disk as they say.
 pub record AreOnDisk (journal : Journal) (hives : List HiveFile) (state : ℕ → FileState) : Type 0 where

@@ -9,6 +9,7 @@ ghost use Rattle.engine_words.specs.Steps.{Says};
 ghost use Rattle.engine_words.specs.declared.Progress.{Progress};
 ghost use Rattle.machine.specs.Machine.{Machine, opened_machine, pending};
 ghost use Rattle.machine.specs.Steps.{Step, Run, is_step};
+ghost use Rattle.machine.specs.Kept.{IsKept};
 ghost use Rattle.machine.specs.declared.event.Event.{Event};
 ghost use Rattle.machine.specs.declared.event.Event.TheVariants as event;
 ghost use Rattle.machine.specs.declared.event.Reply.{Reply};
@@ -24,7 +25,7 @@ ghost use Rattle.commit_journal.specs.Journals.{choice_of, store_of};
 ghost use Rattle.commit_journal.specs.declared.journal.Journal.{Journal};
 ghost use Rattle.hive_flush.specs.declared.hive.HiveFile.{HiveFile};
 ghost use Rattle.engine_law.specs.Prefixes.{ArePlaced, AreOnDisk, IsSafeAt, view_of};
-ghost use Rattle.engine_law.specs.Runs.{RunsSafely, IsBoundary};
+ghost use Rattle.engine_law.specs.Runs.{RunsSafely, IsBoundary, IsHeld};
 ghost use Rattle.engine_law.specs.Openings.{IsFound};
 
 use reg_tree::{Op, Tree};
@@ -158,4 +159,15 @@ pub fn safe_runs_go_on()
         IsBoundary (IsSafeAt store states) old events replies new moment }
 {
     crashes_leave_prefixes();
+}
+
+/// Each receipt that was told in a run is of a number that is durable at the run's end: no durable number falls, whatever was
+/// durable before.
+pub fn receipts_are_durable()
+    ensures { (old new : Machine) (events : List Event) (replies : List Reply) → IsKept old →
+        Run old events replies new →
+        (old.durable ≤ new.durable) × AllByRecursion (IsHeld new.durable) replies }
+{
+    machine::laws::states_are_kept();
+    machine::laws::steps_alone_settle();
 }

@@ -34,7 +34,7 @@ use Rattle.hive_flush.specs.declared.hive.HiveFile.{HiveFile}
 use Rattle.engine_law.specs.States.{HiveView, tree_of}
 use Rattle.engine_law.specs.Openings.{held_if, held_by, IsFound}
 use Rattle.engine_law.specs.Prefixes.{Holds, Recover, Spells, view_of}
-use Rattle.engine_law.proofs.HiveLists.{at_slot, view_at, viewed}
+use Rattle.engine_law.proofs.HiveLists.{at_slot, each_pushed, view_at, viewed}
 use Rattle.engine_law.proofs.Bridge.{all_allowed}
 use Rattle.recovery.specs.Reading.{AreAtRest, AreOf, IsNumber, LeadTo, SomeLeadsNowhere, greatest, replayed_on}
 use Rattle.recovery.specs.Kept.{IsKept}
@@ -164,19 +164,13 @@ module _ (journal : Journal) (below : ℕ) (elements : List Element) (hives : Li
 
 -- One tree more
 
-each_more : {X : Type 0} (xs : List X) (x : X) (P : ℕ → X → Type 0) → ((i : ℕ) (y : X) → slice_get xs i ≡ Some y → P i y) → P (length xs) x → (i : ℕ) (y : X) → slice_get (xs ++ x ∷ []) i ≡ Some y → P i y
-each_more [] x P each last zero y is = subst (P 0) (same_Some x y is) last
-each_more [] x P each last (suc i) y is = absurd cc
-each_more (z ∷ zs) x P each last zero y is = each 0 y is
-each_more (z ∷ zs) x P each last (suc i) y is = each_more zs x (λ j w. P (suc j) w) (λ j w at. each (suc j) w at) last i y is
-
 pub trees_pushed : (trees : List TreeMap) (tree : TreeMap) → AreTrees trees → IsTree tree → AreTrees (trees ++ tree ∷ [])
-trees_pushed trees tree are is = each_more trees tree (λ i t. IsTree t) are is
+trees_pushed trees tree are is = each_pushed trees tree (λ i t. IsTree t) are is
 
 pub lead_pushed : (journal : Spelled TimedOp) (hives : List HiveFile) (trees : List TreeMap) (tree : TreeMap) (place : ℕ) → length trees ≡ place → (hive : HiveFile) → slice_get hives place ≡ Some hive → LeadTo journal hives trees
     → replayed_on journal place (memory_of hive) ≡ Some tree → LeadTo journal hives (trees ++ tree ∷ [])
 lead_pushed journal hives trees tree place many hive is lead made = λ i h t at got.
-    each_more trees tree (λ j u. (g : HiveFile) → slice_get hives j ≡ Some g → replayed_on journal j (memory_of g) ≡ Some u) (λ j u was g there. lead j g u there was)
+    each_pushed trees tree (λ j u. (g : HiveFile) → slice_get hives j ≡ Some g → replayed_on journal j (memory_of g) ≡ Some u) (λ j u was g there. lead j g u there was)
     (λ g there. subst (λ n. replayed_on journal n (memory_of g) ≡ Some tree) (sym many)
     (subst (λ (x : HiveFile). replayed_on journal place (memory_of x) ≡ Some tree) (same_Some hive g (sym is ∙ subst (λ n. slice_get hives n ≡ Some g) many there)) made)) i t got h at
 

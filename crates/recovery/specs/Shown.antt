@@ -1,5 +1,5 @@
 -- What contracts see of an opened store.
-use Rattle.std.specs.Prelude.{◌≡◌, ℕ, Bool, false, refl, ⊤}
+use Rattle.std.specs.Prelude.{◌≡◌, Bool, false, refl}
 use Rattle.std.specs.Coded.{Coded, code_by, coded×, coded_bool}
 use Rattle.commit_journal.specs.Store.{Store}
 use Rattle.commit_journal.specs.Journals as journals
@@ -24,7 +24,3 @@ store_of opened = journals.store_of opened.found.journal
 -- no repair is left, and the device hasn't failed in one
 abbrev pub IsWhole : {D : Type 0} → Shown D → Type 0
 IsWhole opened = AreWhole opened.found.hives.items × (opened.failed ≡ false)
-
--- a device call may be on any file
-abbrev pub AnyFile : ℕ → Type 0
-AnyFile f = ⊤

@@ -6,10 +6,10 @@ ghost use Rattle.disk_model.specs.Call.{Extends, OneCall, HasFailed};
 ghost use Rattle.disk_model.specs.Crash.{LeavesHonest};
 ghost use Rattle.disk_model.specs.StoreFiles.{IsPrimary};
 ghost use Rattle.hive_files.specs.Frames.{FailsBy, IsSyncedOrSame};
-ghost use Rattle.engine_law.specs.Prefixes.{AreOnDisk};
+ghost use Rattle.engine_law.specs.Prefixes.{AnyFile, AreOnDisk};
 ghost use Rattle.recovery.specs.Kept.{AllWork, IsKept};
 ghost use Rattle.recovery.specs.Recovered.{IsNoStore, IsRecovered, seen_in};
-ghost use Rattle.recovery.specs.Shown.{AnyFile, IsWhole, store_of};
+ghost use Rattle.recovery.specs.Shown.{IsWhole, store_of};
 
 use crate::found::Found;
 use crate::opening::find;

@@ -5,9 +5,8 @@ ghost use Rattle.engine_words.specs.declared.Progress.TheVariants as Progress;
 ghost use Rattle.disk_model.specs.Call.{OneCall, HasFailed};
 ghost use Rattle.hive_flush.specs.HiveStates.{IsWhole};
 ghost use Rattle.hive_flush.specs.declared.hive.HiveFile.{HiveFile};
-ghost use Rattle.engine_law.specs.Prefixes.{AreOnDisk, view_of};
+ghost use Rattle.engine_law.specs.Prefixes.{AnyFile, AreOnDisk, view_of};
 ghost use Rattle.recovery.specs.Kept.{AllWork, AreWhole, IsKept};
-ghost use Rattle.recovery.specs.Shown.{AnyFile};
 
 use crate::found::Found;
 use disk_model::Disk;

@@ -1,5 +1,5 @@
 //! The changes that were accepted since a store was opened.
-ghost use Rattle.std.specs.Prelude.{◌≡◌, ◌<◌, ◌≤◌, ◌+◌, ◌-◌, ◌++◌, ◌∷◌, [], length, drop, OnOk};
+ghost use Rattle.std.specs.Prelude.{◌≡◌, ◌<◌, ◌≤◌, ◌+◌, ◌-◌, ◌++◌, ◌∷◌, [], length, drop, max, OnOk};
 ghost use Rattle.std.specs.List.{AllByRecursion};
 ghost use Rattle.transactions.specs.Histories.{IsShort};
 
@@ -55,6 +55,13 @@ impl History {
         self.all.len()
     }
 
+    /// How many changes are at hand.
+    pub fn at_hand(&self) -> usize
+        ensures { result + self.now.let_go ≡ length self.now.changes }
+    {
+        self.recent.len()
+    }
+
     /// Makes place for one change more.
     pub fn reserve(&mut self) -> Result<(), AllocError>
         ensures changes { self.new.changes ≡ self.old.changes }
@@ -87,14 +94,13 @@ impl History {
         &self.recent[count - let_go..]
     }
 
-    /// Lets the first so many changes go.
+    /// Lets the first so many changes go: those of them that were not let go before.
     pub fn let_go(&mut self, count: usize)
-        requires at_hand { self.old.let_go ≤ count }
         requires there { count ≤ length self.old.changes }
         ensures changes { self.new.changes ≡ self.old.changes }
-        ensures at_hand { self.new.let_go ≡ count }
+        ensures at_hand { self.new.let_go ≡ max self.old.let_go count }
     {
-        let gone = count - (self.all.len() - self.recent.len());
+        let gone = count.saturating_sub(self.all.len() - self.recent.len());
         let left = self.recent.len() - gone;
         self.recent.rotate_left(gone);
         self.recent.truncate(left);

@@ -1,5 +1,5 @@
 //! A store in memory: what it answers to each event that makes no step, and what it is told of those that do.
-ghost use Rattle.std.specs.Prelude.{◌≡◌, ◌≤◌, ◌+◌, ◌-◌, ◌⊎◌, ◌==◌, [], drop, true, false, Some, None, IfOk, IfErr, OnOk};
+ghost use Rattle.std.specs.Prelude.{◌≡◌, ◌≤◌, ◌+◌, ◌-◌, ◌⊎◌, ◌==◌, [], drop, max, true, false, Some, None, IfOk, IfErr, OnOk};
 ghost use Rattle.std.specs.List.{AllByRecursion, list_any};
 ghost use Rattle.refusals.specs.declared.refusal.Refusal.TheVariants.{NoSuchHandle};
 ghost use Rattle.machine.specs.Steps.{Step, is_step};
@@ -146,14 +146,21 @@ impl Store {
         self.history.after((number - self.before) as usize)
     }
 
+    /// The number above which changes are at hand.
+    pub fn at_hand(&self) -> u64
+        ensures { result ≡ self.now.at_hand }
+    {
+        self.table.number() - self.history.at_hand() as u64
+    }
+
     /// Lets the changes up to this number go: they are no longer at hand.
     pub fn let_go(&mut self, number: u64)
-        requires at_hand { self.old.at_hand ≤ number }
         requires there { number ≤ last_number self.old.machine }
         ensures machine { self.new.machine ≡ self.old.machine }
-        ensures at_hand { self.new.at_hand ≡ number }
+        ensures at_hand { self.new.at_hand ≡ max self.old.at_hand number }
     {
-        self.history.let_go((number - self.before) as usize);
+        self.history
+            .let_go(number.saturating_sub(self.before) as usize);
     }
 
     /// Changes are durable up to this number.

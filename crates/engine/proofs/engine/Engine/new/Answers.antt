@@ -1,24 +1,44 @@
 use Rattle.std.proofs.Common.{◌≡◌, ◌∙◌, ◌+◌, sym, ap, subst, map, arith, []}
-use Rattle.machine.specs.Machine.{Machine, opened_machine}
-use Rattle.commit_journal.specs.Journals.{choice_of}
+use Rattle.std.proofs.lemmas.List.{length-replicate}
+use Rattle.commit_journal.specs.Journals.{choice_of, store_of}
+use Rattle.engine.proofs.Namings.{naming_opens, none_named}
+use Rattle.machine.specs.Machine.{Machine}
 use Rattle.engine_law.specs.States.{IsConsistent}
 use Rattle.engine_law.specs.Prefixes.{view_of}
+use Rattle.recovery.specs.Kept.{AreWhole}
+use Rattle.recovery.specs.declared.found.Found.{Found}
 use Rattle.engine.proofs.engine.Engine.new.Goals as goal
+
+pub begun-requires : goal.begun-requires
+begun-requires g c =
+    let f = c.into_parts-disk.result.1 in
+    let k = c.into_parts-disk.ensures.kept in
+    let kept = c.openings_begin.ensures f.trees f.number 0 f.base f.opened.items (choice_of f.journal) (map view_of f.hives.items) k.recovers in
+    record { numbers = omega (arith, kept.begun, k.recovers.recovers.limit) }
 
 pub invariant_of-result : goal.invariant_of-result
 invariant_of-result g c =
-    let f = c.args.found in
-    let told = c.in-Ok.ensures.machine ∙ ap (λ r. record (opened_machine f.trees f.number [] 0) { room = r }) c.used-room.ensures in
+    let f = c.into_parts-disk.result.1 in
+    let e = c.into_parts-disk.ensures in
+    let told = c.in-Ok.ensures.machine in
+    let counted = c.in-Ok.ensures.counted in
+    let kept = subst (λ (m : Machine). IsConsistent m f.base f.opened.items (choice_of f.journal) (map view_of f.hives.items)) (sym told)
+    (c.openings_begin.ensures f.trees f.number 0 f.base f.opened.items (choice_of f.journal) (map view_of f.hives.items) e.kept.recovers) in
     record {
       sound = record {
-        kept = subst (λ (m : Machine). IsConsistent m f.base f.opened.items (choice_of f.journal) (map view_of f.hives.items)) (sym told)
-            (c.openings_begin.ensures f.trees f.number 0 f.base f.opened.items (choice_of f.journal) (map view_of f.hives.items) c.requires.found);
-        placed = c.requires.placed;
-        many = c.requires.many;
-        whole = λ i hive is. (c.requires.whole i hive is).0;
-        journal_works = λ _. c.requires.works;
-        hives_work = λ _ i hive is. (c.requires.whole i hive is).1;
-        at_hand = omega (arith, c.in-Ok.ensures.at_hand, ap (λ (m : Machine). m.before) c.in-Ok.ensures.machine);
+        holds = record {
+          kept = kept;
+          placed = e.kept.placed;
+          many = e.kept.many;
+          whole = subst (λ (x : Found). AreWhole x.hives.items) (sym e.found) c.requires.whole.0;
+          journal_works = λ _. e.kept.works;
+          hives_work = λ _. e.works c.requires.whole.1;
+          at_hand = omega (arith, c.in-Ok.ensures.at_hand, ap (λ (m : Machine). m.before) told);
+        };
+        naming = naming_opens c.in-Ok.store.machine f.base f.opened.items c.in-Ok.naming.last.items kept.begun
+            (ap (λ (m : Machine). m.durable) told ∙ sym (ap (λ (m : Machine). m.before) told)) (ap (λ (m : Machine). m.accepted) told)
+            (counted.last f.base [] (omega arith) (none_named f.base (store_of f.journal).hives));
+        named = counted.many ∙ length-replicate (store_of f.journal).hives 0 ∙ sym e.kept.many;
       };
-      on_disk = c.requires.on_disk;
+      on_disk = e.on_disk;
     }

@@ -1,12 +1,35 @@
-use Rattle.std.proofs.Common.{map}
+use Rattle.std.proofs.Common.{map, ◌∙◌, sym, subst, refl, arith}
+use Rattle.std.proofs.lemmas.Bool.{true≢false}
+use Rattle.machine.specs.Steps.{Step}
 use Rattle.commit_journal.specs.Journals.{choice_of}
 use Rattle.engine_law.specs.Prefixes.{view_of}
 use Rattle.engine.proofs.Sound.{calm_sound}
+use Rattle.engine.proofs.Namings.{naming_calm}
+use Rattle.engine.proofs.Idling.{calm_idles}
 use Rattle.engine.proofs.parts.Parts.calm_event.Goals as goal
 
-pub returns-clause-sound : goal.returns-clause-sound
-returns-clause-sound g c =
+pub returns-clause-goes_on : goal.returns-clause-goes_on
+returns-clause-goes_on g c =
     let s = c.args.self.now in
-    calm_sound s.store c.event.new.self s.base s.opened.items s.journal s.hives.items c.requires.sound
-    (c.events_keep.ensures s.store.machine c.event.new.self.machine s.base s.opened.items (choice_of s.journal) (map view_of s.hives.items) c.args.event c.event.result c.requires.sound.kept c.requires.calm c.event.ensures.step)
-    (c.steps_alone_settle.ensures s.store.machine c.event.new.self.machine c.args.event c.event.result c.requires.sound.kept.kept c.requires.calm c.event.ensures.step) c.event.ensures.at_hand
+    let m = s.store.machine in
+    let n = c.event.new.self.machine in
+    let step = c.event.ensures.step in
+    let kept = c.requires.sound.holds.kept in
+    let how = c.steps_alone_settle.ensures m n c.args.event c.event.result kept.kept c.requires.calm step in
+    record {
+      step = step;
+      sound = record {
+        holds = calm_sound s.store c.event.new.self s.base s.opened.items s.journal s.hives.items c.requires.sound.holds
+            (c.events_keep.ensures m n s.base s.opened.items (choice_of s.journal) (map view_of s.hives.items) c.args.event c.event.result kept c.requires.calm step) how c.event.ensures.at_hand;
+        naming = naming_calm m n s.base s.opened.items s.naming.last.items kept.begun kept.kept.within.opened kept.kept.within.known how c.requires.sound.naming;
+        named = c.requires.sound.named;
+      };
+      on_disk = λ f on. on;
+      store = refl;
+      call = record { later = omega arith; one = omega arith; past = λ k f le. refl; others = λ f none. refl };
+      failed = λ told. absurd (true≢false (sym (c.steps_alone_fail.ensures m n c.args.event (subst (λ r. Step m c.args.event r n) told step)) ∙ c.requires.calm));
+      faithful = λ f. f;
+    }
+
+pub returns-clause-idle : goal.returns-clause-idle
+returns-clause-idle g c = let s = c.args.self.now in calm_idles c.args.event c.event.result s.store.machine s.base s.opened.items (choice_of s.journal) (map view_of s.hives.items) c.requires.calm

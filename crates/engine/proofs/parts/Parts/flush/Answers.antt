@@ -1,45 +1,43 @@
-use Rattle.std.proofs.Common.{◌≡◌, ◌∙◌, sym, ap, subst, ℕ}
+use Rattle.std.proofs.Common.{◌≡◌, ◌∙◌, sym, ap, subst, ℕ, refl}
 use Rattle.machine.specs.Steps.{Step}
 use Rattle.machine.specs.Machine.{Machine}
 use Rattle.machine.specs.declared.event.Event.TheVariants as event
 use Rattle.engine_law.specs.Answers.{reply_to}
-use Rattle.engine_law.specs.Prefixes.{AreOnDisk}
 use Rattle.hive_flush.specs.HiveStates.{IsOn, place_of}
 use Rattle.disk_model.specs.FileState.{FileState}
 use Rattle.disk_model.specs.StoreFiles.{IsOfHive, primary_file, log_file}
-use Rattle.engine.specs.Parts.{AreSound}
+use Rattle.engine.specs.Events.{GoesOn}
 use Rattle.engine.proofs.Sound.{at_place, flush_sound}
-use Rattle.engine.proofs.OnDisk.{hive_writes}
+use Rattle.engine.proofs.Frames.{any_call, has_failed}
+use Rattle.engine_law.proofs.HiveLists.{hive_writes}
+use Rattle.std.proofs.lemmas.List.{length-set}
+use Rattle.engine.proofs.Namings.{naming_flushes}
 use Rattle.engine.proofs.Taking.{flush_goes}
 use Rattle.engine.proofs.parts.Parts.flush.Goals as goal
 
-pub returns-clause-step : goal.returns-clause-step
-returns-clause-step g c =
+pub returns-clause-goes_on : goal.returns-clause-goes_on
+returns-clause-goes_on g c =
     let s = c.args.self.now in
+    let call = c.step-come.ensures in
     let is = at_place s.hives.items c.args.place c.index_mut.result.now c.requires.there c.index_mut.ensures.value in
-    let goes = flush_goes s.store s.base s.opened.items s.journal s.hives.items c.requires.sound c.requires.works c.args.place c.index_mut.result.now is c.hive_steps_keep.ensures.step c.step-come.new.self c.step-come.result
-    c.step-come.ensures.memory c.step-come.ensures.faulted c.step-come.ensures.says in
-    subst (λ r. Step s.store.machine (event.FlusherStep c.args.place) r c.answer.new.self.store.machine) (sym c.answer.ensures.reply)
-    (subst (λ (m : Machine). Step s.store.machine (event.FlusherStep c.args.place) (reply_to c.step-come.result) m) (sym c.answer.ensures.machine) goes.0)
-
-pub returns-clause-sound : goal.returns-clause-sound
-returns-clause-sound g c =
-    let s = c.args.self.now in
-    let is = at_place s.hives.items c.args.place c.index_mut.result.now c.requires.there c.index_mut.ensures.value in
-    let goes = flush_goes s.store s.base s.opened.items s.journal s.hives.items c.requires.sound c.requires.works c.args.place c.index_mut.result.now is c.hive_steps_keep.ensures.step c.step-come.new.self c.step-come.result
-    c.step-come.ensures.memory c.step-come.ensures.faulted c.step-come.ensures.says in
-    subst (λ p. AreSound p.store p.base p.opened.items p.journal p.hives.items) (sym c.answer.ensures.rest)
-    (flush_sound s.store c.answer.new.self.store s.base s.opened.items s.journal s.hives.items c.args.place c.index_mut.result.now c.step-come.new.self c.step-come.result c.requires.sound c.requires.works is goes.1
-    c.step-come.ensures.place c.step-come.ensures.store c.step-come.ensures.whole c.step-come.ensures.broken.0 c.answer.ensures.machine c.answer.ensures.at_hand)
-
-pub returns-clause-on_disk : goal.returns-clause-on_disk
-returns-clause-on_disk g c =
-    let s = c.args.self.now in
-    let is = at_place s.hives.items c.args.place c.index_mut.result.now c.requires.there c.index_mut.ensures.value in
-    let its : place_of c.index_mut.result.now ≡ c.args.place = c.requires.sound.placed.place c.args.place c.index_mut.result.now is in
+    let its : place_of c.index_mut.result.now ≡ c.args.place = c.requires.sound.holds.placed.place c.args.place c.index_mut.result.now is in
+    let goes = flush_goes s.store s.base s.opened.items s.journal s.hives.items c.requires.sound.holds c.requires.works c.args.place c.index_mut.result.now is c.hive_steps_keep.ensures.step c.step-come.new.self c.step-come.result
+    call.memory call.faulted call.says in
     let old : ℕ → FileState = g.D.Disk.state_at s.disk (g.D.Disk.clock s.disk) in
     let new : ℕ → FileState = g.D.Disk.state_at c.step-come.new.disk (g.D.Disk.clock c.step-come.new.disk) in
-    subst (λ p. g.D.Disk.faithful p.disk → AreOnDisk s.journal s.hives.items (g.D.Disk.state_at s.disk (g.D.Disk.clock s.disk)) → AreOnDisk p.journal p.hives.items (g.D.Disk.state_at p.disk (g.D.Disk.clock p.disk))) (sym c.answer.ensures.rest)
-    (λ f on. hive_writes s.journal s.hives.items c.args.place c.index_mut.result.now c.step-come.new.self old new is on
-    (λ file none. c.step-come.ensures.call.others file (λ own. none (subst (λ n. IsOfHive n file) its own)))
-    (subst (λ n. IsOn c.step-come.new.self (new (primary_file n)) (new (log_file n))) its (c.step-come.ensures.on f (subst (λ n. IsOn c.index_mut.result.now (old (primary_file n)) (old (log_file n))) (sym its) (on.each c.args.place c.index_mut.result.now is)))))
+    subst (λ p. GoesOn g.D.Disk.state_at g.D.Disk.clock g.D.Disk.failures g.D.Disk.faithful (event.FlusherStep c.args.place) (reply_to c.step-come.result) s p) (sym c.mark.ensures.rest) (record {
+      step = subst (λ (m : Machine). Step s.store.machine (event.FlusherStep c.args.place) (reply_to c.step-come.result) m) (sym c.mark.ensures.machine) goes.0;
+      sound = record {
+        holds = flush_sound s.store c.mark.new.self.store s.base s.opened.items s.journal s.hives.items c.args.place c.index_mut.result.now c.step-come.new.self c.step-come.result c.requires.sound.holds c.requires.works is goes.1
+            call.place call.store call.whole call.broken.0 c.mark.ensures.machine c.mark.ensures.at_hand;
+        naming = naming_flushes s.store.machine c.mark.new.self.store.machine s.base s.opened.items s.naming.last.items c.step-come.result c.mark.ensures.machine c.requires.sound.naming;
+        named = c.requires.sound.named ∙ sym (length-set s.hives.items c.args.place c.step-come.new.self);
+      };
+      on_disk = λ f on. hive_writes s.journal s.hives.items c.args.place c.index_mut.result.now c.step-come.new.self old new is on
+          (λ file none. call.call.others file (λ own. none (subst (λ n. IsOfHive n file) its own)))
+          (subst (λ n. IsOn c.step-come.new.self (new (primary_file n)) (new (log_file n))) its (call.on f (subst (λ n. IsOn c.index_mut.result.now (old (primary_file n)) (old (log_file n))) (sym its) (on.each c.args.place c.index_mut.result.now is))));
+      store = refl;
+      call = any_call (IsOfHive (place_of c.index_mut.result.now)) _ _ _ _ call.call;
+      failed = has_failed c.step-come.result _ _ call.failures;
+      faithful = call.faithful;
+    })

@@ -4,12 +4,12 @@ use Rattle.machine.specs.Steps.{Run}
 use Rattle.commit_journal.specs.Journals.{store_of}
 use Rattle.engine_law.specs.Prefixes.{AreOnDisk, IsSafeAt}
 use Rattle.engine_law.specs.Runs.{RunsSafely}
-use Rattle.engine.specs.Parts.{AreSound}
+use Rattle.engine.specs.Parts.{IsSound}
 use Rattle.engine.proofs.parts.Parts.run.Given as goal
 
 abbrev pub invariant-loop-event : goal.invariant-loop-event
 invariant-loop-event g l = record {
-  sound : AreSound l.self.store l.self.base l.self.opened.items l.self.journal l.self.hives.items;
+  sound : IsSound l.self;
   on_disk : g.D.Disk.faithful l.self.disk → AreOnDisk l.self.journal l.self.hives.items (g.D.Disk.state_at l.self.disk (g.D.Disk.clock l.self.disk));
   store : store_of l.self.journal ≡ store_of l.fn.self.journal;
   run : Run l.fn.self.store.machine l.yielded l.replies.items l.self.store.machine;

@@ -1,0 +1,12 @@
+use Rattle.std.proofs.Common.{◌≡◌, ◌+◌, ◌++◌, ℕ, List, length, take}
+use Rattle.prefix_law.specs.Changes as law
+use Rattle.engine_words.specs.Changes.{TimedOp, timed_elements}
+use Rattle.engine.specs.Naming.{AreLastIn}
+use Rattle.engine.proofs.naming.Naming.count_in.Given as goal
+
+abbrev pub invariant-loop-change : goal.invariant-loop-change
+invariant-loop-change l = record {
+  number : l.number ≡ l.below + l.change-index;
+  last : (base : ℕ) (known : List (law.Element TimedOp)) → base + length known ≡ l.below → AreLastIn base known l.fn.self.last.items → AreLastIn base (known ++ timed_elements (take l.change-index l.changes)) l.self.last.items;
+  many : length l.self.last.items ≡ length l.fn.self.last.items;
+}

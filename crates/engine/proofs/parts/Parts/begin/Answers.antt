@@ -1,0 +1,47 @@
+use Rattle.std.proofs.Common.{arith, refl, ◌≡◌, Result, Ok, Err}
+use Rattle.std.proofs.lemmas.Result.{err_from_is_err_and}
+use Rattle.machine.specs.declared.event.Event.TheVariants as event
+use Rattle.engine_law.specs.Answers.{reply_to}
+use Rattle.engine.proofs.Sound.{at_place}
+use Rattle.engine.proofs.Frames.{behind, hungry}
+use Rattle.engine.proofs.Idling.{not_ok, rests_on, goes_from}
+use Rattle.engine.proofs.parts.Parts.begin.Goals as goal
+
+pub returns-clause-goes_on : goal.returns-clause-goes_on
+returns-clause-goes_on g c = behind g.D.Disk.state_at g.D.Disk.clock g.D.Disk.failures g.D.Disk.faithful (event.FlusherStep c.args.place) (reply_to c.flush.result) c.args.self.now c.absorb.new.self c.flush.new.self
+    c.absorb.ensures.rest c.absorb.ensures.on_disk c.flush.ensures.goes_on
+
+pub returns-in_err-absorb-clause-goes_on : goal.returns-in_err-absorb-clause-goes_on
+returns-in_err-absorb-clause-goes_on g c =
+    let told = err_from_is_err_and c.from_residual.result c.from_residual.ensures.1 in
+    rw (told.1, told.2) (behind g.D.Disk.state_at g.D.Disk.clock g.D.Disk.failures g.D.Disk.faithful (event.FlusherStep c.args.place) _ c.args.self.now c.absorb.new.self c.absorb.new.self
+    c.absorb.ensures.rest c.absorb.ensures.on_disk
+    (hungry g.D.Disk.state_at g.D.Disk.clock g.D.Disk.failures g.D.Disk.faithful c.args.place c.absorb.new.self _ c.absorb.ensures.sound c.in_err-absorb.ensures.refused))
+
+pub returns-then-applied-index-clause-idle : goal.returns-then-applied-index-clause-idle
+returns-then-applied-index-clause-idle g c = λ hive is.
+    let s = c.args.self.now in
+    let h = c.requires.sound in (
+      λ e. rests_on s.store.machine s.base s.opened.items s.naming.last.items h.naming s.hives.items c.args.place c.index-2.result.now c.applied.result c.index.result.now hive (at_place s.hives.items c.args.place c.index.result.now c.requires.there c.index.ensures) is
+          (at_place s.naming.last.items c.args.place c.index-2.result.now (omega (arith, c.requires.there, h.named)) c.index-2.ensures) c.applied.ensures c.if-applied-index.true,
+      λ has. refl,
+    )
+
+pub returns-in_err-absorb-clause-idle : goal.returns-in_err-absorb-clause-idle
+returns-in_err-absorb-clause-idle g c = λ hive is.
+    let s = c.args.self.now in
+    let h = c.requires.sound in
+    let told = err_from_is_err_and c.from_residual.result c.from_residual.ensures.1 in (
+      λ e. absurd (not_ok _ _ told.1 e),
+      λ has. goes_from s.store.machine s.base s.opened.items s.naming.last.items h.naming s.hives.items c.args.place c.index-2.result.now c.applied.result c.index.result.now hive (at_place s.hives.items c.args.place c.index.result.now c.requires.there c.index.ensures) is
+          (at_place s.naming.last.items c.args.place c.index-2.result.now (omega (arith, c.requires.there, h.named)) c.index-2.ensures) c.applied.ensures c.if-applied-index.false has,
+    )
+
+pub returns-clause-idle : goal.returns-clause-idle
+returns-clause-idle g c = λ hive is.
+    let s = c.args.self.now in
+    let h = c.requires.sound in (
+      λ e. absurd (c.flush.ensures.busy e),
+      λ has. goes_from s.store.machine s.base s.opened.items s.naming.last.items h.naming s.hives.items c.args.place c.index-2.result.now c.applied.result c.index.result.now hive (at_place s.hives.items c.args.place c.index.result.now c.requires.there c.index.ensures) is
+          (at_place s.naming.last.items c.args.place c.index-2.result.now (omega (arith, c.requires.there, h.named)) c.index-2.ensures) c.applied.ensures c.if-applied-index.false has,
+    )

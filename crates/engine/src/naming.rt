@@ -1,0 +1,50 @@
+//! Of each hive the last change that names it.
+ghost use Rattle.std.specs.Prelude.{◌≡◌, ◌+◌, ◌<◌, ◌^◌, ℕ, if◌then◌else◌, IfOk, length, replicate, slice_get};
+ghost use Rattle.std.specs.Option.{option_map};
+ghost use Rattle.engine.specs.Naming.{HasCounted, names};
+
+use reg_tree::{Element, Op};
+use std::alloc::{AllocError, Global};
+
+/// For each hive the number of the last change counted in that has an operation on it, or 0 where none has.
+#[derive(Drop)]
+pub(crate) struct Naming {
+    /// The numbers, in the hives' order.
+    pub last: Vec<u64>,
+}
+
+impl Naming {
+    /// Of so many hives, none of which a change names.
+    pub fn new(alloc: Global, hives: usize) -> Result<Naming, AllocError>
+        ensures { IfOk result (λ naming. naming.last.items ≡ replicate hives 0) }
+    {
+        let last = vec![in alloc; 0; hives]?;
+        Ok(Naming { last })
+    }
+
+    /// Counts changes in, the first of which has the number behind this one.
+    pub fn count_in(&mut self, below: u64, changes: &[Element])
+        requires numbers { below + length changes.now < 2 ^ 64 }
+        ensures { HasCounted self.old.last.items below changes.now self.new.last.items }
+    {
+        let mut number = below;
+        for change in changes {
+            number += 1;
+            name(&mut self.last, change.ops.list(), number);
+        }
+    }
+}
+
+// each hive on which one of these operations is has this number
+fn name(last: &mut [u64], ops: &[Op], number: u64)
+    ensures named { (i : ℕ) → slice_get last.new i ≡
+        option_map (λ m. if names i ops.now then number else m) (slice_get last.old i) }
+    ensures many { length last.new ≡ length last.old }
+{
+    for op in ops {
+        let hive = usize::from(op.hive());
+        if hive < last.len() {
+            last[hive] = number;
+        }
+    }
+}
