@@ -63,7 +63,7 @@ fn what_a_hive_lacks_is_replayed(rt: HostRuntime) -> Result<(), Fail> {
     let alloc = rt.alloc();
     let store = opened(alloc, journaled(alloc)?)?;
     assert_eq!(&rt; store.number(), 1);
-    assert_eq!(&rt; &keys(alloc, &store, 0, b"AB")?[..], b"A");
+    assert_eq!(&rt; &keys(alloc, &store, 0, b"AB")?[..], b"A".as_slice());
     Ok(())
 }
 
