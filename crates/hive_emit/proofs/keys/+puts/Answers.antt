@@ -81,7 +81,7 @@ put_key-returns-in-Ok-fill_key-clause-made t c =
       said = c.key_places-its.ensures c.key-key.result.now here;
       offset = subst (λ d. IsOffsetOf c.args.securities.now d c.offset-security.result) text c.offset-security.ensures;
     })
-    c.in-Ok.ensures.0 c.in-Ok-put_subkeys.ensures.made (subst (λ ps. Makes c.put_subkeys.new.image.bytes c.put_own.new.image.bytes (OwnAt c.in-Ok-put_own.own.class c.in-Ok-put_own.own.values c.in-Ok-put_own.own.kids c.key-key.result.now ps)) c.deref.ensures.value (c.in-Ok-put_own.ensures.made c.key-key.result.now here)) (c.in-Ok-fill_key.ensures.filled c.key-key.result.now here)
+    c.in-Ok.ensures.0 c.in-Ok-put_subkeys.ensures.made (subst (λ ps. Makes c.put_subkeys.new.image.bytes c.put_own.new.image.bytes (OwnAt c.in-Ok-put_own.own.class c.in-Ok-put_own.own.values c.in-Ok-put_own.own.kids c.key-key.result.now ps (subkeys_of c.args.node.now))) c.deref.ensures.value (c.in-Ok-put_own.ensures.made c.key-key.result.now here)) (c.in-Ok-fill_key.ensures.filled c.key-key.result.now here)
 
 -- what subkeys take
 pub put_subkeys-returns-clause-uses : goal.put_subkeys-returns-clause-uses
