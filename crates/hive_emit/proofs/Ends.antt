@@ -8,6 +8,7 @@ use Rattle.reg_tree_parts.specs.Nodes.{Entries, IsNode}
 use Rattle.reg_tree.specs.Maps.{TreeMap}
 use Rattle.hive_cells.specs.Bins.{Cells, Shows}
 use Rattle.hive_shape.specs.Lists.{Once}
+use Rattle.hive_records.specs.Numbers.{nowhere}
 use Rattle.hive_key_writer.specs.Making.{Makes}
 use Rattle.hive_key_writer.proofs.Makings.{made_then}
 use Rattle.hive_emit.specs.declared.security.Security.{Security}
@@ -32,11 +33,11 @@ pub record Put (counted securities : List Security) (entries : Entries) : Type 0
 record Ended (securities : List Security) (root : ℕ) (entries : Entries) (z : Cells) : Type 0 where
   y : Cells
   held : AreHeld securities z
-  key : KeyAt securities root entries y z
+  key : KeyAt securities nowhere root entries y z
 
-pub formed_at_end : (a b c : List ℕ) (counted securities : List Security) (root : ℕ) (tree : TreeMap) (entries : Entries) (before : Cells) → Shows a before → IsNode entries → tree ≡ finite.from_sorted entries → Put counted securities entries → Makes a b (Holding securities) → Makes b c (PutsKey securities root entries) → IsFormed c root tree
+pub formed_at_end : (a b c : List ℕ) (counted securities : List Security) (root : ℕ) (tree : TreeMap) (entries : Entries) (before : Cells) → Shows a before → IsNode entries → tree ≡ finite.from_sorted entries → Put counted securities entries → Makes a b (Holding securities) → Makes b c (PutsKey securities nowhere root entries) → IsFormed c root tree
 formed_at_end a b c counted securities root tree entries before shows node same put m n =
-    let all = made_then a b c (Holding securities) (PutsKey securities root entries) (λ x z. Ended securities root entries z) m n (λ x y z g h held key. record { y = y; held = held_grown securities y z h held; key = key held }) in
+    let all = made_then a b c (Holding securities) (PutsKey securities nowhere root entries) (λ x z. Ended securities root entries z) m n (λ x y z g h held key. record { y = y; held = held_grown securities y z h held; key = key held }) in
     let z = all.cells before shows in
     let k = z.3.key in
     let rows : entries ≡ finite.entries tree = sym (entries-from_sorted path_order entries node.rises) ∙ ap (λ (t : TreeMap). finite.entries t) (sym same) in
@@ -51,6 +52,6 @@ formed_at_end a b c counted securities root tree entries before shows node same 
         counts = subst (λ (es : Entries). AllByRecursion (λ (s : SecurityCell). (0 < s.count) × (s.count ≡ keys_with s.descriptor es)) (cells_of securities)) rows
             (cells_count securities entries put.few (subst (λ ts. Counts [] ts (length entries) (λ d. keys_with d entries)) (sym put.same) put.counts) (subst AreSome (sym put.same) put.some) put.apart);
       };
-      keys = λ way at leads. is_form_as z.0 (IsOffsetOf securities) (IsNamed (cells_of securities)) at (named_of securities)
-          (root_led z.0 (IsOffsetOf securities) root k.parts k.below k.written.whole.read k.written.whole.listed k.written.whole.fits k.form k.formed way at leads);
+      keys = λ way parent at leads. is_form_as z.0 (IsOffsetOf securities) (IsNamed (cells_of securities)) parent at (named_of securities)
+          (root_led z.0 (IsOffsetOf securities) nowhere root k.parts k.below k.written.whole.read k.written.whole.listed k.written.whole.fits k.form k.formed way parent at leads);
     }

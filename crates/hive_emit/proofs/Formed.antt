@@ -13,7 +13,6 @@ use Rattle.hive_cells.specs.Bins.{Cells}
 use Rattle.hive_shape.specs.Lists.{IsIn}
 use Rattle.hive_shape.specs.Keys.{Parts, Keys, none, key, offsets, own_cells}
 use Rattle.hive_shape.specs.Stands.{Fits}
-use Rattle.hive_shape.specs.Chains.{Leads}
 use Rattle.hive_shape.specs.Cells.{Grows}
 use Rattle.hive_shape.specs.Loads.{with_last}
 use Rattle.hive_shape.proofs.Basics.{in_either, in_front, in_back}
@@ -24,7 +23,7 @@ use Rattle.hive_records.proofs.Keys.{keys_there}
 use Rattle.hive_keys.specs.Nodes.{AreListed}
 use Rattle.hive_key_writer.specs.KeyLists.{placed}
 use Rattle.hive_key_writer.proofs.Stays.{holds_stays, listed_stays, values_stay}
-use Rattle.hive_emit.specs.Forms.{is_past_ascii, is_plain, Rises, AreRead, IsClass, KeyForm, IsKeyForm}
+use Rattle.hive_emit.specs.Forms.{is_past_ascii, is_plain, Rises, AreRead, IsClass, KeyForm, IsKeyForm, LeadsUnder}
 use Rattle.hive_emit.specs.Emitting.{any_past_ascii, kids_of, AreFormed}
 
 -- ---- cells that stay
@@ -33,12 +32,13 @@ pub class_stays : (at : ℕ) (class own : List ℕ) (old new : Cells) → ((cell
 class_stays at class own old new stay (inl h) = inl h
 class_stays at class own old new stay (inr h) = inr (h.0, holds_stays old new at class (stay at (subst (λ (o : List ℕ). IsIn at o) (sym h.2) (inl refl))) h.1, h.2)
 
-form_stays : (old new : Cells) (Names : List ℕ → ℕ → Type 0) (at : ℕ) (parts : Parts Row) (subkeys : List Kid) → ((cell : ℕ) → IsIn cell parts.own → new cell ≡ old cell) → KeyForm old Names at parts subkeys → KeyForm new Names at parts subkeys
-form_stays old new Names at parts subkeys stay f =
+form_stays : (old new : Cells) (Names : List ℕ → ℕ → Type 0) (parent at : ℕ) (parts : Parts Row) (subkeys : List Kid) → ((cell : ℕ) → IsIn cell parts.own → new cell ≡ old cell) → KeyForm old Names parent at parts subkeys → KeyForm new Names parent at parts subkeys
+form_stays old new Names parent at parts subkeys stay f =
     let here : (cell : ℕ) → IsIn cell (at ∷ (f.class_own ++ (f.values_own ++ f.kids_own))) → new cell ≡ old cell = λ cell i. stay cell (subst (λ (o : List ℕ). IsIn cell o) (sym f.own) i) in
     record {
       its = f.its;
       text = holds_stays old new at (key_text parts.row f.its) (here at (inl refl)) f.text;
+      parent_is = f.parent_is;
       kid_count = f.kid_count;
       value_count = f.value_count;
       class_own = f.class_own;
@@ -52,12 +52,12 @@ form_stays old new Names at parts subkeys stay f =
       security = f.security;
     }
 
-pub formed_stay : (old new : Cells) (Names : List ℕ → ℕ → Type 0) (f : Keys Row) → ((cell : ℕ) → IsIn cell (own_cells f) → new cell ≡ old cell) → AreFormed old Names f → AreFormed new Names f
-formed_stay old new Names none stay h = tt
-formed_stay old new Names (key at p below after) stay h = (
-  form_stays old new Names at p (kids_of below) (λ cell i. stay cell (in_front cell (p.own ++ own_cells below) (own_cells after) (in_front cell p.own (own_cells below) i))) h.0,
-  formed_stay old new Names below (λ cell i. stay cell (in_front cell (p.own ++ own_cells below) (own_cells after) (in_back cell p.own (own_cells below) i))) h.1,
-  formed_stay old new Names after (λ cell i. stay cell (in_back cell (p.own ++ own_cells below) (own_cells after) i)) h.2,
+pub formed_stay : (old new : Cells) (Names : List ℕ → ℕ → Type 0) (parent : ℕ) (f : Keys Row) → ((cell : ℕ) → IsIn cell (own_cells f) → new cell ≡ old cell) → AreFormed old Names parent f → AreFormed new Names parent f
+formed_stay old new Names parent none stay h = tt
+formed_stay old new Names parent (key at p below after) stay h = (
+  form_stays old new Names parent at p (kids_of below) (λ cell i. stay cell (in_front cell (p.own ++ own_cells below) (own_cells after) (in_front cell p.own (own_cells below) i))) h.0,
+  formed_stay old new Names at below (λ cell i. stay cell (in_front cell (p.own ++ own_cells below) (own_cells after) (in_back cell p.own (own_cells below) i))) h.1,
+  formed_stay old new Names parent after (λ cell i. stay cell (in_back cell (p.own ++ own_cells below) (own_cells after) i)) h.2,
 )
 
 -- where cells come beside those that are there
@@ -71,13 +71,13 @@ own_there cells (key at p below after) fits cell i = elim (in_either cell (p.own
   | inr j ↦ own_there cells after fits.3 cell j
 ]
 
-pub formed_grown : (old new : Cells) (Names : List ℕ → ℕ → Type 0) (f : Keys Row) → Fits (keys_in true old) f → Grows old new → AreFormed old Names f → AreFormed new Names f
-formed_grown old new Names f fits grows h = formed_stay old new Names f (λ cell i. grows cell (own_there old f fits cell i)) h
+pub formed_grown : (old new : Cells) (Names : List ℕ → ℕ → Type 0) (parent : ℕ) (f : Keys Row) → Fits (keys_in true old) f → Grows old new → AreFormed old Names parent f → AreFormed new Names parent f
+formed_grown old new Names parent f fits grows h = formed_stay old new Names parent f (λ cell i. grows cell (own_there old f fits cell i)) h
 
 -- one key more
-pub formed_last : (cells : Cells) (Names : List ℕ → ℕ → Type 0) (f : Keys Row) (at : ℕ) (p : Parts Row) (below : Keys Row) → AreFormed cells Names f → KeyForm cells Names at p (kids_of below) → AreFormed cells Names below → AreFormed cells Names (with_last f at p below)
-formed_last cells Names none at p below h form formed = (form, formed, tt)
-formed_last cells Names (key to q kids after) at p below h form formed = (h.0, h.1, formed_last cells Names after at p below h.2 form formed)
+pub formed_last : (cells : Cells) (Names : List ℕ → ℕ → Type 0) (parent : ℕ) (f : Keys Row) (at : ℕ) (p : Parts Row) (below : Keys Row) → AreFormed cells Names parent f → KeyForm cells Names parent at p (kids_of below) → AreFormed cells Names at below → AreFormed cells Names parent (with_last f at p below)
+formed_last cells Names parent none at p below h form formed = (form, formed, tt)
+formed_last cells Names parent (key to q kids after) at p below h form formed = (h.0, h.1, formed_last cells Names parent after at p below h.2 form formed)
 
 -- ---- the subkeys of one key
 
@@ -115,49 +115,50 @@ kids_places none = refl
 kids_places (key at p below after) = ap (λ (xs : List ℕ). at ∷ xs) (kids_places after)
 
 -- a key that is read, with all that is below it, in its form
-pub record Here (cells : Cells) (Names : List ℕ → ℕ → Type 0) (at : ℕ) : Type 0 where
+pub record Here (cells : Cells) (Names : List ℕ → ℕ → Type 0) (parent at : ℕ) : Type 0 where
   parts : Parts Row
   below : Keys Row
   read : keys_in true cells at ≡ Ok parts
   listed : offsets below ≡ parts.kids
   fits : Fits (keys_in true cells) below
-  form : KeyForm cells Names at parts (kids_of below)
-  formed : AreFormed cells Names below
+  form : KeyForm cells Names parent at parts (kids_of below)
+  formed : AreFormed cells Names at below
 
-picked : (cells : Cells) (Names : List ℕ → ℕ → Type 0) (f : Keys Row) (i at : ℕ) → slice_get (offsets f) i ≡ Some at → Fits (keys_in true cells) f → AreFormed cells Names f → Here cells Names at
-picked cells Names none i at e fits formed = absurd (let no : ⊥ = cc in no)
-picked cells Names (key to p below after) zero at e fits formed =
+picked : (cells : Cells) (Names : List ℕ → ℕ → Type 0) (parent : ℕ) (f : Keys Row) (i at : ℕ) → slice_get (offsets f) i ≡ Some at → Fits (keys_in true cells) f → AreFormed cells Names parent f → Here cells Names parent at
+picked cells Names parent none i at e fits formed = absurd (let no : ⊥ = cc in no)
+picked cells Names parent (key to p below after) zero at e fits formed =
     let same : to ≡ at = cc in
-    subst (Here cells Names) same (record { parts = p; below = below; read = fits.0; listed = fits.1; fits = fits.2; form = formed.0; formed = formed.1 })
-picked cells Names (key to p below after) (suc i) at e fits formed = picked cells Names after i at e fits.3 formed.2
+    subst (Here cells Names parent) same (record { parts = p; below = below; read = fits.0; listed = fits.1; fits = fits.2; form = formed.0; formed = formed.1 })
+picked cells Names parent (key to p below after) (suc i) at e fits formed = picked cells Names parent after i at e fits.3 formed.2
 
 same_parts : (r : Result (Parts Row) Refusal) (o p : Parts Row) → r ≡ Ok o → r ≡ Ok p → o ≡ p
 same_parts r o p e f = let same : Ok o ≡ Ok p = sym e ∙ f in cc
 
-pub led : (cells : Cells) (Names : List ℕ → ℕ → Type 0) (at : ℕ) → Here cells Names at → (way : List ℕ) (to : ℕ) → Leads (keys_in true cells) at way to → IsKeyForm cells Names to
-led cells Names at h [] to leads = subst (IsKeyForm cells Names) leads (record {
+pub led : (cells : Cells) (Names : List ℕ → ℕ → Type 0) (above at : ℕ) → Here cells Names above at → (way : List ℕ) (parent to : ℕ) → LeadsUnder (keys_in true cells) above at way parent to → IsKeyForm cells Names parent to
+led cells Names above at h [] parent to leads = subst (λ (p : ℕ). IsKeyForm cells Names p to) leads.0 (subst (IsKeyForm cells Names above) leads.1 (record {
   parts = h.parts;
   subkeys = kids_of h.below;
   reads = h.read;
   listed = kids_places h.below ∙ h.listed;
   named = kids_read cells h.below h.fits;
   form = h.form;
-})
-led cells Names at h (i ∷ way) to leads =
+}))
+led cells Names above at h (i ∷ way) parent to leads =
     let same : leads.0 ≡ h.parts = same_parts (keys_in true cells at) leads.0 h.parts leads.2 h.read in
     let there : slice_get (offsets h.below) i ≡ Some leads.1 = ap (λ (ks : List ℕ). slice_get ks i) h.listed ∙ ap (λ (p : Parts Row). slice_get p.kids i) (sym same) ∙ leads.3 in
-    led cells Names leads.1 (picked cells Names h.below i leads.1 there h.fits h.formed) way to leads.4
+    led cells Names at leads.1 (picked cells Names at h.below i leads.1 there h.fits h.formed) way parent to leads.4
 
-pub root_led : (cells : Cells) (Names : List ℕ → ℕ → Type 0) (root : ℕ) (parts : Parts Row) (below : Keys Row) → keys_in true cells root ≡ Ok parts → offsets below ≡ parts.kids → Fits (keys_in true cells) below → KeyForm cells Names root parts (kids_of below) → AreFormed cells Names below
-    → (way : List ℕ) (to : ℕ) → Leads (keys_in true cells) root way to → IsKeyForm cells Names to
-root_led cells Names root parts below read listed fits form formed way to leads = led cells Names root (record { parts = parts; below = below; read = read; listed = listed; fits = fits; form = form; formed = formed }) way to leads
+pub root_led : (cells : Cells) (Names : List ℕ → ℕ → Type 0) (above root : ℕ) (parts : Parts Row) (below : Keys Row) → keys_in true cells root ≡ Ok parts → offsets below ≡ parts.kids → Fits (keys_in true cells) below → KeyForm cells Names above root parts (kids_of below) → AreFormed cells Names root below
+    → (way : List ℕ) (parent to : ℕ) → LeadsUnder (keys_in true cells) above root way parent to → IsKeyForm cells Names parent to
+root_led cells Names above root parts below read listed fits form formed way parent to leads = led cells Names above root (record { parts = parts; below = below; read = read; listed = listed; fits = fits; form = form; formed = formed }) way parent to leads
 
 -- ---- other names of security cells
 
-form_as : (cells : Cells) (Names Others : List ℕ → ℕ → Type 0) (at : ℕ) (parts : Parts Row) (subkeys : List Kid) → ((descriptor : List ℕ) (to : ℕ) → Names descriptor to → Others descriptor to) → KeyForm cells Names at parts subkeys → KeyForm cells Others at parts subkeys
-form_as cells Names Others at parts subkeys on f = record {
+form_as : (cells : Cells) (Names Others : List ℕ → ℕ → Type 0) (parent at : ℕ) (parts : Parts Row) (subkeys : List Kid) → ((descriptor : List ℕ) (to : ℕ) → Names descriptor to → Others descriptor to) → KeyForm cells Names parent at parts subkeys → KeyForm cells Others parent at parts subkeys
+form_as cells Names Others parent at parts subkeys on f = record {
   its = f.its;
   text = f.text;
+  parent_is = f.parent_is;
   kid_count = f.kid_count;
   value_count = f.value_count;
   class_own = f.class_own;
@@ -171,5 +172,5 @@ form_as cells Names Others at parts subkeys on f = record {
   security = on parts.row.descriptor f.its.security f.security;
 }
 
-pub is_form_as : (cells : Cells) (Names Others : List ℕ → ℕ → Type 0) (at : ℕ) → ((descriptor : List ℕ) (to : ℕ) → Names descriptor to → Others descriptor to) → IsKeyForm cells Names at → IsKeyForm cells Others at
-is_form_as cells Names Others at on f = record { parts = f.parts; subkeys = f.subkeys; reads = f.reads; listed = f.listed; named = f.named; form = form_as cells Names Others at f.parts f.subkeys on f.form }
+pub is_form_as : (cells : Cells) (Names Others : List ℕ → ℕ → Type 0) (parent at : ℕ) → ((descriptor : List ℕ) (to : ℕ) → Names descriptor to → Others descriptor to) → IsKeyForm cells Names parent at → IsKeyForm cells Others parent at
+is_form_as cells Names Others parent at on f = record { parts = f.parts; subkeys = f.subkeys; reads = f.reads; listed = f.listed; named = f.named; form = form_as cells Names Others parent at f.parts f.subkeys on f.form }

@@ -146,11 +146,11 @@ lent_last (key to q kids after) at p below cell h = elim (in_either cell (q.lent
   | inr i ↦ elim (lent_last after at p below cell i) [ inl j ↦ inl (in_back cell (q.lent ++ lent_cells kids) (lent_cells after) j) | inr j ↦ inr j ]
 ]
 
-pub no_kids_done : (bytes : List ℕ) (securities : List Security) → Makes bytes bytes (PutsKids securities [] [])
-no_kids_done bytes securities = made_none bytes (PutsKids securities [] []) (λ x held. record { keys = none; writing = writes_none (keys_in true) (keys_local true) (keys_there true) x; at = refl; listed = tt; near = tt; lent = λ cell i. absurd i; formed = tt })
+pub no_kids_done : (bytes : List ℕ) (securities : List Security) (parent : ℕ) → Makes bytes bytes (PutsKids securities parent [] [])
+no_kids_done bytes securities parent = made_none bytes (PutsKids securities parent [] []) (λ x held. record { keys = none; writing = writes_none (keys_in true) (keys_local true) (keys_there true) x; at = refl; listed = tt; near = tt; lent = λ cell i. absurd i; formed = tt })
 
-kids_on : (securities : List Security) (places : List ℕ) (kids : List (List ℕ × Entries)) (at : ℕ) (name : List ℕ) (entries : Entries) (x y z : Cells) → root_name entries ≡ name → Grows x y → Grows y z → PutsKids securities places kids x y → PutsKey securities at entries y z → PutsKids securities (places ++ at ∷ []) (kids ++ (name, entries) ∷ []) x z
-kids_on securities places kids at name entries x y z named g h done one held =
+kids_on : (securities : List Security) (parent : ℕ) (places : List ℕ) (kids : List (List ℕ × Entries)) (at : ℕ) (name : List ℕ) (entries : Entries) (x y z : Cells) → root_name entries ≡ name → Grows x y → Grows y z → PutsKids securities parent places kids x y → PutsKey securities parent at entries y z → PutsKids securities parent (places ++ at ∷ []) (kids ++ (name, entries) ∷ []) x z
+kids_on securities parent places kids at name entries x y z named g h done one held =
     let k = done held in
     let o = one (held_grown securities x y g held) in
     record {
@@ -160,11 +160,11 @@ kids_on securities places kids at name entries x y z named g h done one held =
       listed = subst (λ (n : List ℕ). AreListed (kids ++ (n, entries) ∷ []) (with_last k.keys at o.parts o.below)) (sym o.name ∙ named) (listed_more kids k.keys at o.parts o.below entries k.listed o.node);
       near = all_push (λ at. at < 2 ^ 32) places at k.near o.near;
       lent = λ cell i. elim (lent_last k.keys at o.parts o.below cell i) [ inl j ↦ k.lent cell j | inr j ↦ o.lent cell j ];
-      formed = formed_last z (IsOffsetOf securities) k.keys at o.parts o.below (formed_grown y z (IsOffsetOf securities) k.keys k.writing.fits h k.formed) o.form o.formed;
+      formed = formed_last z (IsOffsetOf securities) parent k.keys at o.parts o.below (formed_grown y z (IsOffsetOf securities) parent k.keys k.writing.fits h k.formed) o.form o.formed;
     }
 
-pub kids_more : (a b c : List ℕ) (securities : List Security) (places : List ℕ) (kids : List (List ℕ × Entries)) (at : ℕ) (name : List ℕ) (entries : Entries) → root_name entries ≡ name → Makes a b (PutsKids securities places kids) → Makes b c (PutsKey securities at entries) → Makes a c (PutsKids securities (places ++ at ∷ []) (kids ++ (name, entries) ∷ []))
-kids_more a b c securities places kids at name entries named m n = made_then a b c (PutsKids securities places kids) (PutsKey securities at entries) (PutsKids securities (places ++ at ∷ []) (kids ++ (name, entries) ∷ [])) m n (λ x y z g h d o. kids_on securities places kids at name entries x y z named g h d o)
+pub kids_more : (a b c : List ℕ) (securities : List Security) (parent : ℕ) (places : List ℕ) (kids : List (List ℕ × Entries)) (at : ℕ) (name : List ℕ) (entries : Entries) → root_name entries ≡ name → Makes a b (PutsKids securities parent places kids) → Makes b c (PutsKey securities parent at entries) → Makes a c (PutsKids securities parent (places ++ at ∷ []) (kids ++ (name, entries) ∷ []))
+kids_more a b c securities parent places kids at name entries named m n = made_then a b c (PutsKids securities parent places kids) (PutsKey securities parent at entries) (PutsKids securities parent (places ++ at ∷ []) (kids ++ (name, entries) ∷ [])) m n (λ x y z g h d o. kids_on securities parent places kids at name entries x y z named g h d o)
 
 -- the whole key
 shown_some : (bytes : List ℕ) (at : ℕ) (o : Option (List ℕ)) → IsAllocatedCell bytes at → MatchOption o (¬ IsAllocatedCell bytes at) (λ its. IsAllocatedCell bytes at × (its ≡ cell_data bytes at)) → o ≡ Some (cell_data bytes at)
@@ -183,7 +183,7 @@ long_stays a b P at len before shows tiles new_tiles m long =
     let found = some_shown b at (cell_data a at) (x.0 at) is (x.1 at) in
     (found.0, omega (arith, long.1, data_long a at tiles long.0, data_long b at new_tiles found.0, ap length found.1))
 
-pub record Filling (at len security class values kids : ℕ) (row : Row) (its : KeyPlaces) (securities : List Security) (entries : Entries) (places : List ℕ) : Type 0 where
+pub record Filling (parent at len security class values kids : ℕ) (row : Row) (its : KeyPlaces) (securities : List Security) (entries : Entries) (places : List ℕ) : Type 0 where
   pub count : length places ≡ length (subkeys_of entries)
   pub near : AreOffsets places
   pub few : length (subkeys_of entries) < 2 ^ 24
@@ -193,7 +193,7 @@ pub record Filling (at len security class values kids : ℕ) (row : Row) (its : 
   pub here : row_at entries [] ≡ Some row
   pub can : CanPutKeys entries
   pub time : row.time < 2 ^ 64
-  pub said : NodePlaces its row (length (subkeys_of entries)) security class values kids
+  pub said : NodePlaces its row parent (length (subkeys_of entries)) security class values kids
   pub offset : IsOffsetOf securities row.descriptor security
 
 whole_of : (entries : Entries) (row : Row) → HasSubkeys entries (subkeys_of entries) → row_at entries [] ≡ Some row → entries ≡ entries_of row (subkeys_of entries)
@@ -208,9 +208,9 @@ counted_parts securities entries row has here counted = subst (AreCounted securi
 pub kids_can : (entries : Entries) (row : Row) → HasSubkeys entries (subkeys_of entries) → row_at entries [] ≡ Some row → CanPutKeys entries → CanPutKeys (all_below (subkeys_of entries))
 kids_can entries row has here can = (below_can entries row has here can).1
 
-at_end : (securities : List Security) (at len security class values kids : ℕ) (row : Row) (its : KeyPlaces) (entries : Entries) (places : List ℕ) (x0 x1 x2 x3 x4 : Cells) → Filling at len security class values kids row its securities entries places
-    → Grows x0 x1 → Grows x1 x2 → Grows x2 x3 → SameBut at x3 x4 → Opens at len x0 x1 → KidsDone securities places (subkeys_of entries) x1 x2 → OwnAt class values kids row places (subkeys_of entries) x2 x3 → Holds x4 at (key_text row its) → AreHeld securities x0 → KeyAt securities at entries x0 x4
-at_end securities at len security class values kids row its entries places x0 x1 x2 x3 x4 f g01 g12 g23 same o k own holds held = record {
+at_end : (securities : List Security) (parent at len security class values kids : ℕ) (row : Row) (its : KeyPlaces) (entries : Entries) (places : List ℕ) (x0 x1 x2 x3 x4 : Cells) → Filling parent at len security class values kids row its securities entries places
+    → Grows x0 x1 → Grows x1 x2 → Grows x2 x3 → SameBut at x3 x4 → Opens at len x0 x1 → KidsDone securities at places (subkeys_of entries) x1 x2 → OwnAt class values kids row places (subkeys_of entries) x2 x3 → Holds x4 at (key_text row its) → AreHeld securities x0 → KeyAt securities parent at entries x0 x4
+at_end securities parent at len security class values kids row its entries places x0 x1 x2 x3 x4 f g01 g12 g23 same o k own holds held = record {
   parts = parts;
   below = k.keys;
   written = writes_filled (keys_in true) (keys_local true) (keys_there true) x0 x1 x2 x3 x4 at parts k.keys rest g01 gone here k.writing g23 same read refl own.adds.once own.adds.fresh (λ cell i. held_there securities x0 held cell (k.lent cell i)) k.at once_names some_names;
@@ -221,6 +221,7 @@ at_end securities at len security class values kids row its entries places x0 x1
   form = record {
     its = its;
     text = holds;
+    parent_is = f.said.parent_is;
     kid_count = f.said.kid_count_is ∙ sym f.count ∙ sym (placed_long places (subkeys_of entries) (omega (arith, f.count))) ∙ ap length listed_are;
     value_count = f.said.value_count_is;
     class_own = own.class_own;
@@ -234,7 +235,7 @@ at_end securities at len security class values kids row its entries places x0 x1
     rises = subst Rises listed_are (placed_rise places (subkeys_of entries) f.has.rises);
     security = subst (IsOffsetOf securities row.descriptor) (sym f.said.security_is) f.offset;
   };
-  formed = formed_stay x3 x4 (IsOffsetOf securities) k.keys (λ cell i. same cell (λ e. some_not (x1 at) here (ap x1 (sym e) ∙ k.writing.fresh cell i))) (formed_grown x2 x3 (IsOffsetOf securities) k.keys k.writing.fits g23 k.formed);
+  formed = formed_stay x3 x4 (IsOffsetOf securities) at k.keys (λ cell i. same cell (λ e. some_not (x1 at) here (ap x1 (sym e) ∙ k.writing.fresh cell i))) (formed_grown x2 x3 (IsOffsetOf securities) at k.keys k.writing.fits g23 k.formed);
 }
   where
     whole : entries ≡ entries_of row (subkeys_of entries)
@@ -316,9 +317,9 @@ at_end securities at len security class values kids row its entries places x0 x1
     some_names : IsIn [] (names k.keys) → ⊥
     some_names i = some_named (subkeys_of entries) f.has.nodes f.has.named can.1 (subst (λ (ns : List (List ℕ)). IsIn [] ns) (sym names_are) i)
 
-pub key_made : (securities : List Security) (a b c d e : List ℕ) (at len security class values kids : ℕ) (row : Row) (its : KeyPlaces) (entries : Entries) (places : List ℕ) → Filling at len security class values kids row its securities entries places
-    → Makes a b (Opens at len) → Makes b c (PutsKids securities places (subkeys_of entries)) → Makes c d (OwnAt class values kids row places (subkeys_of entries)) → Fills d e at (key_text row its) → Makes a e (PutsKey securities at entries)
-key_made securities a b c d e at len security class values kids row its entries places f m n o p = record {
+pub key_made : (securities : List Security) (a b c d e : List ℕ) (parent at len security class values kids : ℕ) (row : Row) (its : KeyPlaces) (entries : Entries) (places : List ℕ) → Filling parent at len security class values kids row its securities entries places
+    → Makes a b (Opens at len) → Makes b c (PutsKids securities at places (subkeys_of entries)) → Makes c d (OwnAt class values kids row places (subkeys_of entries)) → Fills d e at (key_text row its) → Makes a e (PutsKey securities parent at entries)
+key_made securities a b c d e parent at len security class values kids row its entries places f m n o p = record {
   cells = λ x0 shows.
       let x1 = m.cells x0 shows in
       let x2 = n.cells x1.0 x1.1 in
@@ -328,7 +329,7 @@ key_made securities a b c d e at len security class values kids row its entries 
         x4.0,
         x4.1,
         (λ cell there. x4.2 cell (λ i. some_not (x0 cell) there (ap x0 i ∙ gone)) ∙ grows_on x0 x2.0 x3.0 (grows_on x0 x1.0 x2.0 x1.2 x2.2) x3.2 cell there),
-        (λ held. at_end securities at len security class values kids row its entries places x0 x1.0 x2.0 x3.0 x4.0 f x1.2 x2.2 x3.2 x4.2 x1.3 (x2.3 (held_grown securities x0 x1.0 x1.2 held)) x3.3 x4.3 held),
+        (λ held. at_end securities parent at len security class values kids row its entries places x0 x1.0 x2.0 x3.0 x4.0 f x1.2 x2.2 x3.2 x4.2 x1.3 (x2.3 (held_grown securities x0 x1.0 x1.2 held)) x3.3 x4.3 held),
       );
   longer = (let i = m.longer in let j = n.longer in let k = o.longer in let l = p.len in omega (arith, i, j, k, l));
 }
@@ -359,10 +360,10 @@ below_some (k ∷ ks) nodes =
 pub kids_few : (entries : Entries) (row : Row) → HasSubkeys entries (subkeys_of entries) → row_at entries [] ≡ Some row → length (subkeys_of entries) < length entries
 kids_few entries row has here = let whole : length entries ≡ length (entries_of row (subkeys_of entries)) = ap length (has.whole row here) in omega (arith, whole, below_some (subkeys_of entries) has.nodes)
 
-pub kids_next : (a b c : List ℕ) (securities : List Security) (places : List ℕ) (ks : List (List ℕ × Entries)) (i at : ℕ) (es : Entries) → AllByRecursion (λ (k : List ℕ × Entries). root_name k.1 ≡ k.0) ks → Some es ≡ slice_get (map (λ k. k.1) ks) i → Makes a b (PutsKids securities places (take i ks)) → Makes b c (PutsKey securities at es) → Makes a c (PutsKids securities (places ++ at ∷ []) (take (i + 1) ks))
-kids_next a b c securities places ks i at es named e m n =
+pub kids_next : (a b c : List ℕ) (securities : List Security) (parent : ℕ) (places : List ℕ) (ks : List (List ℕ × Entries)) (i at : ℕ) (es : Entries) → AllByRecursion (λ (k : List ℕ × Entries). root_name k.1 ≡ k.0) ks → Some es ≡ slice_get (map (λ k. k.1) ks) i → Makes a b (PutsKids securities parent places (take i ks)) → Makes b c (PutsKey securities parent at es) → Makes a c (PutsKids securities parent (places ++ at ∷ []) (take (i + 1) ks))
+kids_next a b c securities parent places ks i at es named e m n =
     let k = found_kid ks i es named e in
-    subst (λ (kids : List (List ℕ × Entries)). Makes a c (PutsKids securities (places ++ at ∷ []) kids)) (sym (take_next ks i (k.0, es) k.1)) (kids_more a b c securities places (take i ks) at k.0 es k.2 m n)
+    subst (λ (kids : List (List ℕ × Entries)). Makes a c (PutsKids securities parent (places ++ at ∷ []) kids)) (sym (take_next ks i (k.0, es) k.1)) (kids_more a b c securities parent places (take i ks) at k.0 es k.2 m n)
 
 pub both_made : (a b c : List ℕ) (P Q : Cells → Cells → Type 0) → Makes a b P → Makes b c Q → Makes a c (λ x z. Unit {0})
 both_made a b c P Q m n = made_then a b c P Q (λ x z. Unit {0}) m n (λ x y z g h p q. tt)

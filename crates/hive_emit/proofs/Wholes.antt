@@ -29,6 +29,7 @@ use Rattle.hive_cells.specs.Tiles.{Tiles}
 use Rattle.hive_cells.specs.Bins.{Cells, Shows}
 use Rattle.hive_shape.specs.Lists.{IsIn}
 use Rattle.hive_shape.specs.Stands.{Stands}
+use Rattle.hive_records.specs.Numbers.{nowhere}
 use Rattle.hive_records.specs.Images.{splits, StandsFor}
 use Rattle.hive_records.specs.KeyNodes.{keys_in}
 use Rattle.hive_records.proofs.NodesOf.{tree_of_node}
@@ -164,16 +165,16 @@ tree_few tree root node same light = omega (arith, count_rows root, root_weight 
 record Ended (securities : List Security) (root : ℕ) (entries : Entries) (x z : Cells) : Type 0 where
   y : Cells
   held : AreHeld securities y
-  key : KeyAt securities root entries y z
+  key : KeyAt securities nowhere root entries y z
 
 held_there : (securities : List Security) (cells : Cells) → AreHeld securities cells → (cell : ℕ) → IsIn cell (security_cells securities) → IsSome (cells cell)
 held_there [] cells h cell i = absurd i
 held_there (s ∷ securities) cells h cell (inl e) = ap is_some (ap cells e ∙ h.0.text.1)
 held_there (s ∷ securities) cells h cell (inr i) = held_there securities cells h.1 cell i
 
-pub stands_at_end : (a b c : List ℕ) (securities : List Security) (root minor : ℕ) (tree : TreeMap) (entries : Entries) (before : Cells) → Shows a before → 4 ≤ minor → IsNode entries → tree ≡ finite.from_sorted entries → Tiles c → Makes a b (Holding securities) → Makes b c (PutsKey securities root entries) → StandsFor c root minor tree
+pub stands_at_end : (a b c : List ℕ) (securities : List Security) (root minor : ℕ) (tree : TreeMap) (entries : Entries) (before : Cells) → Shows a before → 4 ≤ minor → IsNode entries → tree ≡ finite.from_sorted entries → Tiles c → Makes a b (Holding securities) → Makes b c (PutsKey securities nowhere root entries) → StandsFor c root minor tree
 stands_at_end a b c securities root minor tree entries before shows new node same tiles m n =
-    let all = made_then a b c (Holding securities) (PutsKey securities root entries) (Ended securities root entries) m n (λ x y z g h held put. record { y = y; held = held; key = put held }) in
+    let all = made_then a b c (Holding securities) (PutsKey securities nowhere root entries) (Ended securities root entries) m n (λ x y z g h held put. record { y = y; held = held; key = put held }) in
     let z = all.cells before shows in
     let k = z.3.key in
     let split : true ≡ splits minor = sym (le-leb 4 minor new) in (

@@ -84,12 +84,12 @@ kids_of none = []
 kids_of (key at parts below after) = record { at = at; name = parts.name } ∷ kids_of after
 
 -- each of them, and each key below, is written in its form
-abbrev pub AreFormed : Cells → (List ℕ → ℕ → Type 0) → Keys Row → Type 0
-AreFormed cells Names none = Unit {0}
-AreFormed cells Names (key at parts below after) = KeyForm cells Names at parts (kids_of below) × AreFormed cells Names below × AreFormed cells Names after
+abbrev pub AreFormed : Cells → (List ℕ → ℕ → Type 0) → ℕ → Keys Row → Type 0
+AreFormed cells Names parent none = Unit {0}
+AreFormed cells Names parent (key at parts below after) = KeyForm cells Names parent at parts (kids_of below) × AreFormed cells Names at below × AreFormed cells Names parent after
 
 -- a key and all below it are written, its record at an offset
-pub record KeyAt (securities : List Security) (at : ℕ) (entries : Entries) (before after : Cells) : Type 0 where
+pub record KeyAt (securities : List Security) (parent at : ℕ) (entries : Entries) (before after : Cells) : Type 0 where
   pub parts : Parts Row
   pub below : Keys Row
   pub written : Written (keys_in true) before after at parts below
@@ -97,25 +97,25 @@ pub record KeyAt (securities : List Security) (at : ℕ) (entries : Entries) (be
   pub name : root_name entries ≡ parts.name
   pub near : at < 2 ^ 32
   pub lent : (cell : ℕ) → IsIn cell (parts.lent ++ lent_cells below) → IsIn cell (security_cells securities)
-  pub form : KeyForm after (IsOffsetOf securities) at parts (kids_of below)
-  pub formed : AreFormed after (IsOffsetOf securities) below
+  pub form : KeyForm after (IsOffsetOf securities) parent at parts (kids_of below)
+  pub formed : AreFormed after (IsOffsetOf securities) at below
 
 -- where the security cells are held, it is so
-abbrev pub PutsKey : List Security → ℕ → Entries → Cells → Cells → Type 0
-PutsKey securities at entries before after = AreHeld securities before → KeyAt securities at entries before after
+abbrev pub PutsKey : List Security → ℕ → ℕ → Entries → Cells → Cells → Type 0
+PutsKey securities parent at entries before after = AreHeld securities before → KeyAt securities parent at entries before after
 
 -- the first of a key's subkeys are written
-pub record KidsDone (securities : List Security) (places : List ℕ) (kids : List (List ℕ × Entries)) (before after : Cells) : Type 0 where
+pub record KidsDone (securities : List Security) (parent : ℕ) (places : List ℕ) (kids : List (List ℕ × Entries)) (before after : Cells) : Type 0 where
   pub keys : Keys Row
   pub writing : Writing (keys_in true) before after keys
   pub at : offsets keys ≡ places
   pub listed : AreListed kids keys
   pub near : AreOffsets places
   pub lent : (cell : ℕ) → IsIn cell (lent_cells keys) → IsIn cell (security_cells securities)
-  pub formed : AreFormed after (IsOffsetOf securities) keys
+  pub formed : AreFormed after (IsOffsetOf securities) parent keys
 
-abbrev pub PutsKids : List Security → List ℕ → List (List ℕ × Entries) → Cells → Cells → Type 0
-PutsKids securities places kids before after = AreHeld securities before → KidsDone securities places kids before after
+abbrev pub PutsKids : List Security → ℕ → List ℕ → List (List ℕ × Entries) → Cells → Cells → Type 0
+PutsKids securities parent places kids before after = AreHeld securities before → KidsDone securities parent places kids before after
 
 -- the other cells of a key's own are written: class, values, and the list of the subkeys at places
 pub record OwnAt (class values kids : ℕ) (row : Row) (places : List ℕ) (subkeys : List (List ℕ × Entries)) (before after : Cells) : Type 0 where
@@ -141,8 +141,9 @@ pub record ClassAt (at : ℕ) (class : List ℕ) (before after : Cells) : Type 0
   pub is : IsClass at class own after
   pub gives : Gives (class_at (length class) at) after own [] class
 
--- what a key's record says beside its row: how many subkeys and values, and where its cells are
-pub record NodePlaces (its : KeyPlaces) (row : Row) (kid_count security class values kids : ℕ) : Type 0 where
+-- what a key's record says beside its row: its parent, how many subkeys and values it has, and where its cells are
+pub record NodePlaces (its : KeyPlaces) (row : Row) (parent kid_count security class values kids : ℕ) : Type 0 where
+  pub parent_is : its.parent ≡ parent
   pub kid_count_is : its.kid_count ≡ kid_count
   pub value_count_is : its.value_count ≡ finite.len row.values
   pub security_is : its.security ≡ security

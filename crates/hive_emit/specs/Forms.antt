@@ -13,7 +13,6 @@ use Rattle.reg_tree.specs.Maps.{TreeMap}
 use Rattle.hive_cells.specs.Bins.{Cells, Shows}
 use Rattle.hive_shape.specs.Lists.{IsIn, Once}
 use Rattle.hive_shape.specs.Keys.{Parts, Reads}
-use Rattle.hive_shape.specs.Chains.{Leads}
 use Rattle.hive_records.specs.Numbers.{nowhere}
 use Rattle.hive_records.specs.Fields.{Holds}
 use Rattle.hive_records.specs.KeyNodes.{keys_in}
@@ -46,13 +45,14 @@ AreRead reads subkeys = AllByRecursion (λ (k : Kid). (parts : Parts Row) × (re
 abbrev pub IsClass : ℕ → List ℕ → List ℕ → Cells → Type 0
 IsClass at class own cells = ((class ≡ []) × (at ≡ nowhere) × (own ≡ [])) ⊎ ((0 < length class) × Holds cells at class × (own ≡ at ∷ []))
 
--- A key is written, its record at an offset: the record is its row's text; its class is in its cell; its values are listed
+-- A key is written, its record at an offset: the record is its row's text and names the parent; its class is in its cell; its values are listed
 -- in the order of their folded names; its subkeys in the order of theirs, in one leaf of at most 500 or in leaves of at
 -- most 500 and a list of these, with hashes where no name is past ASCII; and the record names the security cell of its
 -- descriptor. So the key hangs on its record and these cells.
-pub record KeyForm (cells : Cells) (Names : List ℕ → ℕ → Type 0) (at : ℕ) (parts : Parts Row) (subkeys : List Kid) : Type 0 where
+pub record KeyForm (cells : Cells) (Names : List ℕ → ℕ → Type 0) (parent at : ℕ) (parts : Parts Row) (subkeys : List Kid) : Type 0 where
   pub its : KeyPlaces
   pub text : Holds cells at (key_text parts.row its)
+  pub parent_is : its.parent ≡ parent
   pub kid_count : its.kid_count ≡ length subkeys
   pub value_count : its.value_count ≡ finite.len parts.row.values
   pub class_own : List ℕ
@@ -66,13 +66,19 @@ pub record KeyForm (cells : Cells) (Names : List ℕ → ℕ → Type 0) (at : �
   pub security : Names parts.row.descriptor its.security
 
 -- the key at an offset is written so, with the subkeys that are read from its list
-pub record IsKeyForm (cells : Cells) (Names : List ℕ → ℕ → Type 0) (at : ℕ) : Type 0 where
+pub record IsKeyForm (cells : Cells) (Names : List ℕ → ℕ → Type 0) (parent at : ℕ) : Type 0 where
   pub parts : Parts Row
   pub subkeys : List Kid
   pub reads : keys_in true cells at ≡ Ok parts
   pub listed : places subkeys ≡ parts.kids
   pub named : AreRead (keys_in true cells) subkeys
-  pub form : KeyForm cells Names at parts subkeys
+  pub form : KeyForm cells Names parent at parts subkeys
+
+-- a way, which is the places of subkeys in the lists of one key after another, leads from the key at an offset to that at
+-- another; and from the offset that the first one has for its parent to that of the last one's
+abbrev pub LeadsUnder : Reads Row Refusal → ℕ → ℕ → List ℕ → ℕ → ℕ → Type 0
+LeadsUnder reads above at [] parent to = (above ≡ parent) × (at ≡ to)
+LeadsUnder reads above at (i ∷ way) parent to = (parts : Parts Row) × (kid : ℕ) × (reads at ≡ Ok parts) × (slice_get parts.kids i ≡ Some kid) × LeadsUnder reads at kid way parent to
 
 -- ---- security cells
 
@@ -114,10 +120,11 @@ IsNamed all descriptor at = ((descriptor ≡ []) × (at ≡ nowhere)) ⊎ ((s : 
 
 -- ---- the whole
 
--- the data of an image are written so, for a tree: its security cells, and each key that the root leads to
+-- the data of an image are written so, for a tree: its security cells, and each key that the root leads to, which has no
+-- parent itself
 pub record IsFormed (bytes : List ℕ) (root : ℕ) (tree : TreeMap) : Type 0 where
   pub cells : Cells
   pub shows : Shows bytes cells
   pub securities : List SecurityCell
   pub ring : AreSecurities cells tree securities
-  pub keys : (way : List ℕ) (at : ℕ) → Leads (keys_in true cells) root way at → IsKeyForm cells (IsNamed securities) at
+  pub keys : (way : List ℕ) (parent at : ℕ) → LeadsUnder (keys_in true cells) nowhere root way parent at → IsKeyForm cells (IsNamed securities) parent at

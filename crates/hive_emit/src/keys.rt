@@ -116,7 +116,7 @@ fn put_own(
 fn key_places(node: &Node, parent: u32, security: u32, own: &Own) -> KeyPlaces
     requires can { CanPutKeys node.now }
     requires few { length (subkeys_of node.now) < 2 ^ 24 }
-    ensures { (row : Row) → row_at node.now [] ≡ Some row → NodePlaces result row
+    ensures { (row : Row) → row_at node.now [] ≡ Some row → NodePlaces result row parent
         (length (subkeys_of node.now)) security own.now.class own.now.values own.now.kids }
 {
     let key = node.key();
@@ -184,7 +184,7 @@ fn put_subkeys(
     requires counted { AreCounted securities.now node.now }
     requires few { length node.now < 2 ^ 24 }
     ensures made { IfOk result (λ places. Makes image.old.bytes image.new.bytes
-        (PutsKids securities.now places.items (subkeys_of node.now))) }
+        (PutsKids securities.now parent places.items (subkeys_of node.now))) }
     ensures count { IfOk result (λ places. length places.items ≡ length (subkeys_of node.now)) }
     ensures near { IfOk result (λ places. AreOffsets places.items) }
     ensures has { HasSubkeys node.now (subkeys_of node.now) }
@@ -222,7 +222,7 @@ pub(crate) fn put_key(
     requires counted { AreCounted securities.now node.now }
     requires few { length node.now < 2 ^ 24 }
     ensures made { IfOk result (λ at. Makes image.old.bytes image.new.bytes
-        (PutsKey securities.now at node.now)) }
+        (PutsKey securities.now parent at node.now)) }
     ensures uses { OnOk result (Uses image.old.bytes image.new.bytes (keys_cost node.now)) }
     ensures stops { IfErr result (Stops image.old.bytes (keys_cost node.now)) }
 {
