@@ -9,7 +9,9 @@ use Rattle.std.specs.BTreeMap.{insert_entry}
 use Rattle.std.specs.declared.cmp.Ordering.{Ordering}
 use Rattle.std.specs.declared.cmp.Ordering.TheVariants.{Less, Equal, Greater}
 use Rattle.std.proofs.lemmas.Bool.{cases_eq}
+use Rattle.reg_tree_parts.proofs.Finds.{equal_of}
 use Rattle.reg_tree_parts.proofs.Keys.{names_total, names_apart}
+use Rattle.hive_shape.proofs.Basics.{some_same}
 use Rattle.hive_shape.specs.Lists.{IsIn}
 use Rattle.hive_emit.specs.declared.security.Security.{Security}
 use Rattle.hive_emit.specs.Emitting.{Has}
@@ -22,16 +24,11 @@ order k j = slice_cmp nat_cmp k.items j.items
 tied : (xs ys : List ℕ) → xs ≡ ys → is_eq (slice_cmp nat_cmp xs ys) ≡ true
 tied xs ys e = ap (λ (zs : List ℕ). is_eq (slice_cmp nat_cmp xs zs)) (sym e) ∙ ap is_eq (tied_itself names_total xs)
 
-equal : (o : Ordering) → is_eq o ≡ true → o ≡ Equal
-equal Less e = cc
-equal Equal e = refl
-equal Greater e = cc
-
 untied : (xs ys : List ℕ) → (xs ≡ ys → ⊥) → is_eq (slice_cmp nat_cmp xs ys) ≡ false
 untied xs ys apart = by (is_eq (slice_cmp nat_cmp xs ys)) refl
   where
     by : (b : Bool) → is_eq (slice_cmp nat_cmp xs ys) ≡ b → is_eq (slice_cmp nat_cmp xs ys) ≡ false
-    by true e = absurd (apart (names_apart xs ys (equal (slice_cmp nat_cmp xs ys) e)))
+    by true e = absurd (apart (names_apart xs ys (equal_of (slice_cmp nat_cmp xs ys) e)))
     by false e = e
 
 -- what an insertion makes of the places
@@ -59,15 +56,12 @@ placed_other (x ∷ es) k v d apart = by (placed_other es k v d apart) (order k 
     by rest Greater f = ap (λ (p : Option ℕ). cond (is_eq (slice_cmp nat_cmp d (let y = x.0 in y.items))) (Some x.1) p) rest
 
 -- what the map has no place for is not kept, nor is what is kept at another place than the map has for it
-some_number : (m n : ℕ) → Some m ≡ Some n → m ≡ n
-some_number m n e = cc
-
 pub none_filed : (es : List (Vec ℕ × ℕ)) (cells : List Security) (d : List ℕ) → AreFiled es cells → None ≡ place_of es d → Has cells d → ⊥
 none_filed es cells d filed none has = let e : None ≡ Some has.place = none ∙ ap (place_of es) (sym has.same) ∙ filed has.place has.security has.is in let never : ⊥ = cc in never
 
 pub filed_there : (es : List (Vec ℕ × ℕ)) (cells : List Security) (place : ℕ) (d : List ℕ) → AreFiled es cells → Some place ≡ place_of es d → Has cells d → HasAt cells place d
 filed_there es cells place d filed there has =
-    let same : has.place ≡ place = some_number has.place place (sym (filed has.place has.security has.is) ∙ ap (place_of es) has.same ∙ sym there) in
+    let same : has.place ≡ place = some_same has.place place (sym (filed has.place has.security has.is) ∙ ap (place_of es) has.same ∙ sym there) in
     subst (λ (i : ℕ). HasAt cells i d) same (record { security = has.security; is = has.is; same = has.same })
 
 -- cells that are filed stay so
@@ -92,13 +86,10 @@ filed_push es cells k v new same long fresh filed i s e = elim (got_push cells n
 pub filed_set : (es : List (Vec ℕ × ℕ)) (cells : List Security) (place : ℕ) (old new : Security) → place < length cells → slice_get cells place ≡ Some old → new.descriptor ≡ old.descriptor → AreFiled es cells → AreFiled es (slice_set cells place new)
 filed_set es cells place old new inside is same filed i s e = elim (cases_eq i place) [
   | inl here ↦
-      let it : s ≡ new = some_is s new (sym e ∙ ap (slice_get (slice_set cells place new)) here ∙ set_here cells place new inside) in
+      let it : s ≡ new = some_same s new (sym e ∙ ap (slice_get (slice_set cells place new)) here ∙ set_here cells place new inside) in
       ap (place_of es) (ap (λ (x : Security). x.descriptor) it ∙ same) ∙ filed place old is ∙ ap Some (sym here)
   | inr apart ↦ filed i s (sym (set_there cells place i new apart) ∙ e)
 ]
-  where
-    some_is : (x y : Security) → Some x ≡ Some y → x ≡ y
-    some_is x y e = cc
 
 -- and none of them has the descriptor of another
 in_at : (d : List ℕ) (cells : List Security) → IsIn d (map (λ (t : List ℕ × ℕ). t.0) (tallies cells)) → (i : ℕ) × (s : Security) × (slice_get cells i ≡ Some s) × (s.descriptor ≡ d)
@@ -111,7 +102,7 @@ apart_from es n [] filed = tt
 apart_from es n (c ∷ cells) filed = (
   (λ twice.
       let x = in_at c.descriptor cells twice in
-      let same : n + 0 ≡ n + suc x.0 = some_number (n + 0) (n + suc x.0) (sym (filed zero c refl) ∙ ap (place_of es) (sym x.3) ∙ filed (suc x.0) x.1 x.2) in
+      let same : n + 0 ≡ n + suc x.0 = some_same (n + 0) (n + suc x.0) (sym (filed zero c refl) ∙ ap (place_of es) (sym x.3) ∙ filed (suc x.0) x.1 x.2) in
       omega (arith, same)),
   apart_from es (n + 1) cells (λ i s e. filed (suc i) s e ∙ ap Some (let shift : n + suc i ≡ n + 1 + i = omega arith in shift)),
 )

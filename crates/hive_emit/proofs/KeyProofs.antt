@@ -59,7 +59,7 @@ held_at [] cells i s h e = absurd (let no : ⊥ = cc in no)
 held_at (t ∷ securities) cells zero s h e = let same : t ≡ s = cc in (subst (IsHeld cells) same h.0, inl (ap (λ (x : Security). x.at) (sym same)))
 held_at (t ∷ securities) cells (suc i) s h e = let rest = held_at securities cells i s h.1 e in (rest.0, inr rest.1)
 
-held_there : (securities : List Security) (cells : Cells) → AreHeld securities cells → (cell : ℕ) → IsIn cell (security_cells securities) → IsSome (cells cell)
+pub held_there : (securities : List Security) (cells : Cells) → AreHeld securities cells → (cell : ℕ) → IsIn cell (security_cells securities) → IsSome (cells cell)
 held_there [] cells h cell i = absurd i
 held_there (s ∷ securities) cells h cell (inl e) = ap is_some (ap cells e ∙ h.0.text.1)
 held_there (s ∷ securities) cells h cell (inr i) = held_there securities cells h.1 cell i

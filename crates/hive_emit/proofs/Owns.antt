@@ -4,6 +4,7 @@ use Rattle.std.specs.FinMap as finite
 use Rattle.hive_cells.specs.Bins.{Cells}
 use Rattle.hive_shape.specs.Lists.{IsIn}
 use Rattle.hive_shape.specs.Cells.{Grows}
+use Rattle.hive_shape.proofs.Basics.{some_same}
 use Rattle.reg_tree_parts.specs.Rows.{Row}
 use Rattle.reg_tree_parts.specs.Nodes.{Entries, row_at, IsNode}
 use Rattle.hive_records.specs.Readers.{Reader}
@@ -78,9 +79,6 @@ own_made a b c d class values kids row offsets subkeys plain near all past m n o
     })
 
 -- a key's own row
-some_same : {A : Type 0} (x y : A) → Some x ≡ Some y → x ≡ y
-some_same x y e = cc
-
 pub row_same : (entries : Entries) (a b : Row) → row_at entries [] ≡ Some a → row_at entries [] ≡ Some b → a ≡ b
 row_same entries a b e f = some_same a b (sym e ∙ f)
 

@@ -7,6 +7,7 @@ use Rattle.std.proofs.lemmas.List.{length-map}
 use Rattle.std.proofs.lemmas.List.Sums.{sum_by-cons}
 use Rattle.std.proofs.lemmas.Option.{slice_get_within}
 use Rattle.hive_cells.specs.Bins.{Cells}
+use Rattle.hive_shape.proofs.Basics.{some_same}
 use Rattle.hive_shape.specs.Lists.{IsIn}
 use Rattle.hive_records.specs.Fields.{Holds}
 use Rattle.hive_records.specs.KeyTexts.{security_text}
@@ -79,13 +80,10 @@ behind_within n i h = elim (cases_eq (i + 1) n) [
 planned_set : (planned now : List Security) (i : ℕ) (new : Security) → i < length now → ArePlanned planned now i → IsPlanned planned i new → ArePlanned planned (slice_set now i new) (i + 1)
 planned_set planned now i new inside before is j s h e = elim (cases_eq j i) [
   | inl here ↦
-      let it : s ≡ new = some_is s new (sym e ∙ ap (slice_get (slice_set now i new)) here ∙ set_here now i new inside) in
+      let it : s ≡ new = some_same s new (sym e ∙ ap (slice_get (slice_set now i new)) here ∙ set_here now i new inside) in
       subst (λ (k : ℕ). IsPlanned planned k s) (sym here) (subst (IsPlanned planned i) (sym it) is)
   | inr apart ↦ before j s (omega (arith, h, apart)) (sym (set_there now i j new apart) ∙ e)
 ]
-  where
-    some_is : (x y : Security) → Some x ≡ Some y → x ≡ y
-    some_is x y e = cc
 
 pub laid_none : (planned : List Security) (bytes : List ℕ) (previous more : ℕ) → (0 < length planned → previous ≡ spot planned (length planned - 1)) → RoomyAt bytes 32 (securities_cost planned + more) → Laid planned planned bytes 0 previous more
 laid_none planned bytes previous more last room = record {

@@ -4,6 +4,7 @@ use Rattle.std.specs.Prelude.{slice_set}
 use Rattle.std.specs.List.{AllByRecursion}
 use Rattle.std.proofs.lemmas.Bool.{cases_eq}
 use Rattle.std.proofs.lemmas.Option.{slice_get_read}
+use Rattle.hive_shape.proofs.Basics.{some_same}
 use Rattle.hive_emit.specs.declared.security.Security.{Security}
 use Rattle.reg_tree_parts.specs.Rows.{Row}
 use Rattle.reg_tree_parts.specs.Nodes.{Entries, below, all_below, row_at, root_name, subkeys_of, HasSubkeys}
@@ -16,9 +17,6 @@ use Rattle.hive_key_writer.proofs.ValueMaps.{take_next, all_at}
 use Rattle.hive_emit.proofs.KeyProofs.{all_parts, found_kid, held_grown}
 use Rattle.hive_emit.specs.Emitting.{Has, IsOffsetOf, IsCounted, AreCounted, IsHeld, Holding}
 use Rattle.hive_emit.specs.Securing.{HasAt}
-
-some_same : {A : Type 0} (x y : A) → Some x ≡ Some y → x ≡ y
-some_same x y e = cc
 
 -- the offset of a cell that is kept at a place
 pub found_cell : (cells : List Security) (place : ℕ) (a : Security) (d : List ℕ) → a ≡ get_or cells place a → place < length cells → HasAt cells place d → IsOffsetOf cells d a.at
