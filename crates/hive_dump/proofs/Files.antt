@@ -1,5 +1,5 @@
 -- What was read of a file, as its bytes.
-use Rattle.std.proofs.Common.{◌≡◌, inl, inr, ℕ, ◌≤◌, ◌<◌, ◌≢◌, zero, suc, Bool, true, false, ◌&&◌, List, [], ◌++◌, length, take, drop, Option, Some, None, IfSome, refl, sym, ◌∙◌, ap, subst, arith, length-append, drop_at}
+use Rattle.std.proofs.Common.{◌≡◌, inl, inr, length-take-le, ℕ, ◌≤◌, ◌<◌, ◌≢◌, zero, suc, Bool, true, false, ◌&&◌, List, [], ◌++◌, length, take, drop, Option, Some, None, IfSome, refl, sym, ◌∙◌, ap, subst, arith, length-append, drop_at}
 use Rattle.std.specs.Prelude.{nat_le}
 use Rattle.std.proofs.lemmas.Bool.{and_parts, le-leb}
 use Rattle.std.proofs.lemmas.List.{append-nil, take_at, take-append-le}
@@ -35,6 +35,14 @@ read_block known now head block read end told = some_as known (λ file is. (told
 
 pub read_whole : (head : List ℕ) (block : BaseBlock) → ((file : List ℕ) → IsFront head file → HasBlock file block × (4096 ≤ length head)) → 4096 ≤ length head
 read_whole head block told = (told head ([], sym (append-nil head), λ short. refl)).1
+
+-- so of what was read into a buffer for it
+pub head_read : (known now : Option (List ℕ)) (buffer : List ℕ) (count : ℕ) (block : BaseBlock) → length buffer ≡ 4096 → count ≤ length buffer → Consumes known now (take count buffer) → (count < length buffer → IsAtEnd now)
+    → ((file : List ℕ) → IsFront (take count buffer) file → HasBlock file block × (4096 ≤ length (take count buffer))) → (length (take count buffer) ≡ 4096) × IfSome known (λ file. HasBlock file block)
+head_read known now buffer count block room few read end told =
+    let long : length (take count buffer) ≡ count = length-take-le count buffer few in
+    let whole : 4096 ≤ length (take count buffer) = read_whole (take count buffer) block told in
+    (omega (arith, room, long, whole, few), read_block known now (take count buffer) block read (λ less. end (omega (arith, room, long, less))) told)
 
 -- the bins data behind a whole base block
 own_bins : (file head rest bins tail : List ℕ) (block : BaseBlock) → file ≡ head ++ rest → length head ≡ 4096 → rest ≡ bins ++ tail → HasBlock file block → length bins ≡ block.bins_size → IsOwn file block bins

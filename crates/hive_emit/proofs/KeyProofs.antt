@@ -26,7 +26,7 @@ use Rattle.hive_records.specs.Fields.{Gives, Holds}
 use Rattle.hive_records.specs.KeyNodes.{keys_in, class_at, descriptor_at}
 use Rattle.hive_records.specs.Values.{values_at}
 use Rattle.hive_records.specs.Lists.{kids_at}
-use Rattle.hive_records.specs.ListTexts.{AreOffsets}
+use Rattle.hive_records.specs.ListTexts.{Kid, AreOffsets}
 use Rattle.hive_records.specs.KeyTexts.{key_text, security_text, KeyPlacesFit}
 use Rattle.hive_records.specs.Nodes.{IsNodeOf}
 use Rattle.hive_records.specs.declared.key_places.KeyPlaces.{KeyPlaces}
@@ -37,23 +37,29 @@ use Rattle.hive_records.proofs.NodesOf.{node_of}
 use Rattle.hive_keys.specs.Nodes.{AreListed}
 use Rattle.hive_keys.proofs.Listed.{listed_rows, listed_more, listed_names}
 use Rattle.hive_key_writer.specs.Making.{Makes, Opens, Fills, IsLongCell}
+use Rattle.hive_key_writer.specs.Values.{AreListedValues}
+use Rattle.hive_key_writer.specs.KeyLists.{placed, IsListed}
+use Rattle.hive_key_writer.proofs.Leaves.{placed_long}
+use Rattle.hive_key_writer.proofs.Stays.{listed_stays, values_stay}
 use Rattle.hive_key_writer.proofs.Makings.{made_then, made_none, holds_grown, grows_on, all_push, all_as, some_not}
 use Rattle.hive_key_writer.proofs.ValueMaps.{take_next}
 use Rattle.hive_key_writer.proofs.NewCells.{data_long}
 use Rattle.hive_emit.specs.declared.security.Security.{Security}
-use Rattle.hive_emit.specs.Emitting.{IsHeld, AreHeld, security_cells, CanPutKey, CanPutKeys, IsCounted, AreCounted, KeyAt, PutsKey, KidsDone, PutsKids, OwnAt, NodePlaces, IsOffsetOf}
+use Rattle.hive_emit.specs.Emitting.{IsHeld, AreHeld, security_cells, CanPutKey, CanPutKeys, IsCounted, AreCounted, KeyAt, PutsKey, KidsDone, PutsKids, OwnAt, NodePlaces, IsOffsetOf, kids_of}
+use Rattle.hive_emit.specs.Forms.{is_plain, Rises, IsClass}
 use Rattle.hive_emit.proofs.Owns.{gives_stays}
+use Rattle.hive_emit.proofs.Formed.{class_stays, formed_stay, formed_grown, formed_last, placed_kids, placed_rise}
 
 -- security cells stay held
 pub held_grown : (securities : List Security) (y z : Cells) → Grows y z → AreHeld securities y → AreHeld securities z
-held_grown securities y z g h = all_as (IsHeld y) (IsHeld z) securities (λ s is. record { near = is.near; few = is.few; next = is.next; previous = is.previous; count = is.count; text = holds_grown y z s.at (security_text is.next is.previous is.count s.descriptor) g is.text }) h
+held_grown securities y z g h = all_as (IsHeld y) (IsHeld z) securities (λ s is. record { near = is.near; few = is.few; text = holds_grown y z s.at (security_text s.next s.previous s.count s.descriptor) g is.text }) h
 
 held_at : (securities : List Security) (cells : Cells) (i : ℕ) (s : Security) → AreHeld securities cells → slice_get securities i ≡ Some s → IsHeld cells s × IsIn s.at (security_cells securities)
 held_at [] cells i s h e = absurd (let no : ⊥ = cc in no)
 held_at (t ∷ securities) cells zero s h e = let same : t ≡ s = cc in (subst (IsHeld cells) same h.0, inl (ap (λ (x : Security). x.at) (sym same)))
 held_at (t ∷ securities) cells (suc i) s h e = let rest = held_at securities cells i s h.1 e in (rest.0, inr rest.1)
 
-held_there : (securities : List Security) (cells : Cells) → AreHeld securities cells → (cell : ℕ) → IsIn cell (security_cells securities) → IsSome (cells cell)
+pub held_there : (securities : List Security) (cells : Cells) → AreHeld securities cells → (cell : ℕ) → IsIn cell (security_cells securities) → IsSome (cells cell)
 held_there [] cells h cell i = absurd i
 held_there (s ∷ securities) cells h cell (inl e) = ap is_some (ap cells e ∙ h.0.text.1)
 held_there (s ∷ securities) cells h cell (inr i) = held_there securities cells h.1 cell i
@@ -76,7 +82,7 @@ lent_of securities cells at descriptor h (inr found) =
       lent = at ∷ [];
       gives = subst (λ (d : List ℕ). Gives (descriptor_at at) cells [] (at ∷ []) d) found.same
           (subst (λ (a : ℕ). Gives (descriptor_at a) cells [] (a ∷ []) found.security.descriptor) found.here
-          (security_again cells found.security.at held.0.next held.0.previous held.0.count found.security.descriptor held.0.near held.0.few held.0.text));
+          (security_again cells found.security.at found.security.next found.security.previous found.security.count found.security.descriptor held.0.near held.0.few held.0.text));
       among = λ cell i. elim i [ inl e ↦ subst (λ (x : ℕ). IsIn x (security_cells securities)) (sym (e ∙ sym found.here)) held.1 | inr past ↦ absurd past ];
     }
 
@@ -140,11 +146,11 @@ lent_last (key to q kids after) at p below cell h = elim (in_either cell (q.lent
   | inr i ↦ elim (lent_last after at p below cell i) [ inl j ↦ inl (in_back cell (q.lent ++ lent_cells kids) (lent_cells after) j) | inr j ↦ inr j ]
 ]
 
-pub no_kids_done : (bytes : List ℕ) (securities : List Security) → Makes bytes bytes (PutsKids securities [] [])
-no_kids_done bytes securities = made_none bytes (PutsKids securities [] []) (λ x held. record { keys = none; writing = writes_none (keys_in true) (keys_local true) (keys_there true) x; at = refl; listed = tt; near = tt; lent = λ cell i. absurd i })
+pub no_kids_done : (bytes : List ℕ) (securities : List Security) (parent : ℕ) → Makes bytes bytes (PutsKids securities parent [] [])
+no_kids_done bytes securities parent = made_none bytes (PutsKids securities parent [] []) (λ x held. record { keys = none; writing = writes_none (keys_in true) (keys_local true) (keys_there true) x; at = refl; listed = tt; near = tt; lent = λ cell i. absurd i; formed = tt })
 
-kids_on : (securities : List Security) (places : List ℕ) (kids : List (List ℕ × Entries)) (at : ℕ) (name : List ℕ) (entries : Entries) (x y z : Cells) → root_name entries ≡ name → Grows x y → Grows y z → PutsKids securities places kids x y → PutsKey securities at entries y z → PutsKids securities (places ++ at ∷ []) (kids ++ (name, entries) ∷ []) x z
-kids_on securities places kids at name entries x y z named g h done one held =
+kids_on : (securities : List Security) (parent : ℕ) (places : List ℕ) (kids : List (List ℕ × Entries)) (at : ℕ) (name : List ℕ) (entries : Entries) (x y z : Cells) → root_name entries ≡ name → Grows x y → Grows y z → PutsKids securities parent places kids x y → PutsKey securities parent at entries y z → PutsKids securities parent (places ++ at ∷ []) (kids ++ (name, entries) ∷ []) x z
+kids_on securities parent places kids at name entries x y z named g h done one held =
     let k = done held in
     let o = one (held_grown securities x y g held) in
     record {
@@ -154,10 +160,11 @@ kids_on securities places kids at name entries x y z named g h done one held =
       listed = subst (λ (n : List ℕ). AreListed (kids ++ (n, entries) ∷ []) (with_last k.keys at o.parts o.below)) (sym o.name ∙ named) (listed_more kids k.keys at o.parts o.below entries k.listed o.node);
       near = all_push (λ at. at < 2 ^ 32) places at k.near o.near;
       lent = λ cell i. elim (lent_last k.keys at o.parts o.below cell i) [ inl j ↦ k.lent cell j | inr j ↦ o.lent cell j ];
+      formed = formed_last z (IsOffsetOf securities) parent k.keys at o.parts o.below (formed_grown y z (IsOffsetOf securities) parent k.keys k.writing.fits h k.formed) o.form o.formed;
     }
 
-pub kids_more : (a b c : List ℕ) (securities : List Security) (places : List ℕ) (kids : List (List ℕ × Entries)) (at : ℕ) (name : List ℕ) (entries : Entries) → root_name entries ≡ name → Makes a b (PutsKids securities places kids) → Makes b c (PutsKey securities at entries) → Makes a c (PutsKids securities (places ++ at ∷ []) (kids ++ (name, entries) ∷ []))
-kids_more a b c securities places kids at name entries named m n = made_then a b c (PutsKids securities places kids) (PutsKey securities at entries) (PutsKids securities (places ++ at ∷ []) (kids ++ (name, entries) ∷ [])) m n (λ x y z g h d o. kids_on securities places kids at name entries x y z named g h d o)
+pub kids_more : (a b c : List ℕ) (securities : List Security) (parent : ℕ) (places : List ℕ) (kids : List (List ℕ × Entries)) (at : ℕ) (name : List ℕ) (entries : Entries) → root_name entries ≡ name → Makes a b (PutsKids securities parent places kids) → Makes b c (PutsKey securities parent at entries) → Makes a c (PutsKids securities parent (places ++ at ∷ []) (kids ++ (name, entries) ∷ []))
+kids_more a b c securities parent places kids at name entries named m n = made_then a b c (PutsKids securities parent places kids) (PutsKey securities parent at entries) (PutsKids securities parent (places ++ at ∷ []) (kids ++ (name, entries) ∷ [])) m n (λ x y z g h d o. kids_on securities parent places kids at name entries x y z named g h d o)
 
 -- the whole key
 shown_some : (bytes : List ℕ) (at : ℕ) (o : Option (List ℕ)) → IsAllocatedCell bytes at → MatchOption o (¬ IsAllocatedCell bytes at) (λ its. IsAllocatedCell bytes at × (its ≡ cell_data bytes at)) → o ≡ Some (cell_data bytes at)
@@ -176,7 +183,7 @@ long_stays a b P at len before shows tiles new_tiles m long =
     let found = some_shown b at (cell_data a at) (x.0 at) is (x.1 at) in
     (found.0, omega (arith, long.1, data_long a at tiles long.0, data_long b at new_tiles found.0, ap length found.1))
 
-pub record Filling (at len security class values kids : ℕ) (row : Row) (its : KeyPlaces) (securities : List Security) (entries : Entries) (places : List ℕ) : Type 0 where
+pub record Filling (parent at len security class values kids : ℕ) (row : Row) (its : KeyPlaces) (securities : List Security) (entries : Entries) (places : List ℕ) : Type 0 where
   pub count : length places ≡ length (subkeys_of entries)
   pub near : AreOffsets places
   pub few : length (subkeys_of entries) < 2 ^ 24
@@ -186,7 +193,7 @@ pub record Filling (at len security class values kids : ℕ) (row : Row) (its : 
   pub here : row_at entries [] ≡ Some row
   pub can : CanPutKeys entries
   pub time : row.time < 2 ^ 64
-  pub said : NodePlaces its row (length (subkeys_of entries)) security class values kids
+  pub said : NodePlaces its row parent (length (subkeys_of entries)) security class values kids
   pub offset : IsOffsetOf securities row.descriptor security
 
 whole_of : (entries : Entries) (row : Row) → HasSubkeys entries (subkeys_of entries) → row_at entries [] ≡ Some row → entries ≡ entries_of row (subkeys_of entries)
@@ -201,9 +208,9 @@ counted_parts securities entries row has here counted = subst (AreCounted securi
 pub kids_can : (entries : Entries) (row : Row) → HasSubkeys entries (subkeys_of entries) → row_at entries [] ≡ Some row → CanPutKeys entries → CanPutKeys (all_below (subkeys_of entries))
 kids_can entries row has here can = (below_can entries row has here can).1
 
-at_end : (securities : List Security) (at len security class values kids : ℕ) (row : Row) (its : KeyPlaces) (entries : Entries) (places : List ℕ) (x0 x1 x2 x3 x4 : Cells) → Filling at len security class values kids row its securities entries places
-    → Grows x0 x1 → Grows x1 x2 → Grows x2 x3 → SameBut at x3 x4 → Opens at len x0 x1 → KidsDone securities places (subkeys_of entries) x1 x2 → OwnAt class values kids row places x2 x3 → Holds x4 at (key_text row its) → AreHeld securities x0 → KeyAt securities at entries x0 x4
-at_end securities at len security class values kids row its entries places x0 x1 x2 x3 x4 f g01 g12 g23 same o k own holds held = record {
+at_end : (securities : List Security) (parent at len security class values kids : ℕ) (row : Row) (its : KeyPlaces) (entries : Entries) (places : List ℕ) (x0 x1 x2 x3 x4 : Cells) → Filling parent at len security class values kids row its securities entries places
+    → Grows x0 x1 → Grows x1 x2 → Grows x2 x3 → SameBut at x3 x4 → Opens at len x0 x1 → KidsDone securities at places (subkeys_of entries) x1 x2 → OwnAt class values kids row places (subkeys_of entries) x2 x3 → Holds x4 at (key_text row its) → AreHeld securities x0 → KeyAt securities parent at entries x0 x4
+at_end securities parent at len security class values kids row its entries places x0 x1 x2 x3 x4 f g01 g12 g23 same o k own holds held = record {
   parts = parts;
   below = k.keys;
   written = writes_filled (keys_in true) (keys_local true) (keys_there true) x0 x1 x2 x3 x4 at parts k.keys rest g01 gone here k.writing g23 same read refl own.adds.once own.adds.fresh (λ cell i. held_there securities x0 held cell (k.lent cell i)) k.at once_names some_names;
@@ -211,6 +218,24 @@ at_end securities at len security class values kids row its entries places x0 x1
   name = ap root_name whole;
   near = f.near_at;
   lent = λ cell i. elim (in_either cell lends.lent (lent_cells k.keys) i) [ inl j ↦ lends.among cell j | inr j ↦ k.lent cell j ];
+  form = record {
+    its = its;
+    text = holds;
+    parent_is = f.said.parent_is;
+    kid_count = f.said.kid_count_is ∙ sym f.count ∙ sym (placed_long places (subkeys_of entries) (omega (arith, f.count))) ∙ ap length listed_are;
+    value_count = f.said.value_count_is;
+    class_own = own.class_own;
+    values_own = own.values_own;
+    kids_own = own.kids_own;
+    own = refl;
+    class = subst (λ (n : ℕ). IsClass n row.class own.class_own x4) (sym f.said.class_is) (class_stays class row.class own.class_own x3 x4 class_same own.class_is);
+    values = subst (λ (n : ℕ). AreListedValues n row.values own.values_own x4) (sym f.said.values_is) (values_stay values row.values own.values_own x3 x4 values_same own.values_is);
+    kids = subst (λ (n : ℕ). IsListed n (is_plain (kids_of k.keys)) (kids_of k.keys) own.kids_own x4) (sym f.said.kids_is)
+        (subst (λ (ks : List Kid). IsListed kids (is_plain ks) ks own.kids_own x4) listed_are (listed_stays kids (is_plain (placed places (subkeys_of entries))) (placed places (subkeys_of entries)) own.kids_own x3 x4 kids_same own.kids_is));
+    rises = subst Rises listed_are (placed_rise places (subkeys_of entries) f.has.rises);
+    security = subst (IsOffsetOf securities row.descriptor) (sym f.said.security_is) f.offset;
+  };
+  formed = formed_stay x3 x4 (IsOffsetOf securities) at k.keys (λ cell i. same cell (λ e. some_not (x1 at) here (ap x1 (sym e) ∙ k.writing.fresh cell i))) (formed_grown x2 x3 (IsOffsetOf securities) at k.keys k.writing.fits g23 k.formed);
 }
   where
     whole : entries ≡ entries_of row (subkeys_of entries)
@@ -231,6 +256,18 @@ at_end securities at len security class values kids row its entries places x0 x1
     not_at : (cell : ℕ) → IsIn cell rest → cell ≡ at → ⊥
     not_at cell i e = some_not (x2 at) mid (ap x2 (sym e) ∙ own.adds.fresh cell i)
 
+    class_same : (cell : ℕ) → IsIn cell own.class_own → x4 cell ≡ x3 cell
+    class_same cell i = same cell (λ e. not_at cell (in_front cell own.class_own (own.values_own ++ own.kids_own) i) e)
+
+    values_same : (cell : ℕ) → IsIn cell own.values_own → x4 cell ≡ x3 cell
+    values_same cell i = same cell (λ e. not_at cell (in_back cell own.class_own (own.values_own ++ own.kids_own) (in_front cell own.values_own own.kids_own i)) e)
+
+    kids_same : (cell : ℕ) → IsIn cell own.kids_own → x4 cell ≡ x3 cell
+    kids_same cell i = same cell (λ e. not_at cell (in_back cell own.class_own (own.values_own ++ own.kids_own) (in_back cell own.values_own own.kids_own i)) e)
+
+    listed_are : placed places (subkeys_of entries) ≡ kids_of k.keys
+    listed_are = ap (λ (os : List ℕ). placed os (subkeys_of entries)) (sym k.at) ∙ placed_kids (subkeys_of entries) k.keys k.listed
+
     grown : Grows x0 x4
     grown cell there = same cell (λ e. some_not (x0 cell) there (ap x0 e ∙ gone)) ∙ grows_on x0 x2 x3 (grows_on x0 x1 x2 g01 g12) g23 cell there
 
@@ -242,15 +279,15 @@ at_end securities at len security class values kids row its entries places x0 x1
 
     class_now : Gives (class_at (length row.class) its.class) x4 own.class_own [] row.class
     class_now = subst (λ (n : ℕ). Gives (class_at (length row.class) n) x4 own.class_own [] row.class) (sym f.said.class_is)
-        (gives_stays (class_at (length row.class) class) x3 x4 own.class_own [] row.class (local_class (length row.class) class) own.class_gives (λ cell i. same cell (λ e. not_at cell (in_front cell own.class_own (own.values_own ++ own.kids_own) i) e)) (λ cell i. absurd i))
+        (gives_stays (class_at (length row.class) class) x3 x4 own.class_own [] row.class (local_class (length row.class) class) own.class_gives class_same (λ cell i. absurd i))
 
     values_now : Gives (values_at true its.value_count its.values) x4 own.values_own [] row.values
     values_now = subst (λ (n : ℕ). Gives (values_at true n its.values) x4 own.values_own [] row.values) (sym f.said.value_count_is) (subst (λ (n : ℕ). Gives (values_at true (finite.len row.values) n) x4 own.values_own [] row.values) (sym f.said.values_is)
-        (gives_stays (values_at true (finite.len row.values) values) x3 x4 own.values_own [] row.values (local_values true (finite.len row.values) values) own.values_gives (λ cell i. same cell (λ e. not_at cell (in_back cell own.class_own (own.values_own ++ own.kids_own) (in_front cell own.values_own own.kids_own i)) e)) (λ cell i. absurd i)))
+        (gives_stays (values_at true (finite.len row.values) values) x3 x4 own.values_own [] row.values (local_values true (finite.len row.values) values) own.values_gives values_same (λ cell i. absurd i)))
 
     kids_now : Gives (kids_at its.kid_count its.kids) x4 own.kids_own [] places
     kids_now = subst (λ (n : ℕ). Gives (kids_at n its.kids) x4 own.kids_own [] places) (f.count ∙ sym f.said.kid_count_is) (subst (λ (n : ℕ). Gives (kids_at (length places) n) x4 own.kids_own [] places) (sym f.said.kids_is)
-        (gives_stays (kids_at (length places) kids) x3 x4 own.kids_own [] places (local_kids (length places) kids) own.kids_gives (λ cell i. same cell (λ e. not_at cell (in_back cell own.class_own (own.values_own ++ own.kids_own) (in_back cell own.values_own own.kids_own i)) e)) (λ cell i. absurd i)))
+        (gives_stays (kids_at (length places) kids) x3 x4 own.kids_own [] places (local_kids (length places) kids) own.kids_gives kids_same (λ cell i. absurd i)))
 
     security_now : Gives (descriptor_at its.security) x4 [] lends.lent row.descriptor
     security_now = subst (λ (n : ℕ). Gives (descriptor_at n) x4 [] lends.lent row.descriptor) (sym f.said.security_is) lends.gives
@@ -280,9 +317,9 @@ at_end securities at len security class values kids row its entries places x0 x1
     some_names : IsIn [] (names k.keys) → ⊥
     some_names i = some_named (subkeys_of entries) f.has.nodes f.has.named can.1 (subst (λ (ns : List (List ℕ)). IsIn [] ns) (sym names_are) i)
 
-pub key_made : (securities : List Security) (a b c d e : List ℕ) (at len security class values kids : ℕ) (row : Row) (its : KeyPlaces) (entries : Entries) (places : List ℕ) → Filling at len security class values kids row its securities entries places
-    → Makes a b (Opens at len) → Makes b c (PutsKids securities places (subkeys_of entries)) → Makes c d (OwnAt class values kids row places) → Fills d e at (key_text row its) → Makes a e (PutsKey securities at entries)
-key_made securities a b c d e at len security class values kids row its entries places f m n o p = record {
+pub key_made : (securities : List Security) (a b c d e : List ℕ) (parent at len security class values kids : ℕ) (row : Row) (its : KeyPlaces) (entries : Entries) (places : List ℕ) → Filling parent at len security class values kids row its securities entries places
+    → Makes a b (Opens at len) → Makes b c (PutsKids securities at places (subkeys_of entries)) → Makes c d (OwnAt class values kids row places (subkeys_of entries)) → Fills d e at (key_text row its) → Makes a e (PutsKey securities parent at entries)
+key_made securities a b c d e parent at len security class values kids row its entries places f m n o p = record {
   cells = λ x0 shows.
       let x1 = m.cells x0 shows in
       let x2 = n.cells x1.0 x1.1 in
@@ -292,7 +329,7 @@ key_made securities a b c d e at len security class values kids row its entries 
         x4.0,
         x4.1,
         (λ cell there. x4.2 cell (λ i. some_not (x0 cell) there (ap x0 i ∙ gone)) ∙ grows_on x0 x2.0 x3.0 (grows_on x0 x1.0 x2.0 x1.2 x2.2) x3.2 cell there),
-        (λ held. at_end securities at len security class values kids row its entries places x0 x1.0 x2.0 x3.0 x4.0 f x1.2 x2.2 x3.2 x4.2 x1.3 (x2.3 (held_grown securities x0 x1.0 x1.2 held)) x3.3 x4.3 held),
+        (λ held. at_end securities parent at len security class values kids row its entries places x0 x1.0 x2.0 x3.0 x4.0 f x1.2 x2.2 x3.2 x4.2 x1.3 (x2.3 (held_grown securities x0 x1.0 x1.2 held)) x3.3 x4.3 held),
       );
   longer = (let i = m.longer in let j = n.longer in let k = o.longer in let l = p.len in omega (arith, i, j, k, l));
 }
@@ -323,10 +360,10 @@ below_some (k ∷ ks) nodes =
 pub kids_few : (entries : Entries) (row : Row) → HasSubkeys entries (subkeys_of entries) → row_at entries [] ≡ Some row → length (subkeys_of entries) < length entries
 kids_few entries row has here = let whole : length entries ≡ length (entries_of row (subkeys_of entries)) = ap length (has.whole row here) in omega (arith, whole, below_some (subkeys_of entries) has.nodes)
 
-pub kids_next : (a b c : List ℕ) (securities : List Security) (places : List ℕ) (ks : List (List ℕ × Entries)) (i at : ℕ) (es : Entries) → AllByRecursion (λ (k : List ℕ × Entries). root_name k.1 ≡ k.0) ks → Some es ≡ slice_get (map (λ k. k.1) ks) i → Makes a b (PutsKids securities places (take i ks)) → Makes b c (PutsKey securities at es) → Makes a c (PutsKids securities (places ++ at ∷ []) (take (i + 1) ks))
-kids_next a b c securities places ks i at es named e m n =
+pub kids_next : (a b c : List ℕ) (securities : List Security) (parent : ℕ) (places : List ℕ) (ks : List (List ℕ × Entries)) (i at : ℕ) (es : Entries) → AllByRecursion (λ (k : List ℕ × Entries). root_name k.1 ≡ k.0) ks → Some es ≡ slice_get (map (λ k. k.1) ks) i → Makes a b (PutsKids securities parent places (take i ks)) → Makes b c (PutsKey securities parent at es) → Makes a c (PutsKids securities parent (places ++ at ∷ []) (take (i + 1) ks))
+kids_next a b c securities parent places ks i at es named e m n =
     let k = found_kid ks i es named e in
-    subst (λ (kids : List (List ℕ × Entries)). Makes a c (PutsKids securities (places ++ at ∷ []) kids)) (sym (take_next ks i (k.0, es) k.1)) (kids_more a b c securities places (take i ks) at k.0 es k.2 m n)
+    subst (λ (kids : List (List ℕ × Entries)). Makes a c (PutsKids securities parent (places ++ at ∷ []) kids)) (sym (take_next ks i (k.0, es) k.1)) (kids_more a b c securities parent places (take i ks) at k.0 es k.2 m n)
 
 pub both_made : (a b c : List ℕ) (P Q : Cells → Cells → Type 0) → Makes a b P → Makes b c Q → Makes a c (λ x z. Unit {0})
 both_made a b c P Q m n = made_then a b c P Q (λ x z. Unit {0}) m n (λ x y z g h p q. tt)

@@ -16,6 +16,7 @@ use Rattle.hive_key_writer.proofs.Sums.{sum_next, sum_within, values_light}
 use Rattle.hive_emit.specs.declared.security.Security.{Security}
 use Rattle.hive_emit.specs.Costs.{class_cost, row_cost, keys_cost, own_cost, below_cost, security_cost, securities_cost, row_security_cost, descriptors_cost}
 use Rattle.hive_key_writer.proofs.NewCells.{uses_more, both_used}
+use Rattle.hive_shape.proofs.Basics.{some_same}
 use Rattle.hive_emit.proofs.KeyProofs.{found_kid}
 use Rattle.hive_emit.proofs.Securing.{take_set}
 
@@ -65,9 +66,6 @@ own_least entries row node here =
     let first : node.row ≡ row = some_same node.row row (sym (ap (λ es. row_at es []) node.whole) ∙ here) in
     let sum : keys_cost entries ≡ row_cost node.row + sum_by (λ e. 16 + row_cost e.1) node.others = ap keys_cost node.whole in
     omega (arith, sum, ap row_cost first)
-  where
-    some_same : (x y : Row) → Some x ≡ Some y → x ≡ y
-    some_same x y e = cc
 
 -- one subkey more
 pub below_within : (ks : List (List ℕ × Entries)) (i : ℕ) (es : Entries) → AllByRecursion (λ (k : List ℕ × Entries). root_name k.1 ≡ k.0) ks → Some es ≡ slice_get (map (λ k. k.1) ks) i → sum_by (λ k. keys_cost k.1) (take i ks) + keys_cost es ≤ sum_by (λ k. keys_cost k.1) ks

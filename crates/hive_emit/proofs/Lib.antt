@@ -1,6 +1,12 @@
+pub mod Formed
 pub mod Owns
 pub mod KeyProofs
+pub mod Plains
 pub mod Securing
 pub mod Wholes
 pub mod KeySums
 pub mod Rooms
+pub mod Filing
+pub mod Counting
+pub mod Ringing
+pub mod Ends

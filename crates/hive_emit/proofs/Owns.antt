@@ -1,9 +1,10 @@
 -- A key's own cells, one after another.
-use Rattle.std.proofs.Common.{◌≡◌, ℕ, ◌*◌, ◌<◌, Bool, true, false, cond, List, [], ◌∷◌, ◌++◌, length, refl, sym, ◌∙◌, ap, subst, arith, Some}
+use Rattle.std.proofs.Common.{◌≡◌, inl, inr, ℕ, ◌*◌, ◌<◌, Bool, true, false, cond, List, [], ◌∷◌, ◌++◌, length, refl, sym, ◌∙◌, ap, subst, arith, Some}
 use Rattle.std.specs.FinMap as finite
 use Rattle.hive_cells.specs.Bins.{Cells}
 use Rattle.hive_shape.specs.Lists.{IsIn}
 use Rattle.hive_shape.specs.Cells.{Grows}
+use Rattle.hive_shape.proofs.Basics.{some_same}
 use Rattle.reg_tree_parts.specs.Rows.{Row}
 use Rattle.reg_tree_parts.specs.Nodes.{Entries, row_at, IsNode}
 use Rattle.hive_records.specs.Readers.{Reader}
@@ -19,10 +20,12 @@ use Rattle.hive_records.proofs.Keys.{local_values, local_class}
 use Rattle.hive_records.proofs.KeysAgain.{class_again, no_class}
 use Rattle.hive_key_writer.specs.Making.{Makes, Adds, Puts}
 use Rattle.hive_key_writer.specs.Values.{ValuesAt}
-use Rattle.hive_key_writer.specs.KeyLists.{placed, KidsAt}
+use Rattle.hive_key_writer.specs.KeyLists.{placed, IsListed, KidsAt}
 use Rattle.hive_key_writer.proofs.Makings.{made_then, made_as, made_none, adds_none, adds_then}
 use Rattle.hive_key_writer.proofs.Leaves.{kids_read, placed_places, placed_long}
-use Rattle.hive_emit.specs.Emitting.{CanPutKey, CanPutKeys, ClassAt, OwnAt}
+use Rattle.hive_key_writer.proofs.Stays.{values_stay}
+use Rattle.hive_emit.specs.Emitting.{CanPutKey, CanPutKeys, ClassAt, OwnAt, any_past_ascii}
+use Rattle.hive_emit.proofs.Formed.{class_stays, plain_placed}
 
 -- what is read of cells that stay is read of them still
 pub gives_stays : {A : Type 0} (m : Reader A) (old new : Cells) (own lent : List ℕ) (x : A) → Local m → Gives m old own lent x → ((cell : ℕ) → IsIn cell own → new cell ≡ old cell) → ((cell : ℕ) → IsIn cell lent → new cell ≡ old cell) → Gives m new own lent x
@@ -34,15 +37,15 @@ pub gives_grown : {A : Type 0} (m : Reader A) (x y z : Cells) (own : List ℕ) (
 gives_grown m x y z own a local g adds gives = gives_stays m y z own [] a local gives (λ cell i. g cell (adds.there cell i)) (λ cell i. absurd i)
 
 -- a class
-nothing : (xs : List ℕ) → length xs ≡ 0 → xs ≡ []
+pub nothing : (xs : List ℕ) → length xs ≡ 0 → xs ≡ []
 nothing [] e = refl
 nothing (x ∷ xs) e = absurd (omega (arith, e))
 
 pub class_none : (a : List ℕ) (class : List ℕ) → length class ≡ 0 → Makes a a (ClassAt nowhere class)
-class_none a class none = subst (λ (cs : List ℕ). Makes a a (ClassAt nowhere cs)) (sym (nothing class none)) (made_none a (ClassAt nowhere []) (λ x. record { own = []; near = omega arith; adds = adds_none x x; gives = no_class x nowhere }))
+class_none a class none = subst (λ (cs : List ℕ). Makes a a (ClassAt nowhere cs)) (sym (nothing class none)) (made_none a (ClassAt nowhere []) (λ x. record { own = []; near = omega arith; adds = adds_none x x; is = inl (refl, refl, refl); gives = no_class x nowhere }))
 
 pub class_put : (a b : List ℕ) (at : ℕ) (class : List ℕ) → 0 < length class → Makes a b (Puts at class) → Makes a b (ClassAt at class)
-class_put a b at class some m = made_as a b (Puts at class) (ClassAt at class) m (λ x y g p. record { own = at ∷ []; near = let near : at < nowhere = p.near in omega arith; adds = p.adds; gives = class_again y at class some p.holds })
+class_put a b at class some m = made_as a b (Puts at class) (ClassAt at class) m (λ x y g p. record { own = at ∷ []; near = let near : at < nowhere = p.near in omega arith; adds = p.adds; is = inr (some, p.holds, refl); gives = class_again y at class some p.holds })
 
 -- values, and the list of subkeys behind them
 record Both (class values kids : ℕ) (row : Row) (offsets : List ℕ) (subkeys : List (List ℕ × Entries)) (plain : Bool) (x z : Cells) : Type 0 where
@@ -52,11 +55,11 @@ record Both (class values kids : ℕ) (row : Row) (offsets : List ℕ) (subkeys 
   its_values : ValuesAt values row.values x y
   its_kids : KidsAt kids plain (placed offsets subkeys) y z
 
-pub own_made : (a b c d : List ℕ) (class values kids : ℕ) (row : Row) (offsets : List ℕ) (subkeys : List (List ℕ × Entries)) (plain : Bool) → AreOffsets offsets → length offsets ≡ length subkeys → Makes a b (ClassAt class row.class) → Makes b c (ValuesAt values row.values) → Makes c d (KidsAt kids plain (placed offsets subkeys)) → Makes a d (OwnAt class values kids row offsets)
-own_made a b c d class values kids row offsets subkeys plain near all m n o =
+pub own_made : (a b c d : List ℕ) (class values kids : ℕ) (row : Row) (offsets : List ℕ) (subkeys : List (List ℕ × Entries)) (plain : Bool) → AreOffsets offsets → length offsets ≡ length subkeys → plain ≡ any_past_ascii subkeys → Makes a b (ClassAt class row.class) → Makes b c (ValuesAt values row.values) → Makes c d (KidsAt kids plain (placed offsets subkeys)) → Makes a d (OwnAt class values kids row offsets subkeys)
+own_made a b c d class values kids row offsets subkeys plain near all past m n o =
     let same : places (placed offsets subkeys) ≡ offsets = placed_places offsets subkeys (omega (arith, all)) in
     let long : length (placed offsets subkeys) ≡ length offsets = placed_long offsets subkeys (omega (arith, all)) in
-    made_then a b d (ClassAt class row.class) (Both class values kids row offsets subkeys plain) (OwnAt class values kids row offsets) m
+    made_then a b d (ClassAt class row.class) (Both class values kids row offsets subkeys plain) (OwnAt class values kids row offsets subkeys) m
     (made_then b c d (ValuesAt values row.values) (KidsAt kids plain (placed offsets subkeys)) (Both class values kids row offsets subkeys plain) n o (λ x y z g h v k. record { y = y; first = g; second = h; its_values = v; its_kids = k }))
     (λ x y z g h k b. record {
       class_own = k.own;
@@ -66,6 +69,9 @@ own_made a b c d class values kids row offsets subkeys plain near all m n o =
       values_near = b.its_values.near;
       kids_near = b.its_kids.near;
       adds = adds_then x y z k.own (b.its_values.own ++ b.its_kids.own) g h k.adds (adds_then y b.y z b.its_values.own b.its_kids.own b.first b.second b.its_values.adds b.its_kids.adds);
+      class_is = class_stays class row.class k.own y z (λ cell i. h cell (k.adds.there cell i)) k.is;
+      values_is = values_stay values row.values b.its_values.own b.y z (λ cell i. b.second cell (b.its_values.adds.there cell i)) b.its_values.is;
+      kids_is = subst (λ (p : Bool). IsListed kids p (placed offsets subkeys) b.its_kids.own z) (past ∙ plain_placed offsets subkeys all) b.its_kids.is;
       class_gives = gives_grown (class_at (length row.class) class) x y z k.own row.class (local_class (length row.class) class) h k.adds k.gives;
       values_gives = gives_grown (values_at true (finite.len row.values) values) y b.y z b.its_values.own row.values (local_values true (finite.len row.values) values) b.second b.its_values.adds b.its_values.gives;
       kids_gives = subst (λ (n : ℕ). Gives (kids_at n kids) z b.its_kids.own [] offsets) long (subst (λ (os : List ℕ). Gives (kids_at (length (placed offsets subkeys)) kids) z b.its_kids.own [] os) same
@@ -73,9 +79,6 @@ own_made a b c d class values kids row offsets subkeys plain near all m n o =
     })
 
 -- a key's own row
-some_same : {A : Type 0} (x y : A) → Some x ≡ Some y → x ≡ y
-some_same x y e = cc
-
 pub row_same : (entries : Entries) (a b : Row) → row_at entries [] ≡ Some a → row_at entries [] ≡ Some b → a ≡ b
 row_same entries a b e f = some_same a b (sym e ∙ f)
 

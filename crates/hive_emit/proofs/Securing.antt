@@ -1,9 +1,10 @@
 -- Where security cells are, found by their descriptors.
-use Rattle.std.proofs.Common.{◌≡◌, ◌⊎◌, inl, inr, ℕ, zero, suc, ◌+◌, ◌<◌, ◌≤◌, ◌^◌, true, false, eqb, List, [], ◌∷◌, ◌++◌, length, map, take, slice_get, get_or, refl, sym, ◌∙◌, ap, subst, arith, Some}
+use Rattle.std.proofs.Common.{◌≡◌, inl, inr, ℕ, zero, suc, ◌+◌, ◌<◌, ◌^◌, List, [], ◌∷◌, ◌++◌, length, map, take, slice_get, get_or, refl, sym, ◌∙◌, ap, subst, arith, Some}
 use Rattle.std.specs.Prelude.{slice_set}
 use Rattle.std.specs.List.{AllByRecursion}
-use Rattle.std.proofs.lemmas.Bool.{cases_lt, cases_eq}
-use Rattle.std.proofs.lemmas.Option.{slice_get_read, slice_get_within}
+use Rattle.std.proofs.lemmas.Bool.{cases_eq}
+use Rattle.std.proofs.lemmas.Option.{slice_get_read}
+use Rattle.hive_shape.proofs.Basics.{some_same}
 use Rattle.hive_emit.specs.declared.security.Security.{Security}
 use Rattle.reg_tree_parts.specs.Rows.{Row}
 use Rattle.reg_tree_parts.specs.Nodes.{Entries, below, all_below, row_at, root_name, subkeys_of, HasSubkeys}
@@ -15,39 +16,20 @@ use Rattle.hive_key_writer.proofs.Makings.{made_then, made_none, all_push}
 use Rattle.hive_key_writer.proofs.ValueMaps.{take_next, all_at}
 use Rattle.hive_emit.proofs.KeyProofs.{all_parts, found_kid, held_grown}
 use Rattle.hive_emit.specs.Emitting.{Has, IsOffsetOf, IsCounted, AreCounted, IsHeld, Holding}
+use Rattle.hive_emit.specs.Securing.{HasAt}
 
-some_same : {A : Type 0} (x y : A) → Some x ≡ Some y → x ≡ y
-some_same x y e = cc
-
-pub found_cell : (cells : List Security) (place : ℕ) (a b : Security) (bytes d : List ℕ) → place < length cells → a ≡ get_or cells place a → b ≡ get_or cells place b → bytes ≡ a.descriptor → bytes ≡ d → IsOffsetOf cells d b.at
-found_cell cells place a b bytes d inside a_is b_is bytes_are e =
-    let first : slice_get cells place ≡ Some a = slice_get_read cells (length cells) place a refl inside a_is in
-    let second : slice_get cells place ≡ Some b = slice_get_read cells (length cells) place b refl inside b_is in
-    let same : a ≡ b = some_same a b (sym first ∙ second) in
-    inr (record { place = place; security = b; is = second; same = ap (λ (s : Security). s.descriptor) (sym same) ∙ sym bytes_are ∙ e; here = refl })
-
-pub scan_more : (cells : List Security) (d bytes : List ℕ) (item : Security) (index : ℕ) → ((i : ℕ) (s : Security) → i < index → slice_get cells i ≡ Some s → s.descriptor ≡ d → ⊥) → index < length cells → item ≡ get_or cells index item → bytes ≡ item.descriptor → (bytes ≡ d → ⊥)
-    → (i : ℕ) (s : Security) → i < index + 1 → slice_get cells i ≡ Some s → s.descriptor ≡ d → ⊥
-scan_more cells d bytes item index before inside item_is bytes_are no_match i s h e same = elim (cases_lt i index) [
-  | inl low ↦ before i s low e same
-  | inr high ↦
-      let here : i ≡ index = omega arith in
-      let there : slice_get cells index ≡ Some item = slice_get_read cells (length cells) index item refl inside item_is in
-      let it : s ≡ item = some_same s item (sym e ∙ ap (slice_get cells) here ∙ there) in
-      no_match (bytes_are ∙ ap (λ (x : Security). x.descriptor) (sym it) ∙ same)
-]
-
-pub none_left : (cells : List Security) (d : List ℕ) (index : ℕ) → false ≡ eqb (length d) 0 → length cells ≤ index → (d ≡ []) ⊎ Has cells d → ((i : ℕ) (s : Security) → i < index → slice_get cells i ≡ Some s → s.descriptor ≡ d → ⊥) → ⊥
-none_left cells d index some past (inl e) scanned = let zero_long : eqb (length d) 0 ≡ true = ap (λ xs. eqb (length xs) 0) e in let never : ⊥ = cc in never
-none_left cells d index some past (inr has) scanned = scanned has.place has.security (omega (arith, past, slice_get_within cells has.place has.security has.is)) has.is has.same
+-- the offset of a cell that is kept at a place
+pub found_cell : (cells : List Security) (place : ℕ) (a : Security) (d : List ℕ) → a ≡ get_or cells place a → place < length cells → HasAt cells place d → IsOffsetOf cells d a.at
+found_cell cells place a d a_is inside has = let there : slice_get cells place ≡ Some a = slice_get_read cells (length cells) place a refl inside a_is in
+    inr (record { place = place; security = a; is = there; same = ap (λ (s : Security). s.descriptor) (some_same a has.security (sym there ∙ has.is)) ∙ has.same; here = refl })
 
 -- one that is written anew with the same descriptor
-set_here : (cells : List Security) (place : ℕ) (new : Security) → place < length cells → slice_get (slice_set cells place new) place ≡ Some new
+pub set_here : (cells : List Security) (place : ℕ) (new : Security) → place < length cells → slice_get (slice_set cells place new) place ≡ Some new
 set_here [] place new h = absurd (omega (arith, h))
 set_here (c ∷ cells) zero new h = refl
 set_here (c ∷ cells) (suc place) new h = set_here cells place new (omega (arith, h))
 
-set_there : (cells : List Security) (place i : ℕ) (new : Security) → (i ≡ place → ⊥) → slice_get (slice_set cells place new) i ≡ slice_get cells i
+pub set_there : (cells : List Security) (place i : ℕ) (new : Security) → (i ≡ place → ⊥) → slice_get (slice_set cells place new) i ≡ slice_get cells i
 set_there [] place i new h = refl
 set_there (c ∷ cells) zero zero new h = absurd (h refl)
 set_there (c ∷ cells) zero (suc i) new h = refl
@@ -64,8 +46,14 @@ set_keeps cells place old new inside old_is same d has =
       | inr apart ↦ record { place = has.place; security = has.security; is = set_there cells place has.place new apart ∙ has.is; same = has.same }
     ]
 
-pub has_at : (cells : List Security) (place : ℕ) (a : Security) (bytes d : List ℕ) → place < length cells → a ≡ get_or cells place a → bytes ≡ a.descriptor → bytes ≡ d → Has cells d
-has_at cells place a bytes d inside a_is bytes_are e = record { place = place; security = a; is = slice_get_read cells (length cells) place a refl inside a_is; same = sym bytes_are ∙ e }
+pub has_at : (cells : List Security) (place : ℕ) (a : Security) (bytes d : List ℕ) → place < length cells → a ≡ get_or cells place a → bytes ≡ a.descriptor → bytes ≡ d → HasAt cells place d
+has_at cells place a bytes d inside a_is bytes_are e = record { security = a; is = slice_get_read cells (length cells) place a refl inside a_is; same = sym bytes_are ∙ e }
+
+pub at_has : (cells : List Security) (place : ℕ) (a : Security) (d : List ℕ) → place < length cells → a ≡ get_or cells place a → HasAt cells place d → a.descriptor ≡ d
+at_has cells place a d inside a_is has = ap (λ (s : Security). s.descriptor) (some_same a has.security (sym (slice_get_read cells (length cells) place a refl inside a_is) ∙ has.is)) ∙ has.same
+
+pub has_of : (cells : List Security) (place : ℕ) (d : List ℕ) → HasAt cells place d → Has cells d
+has_of cells place d has = record { place = place; security = has.security; is = has.is; same = has.same }
 
 -- counted keys stay so
 pub counted_kept : (old new : List Security) (es : Entries) → ((d : List ℕ) → Has old d → Has new d) → AreCounted old es → AreCounted new es
@@ -105,17 +93,15 @@ take_set (c ∷ cells) (suc i) new h = ap (λ xs. c ∷ xs) (take_set cells i ne
 pub none_held : (bytes : List ℕ) (securities : List Security) → Makes bytes bytes (Holding (take 0 securities))
 none_held bytes securities = made_none bytes (Holding (take 0 securities)) (λ x. tt)
 
-pub one_held : (a b c : List ℕ) (securities : List Security) (i next previous count at : ℕ) (new : Security) → i < length securities → new.at ≡ at → length new.descriptor < 2 ^ 32 → Makes a b (Holding (take i securities)) → Makes b c (Puts at (security_text next previous count new.descriptor)) → Makes a c (Holding (take (i + 1) (slice_set securities i new)))
-one_held a b c securities i next previous count at new inside at_is few m n =
+pub one_held : (a b c : List ℕ) (securities : List Security) (i next previous count at : ℕ) (new : Security) → i < length securities → new.at ≡ at → new.next ≡ next → new.previous ≡ previous → new.count ≡ count → length new.descriptor < 2 ^ 32 → Makes a b (Holding (take i securities)) → Makes b c (Puts at (security_text next previous count new.descriptor)) → Makes a c (Holding (take (i + 1) (slice_set securities i new)))
+one_held a b c securities i next previous count at new inside at_is next_is previous_is count_is few m n =
     subst (λ (s : List Security). Makes a c (Holding s)) (sym (ap (λ n. take n (slice_set securities i new)) (let e : i + 1 ≡ suc i = omega arith in e) ∙ take_set securities i new inside))
     (made_then a b c (Holding (take i securities)) (Puts at (security_text next previous count new.descriptor)) (Holding (take i securities ++ new ∷ [])) m n
     (λ x y z g h held p. all_push (IsHeld z) (take i securities) new (held_grown (take i securities) y z h held) (record {
       near = subst (λ n. n < nowhere) (sym at_is) p.near;
       few = few;
-      next = next;
-      previous = previous;
-      count = count;
-      text = subst (λ n. Holds z n (security_text next previous count new.descriptor)) (sym at_is) p.holds;
+      text = subst (λ n. Holds z n (security_text new.next new.previous new.count new.descriptor)) (sym at_is)
+          (subst (λ (t : List ℕ). Holds z at t) (ap (λ (n : ℕ). security_text n previous count new.descriptor) (sym next_is) ∙ ap (λ (n : ℕ). security_text new.next n count new.descriptor) (sym previous_is) ∙ ap (λ (n : ℕ). security_text new.next new.previous n new.descriptor) (sym count_is)) p.holds);
     })))
 
 pub same_read : (cells : List Security) (place : ℕ) (a b : Security) → place < length cells → a ≡ get_or cells place a → b ≡ get_or cells place b → a ≡ b
@@ -133,3 +119,32 @@ pub long_set : (cells : List Security) (place : ℕ) (new : Security) → length
 long_set [] place new = refl
 long_set (c ∷ cells) zero new = refl
 long_set (c ∷ cells) (suc place) new = ap suc (long_set cells place new)
+
+-- one more cell
+got_last : (cells : List Security) (new : Security) → slice_get (cells ++ new ∷ []) (length cells) ≡ Some new
+got_last [] new = refl
+got_last (c ∷ cells) new = got_last cells new
+
+got_before : (cells : List Security) (new : Security) (i : ℕ) (s : Security) → slice_get cells i ≡ Some s → slice_get (cells ++ new ∷ []) i ≡ Some s
+got_before [] new i s e = absurd (let no : ⊥ = cc in no)
+got_before (c ∷ cells) new zero s e = e
+got_before (c ∷ cells) new (suc i) s e = got_before cells new i s e
+
+-- a cell with its links, one with another count, and one before it is put
+abbrev pub linked : Security → ℕ → ℕ → ℕ → Security
+linked s at next previous = record { descriptor = s.descriptor; count = s.count; at = at; next = next; previous = previous }
+
+abbrev pub recounted : Security → ℕ → Security
+recounted s count = record { descriptor = s.descriptor; count = count; at = s.at; next = s.next; previous = s.previous }
+
+abbrev pub unput : List ℕ → Security
+unput descriptor = record { descriptor = descriptor; count = 1; at = 0xffff_ffff; next = 0xffff_ffff; previous = 0xffff_ffff }
+
+pub there_is : (cells : List Security) (place : ℕ) (old : Security) → place < length cells → old ≡ get_or cells place old → slice_get cells place ≡ Some old
+there_is cells place old inside is = slice_get_read cells (length cells) place old refl inside is
+
+pub has_push : (cells : List Security) (new : Security) (d : List ℕ) → new.descriptor ≡ d → Has (cells ++ new ∷ []) d
+has_push cells new d same = record { place = length cells; security = new; is = got_last cells new; same = same }
+
+pub keeps_push : (cells : List Security) (new : Security) (d : List ℕ) → Has cells d → Has (cells ++ new ∷ []) d
+keeps_push cells new d has = record { place = has.place; security = has.security; is = got_before cells new has.place has.security has.is; same = has.same }

@@ -1,5 +1,5 @@
 -- A tree that a hive file can spell, within the weight, can be put; and what was put stands for it.
-use Rattle.std.proofs.Common.{◌≡◌, ◌≢◌, inl, inr, ℕ, ◌+◌, ◌*◌, ◌/◌, ◌%◌, ◌<◌, ◌≤◌, ◌^◌, Bool, true, false, cond, eqb, ne_eqb, ◌||◌, T, List, [], ◌∷◌, length, map, sum_by, refl, sym, ◌∙◌, ap, subst, arith, Some, None, IsSome, is_some, le-leb}
+use Rattle.std.proofs.Common.{◌≡◌, ◌≢◌, inl, inr, ℕ, ◌+◌, ◌*◌, ◌/◌, ◌%◌, ◌<◌, ◌≤◌, ◌^◌, Bool, true, false, cond, eqb, ne_eqb, ◌||◌, T, List, [], ◌∷◌, length, map, sum_by, refl, sym, ◌∙◌, ap, subst, arith, Some, None, le-leb}
 use Rattle.std.specs.Prelude.{bit_and}
 use Rattle.std.specs.List.{AllByRecursion, list_any}
 use Rattle.std.specs.FinMap as finite
@@ -8,7 +8,7 @@ use Rattle.std.specs.FinMap.Entries.{find, is_sorted, below_all}
 use Rattle.std.specs.Ordering.{eq_by_cmp, is_eq, is_lt}
 use Rattle.std.specs.Cmp.{tied_itself}
 use Rattle.std.specs.declared.cmp.Ordering.{Ordering}
-use Rattle.std.specs.declared.cmp.Ordering.TheVariants.{Less, Equal, Greater}
+use Rattle.std.specs.declared.cmp.Ordering.TheVariants.{Less, Equal}
 use Rattle.std.proofs.lemmas.Nat.Bits.{and_high}
 use Rattle.std.proofs.lemmas.List.{length-map}
 use Rattle.std.proofs.lemmas.List.Sums.{sum_by-cons}
@@ -18,6 +18,7 @@ use Rattle.reg_tree_parts.specs.Orders.{name_order, path_order}
 use Rattle.reg_tree_parts.specs.Weights.{value_weight}
 use Rattle.reg_tree_parts.specs.Rows.{Row, ValueMap, row_weight}
 use Rattle.reg_tree_parts.specs.Nodes.{Entries, entries_weight, IsNode}
+use Rattle.reg_tree_parts.proofs.Finds.{equal_of}
 use Rattle.reg_tree_parts.proofs.Keys.{names_total, names_apart, paths_total, paths_apart}
 use Rattle.reg_tree_parts.proofs.SortedLists.{front_of, back_of, less_of}
 use Rattle.reg_tree.specs.Maps.{TreeMap, weight}
@@ -27,21 +28,17 @@ use Rattle.hive_records.specs.Spellings.{is_latin, name_text}
 use Rattle.hive_key_writer.specs.Values.{CanPut, CanPutAll}
 use Rattle.hive_cells.specs.Tiles.{Tiles}
 use Rattle.hive_cells.specs.Bins.{Cells, Shows}
-use Rattle.hive_shape.specs.Lists.{IsIn}
 use Rattle.hive_shape.specs.Stands.{Stands}
+use Rattle.hive_records.specs.Numbers.{nowhere}
 use Rattle.hive_records.specs.Images.{splits, StandsFor}
 use Rattle.hive_records.specs.KeyNodes.{keys_in}
 use Rattle.hive_records.proofs.NodesOf.{tree_of_node}
 use Rattle.hive_key_writer.specs.Making.{Makes}
 use Rattle.hive_key_writer.proofs.Makings.{made_then, some_not}
 use Rattle.hive_emit.specs.declared.security.Security.{Security}
-use Rattle.hive_emit.specs.Emitting.{CanPutKey, CanPutKeys, AreHeld, Holding, KeyAt, PutsKey, security_cells}
+use Rattle.hive_emit.specs.Emitting.{CanPutKey, CanPutKeys, AreHeld, Holding, KeyAt, PutsKey}
 use Rattle.hive_emit.proofs.Owns.{record_long}
-
-is_equal : (o : Ordering) → is_eq o ≡ true → o ≡ Equal
-is_equal Less e = cc
-is_equal Equal e = refl
-is_equal Greater e = cc
+use Rattle.hive_emit.proofs.KeyProofs.{held_there}
 
 -- what holds of all that is found holds of all entries
 module _ {K X : Type 0} (R : K → K → Ordering) (tie : (k : K) → R k k ≡ Equal) (apart : (j k : K) → R j k ≡ Equal → j ≡ k) where
@@ -54,7 +51,7 @@ module _ {K X : Type 0} (R : K → K → Ordering) (tie : (k : K) → R k k ≡ 
   found_behind : (k : K) (x : X) (e : K × X) (es : List (K × X)) → T (below_all R e.0 es) → find R k es ≡ Some x → find R k (e ∷ es) ≡ Some x
   found_behind k x e es h found = elim (decided (eq_by_cmp R k e.0)) [
     | inl tied ↦
-        let same : k ≡ e.0 = apart k e.0 (is_equal (R k e.0) tied) in
+        let same : k ≡ e.0 = apart k e.0 (equal_of (R k e.0) tied) in
         let none : find R k es ≡ None = ap (λ j. find R j es) same ∙ none_below e.0 es h in
         absurd (let never : ⊥ = cc in never)
     | inr other ↦ ap (λ b. cond b (Some e.1) (find R k es)) other ∙ found
@@ -164,16 +161,11 @@ tree_few tree root node same light = omega (arith, count_rows root, root_weight 
 record Ended (securities : List Security) (root : ℕ) (entries : Entries) (x z : Cells) : Type 0 where
   y : Cells
   held : AreHeld securities y
-  key : KeyAt securities root entries y z
+  key : KeyAt securities nowhere root entries y z
 
-held_there : (securities : List Security) (cells : Cells) → AreHeld securities cells → (cell : ℕ) → IsIn cell (security_cells securities) → IsSome (cells cell)
-held_there [] cells h cell i = absurd i
-held_there (s ∷ securities) cells h cell (inl e) = ap is_some (ap cells e ∙ h.0.text.1)
-held_there (s ∷ securities) cells h cell (inr i) = held_there securities cells h.1 cell i
-
-pub stands_at_end : (a b c : List ℕ) (securities : List Security) (root minor : ℕ) (tree : TreeMap) (entries : Entries) (before : Cells) → Shows a before → 4 ≤ minor → IsNode entries → tree ≡ finite.from_sorted entries → Tiles c → Makes a b (Holding securities) → Makes b c (PutsKey securities root entries) → StandsFor c root minor tree
+pub stands_at_end : (a b c : List ℕ) (securities : List Security) (root minor : ℕ) (tree : TreeMap) (entries : Entries) (before : Cells) → Shows a before → 4 ≤ minor → IsNode entries → tree ≡ finite.from_sorted entries → Tiles c → Makes a b (Holding securities) → Makes b c (PutsKey securities nowhere root entries) → StandsFor c root minor tree
 stands_at_end a b c securities root minor tree entries before shows new node same tiles m n =
-    let all = made_then a b c (Holding securities) (PutsKey securities root entries) (Ended securities root entries) m n (λ x y z g h held put. record { y = y; held = held; key = put held }) in
+    let all = made_then a b c (Holding securities) (PutsKey securities nowhere root entries) (Ended securities root entries) m n (λ x y z g h held put. record { y = y; held = held; key = put held }) in
     let z = all.cells before shows in
     let k = z.3.key in
     let split : true ≡ splits minor = sym (le-leb 4 minor new) in (

@@ -1,2 +1,4 @@
+pub mod Forms
+pub mod Securing
 pub mod Emitting
 pub mod Costs

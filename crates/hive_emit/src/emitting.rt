@@ -4,6 +4,7 @@ ghost use Rattle.hive_records.specs.Images.{StandsFor};
 ghost use Rattle.hive_key_writer.specs.Making.{RoomyAt};
 ghost use Rattle.reg_tree.specs.Maps.{weight};
 ghost use Rattle.hive_emit.specs.Emitting.{EmitRefused};
+ghost use Rattle.hive_emit.specs.Forms.{IsFormed};
 
 use crate::costs::keys_cost;
 use crate::keys::put_key;
@@ -59,11 +60,16 @@ fn room(alloc: Global, needed: usize, least_size: u32) -> Result<Image, Refusal>
 
 /// A new image for a tree, of at least a size in bytes and at least a page of 4,096: one bin, as long as it has to be.
 ///
+/// It is written in the form that other tools expect: values and subkeys in the order of their names, lists of subkeys with
+/// hashes but where a name is past ASCII, in leaves of at most 500, and one security cell for each distinct descriptor, in a
+/// ring, with the count of the keys that have it.
+///
 /// Refused with `TooLarge` exactly where the tree is over the weight or the least size over the limit of bins data, and else
 /// with `NoMemory` alone.
 pub fn emit(alloc: Global, tree: &Tree, least_size: u32) -> Result<Emitted, Refusal>
     ensures stands { IfOk result (λ emitted. (minor : ℕ) → 4 ≤ minor →
         StandsFor emitted.image.bytes emitted.root minor tree.now) }
+    ensures formed { IfOk result (λ emitted. IsFormed emitted.image.bytes emitted.root tree.now) }
     ensures least { IfOk result (λ emitted. least_size ≤ length emitted.image.bytes) }
     ensures page { IfOk result (λ emitted. 4_096 ≤ length emitted.image.bytes) }
     ensures limit { IfOk result (λ emitted. length emitted.image.bytes ≤ MOST_BINS_BYTES) }

@@ -7,7 +7,8 @@ ghost use Rattle.hive_records.specs.ListTexts.{AreOffsets};
 ghost use Rattle.hive_records.specs.KeyTexts.{key_text, RowFits};
 ghost use Rattle.hive_records.specs.Spellings.{name_text};
 ghost use Rattle.hive_key_writer.specs.Making.{Makes, Fills, IsLongCell, Uses, Stops};
-ghost use Rattle.hive_emit.specs.Emitting.{CanPutKey, CanPutKeys, AreCounted, PutsKey, PutsKids, OwnAt, ClassAt, NodePlaces};
+ghost use Rattle.hive_emit.specs.Forms.{is_past_ascii};
+ghost use Rattle.hive_emit.specs.Emitting.{CanPutKey, CanPutKeys, any_past_ascii, AreCounted, PutsKey, PutsKids, OwnAt, ClassAt, NodePlaces};
 ghost use Rattle.hive_emit.specs.Costs.{class_cost, own_cost, below_cost, keys_cost};
 
 use crate::bounds::{Bounds, bounds_of};
@@ -34,17 +35,22 @@ struct Own {
 }
 
 // whether a name has a unit past ASCII
-fn is_past_ascii(name: &[u16]) -> bool {
+fn is_past_ascii(name: &[u16]) -> bool
+    ensures { result ≡ is_past_ascii name.now }
+{
     name.iter().any(|unit| LAST_ASCII < *unit)
 }
 
 // whether the list of a key's subkeys has no hashes: where any of their names has a unit past ASCII
-fn is_plain(node: &Node) -> bool {
+fn is_plain(node: &Node) -> bool
+    ensures { result ≡ any_past_ascii (subkeys_of node.now) }
+{
     for index in 0..node.subkey_count() {
-        if let Some(subkey) = node.subkey_at(index) {
-            if is_past_ascii(subkey.key().name().units()) {
-                return true;
-            }
+        let Some(subkey) = node.subkey_at(index) else {
+            unreachable!();
+        };
+        if is_past_ascii(subkey.key().name().units()) {
+            return true;
         }
     }
     false
@@ -79,7 +85,8 @@ fn put_own(
     requires few { length places.now < 2 ^ 24 }
     requires near { AreOffsets places.now }
     ensures made { IfOk result (λ own. (row : Row) → row_at node.now [] ≡ Some row → Makes
-        image.old.bytes image.new.bytes (OwnAt own.class own.values own.kids row places.now)) }
+        image.old.bytes image.new.bytes (OwnAt own.class own.values own.kids row places.now
+        (subkeys_of node.now))) }
     ensures uses { OnOk result ((row : Row) → row_at node.now [] ≡ Some row → Uses
         image.old.bytes image.new.bytes (own_cost row (length places.now))) }
     ensures stops { IfErr result (λ why. (row : Row) → row_at node.now [] ≡ Some row → Stops
@@ -109,7 +116,7 @@ fn put_own(
 fn key_places(node: &Node, parent: u32, security: u32, own: &Own) -> KeyPlaces
     requires can { CanPutKeys node.now }
     requires few { length (subkeys_of node.now) < 2 ^ 24 }
-    ensures { (row : Row) → row_at node.now [] ≡ Some row → NodePlaces result row
+    ensures { (row : Row) → row_at node.now [] ≡ Some row → NodePlaces result row parent
         (length (subkeys_of node.now)) security own.now.class own.now.values own.now.kids }
 {
     let key = node.key();
@@ -177,7 +184,7 @@ fn put_subkeys(
     requires counted { AreCounted securities.now node.now }
     requires few { length node.now < 2 ^ 24 }
     ensures made { IfOk result (λ places. Makes image.old.bytes image.new.bytes
-        (PutsKids securities.now places.items (subkeys_of node.now))) }
+        (PutsKids securities.now parent places.items (subkeys_of node.now))) }
     ensures count { IfOk result (λ places. length places.items ≡ length (subkeys_of node.now)) }
     ensures near { IfOk result (λ places. AreOffsets places.items) }
     ensures has { HasSubkeys node.now (subkeys_of node.now) }
@@ -215,7 +222,7 @@ pub(crate) fn put_key(
     requires counted { AreCounted securities.now node.now }
     requires few { length node.now < 2 ^ 24 }
     ensures made { IfOk result (λ at. Makes image.old.bytes image.new.bytes
-        (PutsKey securities.now at node.now)) }
+        (PutsKey securities.now parent at node.now)) }
     ensures uses { OnOk result (Uses image.old.bytes image.new.bytes (keys_cost node.now)) }
     ensures stops { IfErr result (Stops image.old.bytes (keys_cost node.now)) }
 {

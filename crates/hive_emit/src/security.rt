@@ -1,7 +1,9 @@
 //! Security cells: one for each distinct descriptor of a tree.
-ghost use Rattle.std.specs.Prelude.{◌≡◌, ◌⊎◌, ◌+◌, ◌^◌, ◌<◌, ◌≤◌, [], length, IsTrue, IfErr, OnOk};
-ghost use Rattle.hive_key_writer.specs.Making.{Makes, Uses, Stops};
+ghost use Rattle.std.specs.Prelude.{◌≡◌, ◌⊎◌, ◌+◌, ◌-◌, ◌^◌, ◌<◌, ◌≤◌, ℕ, List, [], length, IsTrue, IfErr, OnOk, IfSome, IfNone};
+ghost use Rattle.hive_key_writer.specs.Making.{Makes, RoomyAt, Uses, Stops};
 ghost use Rattle.hive_emit.specs.Emitting.{Has, IsOffsetOf, AreShort, IsCounted, AreCounted, CanPutKeys, Keeps, Holding};
+ghost use Rattle.hive_emit.specs.Forms.{has_descriptor, keys_with, behind};
+ghost use Rattle.hive_emit.specs.Securing.{HasAt, tallies, one_with, Counts, AreSome, AreApart, spot, ArePlanned};
 ghost use Rattle.hive_emit.specs.Costs.{descriptor_cost, row_security_cost, descriptors_cost, security_cost, securities_cost};
 
 use hive_cells::Image;
@@ -22,6 +24,10 @@ pub(crate) struct Security {
     pub count: u32,
     /// Where its cell is.
     pub at: u32,
+    /// Where the cell behind it in the ring is.
+    pub next: u32,
+    /// Where the cell ahead of it is.
+    pub previous: u32,
 }
 
 /// The security cells of a tree, with the place of each by its descriptor.
@@ -36,10 +42,13 @@ pub(crate) struct Securities {
 impl Model for Securities {
     ghost use Rattle.std.specs.Prelude.{List};
     ghost use Rattle.hive_emit.specs.declared.security.Security.{Security};
+    ghost use Rattle.hive_emit.specs.Securing.{AreFiled};
 
     ghost Value = { List Security };
 
     ghost view = { λ inside. inside.cells.items };
+
+    ghost invariant = { λ inside. AreFiled inside.places.entries inside.cells.items };
 }
 
 impl Securities {
@@ -53,11 +62,26 @@ impl Securities {
         }
     }
 
-    // the place where a descriptor is kept, as the map has it
-    fn place(&self, descriptor: &[u8]) -> Option<usize> {
-        match self.places.get(descriptor) {
-            Some(place) => Some(*place),
-            None => None,
+    // whether a descriptor is kept at a place
+    fn is_at(&self, place: usize, descriptor: &[u8]) -> bool
+        ensures yes { IsTrue result → HasAt self.now place descriptor.now }
+        ensures no { HasAt self.now place descriptor.now → IsTrue result }
+    {
+        place < self.cells.len() && self.cells[place].descriptor.bytes() == descriptor
+    }
+
+    // the place where a descriptor is kept
+    fn place(&self, descriptor: &[u8]) -> Option<usize>
+        ensures kept { IfSome result (λ place. HasAt self.now place descriptor.now) }
+        ensures none { IfNone result (Has self.now descriptor.now → ⊥) }
+    {
+        let Some(place) = self.places.get(descriptor) else {
+            return None;
+        };
+        if self.is_at(*place, descriptor) {
+            Some(*place)
+        } else {
+            None
         }
     }
 
@@ -67,18 +91,26 @@ impl Securities {
         ensures keeps { Keeps self.old self.new }
         ensures short { AreShort self.old → AreShort self.new }
         ensures cost { securities_cost self.new ≡ securities_cost self.old }
+        ensures counts { (descriptor : List ℕ) → HasAt self.old place descriptor →
+            Counts (tallies self.old) (tallies self.new) 1 (λ d. one_with d descriptor) }
+        ensures some { AreSome (tallies self.old) → AreSome (tallies self.new) }
     {
         self.cells[place].count = self.cells[place].count.saturating_add(1);
     }
 
     // keeps a descriptor that a first key has
     fn add(&mut self, alloc: Global, descriptor: &Data) -> Result<(), AllocError>
+        requires new { Has self.old descriptor.now → ⊥ }
         ensures counted { OnOk result (Has self.new descriptor.now) }
         ensures keeps { OnOk result (Keeps self.old self.new) }
         ensures short { OnOk result (length descriptor.now < 2 ^ 32 → AreShort self.old
             → AreShort self.new) }
         ensures cost { OnOk result (securities_cost self.new ≤ securities_cost self.old
             + descriptor_cost (length descriptor.now)) }
+        ensures counts { OnOk result (Counts (tallies self.old) (tallies self.new) 1
+            (λ d. one_with d descriptor.now)) }
+        ensures some { OnOk result (0 < length descriptor.now → AreSome (tallies self.old) →
+            AreSome (tallies self.new)) }
     {
         let bytes = Vec::from_slice(alloc, descriptor.bytes())?;
         self.places.insert(bytes, self.cells.len())?;
@@ -86,15 +118,10 @@ impl Securities {
             descriptor: descriptor.clone()?,
             count: 1,
             at: NOWHERE,
+            next: NOWHERE,
+            previous: NOWHERE,
         })?;
         Ok(())
-    }
-
-    // whether a descriptor is kept at a place
-    fn is_at(&self, place: usize, descriptor: &[u8]) -> bool
-        ensures { IsTrue result → Has self.now descriptor.now × (place < length self.now) }
-    {
-        place < self.cells.len() && self.cells[place].descriptor.bytes() == descriptor
     }
 
     // counts a key with a descriptor
@@ -105,15 +132,18 @@ impl Securities {
             → AreShort self.new) }
         ensures cost { OnOk result (securities_cost self.new ≤ securities_cost self.old
             + descriptor_cost (length descriptor.now)) }
+        ensures counts { OnOk result (Counts (tallies self.old) (tallies self.new) 1
+            (λ d. one_with d descriptor.now)) }
+        ensures some { OnOk result (0 < length descriptor.now → AreSome (tallies self.old) →
+            AreSome (tallies self.new)) }
     {
-        if let Some(place) = self.place(descriptor.bytes()) {
-            if self.is_at(place, descriptor.bytes()) {
+        match self.place(descriptor.bytes()) {
+            Some(place) => {
                 self.count_again(place);
-                return Ok(());
+                Ok(())
             }
+            None => self.add(alloc, descriptor),
         }
-        self.add(alloc, descriptor)?;
-        Ok(())
     }
 
     // counts a key
@@ -124,6 +154,9 @@ impl Securities {
             → AreShort self.new) }
         ensures cost { OnOk result (securities_cost self.new ≤ securities_cost self.old
             + row_security_cost key.now) }
+        ensures counts { OnOk result (Counts (tallies self.old) (tallies self.new) 1
+            (λ d. has_descriptor d key.now)) }
+        ensures some { OnOk result (AreSome (tallies self.old) → AreSome (tallies self.new)) }
     {
         if key.descriptor().bytes().is_empty() {
             return Ok(());
@@ -140,6 +173,9 @@ impl Securities {
         ensures short { OnOk result (AreShort self.old → AreShort self.new) }
         ensures cost { OnOk result (securities_cost self.new ≤ securities_cost self.old
             + descriptors_cost node.now) }
+        ensures counts { OnOk result (Counts (tallies self.old) (tallies self.new)
+            (length node.now) (λ d. keys_with d node.now)) }
+        ensures some { OnOk result (AreSome (tallies self.old) → AreSome (tallies self.new)) }
     {
         self.count_key(alloc, node.key())?;
         for index in 0..node.subkey_count() {
@@ -159,17 +195,10 @@ impl Securities {
         if descriptor.is_empty() {
             return NOWHERE;
         }
-        if let Some(place) = self.place(descriptor) {
-            if place < self.cells.len() && self.cells[place].descriptor.bytes() == descriptor {
-                return self.cells[place].at;
-            }
+        match self.place(descriptor) {
+            Some(place) => self.cells[place].at,
+            None => unreachable!(),
         }
-        for security in &self.cells {
-            if security.descriptor.bytes() == descriptor {
-                return security.at;
-            }
-        }
-        unreachable!()
     }
 
     /// How many bytes all the cells have.
@@ -184,13 +213,18 @@ impl Securities {
         sum
     }
 
-    /// Puts the cells one behind the other, each linked with those before and behind it in a ring. The links are right
+    /// Puts the cells one behind the other, each linked with those ahead of and behind it in a ring. The links are right
     /// where the image is new and has room for all cells in its first bin; they are not read.
     pub(crate) fn put(&mut self, image: &mut Image, text: &mut Vec<u8>) -> Result<(), Refusal>
         requires short { AreShort self.old }
         requires fits { securities_cost self.old < 2 ^ 31 }
         ensures held { OnOk result (Makes image.old.bytes image.new.bytes (Holding self.new)) }
         ensures keeps { OnOk result (Keeps self.old self.new) }
+        ensures same { OnOk result (tallies self.new ≡ tallies self.old) }
+        ensures apart { OnOk result (AreApart (tallies self.new)) }
+        ensures ring { OnOk result ((more : ℕ) → RoomyAt image.old.bytes 32
+            (securities_cost self.old + more) →
+            ArePlanned self.old self.new (length self.old)) }
         ensures uses { OnOk result (Uses image.old.bytes image.new.bytes
             (securities_cost self.old)) }
         ensures stops { IfErr result (Stops image.old.bytes (securities_cost self.old)) }
@@ -213,7 +247,10 @@ impl Securities {
                 Ok(at) => at,
                 Err(why) => return Err(why),
             };
-            self.cells[index].at = at;
+            let security = &mut self.cells[index];
+            security.at = at;
+            security.next = next;
+            security.previous = previous;
             previous = at;
         }
         Ok(())
@@ -222,6 +259,7 @@ impl Securities {
     // where the last cell is to be
     fn last_at(&self) -> u32
         requires { securities_cost self.now < 2 ^ 31 }
+        ensures { 0 < length self.now → result ≡ spot self.now (length self.now - 1) }
     {
         match self.cells.last() {
             Some(last) => FIRST
@@ -234,6 +272,8 @@ impl Securities {
     // where the cell behind the one at an index is to be, from where that is; the first one is behind the last
     fn next_at(&self, index: usize, at: u32) -> u32
         requires { securities_cost self.now < 2 ^ 31 }
+        ensures { index < length self.now → at ≡ spot self.now index →
+            result ≡ spot self.now (behind (length self.now) index) }
     {
         match self.cells.get(index) {
             Some(security) => {

@@ -67,7 +67,7 @@ one_leaf_more a b c plain offsets kids more at some few m n = made_then a b c (L
 
 -- the list of a key
 pub no_kids_made : (a : List ℕ) (plain : Bool) → Makes a a (KidsAt nowhere plain [])
-no_kids_made a plain = made_none a (KidsAt nowhere plain []) (λ x. record { own = []; near = omega arith; adds = adds_none x x; is = inl (record { none = refl; its_own = refl }) })
+no_kids_made a plain = made_none a (KidsAt nowhere plain []) (λ x. record { own = []; near = omega arith; adds = adds_none x x; is = inl (record { none = refl; without = refl; its_own = refl }) })
 
 pub one_leaf_made : (a b : List ℕ) (plain : Bool) (kids : List Kid) (list : ℕ) → 0 < length kids → length kids ≤ 500 → Makes a b (Puts list (leaf_text plain kids)) → Makes a b (KidsAt list plain kids)
 one_leaf_made a b plain kids list some few m = made_as a b (Puts list (leaf_text plain kids)) (KidsAt list plain kids) m (λ x y g p. record {

@@ -5,3 +5,4 @@ pub mod Valued
 pub mod ValueMaps
 pub mod Leaves
 pub mod Sums
+pub mod Stays

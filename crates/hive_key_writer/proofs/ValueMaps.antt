@@ -1,5 +1,5 @@
 -- A key's values: one after another, and as the map of their folded names.
-use Rattle.std.proofs.Common.{◌≡◌, ℕ, zero, suc, ◌+◌, ◌<◌, ◌^◌, List, [], ◌∷◌, ◌++◌, length, map, flat_map, take, slice_get, true, false, not, ◌&&◌, ◌||◌, T, refl, sym, ◌∙◌, ap, subst, arith, Some, None}
+use Rattle.std.proofs.Common.{◌≡◌, inl, inr, ℕ, zero, suc, ◌+◌, ◌<◌, ◌^◌, List, [], ◌∷◌, ◌++◌, length, map, flat_map, take, slice_get, true, false, not, ◌&&◌, ◌||◌, T, refl, sym, ◌∙◌, ap, subst, arith, Some, None}
 use Rattle.std.specs.List.{AllByRecursion, list_any}
 use Rattle.std.specs.FinMap as finite
 use Rattle.std.specs.FinMap.{get-from_entries, get-from_sorted, entries-from_sorted, same_map, same_entries_map, entries_sorted, len-entries}
@@ -91,6 +91,13 @@ values_read list places values x y z can some g h l p =
       own = list ∷ flat_map value_own l.written;
       near = let near : list < nowhere = p.near in omega arith;
       adds = adds_ahead x y z (flat_map value_own l.written) (list ∷ []) g h l.listed.adds p.adds;
+      is = inr (record {
+        written = l.written;
+        its = l.its;
+        each = all_as (IsValue y) (IsValue z) l.written (λ w is. written_grown y z w h is) l.listed.all;
+        held = subst (λ ps. Holds z list (offsets_text ps)) (sym l.at) p.holds;
+        its_own = refl;
+      });
       gives = subst (λ (n : ℕ). Gives (values_at true n list) z (list ∷ flat_map value_own l.written) [] values) count
           (subst (λ (m : ValueMap). Gives (values_at true (length l.written) list) z (list ∷ flat_map value_own l.written) [] m) (ap map_of l.its ∙ map_again values can) read);
     }
@@ -107,6 +114,7 @@ none_made a values can none = made_none a (ValuesAt nowhere values) (λ x. recor
   own = [];
   near = omega arith;
   adds = adds_none x x;
+  is = inl (record { none = none; without = refl; its_own = refl });
   gives = subst (λ (n : ℕ). Gives (values_at true n nowhere) x [] [] values) (sym none)
       (subst (λ (m : ValueMap). Gives (values_at true 0 nowhere) x [] [] m) (ap map_of (sym (nothing (finite.values values) (length-map (finite.entries values) (λ e. e.1) ∙ sym (len-entries values) ∙ none))) ∙ map_again values can) (no_values true x nowhere));
 })

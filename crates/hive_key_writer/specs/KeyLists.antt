@@ -3,6 +3,7 @@ use Rattle.std.specs.Prelude.{◌≡◌, ◌⊎◌, ℕ, ◌<◌, ◌≤◌, ◌
 use Rattle.std.specs.List.{AllByRecursion}
 use Rattle.reg_tree_parts.specs.Nodes.{Entries}
 use Rattle.hive_cells.specs.Bins.{Cells}
+use Rattle.hive_records.specs.Numbers.{nowhere}
 use Rattle.hive_records.specs.Fields.{Holds}
 use Rattle.hive_records.specs.ListTexts.{Kid, plain_leaf, hashed_leaf, indirect, places, AreOffsets}
 use Rattle.hive_key_writer.specs.Making.{Adds, Lists}
@@ -51,13 +52,14 @@ pub record HasLeaves (list : ℕ) (plain : Bool) (kids : List Kid) (own : List �
   pub count : length leaves < 2 ^ 16
   pub near : AreOffsets (leaf_places leaves)
 
--- none have no list
-pub record HasNone (kids : List Kid) (own : List ℕ) : Type 0 where
+-- none have no list, and its offset is that of none
+pub record HasNone (list : ℕ) (kids : List Kid) (own : List ℕ) : Type 0 where
   pub none : kids ≡ []
+  pub without : list ≡ nowhere
   pub its_own : own ≡ []
 
 abbrev pub IsListed : ℕ → Bool → List Kid → List ℕ → Cells → Type 0
-IsListed list plain kids own cells = HasNone kids own ⊎ (HasLeaf list plain kids own cells ⊎ HasLeaves list plain kids own cells)
+IsListed list plain kids own cells = HasNone list kids own ⊎ (HasLeaf list plain kids own cells ⊎ HasLeaves list plain kids own cells)
 
 -- leaves are written one after another, at places
 pub record ListedLeaves (plain : Bool) (offsets : List ℕ) (kids : List Kid) (before after : Cells) : Type 0 where

@@ -1,8 +1,9 @@
 -- Values that are written into cells that were not there.
-use Rattle.std.specs.Prelude.{◌≡◌, ◌⊎◌, ℕ, ◌<◌, ◌≤◌, ◌^◌, true, List, [], ◌∷◌, length, map}
+use Rattle.std.specs.Prelude.{◌≡◌, ◌⊎◌, ℕ, ◌<◌, ◌≤◌, ◌^◌, true, List, [], ◌∷◌, length, map, flat_map}
 use Rattle.std.specs.List.{AllByRecursion}
 use Rattle.reg_tree_parts.specs.declared.value.Value.{Value}
 use Rattle.hive_cells.specs.Bins.{Cells}
+use Rattle.hive_records.specs.Numbers.{nowhere}
 use Rattle.hive_records.specs.Fields.{Gives, Holds}
 use Rattle.hive_records.specs.BigTexts.{Segment, big_text, segment_places, together, AreFull}
 use Rattle.hive_records.specs.ListTexts.{offsets_text, AreOffsets}
@@ -90,9 +91,27 @@ pub record ListedValues (places : List ℕ) (values : List Value) (before after 
   pub its : map (λ (v : Written). v.value) written ≡ values
   pub near : AreOffsets places
 
--- a key's values read back from the list at an offset, which hangs on cells that were not there
+-- a key's values have their records, and a list of these in the order of the values' folded names
+pub record HasValues (list : ℕ) (values : ValueMap) (own : List ℕ) (cells : Cells) : Type 0 where
+  pub written : List Written
+  pub its : map (λ (v : Written). v.value) written ≡ finite.values values
+  pub each : AllByRecursion (IsValue cells) written
+  pub held : Holds cells list (offsets_text (map (λ (v : Written). v.at) written))
+  pub its_own : own ≡ list ∷ flat_map value_own written
+
+-- none have no list, and its offset is that of none
+pub record HasNoValues (list : ℕ) (values : ValueMap) (own : List ℕ) : Type 0 where
+  pub none : finite.len values ≡ 0
+  pub without : list ≡ nowhere
+  pub its_own : own ≡ []
+
+abbrev pub AreListedValues : ℕ → ValueMap → List ℕ → Cells → Type 0
+AreListedValues list values own cells = HasNoValues list values own ⊎ HasValues list values own cells
+
+-- a key's values are written, and read back from the list at an offset, which hangs on cells that were not there
 pub record ValuesAt (list : ℕ) (values : ValueMap) (before after : Cells) : Type 0 where
   pub own : List ℕ
   pub near : list < 2 ^ 32
   pub adds : Adds before after own
+  pub is : AreListedValues list values own after
   pub gives : Gives (values_at true (finite.len values) list) after own [] values

@@ -100,10 +100,10 @@ fn listed(
     ensures works { Works looks.old looks.new seen.old seen.new result }
 {
     let found = elements(alloc, list)?;
-    if list.is_indirect {
-        return leaves(alloc, image, seen, looks, &found);
+    if !list.is_indirect {
+        return Ok(found);
     }
-    Ok(found)
+    leaves(alloc, image, seen, looks, &found)
 }
 
 /// The subkeys of a key that says how many they are and where their list is.

@@ -1,7 +1,8 @@
-//! Tests of images that are made of trees: what lies where, read by the readers of single records, with expected values from
-//! the format's rules.
+//! Images that are made of trees: a law, that each is loaded as the same tree; and tests of what lies where, read by the
+//! readers of single records, with expected values from the format's rules.
 #![tactic(auto)]
 
+mod again;
 #[cfg(test)]
 mod images;
 #[cfg(test)]
@@ -12,3 +13,7 @@ mod records;
 mod spelled;
 #[cfg(test)]
 mod trees;
+#[cfg(test)]
+mod twice;
+
+pub use crate::again::loaded_again;

@@ -3,6 +3,7 @@ use hive_cells::{Image, Looks};
 use hive_emit::{Emitted, emit};
 use hive_load::load;
 use refusals::Refusal;
+use reg_tree::Tree;
 use std::alloc::{AllocError, Global};
 use tests_load::hives::{NO, Says, hive, offset, put};
 
@@ -48,11 +49,15 @@ pub fn key_record(
     Ok(record)
 }
 
-/// What is emitted of the tree of the hive whose middle subkey has this record.
-pub fn emitted_of(alloc: Global, record: &[u8]) -> Result<Emitted, Refusal> {
+/// The tree of the hive whose middle subkey has this record.
+pub fn tree_of(alloc: Global, record: &[u8]) -> Result<Tree, Refusal> {
     let mut bytes = hive(alloc, 1, &CELLS)?;
     put(&mut bytes, (offset(2) as usize).saturating_add(4), record);
     let image = Image::open(alloc, bytes)?;
-    let tree = load(alloc, &image, 32, 5, &mut Looks::new())?;
-    emit(alloc, &tree, 0)
+    load(alloc, &image, 32, 5, &mut Looks::new())
+}
+
+/// What is emitted of it.
+pub fn emitted_of(alloc: Global, record: &[u8]) -> Result<Emitted, Refusal> {
+    emit(alloc, &tree_of(alloc, record)?, 0)
 }

@@ -28,7 +28,7 @@ put_subkeys-put_key-requires t c = (
 
 pub put_subkeys-loop-index-init : goal.put_subkeys-loop-index-init
 put_subkeys-loop-index-init t c = record {
-  made = subst (λ ps. Makes c.args.image.now.bytes c.args.image.now.bytes (PutsKids c.args.securities.now ps [])) (sym c.new-places.ensures.items) (no_kids_done c.args.image.now.bytes c.args.securities.now);
+  made = subst (λ ps. Makes c.args.image.now.bytes c.args.image.now.bytes (PutsKids c.args.securities.now c.args.parent ps [])) (sym c.new-places.ensures.items) (no_kids_done c.args.image.now.bytes c.args.securities.now c.args.parent);
   uses = none_used c.args.image.now.bytes;
   count = ap length c.new-places.ensures.items;
   near = subst AreOffsets (sym c.new-places.ensures.items) tt;
@@ -39,8 +39,8 @@ put_subkeys-unreachable-requires t c = kid_there (subkeys_of c.args.node.now) c.
 
 pub put_subkeys-loop-index-preserved : goal.put_subkeys-loop-index-preserved
 put_subkeys-loop-index-preserved t c = record {
-  made = subst (λ ps. Makes c.args.image.now.bytes c.put_key.new.image.bytes (PutsKids c.args.securities.now ps (take (c.loop-index.index + 1) (subkeys_of c.args.node.now)))) (sym c.in_ok-push.ensures.items)
-      (kids_next c.args.image.now.bytes c.loop-index.image.bytes c.put_key.new.image.bytes c.args.securities.now c.loop-index.places.items (subkeys_of c.args.node.now) c.loop-index.index c.in-Ok.at c.in-Some.subkey.now c.in-Some.ensures.has.named c.in-Some.ensures.at c.loop-index.invariant.made c.in-Ok.ensures.made);
+  made = subst (λ ps. Makes c.args.image.now.bytes c.put_key.new.image.bytes (PutsKids c.args.securities.now c.args.parent ps (take (c.loop-index.index + 1) (subkeys_of c.args.node.now)))) (sym c.in_ok-push.ensures.items)
+      (kids_next c.args.image.now.bytes c.loop-index.image.bytes c.put_key.new.image.bytes c.args.securities.now c.args.parent c.loop-index.places.items (subkeys_of c.args.node.now) c.loop-index.index c.in-Ok.at c.in-Some.subkey.now c.in-Some.ensures.has.named c.in-Some.ensures.at c.loop-index.invariant.made c.in-Ok.ensures.made);
   uses = subst (Uses c.args.image.now.bytes c.put_key.new.image.bytes) (sym (below_next (subkeys_of c.args.node.now) c.loop-index.index c.in-Some.subkey.now c.in-Some.ensures.has.named c.in-Some.ensures.at))
       (both_used c.args.image.now.bytes c.loop-index.image.bytes c.put_key.new.image.bytes (sum_by (λ k. keys_cost k.1) (take c.loop-index.index (subkeys_of c.args.node.now))) (keys_cost c.in-Some.subkey.now) c.loop-index.invariant.uses c.in-Ok.ensures.uses);
   count = omega (arith, ap length c.in_ok-push.ensures.items, length-append c.loop-index.places.items (c.in-Ok.at ∷ []), c.loop-index.invariant.count);
@@ -67,7 +67,7 @@ pub put_key-returns-in-Ok-fill_key-clause-made : goal.put_key-returns-in-Ok-fill
 put_key-returns-in-Ok-fill_key-clause-made t c =
     let here = c.key-key.ensures.here in
     let text : c.bytes.result.now ≡ c.key-key.result.now.descriptor = c.bytes.ensures ∙ c.descriptor.ensures in
-    key_made c.args.securities.now c.args.image.now.bytes c.new_cell.new.image.bytes c.put_subkeys.new.image.bytes c.put_own.new.image.bytes c.fill_key.new.image.bytes c.in-Ok.at c.record_len.result c.offset-security.result c.in-Ok-put_own.own.class c.in-Ok-put_own.own.values c.in-Ok-put_own.own.kids c.key-key.result.now c.key_places-its.result c.args.node.now c.in-Ok-put_subkeys.places.items
+    key_made c.args.securities.now c.args.image.now.bytes c.new_cell.new.image.bytes c.put_subkeys.new.image.bytes c.put_own.new.image.bytes c.fill_key.new.image.bytes c.args.parent c.in-Ok.at c.record_len.result c.offset-security.result c.in-Ok-put_own.own.class c.in-Ok-put_own.own.values c.in-Ok-put_own.own.kids c.key-key.result.now c.key_places-its.result c.args.node.now c.in-Ok-put_subkeys.places.items
     (record {
       count = c.in-Ok-put_subkeys.ensures.count;
       near = c.in-Ok-put_subkeys.ensures.near;
@@ -81,7 +81,7 @@ put_key-returns-in-Ok-fill_key-clause-made t c =
       said = c.key_places-its.ensures c.key-key.result.now here;
       offset = subst (λ d. IsOffsetOf c.args.securities.now d c.offset-security.result) text c.offset-security.ensures;
     })
-    c.in-Ok.ensures.0 c.in-Ok-put_subkeys.ensures.made (subst (λ ps. Makes c.put_subkeys.new.image.bytes c.put_own.new.image.bytes (OwnAt c.in-Ok-put_own.own.class c.in-Ok-put_own.own.values c.in-Ok-put_own.own.kids c.key-key.result.now ps)) c.deref.ensures.value (c.in-Ok-put_own.ensures.made c.key-key.result.now here)) (c.in-Ok-fill_key.ensures.filled c.key-key.result.now here)
+    c.in-Ok.ensures.0 c.in-Ok-put_subkeys.ensures.made (subst (λ ps. Makes c.put_subkeys.new.image.bytes c.put_own.new.image.bytes (OwnAt c.in-Ok-put_own.own.class c.in-Ok-put_own.own.values c.in-Ok-put_own.own.kids c.key-key.result.now ps (subkeys_of c.args.node.now))) c.deref.ensures.value (c.in-Ok-put_own.ensures.made c.key-key.result.now here)) (c.in-Ok-fill_key.ensures.filled c.key-key.result.now here)
 
 -- what subkeys take
 pub put_subkeys-returns-clause-uses : goal.put_subkeys-returns-clause-uses

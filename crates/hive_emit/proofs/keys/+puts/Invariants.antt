@@ -8,7 +8,7 @@ use Rattle.hive_emit.proofs.keys.+puts.Given as goal
 
 abbrev pub invariant-put_subkeys-loop-index : goal.invariant-put_subkeys-loop-index
 invariant-put_subkeys-loop-index l = record {
-  made : Makes l.fn.image.bytes l.image.bytes (PutsKids l.securities l.places.items (take l.index (subkeys_of l.node)));
+  made : Makes l.fn.image.bytes l.image.bytes (PutsKids l.securities l.parent l.places.items (take l.index (subkeys_of l.node)));
   uses : Uses l.fn.image.bytes l.image.bytes (sum_by (λ k. keys_cost k.1) (take l.index (subkeys_of l.node)));
   count : length l.places.items ≡ l.index;
   near : AreOffsets l.places.items;

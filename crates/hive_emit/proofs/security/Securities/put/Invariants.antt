@@ -1,6 +1,7 @@
-use Rattle.std.proofs.Common.{◌≡◌, length, take}
-use Rattle.hive_key_writer.specs.Making.{Makes, Uses}
+use Rattle.std.proofs.Common.{◌≡◌, ◌+◌, ◌<◌, ℕ, length, take}
+use Rattle.hive_key_writer.specs.Making.{Makes, RoomyAt, Uses}
 use Rattle.hive_emit.specs.Emitting.{Holding, Keeps, AreShort}
+use Rattle.hive_emit.specs.Securing.{tallies, spot, Laid}
 use Rattle.hive_emit.specs.Costs.{securities_cost}
 use Rattle.hive_emit.proofs.security.Securities.put.Given as goal
 
@@ -12,4 +13,7 @@ invariant-loop-index l = record {
   keeps : Keeps l.fn.self l.self;
   short : AreShort l.self;
   len : length l.self ≡ length l.fn.self;
+  same : tallies l.self ≡ tallies l.fn.self;
+  next : l.index < length l.fn.self → l.next ≡ spot l.fn.self l.index;
+  laid : (more : ℕ) → RoomyAt l.fn.image.bytes 32 (securities_cost l.fn.self + more) → Laid l.fn.self l.self l.image.bytes l.index l.previous more;
 }
