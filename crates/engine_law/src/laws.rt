@@ -2,6 +2,8 @@
 ghost use Rattle.std.specs.Prelude.{◌≡◌, ◌⊎◌, ℕ, ◌+◌, ◌≤◌, ◌++◌, ◌∷◌, [], false, List, length, map, slice_get, slice_set, Some, None, Result, Err};
 ghost use Rattle.reg_tree.specs.Maps.{TreeMap};
 ghost use Rattle.reg_tree.specs.declared.element.Element.{Element};
+ghost use Rattle.prefix_law.specs.Changes.{ops_on};
+ghost use Rattle.prefix_law.specs.Life.{ops_in};
 ghost use Rattle.prefix_law.specs.Promises.{Choice, Spelled, JournalSays, TrimSays, HiveSays};
 ghost use Rattle.engine_words.specs.Changes.{TimedOp, timed_elements};
 ghost use Rattle.hive_flush.specs.HiveStates.{AreLegalOn};
@@ -13,7 +15,7 @@ ghost use Rattle.machine.specs.Kept.{IsKept};
 ghost use Rattle.machine.specs.declared.event.Event.{Event};
 ghost use Rattle.machine.specs.declared.event.Event.TheVariants as event;
 ghost use Rattle.machine.specs.declared.event.Reply.{Reply};
-ghost use Rattle.engine_law.specs.States.{HiveView, IsConsistent};
+ghost use Rattle.engine_law.specs.States.{HiveView, IsConsistent, life_of};
 ghost use Rattle.refusals.specs.declared.refusal.Refusal.{Refusal};
 ghost use Rattle.refusals.specs.declared.refusal.Refusal.TheVariants.{Faulted};
 ghost use Rattle.engine_law.specs.Answers.{reply_to, after_step, after_flush, MayTrim, opened_above, accepted_above, absorbed};
@@ -91,6 +93,8 @@ pub fn journal_steps_keep()
 /// What a hive takes in and what its steps say.
 ///
 /// - `lacks`: what a hive at rest lacks of the durable changes is legal on what it has in memory.
+/// - `above`: what a hive lacks above a number are the operations on it of the changes above that number, of those that the
+///   journal spelled at the opening and of those accepted since.
 /// - `takes`: a hive at rest may take that in.
 /// - `step`: a step of its flush keeps all and is a step of the machine, at each of its answers.
 pub fn hive_steps_keep()
@@ -100,6 +104,12 @@ pub fn hive_steps_keep()
         (old.memory.1 ≤ machine.durable)
         × AreLegalOn i (opened_above base opened old.memory.1
         ++ accepted_above machine old.memory.1) old.memory.0 }
+    ensures above { (machine : Machine) (base : ℕ) (opened : List Element)
+        (journal : Choice (Spelled TimedOp)) (hives : List HiveView) (i number : ℕ) →
+        IsConsistent machine base opened journal hives →
+        ops_in (life_of machine base opened) i number machine.durable
+        ≡ ops_on i (timed_elements (opened_above base opened number
+        ++ accepted_above machine number)) }
     ensures takes { (machine : Machine) (base : ℕ) (opened : List Element)
         (journal : Choice (Spelled TimedOp)) (hives : List HiveView) (i : ℕ) (old : HiveView) →
         IsConsistent machine base opened journal hives → slice_get hives i ≡ Some old →
