@@ -1,13 +1,12 @@
 -- Where a step has nothing to do.
-use Rattle.std.proofs.Common.{◌≡◌, ◌⊎◌, ◌↔◌, inl, inr, ℕ, ◌+◌, ◌-◌, ◌<◌, ◌≤◌, true, false, List, [], ◌∷◌, length, map, drop, refl, sym, ◌∙◌, ap, subst, arith, Option, Some, None, Result, Ok, Err, slice_get}
+use Rattle.std.proofs.Common.{◌≡◌, ◌↔◌, inl, inr, ℕ, ◌-◌, ◌<◌, ◌≤◌, false, List, [], ◌∷◌, length, map, drop, refl, sym, ◌∙◌, ap, subst, arith, Some, None, Result, Ok, Err, slice_get}
 use Rattle.std.proofs.lemmas.Option.{none-some, same_Some}
 use Rattle.std.proofs.lemmas.List.{length-drop, length-map}
 use Rattle.refusals.specs.declared.refusal.Refusal.{Refusal}
 use Rattle.reg_tree.specs.declared.element.Element.{Element}
 use Rattle.prefix_law.specs.Promises.{Choice, Spelled, nothing, top, JournalSays, TrimSays}
-use Rattle.prefix_law.specs.Life.{ops_in}
 use Rattle.prefix_law.proofs.ClausesSuffice.{last_naming}
-use Rattle.machine.specs.Machine.{Machine, last_number, pending}
+use Rattle.machine.specs.Machine.{Machine}
 use Rattle.machine.specs.Steps.{is_step}
 use Rattle.machine.specs.Kept.{IsKept}
 use Rattle.machine.specs.declared.event.Event.{Event}
@@ -136,7 +135,7 @@ module _ (m : Machine) (base : ℕ) (opened : List Element) (numbers : List ℕ)
   pub some_lacks : (hives : List HiveFile) → (i : ℕ) × (number : ℕ) × (hive : HiveFile) × (slice_get hives i ≡ Some hive) × (slice_get numbers i ≡ Some number) × ((files_of hive).now.1 < number) → SomeLacks m base opened (map view_of hives)
   some_lacks hives (i, number, hive, there, named, below) = (i, view_of hive, view_at hives i hive there, λ has. let le = (has_all i number hive named).0 has in omega (arith, le, below))
 
--- A step of a flush
+  -- A step of a flush
 
   -- a hive at rest
   pub rests_on : (hives : List HiveFile) (i number applied : ℕ) (found hive : HiveFile) → slice_get hives i ≡ Some found → slice_get hives i ≡ Some hive → slice_get numbers i ≡ Some number → applied ≡ (files_of found).now.1 → number ≤ applied → HasAll m base opened i (view_of hive)

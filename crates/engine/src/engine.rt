@@ -27,6 +27,7 @@ use refusals::Refusal;
 use reg_tree::{Element, Trees};
 use std::alloc::{AllocError, Global};
 use std::marker::Model;
+use std::snapshot::Snapshot;
 use transactions::Store;
 
 /// An engine over a disk, seen by contracts as its machine, its disk, and the store that its files are of.
@@ -54,7 +55,7 @@ impl<D: Disk> Model for Engine<D> {
       disk = inside.parts.disk;
       store = store_of inside.parts.journal;
       base = inside.parts.base;
-      opened = inside.parts.opened.items;
+      opened = inside.parts.spelled.value.items;
       journal = choice_of inside.parts.journal;
       hives = map view_of inside.parts.hives.items;
     } };
@@ -123,6 +124,7 @@ impl<D: Disk> Engine<D> {
             return Err((Refusal::NoMemory, disk));
         };
         naming.count_in(base, &opened);
+        let spelled = Snapshot::of(&opened);
         Ok(Engine {
             parts: Parts {
                 alloc,
@@ -130,8 +132,9 @@ impl<D: Disk> Engine<D> {
                 journal,
                 hives,
                 store,
-                opened,
+                spelled,
                 base,
+                opened,
                 naming,
             },
         })

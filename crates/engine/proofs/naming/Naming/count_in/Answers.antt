@@ -22,13 +22,13 @@ loop-change-preserved c =
     let next : l.change-index + 1 ≡ suc l.change-index = omega arith in
     let more : take (l.change-index + 1) changes ≡ take l.change-index changes ++ change ∷ [] = ap (λ n. take n changes) next ∙ take_more l.change-index changes change there in
     let each : (i : ℕ) → slice_get is i ≡ option_map (λ m. cond (names i change.ops) (l.number + 1) m) (slice_get was i) = λ i. c.name.ensures.named i ∙ ap (λ (ops : List Op). option_map (λ m. cond (names i ops) (l.number + 1) m) (slice_get c.deref_mut.result.now i)) c.list.ensures.all
-      ∙ ap (λ (xs : List ℕ). option_map (λ m. cond (names i change.ops) (l.number + 1) m) (slice_get xs i)) c.deref_mut.ensures.value in
+    ∙ ap (λ (xs : List ℕ). option_map (λ m. cond (names i change.ops) (l.number + 1) m) (slice_get xs i)) c.deref_mut.ensures.value in
     record {
       number = omega (arith, l.invariant.number);
       last = λ base known first last.
           let front = known ++ timed_elements (take l.change-index changes) in
           let whole : front ++ timed_element change ∷ [] ≡ known ++ timed_elements (take (l.change-index + 1) changes) = append_assoc known (timed_elements (take l.change-index changes)) (timed_element change ∷ [])
-            ∙ ap (λ (es : List (law.Element TimedOp)). known ++ es) (sym (map-append timed_element (take l.change-index changes) (change ∷ [])) ∙ ap timed_elements (sym more)) in
+          ∙ ap (λ (es : List (law.Element TimedOp)). known ++ es) (sym (map-append timed_element (take l.change-index changes) (change ∷ [])) ∙ ap timed_elements (sym more)) in
           let numbered : l.number + 1 ≡ base + length front + 1 = omega (arith, first, l.invariant.number, length-append known (timed_elements (take l.change-index changes)), length-map (take l.change-index changes) timed_element, length-take l.change-index changes, c.loop-change-test.true) in
           subst (λ (ns : List ℕ). AreLastIn base (known ++ timed_elements (take (l.change-index + 1) changes)) ns) (sym back)
           (subst (λ (es : List (law.Element TimedOp)). AreLastIn base es is) whole (one_counted base front change (l.number + 1) was is numbered each (l.invariant.last base known first last)));
