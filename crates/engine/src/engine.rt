@@ -1,5 +1,5 @@
 //! The engine as its callers see it: what it keeps is in its type, so that no call asks for it.
-ghost use Rattle.std.specs.Prelude.{◌≡◌, ◌+◌, ◌<◌, ◌≤◌, [], ℕ, false, IfErr, IfOk, OnErr, Some, length, map, slice_get};
+ghost use Rattle.std.specs.Prelude.{◌≡◌, ◌+◌, ◌<◌, [], ℕ, false, IfErr, IfOk, OnErr, Some, length, map, slice_get};
 ghost use Rattle.refusals.specs.declared.refusal.Refusal.TheVariants.{DiskFault, NoMemory};
 ghost use Rattle.disk_model.specs.Call.{OneCall};
 ghost use Rattle.machine.specs.Machine.{opened_machine, trees_now};

@@ -119,9 +119,11 @@ impl<D: Disk> Parts<D> {
         requires sound { IsSound self.now }
         requires works { self.now.store.machine.faulted ≡ false }
         ensures yes { result ≡ true → MayTrim self.now.store.machine self.now.base
-            self.now.spelled.value.items (choice_of self.now.journal) (map view_of self.now.hives.items) }
+            self.now.spelled.value.items (choice_of self.now.journal)
+            (map view_of self.now.hives.items) }
         ensures no { result ≡ false → IsTrimmed self.now.store.machine self.now.base
-            self.now.spelled.value.items (choice_of self.now.journal) (map view_of self.now.hives.items) }
+            self.now.spelled.value.items (choice_of self.now.journal)
+            (map view_of self.now.hives.items) }
     {
         if self.journal.is_trimming() {
             return true;

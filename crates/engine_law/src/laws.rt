@@ -1,5 +1,5 @@
 //! The laws, each the contract of a function that does nothing.
-ghost use Rattle.std.specs.Prelude.{◌≡◌, ◌⊎◌, ℕ, ◌+◌, ◌≤◌, ◌++◌, ◌∷◌, [], false, List, length, map, slice_get, slice_set, Some, None, Result, Err};
+ghost use Rattle.std.specs.Prelude.{◌≡◌, ℕ, ◌+◌, ◌≤◌, ◌++◌, ◌∷◌, [], false, List, length, map, slice_get, slice_set, Some, None, Result, Err};
 ghost use Rattle.reg_tree.specs.Maps.{TreeMap};
 ghost use Rattle.reg_tree.specs.declared.element.Element.{Element};
 ghost use Rattle.prefix_law.specs.Changes.{ops_on};
@@ -63,7 +63,8 @@ pub fn pending_may_be_handed()
         (journal : Choice (Spelled TimedOp)) (hives : List HiveView) →
         IsConsistent machine base opened journal hives →
         AllByRecursion IsShort (pending machine) →
-        IsHanded (length hives) (65 + room_of journal.now.elements) (machine.durable + 1) (pending machine) journal.now }
+        IsHanded (length hives) (65 + room_of journal.now.elements) (machine.durable + 1)
+        (pending machine) journal.now }
 {
     prefix_law::clauses_suffice::<Tree, (u64, Op)>();
 }
@@ -157,7 +158,8 @@ pub fn safe_runs_go_on()
         (reply : Reply) → RunsSafely (IsSafeAt store was) start old events replies middle mid →
         ((k f : ℕ) → k ≤ middle → is k f ≡ was k f) → middle ≤ end → end ≤ middle + 1 →
         Step mid event reply new → IsSafeAt store is end new →
-        RunsSafely (IsSafeAt store is) start old (events ++ event ∷ []) (replies ++ reply ∷ []) end new }
+        RunsSafely (IsSafeAt store is) start old (events ++ event ∷ [])
+        (replies ++ reply ∷ []) end new }
     ensures runs { (store : Store) (states : ℕ → ℕ → FileState) (start end : ℕ) (old new : Machine)
         (events : List Event) (replies : List Reply) →
         RunsSafely (IsSafeAt store states) start old events replies end new →
