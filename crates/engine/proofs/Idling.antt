@@ -1,13 +1,12 @@
 -- Where a step has nothing to do.
-use Rattle.std.proofs.Common.{◌≡◌, ◌⊎◌, ◌↔◌, inl, inr, ℕ, ◌+◌, ◌-◌, ◌<◌, ◌≤◌, true, false, List, [], ◌∷◌, length, map, drop, refl, sym, ◌∙◌, ap, subst, arith, Option, Some, None, Result, Ok, Err, slice_get}
+use Rattle.std.proofs.Common.{◌≡◌, ◌↔◌, inl, inr, ℕ, ◌-◌, ◌<◌, ◌≤◌, false, List, [], ◌∷◌, length, map, drop, refl, sym, ◌∙◌, ap, subst, arith, Some, None, Result, Ok, Err, slice_get}
 use Rattle.std.proofs.lemmas.Option.{none-some, same_Some}
 use Rattle.std.proofs.lemmas.List.{length-drop, length-map}
 use Rattle.refusals.specs.declared.refusal.Refusal.{Refusal}
 use Rattle.reg_tree.specs.declared.element.Element.{Element}
 use Rattle.prefix_law.specs.Promises.{Choice, Spelled, nothing, top, JournalSays, TrimSays}
-use Rattle.prefix_law.specs.Life.{ops_in}
 use Rattle.prefix_law.proofs.ClausesSuffice.{last_naming}
-use Rattle.machine.specs.Machine.{Machine, last_number, pending}
+use Rattle.machine.specs.Machine.{Machine}
 use Rattle.machine.specs.Steps.{is_step}
 use Rattle.machine.specs.Kept.{IsKept}
 use Rattle.machine.specs.declared.event.Event.{Event}

@@ -1,5 +1,5 @@
 -- What the journal says of its steps is what the engine answers and keeps.
-use Rattle.std.proofs.Common.{◌≡◌, ◌⊎◌, ◌↔◌, inl, inr, ℕ, ◌+◌, ◌-◌, ◌<◌, ◌≤◌, true, false, List, [], ◌∷◌, length, get_or, map, take, drop, refl, sym, ◌∙◌, ap, subst, arith, Option, Some, None, Result, Ok, Err, slice_get}
+use Rattle.std.proofs.Common.{◌≡◌, ◌⊎◌, ◌↔◌, inr, ℕ, ◌+◌, ◌-◌, ◌<◌, ◌≤◌, false, List, [], ◌∷◌, length, get_or, map, take, drop, refl, sym, ◌∙◌, ap, subst, arith, Some, None, Result, Ok, Err, slice_get}
 use Rattle.std.specs.List.{AllByRecursion}
 use Rattle.std.proofs.lemmas.List.{length-map}
 use Rattle.refusals.specs.declared.refusal.Refusal.{Refusal}
@@ -8,10 +8,7 @@ use Rattle.disk_model.specs.FileState.{FileState}
 use Rattle.disk_model.specs.Call.{OneCall, HasFailed}
 use Rattle.disk_model.specs.StoreFiles.{IsJournal}
 use Rattle.reg_tree.specs.declared.element.Element.{Element}
-use Rattle.prefix_law.specs.Promises.{Choice, Spelled, nothing, top, JournalSays, TrimSays}
-use Rattle.prefix_law.specs.Life.{known_elements, ops_in}
-use Rattle.prefix_law.specs.Changes.{ops_on}
-use Rattle.prefix_law.proofs.Lists.{seg_none}
+use Rattle.prefix_law.specs.Promises.{Choice, Spelled, top, JournalSays, TrimSays}
 use Rattle.machine.specs.Machine.{Machine, last_number, pending}
 use Rattle.machine.specs.Kept.{IsKept}
 use Rattle.machine.specs.Steps.{Step, Run}
@@ -31,8 +28,8 @@ use Rattle.commit_journal.specs.Journals as journals
 use Rattle.commit_journal.specs.declared.journal.Journal.{Journal}
 use Rattle.hive_flush.specs.HiveStates.{files_of}
 use Rattle.hive_flush.specs.declared.hive.HiveFile.{HiveFile}
-use Rattle.engine_law.specs.States.{HiveView, life_of, IsConsistent}
-use Rattle.engine_law.specs.Answers.{reply_to, after_step, MayTrim, HaveAll}
+use Rattle.engine_law.specs.States.{HiveView, IsConsistent}
+use Rattle.engine_law.specs.Answers.{reply_to, after_step, MayTrim}
 use Rattle.engine_law.specs.Prefixes.{view_of}
 use Rattle.engine_law.specs.Runs.{IsHeld}
 use Rattle.engine.specs.Naming.{AreLastNaming, HasCounted}
@@ -42,6 +39,7 @@ use Rattle.engine.specs.Parts.{AreSound, IsSound, settled_by}
 use Rattle.engine.specs.Events.{GoesOn}
 use Rattle.engine.specs.declared.parts.Parts.{Parts}
 use Rattle.engine.proofs.Sound.{settled_is, journal_sound, refused_accepted, step_before}
+use Rattle.engine.proofs.AtHand.{hand_steps}
 use Rattle.engine.proofs.Namings.{naming_settles}
 use Rattle.engine.proofs.OnDisk.{journal_writes}
 use Rattle.engine.proofs.Idling.{has_all}
@@ -116,7 +114,7 @@ settled_within m t base opened old new hives result kept is = omega (arith, kept
 module _ {D : Type 0} (states : D → ℕ → ℕ → FileState) (clock failures : D → ℕ) (is_faithful : D → Type 0) (e : Event) where
   pub journal_goes_on : (s : Parts D) (new : Journal) (disk : D) (store : StoreView) (naming : Naming) (come : Result Progress Refusal) (used : ℕ) → IsSound s → s.store.machine.faulted ≡ false
       → Step s.store.machine e (reply_to come) (after_step s.store.machine (choice_of s.journal) (choice_of new) come)
-      × IsConsistent (after_step s.store.machine (choice_of s.journal) (choice_of new) come) s.base s.opened.items (choice_of new) (map view_of s.hives.items)
+      × IsConsistent (after_step s.store.machine (choice_of s.journal) (choice_of new) come) s.base s.spelled.value.items (choice_of new) (map view_of s.hives.items)
       → used ≡ 65 + room_of (choice_of s.journal).now.elements → store.machine ≡ settled_by s.store.machine (choice_of new).now used come → store.at_hand ≡ s.store.at_hand → Rises
       → HasCounted s.naming.last.items s.store.machine.durable (take (store.machine.durable - s.store.machine.durable) (pending s.store.machine)) naming.last.items
       → store_of new ≡ store_of s.journal → (journals.IsBroken new → journals.IsBroken s.journal ⊎ (come ≡ Err DiskFault))
@@ -128,12 +126,16 @@ module _ {D : Type 0} (states : D → ℕ → ℕ → FileState) (clock failures
       record {
         step = subst (λ (m : Machine). Step s.store.machine e (reply_to come) m) (sym is) goes.0;
         sound = record {
-          holds = journal_sound s.store store s.base s.opened.items s.journal new s.hives.items come sound.holds free goes.1 same broken is hand;
-          naming = naming_settles s.store.machine store.machine s.base s.opened.items s.naming.last.items naming.last.items sound.holds.kept.begun sound.holds.kept.kept.within.opened sound.holds.kept.kept.within.known
+          holds = journal_sound s.store store s.base s.spelled.value.items s.journal new s.hives.items come sound.holds free goes.1 same broken is;
+          naming = naming_settles s.store.machine store.machine s.base s.spelled.value.items s.naming.last.items naming.last.items sound.holds.kept.begun sound.holds.kept.kept.within.opened sound.holds.kept.kept.within.known
               (subst (λ (m : Machine). s.store.machine.durable ≤ m.durable) (sym is) (rises s.store.machine (after_step s.store.machine (choice_of s.journal) (choice_of new) come) e (reply_to come) sound.holds.kept.kept goes.0))
-              (settled_within s.store.machine store.machine s.base s.opened.items (choice_of s.journal) (choice_of new) (map view_of s.hives.items) come goes.1 is)
+              (settled_within s.store.machine store.machine s.base s.spelled.value.items (choice_of s.journal) (choice_of new) (map view_of s.hives.items) come goes.1 is)
               (ap (λ (m : Machine). m.accepted) is ∙ step_accepted s.store.machine (choice_of s.journal) (choice_of new) come) sound.naming counted.last;
           named = counted.many ∙ sound.named;
+          at_hand = hand_steps s.store store s.base s.spelled.value.items s.opened.items s.hives.items
+              (ap (λ (m : Machine). m.before) is ∙ step_before s.store.machine (choice_of s.journal) (choice_of new) come)
+              (ap (λ (m : Machine). m.accepted) is ∙ step_accepted s.store.machine (choice_of s.journal) (choice_of new) come)
+              (subst (λ (m : Machine). s.store.machine.durable ≤ m.durable) (sym is) (rises s.store.machine (after_step s.store.machine (choice_of s.journal) (choice_of new) come) e (reply_to come) sound.holds.kept.kept goes.0)) hand sound.at_hand;
         };
         on_disk = λ f there. journal_writes s.journal new s.hives.items (states s.disk (clock s.disk)) (states disk (clock disk)) there call.others same (on f);
         store = same;

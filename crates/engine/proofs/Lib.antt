@@ -1,5 +1,6 @@
 mod Sound
 mod Namings
+mod AtHand
 mod Idling
 mod Frames
 mod OnDisk

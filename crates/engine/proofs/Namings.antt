@@ -11,7 +11,7 @@ use Rattle.reg_tree.specs.declared.element.Element.{Element}
 use Rattle.prefix_law.specs.Changes as law
 use Rattle.prefix_law.specs.Changes.{on_hive, ops_on}
 use Rattle.prefix_law.proofs.Replays.{ops_on-append}
-use Rattle.prefix_law.specs.Life.{Life, IsLastNaming, known_elements, elements_in, opened_number}
+use Rattle.prefix_law.specs.Life.{Life, known_elements, elements_in, opened_number}
 use Rattle.prefix_law.proofs.Lists.{drop_nil, first_nil, seg_split}
 use Rattle.prefix_law.proofs.OnePrefix.{part_accepted}
 use Rattle.machine.specs.Machine.{Machine, last_number, pending}
@@ -240,15 +240,23 @@ naming_settles m t base opened old new begun since there up within same last cou
         ∙ take-map timed_element (t.durable - m.durable) (drop (m.durable - m.before) m.accepted)
 
 -- an event that makes no step
+pub known_stays : (m t : Machine) (base : ℕ) (opened : List Element) (hi : ℕ) → m.before ≡ base + length opened → hi ≤ last_number m → Stays m t ⊎ Grows m t
+    → take (hi - base) (known_elements (life_of t base opened)) ≡ take (hi - base) (known_elements (life_of m base opened))
+known_stays m t base opened hi begun there (inl s) = ap (λ (l : List Element). take (hi - base) (timed_elements opened ++ timed_elements l)) s.accepted
+known_stays m t base opened hi begun there (inr g) =
+    ap (λ (l : List Element). take (hi - base) (timed_elements opened ++ timed_elements l)) g.accepted
+    ∙ ap (λ (l : List (law.Element TimedOp)). take (hi - base) (timed_elements opened ++ l)) (map-append timed_element m.accepted (g.element ∷ []))
+    ∙ ap (take (hi - base)) (sym (append_assoc (timed_elements opened) (timed_elements m.accepted) (timed_element g.element ∷ [])))
+    ∙ take-append-le (hi - base) (timed_elements opened ++ timed_elements m.accepted) (timed_element g.element ∷ [])
+    (omega (arith, begun, there, length-append (timed_elements opened) (timed_elements m.accepted), length-map opened timed_element, length-map m.accepted timed_element))
+
+durable_stays : (m t : Machine) → Stays m t ⊎ Grows m t → t.durable ≡ m.durable
+durable_stays m t (inl s) = s.durable
+durable_stays m t (inr g) = g.durable
+
 pub naming_calm : (m t : Machine) (base : ℕ) (opened : List Element) (numbers : List ℕ) → m.before ≡ base + length opened → m.before ≤ m.durable → m.durable ≤ last_number m → Stays m t ⊎ Grows m t → AreLastNaming m base opened numbers → AreLastNaming t base opened numbers
-naming_calm m t base opened numbers begun since there (inl s) last = naming_stays m t base opened numbers (ap (λ d. take (d - base) (timed_elements opened ++ timed_elements t.accepted)) s.durable ∙ ap (λ (l : List Element). take (m.durable - base) (timed_elements opened ++ timed_elements l)) s.accepted) last
-naming_calm m t base opened numbers begun since there (inr g) last = naming_stays m t base opened numbers (
-    ap (λ d. take (d - base) (timed_elements opened ++ timed_elements t.accepted)) g.durable
-    ∙ ap (λ (l : List Element). take (m.durable - base) (timed_elements opened ++ timed_elements l)) g.accepted
-    ∙ ap (λ (l : List (law.Element TimedOp)). take (m.durable - base) (timed_elements opened ++ l)) (map-append timed_element m.accepted (g.element ∷ []))
-    ∙ ap (take (m.durable - base)) (sym (append_assoc (timed_elements opened) (timed_elements m.accepted) (timed_element g.element ∷ [])))
-    ∙ take-append-le (m.durable - base) (timed_elements opened ++ timed_elements m.accepted) (timed_element g.element ∷ [])
-    (omega (arith, begun, there, length-append (timed_elements opened) (timed_elements m.accepted), length-map opened timed_element, length-map m.accepted timed_element))) last
+naming_calm m t base opened numbers begun since there how last =
+    naming_stays m t base opened numbers (ap (λ d. take (d - base) (known_elements (life_of t base opened))) (durable_stays m t how) ∙ known_stays m t base opened m.durable begun there how) last
 
 -- a step of a flush
 pub naming_flushes : (m t : Machine) (base : ℕ) (opened : List Element) (numbers : List ℕ) (come : Result Progress Refusal) → t ≡ after_flush m come → AreLastNaming m base opened numbers → AreLastNaming t base opened numbers

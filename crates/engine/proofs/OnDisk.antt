@@ -1,8 +1,8 @@
 -- The files stay on the disk as the journal and the hives say.
-use Rattle.std.proofs.Common.{◌≡◌, ◌≢◌, ◌⊎◌, inl, inr, ℕ, ◌+◌, ◌*◌, ◌<◌, ◌≤◌, List, refl, sym, ◌∙◌, ap, subst, arith, Option, Some, slice_get}
+use Rattle.std.proofs.Common.{◌≡◌, ℕ, List, sym, subst, arith, Some, slice_get}
 use Rattle.std.specs.Prelude.{slice_set}
 use Rattle.disk_model.specs.FileState.{FileState}
-use Rattle.disk_model.specs.StoreFiles.{IsJournal, IsOfHive, primary_file, log_file, journal_file}
+use Rattle.disk_model.specs.StoreFiles.{IsJournal, primary_file, log_file, journal_file}
 use Rattle.commit_journal.specs.OnDisk.{is_on}
 use Rattle.commit_journal.specs.Store.{Store, texts}
 use Rattle.commit_journal.specs.Journals.{texts_of, value_of, store_of}

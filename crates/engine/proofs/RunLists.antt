@@ -1,5 +1,5 @@
 -- A run of the machine goes on by one step.
-use Rattle.std.proofs.Common.{◌≡◌, ℕ, suc, List, [], ◌∷◌, ◌++◌, length, refl, ap, subst}
+use Rattle.std.proofs.Common.{◌≡◌, suc, List, [], ◌∷◌, ◌++◌, length, refl, ap, subst}
 use Rattle.machine.specs.Machine.{Machine}
 use Rattle.machine.specs.Steps.{Step, Run}
 use Rattle.machine.specs.declared.event.Event.{Event}

@@ -1,9 +1,9 @@
 -- The engine's parts stay sound.
-use Rattle.std.proofs.Common.{◌≡◌, ◌≢◌, ◌⊎◌, ◌↔◌, inl, inr, ℕ, zero, suc, ◌+◌, ◌-◌, ◌<◌, ◌≤◌, true, false, List, [], ◌∷◌, length, map, get_or, refl, sym, ◌∙◌, ap, subst, arith, Option, Some, None, Result, Ok, Err, slice_get, option_map}
+use Rattle.std.proofs.Common.{◌≡◌, ◌⊎◌, inl, inr, ℕ, ◌+◌, ◌-◌, ◌<◌, ◌≤◌, false, List, length, map, get_or, refl, sym, ◌∙◌, ap, subst, arith, Some, Result, Ok, Err, slice_get}
 use Rattle.std.specs.Prelude.{slice_set}
-use Rattle.std.proofs.lemmas.Option.{none-some, same_Some, slice_get_read, slice_get_within, slice_get-map}
+use Rattle.std.proofs.lemmas.Option.{same_Some, slice_get_read}
 use Rattle.std.proofs.lemmas.List.{length-set, map-set}
-use Rattle.std.proofs.lemmas.Bool.{cases_eq, true≢false}
+use Rattle.std.proofs.lemmas.Bool.{true≢false}
 use Rattle.refusals.specs.declared.refusal.Refusal.{Refusal}
 use Rattle.refusals.specs.declared.refusal.Refusal.TheVariants as refusal
 use Rattle.reg_tree.specs.declared.element.Element.{Element}
@@ -29,24 +29,30 @@ use Rattle.engine.specs.Parts.{AreSound, settled_by}
 
 -- an event that makes no step
 pub calm_sound : (s t : StoreView) (base : ℕ) (opened : List Element) (journal : Journal) (hives : List HiveFile) → AreSound s base opened journal hives
-    → IsConsistent t.machine base opened (choice_of journal) (map view_of hives) → Stays s.machine t.machine ⊎ Grows s.machine t.machine → t.at_hand ≡ s.at_hand → AreSound t base opened journal hives
-calm_sound s t base opened journal hives a kept how same = record {
+    → IsConsistent t.machine base opened (choice_of journal) (map view_of hives) → Stays s.machine t.machine ⊎ Grows s.machine t.machine → AreSound t base opened journal hives
+calm_sound s t base opened journal hives a kept how = record {
   kept = kept;
   placed = a.placed;
   many = a.many;
   whole = a.whole;
   journal_works = λ free. a.journal_works (sym (faulted how) ∙ free);
   hives_work = λ free. a.hives_work (sym (faulted how) ∙ free);
-  at_hand = omega (arith, a.at_hand, same, before how);
 }
   where
     faulted : Stays s.machine t.machine ⊎ Grows s.machine t.machine → t.machine.faulted ≡ s.machine.faulted
     faulted (inl x) = x.faulted
     faulted (inr x) = x.faulted
 
-    before : Stays s.machine t.machine ⊎ Grows s.machine t.machine → t.machine.before ≡ s.machine.before
-    before (inl x) = x.before
-    before (inr x) = x.before
+-- the store is told nothing of what an engine keeps
+pub told_sound : (s t : StoreView) (base : ℕ) (opened : List Element) (journal : Journal) (hives : List HiveFile) → t.machine ≡ s.machine → AreSound s base opened journal hives → AreSound t base opened journal hives
+told_sound s t base opened journal hives same a = record {
+  kept = subst (λ (m : Machine). IsConsistent m base opened (choice_of journal) (map view_of hives)) (sym same) a.kept;
+  placed = a.placed;
+  many = a.many;
+  whole = a.whole;
+  journal_works = λ free. a.journal_works (sym (ap (λ (m : Machine). m.faulted) same) ∙ free);
+  hives_work = λ free. a.hives_work (sym (ap (λ (m : Machine). m.faulted) same) ∙ free);
+}
 
 -- a machine told by the room that was used
 pub settled_is : (m : Machine) (old new : Choice (Spelled TimedOp)) (used : ℕ) (result : Result Progress Refusal) → used ≡ 65 + room_of old.now.elements → settled_by m new.now used result ≡ after_step m old new result
@@ -86,22 +92,21 @@ step_before m old new (Ok progress.Idle) = refl
 step_before m old new (Ok progress.More) = refl
 step_before m old new (Err why) = refused_before m why
 
-flush_before : (m : Machine) (result : Result Progress Refusal) → (after_flush m result).before ≡ m.before
+pub flush_before : (m : Machine) (result : Result Progress Refusal) → (after_flush m result).before ≡ m.before
 flush_before m (Ok come) = refl
 flush_before m (Err why) = refused_before m why
 
 -- a step of the journal or of a trim
 pub journal_sound : (s t : StoreView) (base : ℕ) (opened : List Element) (old new : Journal) (hives : List HiveFile) (result : Result Progress Refusal) → AreSound s base opened old hives → s.machine.faulted ≡ false
     → IsConsistent (after_step s.machine (choice_of old) (choice_of new) result) base opened (choice_of new) (map view_of hives) → store_of new ≡ store_of old → (journals.IsBroken new → journals.IsBroken old ⊎ (result ≡ Err refusal.DiskFault))
-    → t.machine ≡ after_step s.machine (choice_of old) (choice_of new) result → t.at_hand ≡ s.at_hand → AreSound t base opened new hives
-journal_sound s t base opened old new hives result a free kept same broken is hand = record {
+    → t.machine ≡ after_step s.machine (choice_of old) (choice_of new) result → AreSound t base opened new hives
+journal_sound s t base opened old new hives result a free kept same broken is = record {
   kept = subst (λ (m : Machine). IsConsistent m base opened (choice_of new) (map view_of hives)) (sym is) kept;
   placed = subst (λ (x : Store). ArePlaced x hives) (sym same) a.placed;
   many = a.many ∙ ap (λ (x : Store). x.hives) (sym same);
   whole = a.whole;
   journal_works = λ still bad. elim (broken bad) [ inl b ↦ a.journal_works free b | inr f ↦ step_faults s.machine (choice_of old) (choice_of new) result free (ap (λ (m : Machine). m.faulted) (sym is) ∙ still) f ];
   hives_work = λ still. a.hives_work free;
-  at_hand = omega (arith, a.at_hand, hand, ap (λ (m : Machine). m.before) is, step_before s.machine (choice_of old) (choice_of new) result);
 }
 
 -- One hive of a list
@@ -112,8 +117,8 @@ at_place hives k h lt e = slice_get_read hives (length hives) k h refl lt e
 -- a hive that has taken something in, or made a step
 pub hive_sound : (s t : StoreView) (base : ℕ) (opened : List Element) (journal : Journal) (hives : List HiveFile) (k : ℕ) (old new : HiveFile) → AreSound s base opened journal hives → slice_get hives k ≡ Some old
     → IsConsistent t.machine base opened (choice_of journal) (slice_set (map view_of hives) k (view_of new)) → place_of new ≡ place_of old → states.store_of new ≡ states.store_of old → IsWhole new
-    → (t.machine.faulted ≡ false → (s.machine.faulted ≡ false) × ¬ (IsBroken new)) → t.machine.before ≡ s.machine.before → t.at_hand ≡ s.at_hand → AreSound t base opened journal (slice_set hives k new)
-hive_sound s t base opened journal hives k old new a is kept place owner whole works before hand = record {
+    → (t.machine.faulted ≡ false → (s.machine.faulted ≡ false) × ¬ (IsBroken new)) → AreSound t base opened journal (slice_set hives k new)
+hive_sound s t base opened journal hives k old new a is kept place owner whole works = record {
   kept = subst (λ (v : List HiveView). IsConsistent t.machine base opened (choice_of journal) v) (sym (map-set view_of hives k new)) kept;
   placed = record {
     place = each_hive hives k old new is (λ j h. place_of h ≡ j) (place ∙ a.placed.place k old is) (λ j h ne at. a.placed.place j h at);
@@ -123,16 +128,14 @@ hive_sound s t base opened journal hives k old new a is kept place owner whole w
   whole = each_hive hives k old new is (λ j h. IsWhole h) whole (λ j h ne at. a.whole j h at);
   journal_works = λ still. a.journal_works (works still).0;
   hives_work = λ still. each_hive hives k old new is (λ j h. ¬ (IsBroken h)) (works still).1 (λ j h ne at. a.hives_work (works still).0 j h at);
-  at_hand = omega (arith, a.at_hand, hand, before);
 }
 
 pub flush_sound : (s t : StoreView) (base : ℕ) (opened : List Element) (journal : Journal) (hives : List HiveFile) (k : ℕ) (old new : HiveFile) (result : Result Progress Refusal) → AreSound s base opened journal hives → s.machine.faulted ≡ false → slice_get hives k ≡ Some old
     → IsConsistent (after_flush s.machine result) base opened (choice_of journal) (slice_set (map view_of hives) k (view_of new)) → place_of new ≡ place_of old → states.store_of new ≡ states.store_of old → IsWhole new
-    → (IsBroken new → IsBroken old ⊎ (result ≡ Err refusal.DiskFault)) → t.machine ≡ after_flush s.machine result → t.at_hand ≡ s.at_hand → AreSound t base opened journal (slice_set hives k new)
-flush_sound s t base opened journal hives k old new result a free is kept place owner whole broken told hand =
+    → (IsBroken new → IsBroken old ⊎ (result ≡ Err refusal.DiskFault)) → t.machine ≡ after_flush s.machine result → AreSound t base opened journal (slice_set hives k new)
+flush_sound s t base opened journal hives k old new result a free is kept place owner whole broken told =
     hive_sound s t base opened journal hives k old new a is (subst (λ (m : Machine). IsConsistent m base opened (choice_of journal) (slice_set (map view_of hives) k (view_of new))) (sym told) kept) place owner whole
     (λ still. (free, λ bad. elim (broken bad) [ inl b ↦ a.hives_work free k old is b | inr f ↦ flush_faults s.machine result (ap (λ (m : Machine). m.faulted) (sym told) ∙ still) f ]))
-    (ap (λ (m : Machine). m.before) told ∙ flush_before s.machine result) hand
 
 pub same_hive : (hives : List HiveFile) (k : ℕ) (a b : HiveFile) → slice_get hives k ≡ Some a → slice_get hives k ≡ Some b → a ≡ b
 same_hive hives k a b x y = same_Some a b (sym x ∙ y)

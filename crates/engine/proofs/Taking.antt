@@ -1,21 +1,22 @@
 -- What a hive says of its steps, and what it takes in, is what the engine answers and keeps.
-use Rattle.std.proofs.Common.{◌≡◌, ◌⊎◌, ◌↔◌, inl, inr, ℕ, zero, suc, ◌+◌, ◌-◌, ◌<◌, ◌≤◌, max, min, false, List, [], ◌∷◌, ◌++◌, length, map, take, drop, refl, sym, ◌∙◌, ap, subst, arith, Option, Some, None, Result, Ok, Err, slice_get}
-use Rattle.std.specs.Prelude.{slice_set, OnOk, OnErr, IfErr}
-use Rattle.std.proofs.lemmas.Option.{slice_get_within}
-use Rattle.std.proofs.lemmas.List.{length-drop, drop-take, take_all}
+use Rattle.std.proofs.Common.{◌≡◌, ◌⊎◌, ◌↔◌, inl, inr, ℕ, ◌+◌, ◌-◌, ◌≤◌, max, min, false, List, [], ◌++◌, length, map, take, drop, sym, ◌∙◌, ap, subst, arith, Some, None, Result, Ok, Err, slice_get}
+use Rattle.std.specs.Prelude.{slice_set, OnOk, OnErr}
+use Rattle.std.proofs.lemmas.List.{drop-drop, length-drop, drop-take, take_all}
 use Rattle.std.proofs.Math.ListN.{drop_of_length-le}
 use Rattle.refusals.specs.declared.refusal.Refusal.{Refusal}
 use Rattle.refusals.specs.declared.refusal.Refusal.TheVariants.{Faulted, NoMemory}
 use Rattle.reg_tree.specs.Maps.{TreeMap}
 use Rattle.reg_tree.specs.declared.element.Element.{Element}
+use Rattle.prefix_law.specs.Changes.{AreLegal, applied, ops_on}
 use Rattle.prefix_law.specs.Promises.{Choice, Spelled, HiveSays}
+use Rattle.prefix_law.specs.Life.{ops_in}
 use Rattle.prefix_law.proofs.Lists.{le_or_le}
-use Rattle.machine.specs.Machine.{Machine, last_number}
+use Rattle.prefix_law.proofs.OnePrefix.{ops_split}
+use Rattle.machine.specs.Machine.{Machine}
 use Rattle.machine.specs.Steps.{Step}
 use Rattle.machine.specs.declared.event.Event.TheVariants as event
-use Rattle.machine.specs.declared.event.Reply.{Reply}
 use Rattle.transactions.specs.Stores.{StoreView}
-use Rattle.engine_words.specs.Changes.{TimedOp}
+use Rattle.engine_words.specs.Changes.{TimedOp, rules, timed_elements}
 use Rattle.engine_words.specs.Steps.{Says}
 use Rattle.engine_words.specs.declared.Progress.{Progress}
 use Rattle.commit_journal.specs.Journals.{choice_of}
@@ -23,9 +24,10 @@ use Rattle.commit_journal.specs.declared.journal.Journal.{Journal}
 use Rattle.hive_flush.specs.HiveStates.{IsBroken, IsWhole, AreLegalOn, led_to, files_of, memory_of, place_of}
 use Rattle.hive_flush.specs.HiveStates as states
 use Rattle.hive_flush.specs.declared.hive.HiveFile.{HiveFile}
-use Rattle.engine_law.specs.States.{HiveView, IsConsistent}
+use Rattle.engine_law.specs.States.{HiveView, IsConsistent, life_of}
 use Rattle.engine_law.specs.Answers.{reply_to, after_flush, opened_above, accepted_above, absorbed}
 use Rattle.engine_law.specs.Prefixes.{view_of}
+use Rattle.engine.specs.AtHand.{AreAtHand}
 use Rattle.engine.specs.Parts.{AreSound}
 use Rattle.engine_law.proofs.HiveLists.{view_at}
 use Rattle.engine.proofs.Sound.{hive_sound}
@@ -35,6 +37,10 @@ use Rattle.engine.proofs.Sound.{hive_sound}
 abbrev pub Lacks : Type 0
 Lacks = (machine : Machine) (base : ℕ) (opened : List Element) (journal : Choice (Spelled TimedOp)) (hives : List HiveView) (i : ℕ) (old : HiveView) → IsConsistent machine base opened journal hives → slice_get hives i ≡ Some old
     → (old.memory.1 ≤ machine.durable) × AreLegalOn i (opened_above base opened old.memory.1 ++ accepted_above machine old.memory.1) old.memory.0
+
+abbrev pub Above : Type 0
+Above = (machine : Machine) (base : ℕ) (opened : List Element) (journal : Choice (Spelled TimedOp)) (hives : List HiveView) (i number : ℕ) → IsConsistent machine base opened journal hives
+    → ops_in (life_of machine base opened) i number machine.durable ≡ ops_on i (timed_elements (opened_above base opened number ++ accepted_above machine number))
 
 abbrev pub Takes : Type 0
 Takes = (machine : Machine) (base : ℕ) (opened : List Element) (journal : Choice (Spelled TimedOp)) (hives : List HiveView) (i : ℕ) (old : HiveView) → IsConsistent machine base opened journal hives → slice_get hives i ≡ Some old → old.files.next ≡ None
@@ -53,21 +59,37 @@ module _ (s : StoreView) (base : ℕ) (opened : List Element) (journal : Journal
   pub up : Lacks → (memory_of old).1 ≤ s.machine.durable
   up law = (law s.machine base opened (choice_of journal) (map view_of hives) k (view_of old) a.kept (view_at hives k old is)).0
 
-  pub lawful : Lacks → (es : List Element) → es ≡ opened_above base opened (memory_of old).1 ++ accepted_above s.machine (memory_of old).1 → AreLegalOn (place_of old) es (memory_of old).0
-  lawful law es e = subst (λ n. AreLegalOn n es (memory_of old).0) (sym (a.placed.place k old is)) (subst (λ (l : List Element). AreLegalOn k l (memory_of old).0) (sym e)
+  lacked : List Element
+  lacked = opened_above base opened (memory_of old).1 ++ accepted_above s.machine (memory_of old).1
+
+  -- what is handed to the hive has the operations that it lacks
+  pub handed_ops : Above → (at_hand : List Element) → AreAtHand s base opened at_hand hives → (gone : ℕ) → gone ≤ s.machine.durable → ops_in (life_of s.machine base opened) k (memory_of old).1 gone ≡ [] → (memory_of old).1 ≤ s.machine.durable → (es : List Element)
+      → es ≡ opened_above base opened (max (memory_of old).1 gone) ++ accepted_above s.machine (max (memory_of old).1 gone)
+      → ops_on k (timed_elements es) ≡ ops_on k (timed_elements (opened_above base opened (memory_of old).1 ++ accepted_above s.machine (memory_of old).1))
+  handed_ops law at_hand hand gone high none low es are =
+      ap (λ (l : List Element). ops_on k (timed_elements l)) are ∙ sym (law s.machine base opened (choice_of journal) (map view_of hives) k (max (memory_of old).1 gone) a.kept)
+      ∙ above (le_or_le gone (memory_of old).1) ∙ law s.machine base opened (choice_of journal) (map view_of hives) k (memory_of old).1 a.kept
+    where
+      above : (gone ≤ (memory_of old).1) ⊎ ((memory_of old).1 ≤ gone) → ops_in (life_of s.machine base opened) k (max (memory_of old).1 gone) s.machine.durable ≡ ops_in (life_of s.machine base opened) k (memory_of old).1 s.machine.durable
+      above (inl le) = let e : max (memory_of old).1 gone ≡ (memory_of old).1 = omega (arith, le) in ap (λ n. ops_in (life_of s.machine base opened) k n s.machine.durable) e
+      above (inr le) = (let e : max (memory_of old).1 gone ≡ gone = omega (arith, le) in ap (λ n. ops_in (life_of s.machine base opened) k n s.machine.durable) e)
+          ∙ sym (ops_split (life_of s.machine base opened) k (memory_of old).1 gone s.machine.durable le high ∙ ap (λ (os : List TimedOp). os ++ ops_in (life_of s.machine base opened) k gone s.machine.durable) none)
+
+  pub lawful : Lacks → (es : List Element) → ops_on k (timed_elements es) ≡ ops_on k (timed_elements (opened_above base opened (memory_of old).1 ++ accepted_above s.machine (memory_of old).1)) → AreLegalOn (place_of old) es (memory_of old).0
+  lawful law es e = subst (λ n. AreLegalOn n es (memory_of old).0) (sym (a.placed.place k old is)) (subst (λ (os : List TimedOp). AreLegal rules os (memory_of old).0) (sym e)
       (law s.machine base opened (choice_of journal) (map view_of hives) k (view_of old) a.kept (view_at hives k old is)).1)
 
   -- what was taken in, or nothing
   pub taken : Takes → Flush → (new : HiveFile) (es : List Element) (durable : ℕ) (result : Result (Unit {0}) Refusal) → files_of new ≡ files_of old → (files_of old).next ≡ None → durable ≡ s.machine.durable
-      → es ≡ opened_above base opened (memory_of old).1 ++ accepted_above s.machine (memory_of old).1 → OnOk result (memory_of new ≡ (led_to (place_of old) es (memory_of old).0, durable)) → OnErr result (new ≡ old)
+      → ops_on k (timed_elements es) ≡ ops_on k (timed_elements (opened_above base opened (memory_of old).1 ++ accepted_above s.machine (memory_of old).1)) → OnOk result (memory_of new ≡ (led_to (place_of old) es (memory_of old).0, durable)) → OnErr result (new ≡ old)
       → place_of new ≡ place_of old → states.store_of new ≡ states.store_of old → IsWhole new → (IsBroken new → IsBroken old) → AreSound s base opened journal (slice_set hives k new)
   taken takes flush new es durable result files idle d e ok err place owner whole sound =
-      hive_sound s s base opened journal hives k old new a is (kept result ok err) place owner whole (λ _. (free, λ bad. a.hives_work free k old is (sound bad))) refl refl
+      hive_sound s s base opened journal hives k old new a is (kept result ok err) place owner whole (λ _. (free, λ bad. a.hives_work free k old is (sound bad)))
     where
       kept : (r : Result (Unit {0}) Refusal) → OnOk r (memory_of new ≡ (led_to (place_of old) es (memory_of old).0, durable)) → OnErr r (new ≡ old) → IsConsistent s.machine base opened (choice_of journal) (slice_set (map view_of hives) k (view_of new))
       kept (Ok u) o f =
           let told : memory_of new ≡ absorbed s.machine base opened k (memory_of old) = o ∙ ap (λ n. (led_to n es (memory_of old).0, durable)) (a.placed.place k old is)
-          ∙ ap (λ (l : List Element). (led_to k l (memory_of old).0, durable)) e ∙ ap (λ n. (led_to k (opened_above base opened (memory_of old).1 ++ accepted_above s.machine (memory_of old).1) (memory_of old).0, n)) d in
+          ∙ ap (λ (os : List TimedOp). (applied rules os (memory_of old).0, durable)) e ∙ ap (λ n. (led_to k (opened_above base opened (memory_of old).1 ++ accepted_above s.machine (memory_of old).1) (memory_of old).0, n)) d in
           let view : view_of new ≡ record { files = files_of old; memory = absorbed s.machine base opened k (memory_of old) } = ap (λ (c : Choice (TreeMap × ℕ)). let v : HiveView = record { files = c; memory = memory_of new } in v) files
           ∙ ap (λ (x : TreeMap × ℕ). let v : HiveView = record { files = files_of old; memory = x } in v) told in
           subst (λ (v : HiveView). IsConsistent s.machine base opened (choice_of journal) (slice_set (map view_of hives) k v)) (sym view)
@@ -94,11 +116,20 @@ accepted_is m number from durable f d le since =
     ap (λ n. take n (drop (from - m.before) m.accepted)) long ∙ ap (λ n. take ((m.durable - m.before) - (number - m.before)) (drop n m.accepted)) skip
     ∙ sym (drop-take (number - m.before) ((m.durable - m.before) - (number - m.before)) m.accepted) ∙ ap (λ n. drop (number - m.before) (take n m.accepted)) whole
 
-pub handed_is : (m : Machine) (base : ℕ) (opened : List Element) (mem number from durable before first len skip : ℕ) (open_list acc_list : List Element) → number ≡ mem → from ≡ max number before → durable ≡ m.durable → before ≡ m.before → first ≡ number - base → len ≡ length opened → skip ≡ min first len
-    → open_list ≡ opened → acc_list ≡ drop (from - m.before) m.accepted → mem ≤ m.durable → m.before ≤ m.durable
-    → take (length open_list - skip) (drop skip open_list) ++ take (durable - from) acc_list ≡ opened_above base opened mem ++ accepted_above m mem
-handed_is m base opened mem number from durable before first len skip open_list acc_list n f d b fi l sk o a le since =
-    let skip_is : skip ≡ min (mem - base) (length opened) = omega (arith, n, fi, l, sk) in
-    let from_is : from ≡ max mem m.before = omega (arith, n, f, b) in
-    ap (λ (x : List Element). x ++ take (durable - from) acc_list) (ap (λ (x : List Element). take (length x - skip) (drop skip x)) o ∙ ap (λ x. take (length opened - x) (drop x opened)) skip_is ∙ opened_is (mem - base) opened)
-    ∙ ap (λ (x : List Element). opened_above base opened mem ++ x) (ap (take (durable - from)) a ∙ accepted_is m mem from durable from_is d le since)
+pub handed_is : (m : Machine) (base : ℕ) (spelled opened : List Element) (mem gone number at_hand from durable first len skip : ℕ) (open_list acc_list : List Element) → m.before ≡ base + length spelled → m.before ≤ m.durable → base ≤ gone → gone ≤ m.durable → mem ≤ m.durable
+    → opened ≡ drop (gone - base) spelled → at_hand ≡ max m.before gone → number ≡ mem → from ≡ max number at_hand → durable ≡ m.durable → len ≡ length opened → first ≡ m.before - length opened → skip ≡ min (number - first) len → open_list ≡ opened → acc_list ≡ drop (from - m.before) m.accepted
+    → take (length open_list - skip) (drop skip open_list) ++ take (durable - from) acc_list ≡ opened_above base spelled (max mem gone) ++ accepted_above m (max mem gone)
+handed_is m base spelled opened mem gone number at_hand from durable first len skip open_list acc_list begun since low high up are hand n f d l fi sk o ac =
+    let skip_is : skip ≡ min (mem - first) (length opened) = omega (arith, n, l, sk) in
+    let from_is : from ≡ max (max mem gone) m.before = omega (arith, n, f, hand) in
+    ap (λ (x : List Element). x ++ take (durable - from) acc_list) (
+    ap (λ (x : List Element). take (length x - skip) (drop skip x)) o ∙ ap (λ x. take (length opened - x) (drop x opened)) skip_is ∙ opened_is (mem - first) opened
+    ∙ ap (drop (mem - first)) are ∙ drop-drop (mem - first) (gone - base) spelled ∙ at (le_or_le gone m.before))
+    ∙ ap (λ (x : List Element). opened_above base spelled (max mem gone) ++ x) (ap (take (durable - from)) ac ∙ accepted_is m (max mem gone) from durable from_is d (omega (arith, up, high)) since)
+  where
+    long : length opened ≡ length spelled - (gone - base)
+    long = ap length are ∙ length-drop (gone - base) spelled
+
+    at : (gone ≤ m.before) ⊎ (m.before ≤ gone) → drop ((gone - base) + (mem - first)) spelled ≡ drop (max mem gone - base) spelled
+    at (inl le) = let e : (gone - base) + (mem - first) ≡ max mem gone - base = omega (arith, long, fi, le, begun, low) in ap (λ x. drop x spelled) e
+    at (inr ge) = drop_of_length-le spelled (omega (arith, ge, begun)) ∙ sym (drop_of_length-le spelled (omega (arith, ge, begun)))

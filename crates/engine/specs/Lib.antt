@@ -1,4 +1,5 @@
 pub mod Naming
+pub mod AtHand
 pub mod Parts
 pub mod Events
 pub mod Shown

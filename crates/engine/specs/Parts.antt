@@ -1,5 +1,5 @@
 -- What holds of an engine's parts.
-use Rattle.std.specs.Prelude.{◌≡◌, ℕ, ◌+◌, ◌-◌, ◌≤◌, false, Result, Ok, Err, List, length, map, slice_get, Some}
+use Rattle.std.specs.Prelude.{◌≡◌, ℕ, ◌+◌, ◌-◌, false, Result, Ok, Err, List, length, map, slice_get, Some}
 use Rattle.reg_tree.specs.declared.element.Element.{Element}
 use Rattle.refusals.specs.declared.refusal.Refusal.{Refusal}
 use Rattle.prefix_law.specs.Promises.{Spelled, top}
@@ -10,7 +10,6 @@ use Rattle.commit_journal.specs.Store.{room_of}
 use Rattle.engine_law.specs.Answers.{refused_by}
 use Rattle.machine.specs.Machine.{Machine}
 use Rattle.transactions.specs.Stores.{StoreView}
-use Rattle.commit_journal.specs.Store.{Store}
 use Rattle.commit_journal.specs.Journals.{choice_of, store_of}
 use Rattle.commit_journal.specs.Journals as journals
 use Rattle.commit_journal.specs.declared.journal.Journal.{Journal}
@@ -18,12 +17,12 @@ use Rattle.hive_flush.specs.HiveStates.{IsWhole, IsBroken}
 use Rattle.hive_flush.specs.declared.hive.HiveFile.{HiveFile}
 use Rattle.engine_law.specs.States.{IsConsistent}
 use Rattle.engine_law.specs.Prefixes.{ArePlaced, view_of}
+use Rattle.engine.specs.AtHand.{AreAtHand}
 use Rattle.engine.specs.Naming.{AreLastNaming}
 use Rattle.engine.specs.declared.parts.Parts.{Parts}
 
 -- The store in memory, the journal and the hives of an engine: all that an engine keeps; each hive has its place in the store,
--- and no repair left; as long as the store isn't faulted the device has failed in no step; and all accepted changes are at
--- hand.
+-- and no repair left; and as long as the store isn't faulted the device has failed in no step.
 pub record AreSound (store : StoreView) (base : ℕ) (opened : List Element) (journal : Journal) (hives : List HiveFile) : Type 0 where
   pub kept : IsConsistent store.machine base opened (choice_of journal) (map view_of hives)
   pub placed : ArePlaced (store_of journal) hives
@@ -31,13 +30,14 @@ pub record AreSound (store : StoreView) (base : ℕ) (opened : List Element) (jo
   pub whole : (i : ℕ) (hive : HiveFile) → slice_get hives i ≡ Some hive → IsWhole hive
   pub journal_works : store.machine.faulted ≡ false → ¬ (journals.IsBroken journal)
   pub hives_work : store.machine.faulted ≡ false → (i : ℕ) (hive : HiveFile) → slice_get hives i ≡ Some hive → ¬ (IsBroken hive)
-  pub at_hand : store.at_hand ≤ store.machine.before
 
--- An engine's parts are sound, and of each hive it is known which durable change names it last.
+-- An engine's parts are sound; of each hive it is known which durable change names it last; and each change that is pending or
+-- that a hive lacks is at hand.
 pub record IsSound {D : Type 0} (parts : Parts D) : Type 0 where
-  pub holds : AreSound parts.store parts.base parts.opened.items parts.journal parts.hives.items
-  pub naming : AreLastNaming parts.store.machine parts.base parts.opened.items parts.naming.last.items
+  pub holds : AreSound parts.store parts.base parts.spelled.value.items parts.journal parts.hives.items
+  pub naming : AreLastNaming parts.store.machine parts.base parts.spelled.value.items parts.naming.last.items
   pub named : length parts.naming.last.items ≡ length parts.hives.items
+  pub at_hand : AreAtHand parts.store parts.base parts.spelled.value.items parts.opened.items parts.hives.items
 
 -- The machine after a step of the journal or of a trim, behind which the journal spells this, and before which it had used so
 -- much room: once it is done, what the journal carries is durable, and the room that it no longer uses is free.

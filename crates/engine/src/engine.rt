@@ -25,6 +25,7 @@ use refusals::Refusal;
 use reg_tree::Trees;
 use std::alloc::{AllocError, Global};
 use std::marker::Model;
+use std::snapshot::Snapshot;
 use transactions::Store;
 
 /// An engine over a disk, seen by contracts as its machine, its disk, and the store that its files are of.
@@ -52,7 +53,7 @@ impl<D: Disk> Model for Engine<D> {
       disk = inside.parts.disk;
       store = store_of inside.parts.journal;
       base = inside.parts.base;
-      opened = inside.parts.opened.items;
+      opened = inside.parts.spelled.value.items;
       journal = choice_of inside.parts.journal;
       hives = map view_of inside.parts.hives.items;
     } };
@@ -83,6 +84,7 @@ impl<D: Disk> Engine<D> {
         let Ok((store, naming)) = begun(alloc, &found) else {
             return Err((Refusal::NoMemory, Opened::from_parts(disk, found)));
         };
+        let spelled = Snapshot::of(&found.opened);
         Ok(Engine {
             parts: Parts {
                 alloc,
@@ -90,8 +92,9 @@ impl<D: Disk> Engine<D> {
                 journal: found.journal,
                 hives: found.hives,
                 store,
-                opened: found.opened,
+                spelled,
                 base: found.base,
+                opened: found.opened,
                 naming,
             },
         })

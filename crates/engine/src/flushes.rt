@@ -1,5 +1,5 @@
 //! The flush of one hive.
-ghost use Rattle.std.specs.Prelude.{◌≡◌, ◌↔◌, ◌<◌, ℕ, false, length, map, slice_get, None, Some, IfErr, Ok};
+ghost use Rattle.std.specs.Prelude.{◌≡◌, ◌↔◌, ◌-◌, ◌<◌, ◌≤◌, ℕ, drop, false, length, map, min, slice_get, None, Some, IfErr, Ok};
 ghost use Rattle.refusals.specs.declared.refusal.Refusal.TheVariants.{NoMemory};
 ghost use Rattle.disk_model.specs.FileState.{FileState};
 ghost use Rattle.hive_flush.specs.HiveStates.{files_of};
@@ -8,6 +8,7 @@ ghost use Rattle.engine_law.specs.Answers.{reply_to};
 ghost use Rattle.engine_law.specs.Idle.{HasAll, IsFlushed};
 ghost use Rattle.engine_law.specs.Prefixes.{AreOnDisk, view_of};
 ghost use Rattle.engine_words.specs.declared.Progress.TheVariants as Progress;
+ghost use Rattle.engine.specs.AtHand.{HaveUpTo};
 ghost use Rattle.engine.specs.Events.{GoesOn};
 ghost use Rattle.engine.specs.Parts.{IsSound};
 ghost use Rattle.machine.specs.declared.event.Event.TheVariants as Event;
@@ -16,7 +17,9 @@ use crate::parts::Parts;
 use disk_model::Disk;
 use engine_law::laws::hive_steps_keep;
 use engine_words::Progress;
+use hive_flush::HiveFile;
 use refusals::Refusal;
+use reg_tree::Element;
 
 impl<D: Disk> Parts<D> {
     /// A step of a hive's flush: the next call of one that is on its way, or the first of one of what the hive lacks.
@@ -25,7 +28,7 @@ impl<D: Disk> Parts<D> {
         ensures goes_on { GoesOn D.state_at D.clock D.failures D.faithful
             (Event.FlusherStep hive) (reply_to result) self.old self.new }
         ensures idle { self.old.store.machine.faulted ≡ false → (result ≡ Ok Progress.Idle) ↔
-            IsFlushed self.old.store.machine self.old.base self.old.opened.items
+            IsFlushed self.old.store.machine self.old.base self.old.spelled.value.items
             (map view_of self.old.hives.items) hive }
     {
         self.working()?;
@@ -50,7 +53,7 @@ impl<D: Disk> Parts<D> {
             (Event.FlusherStep place) (reply_to result) self.old self.new }
         ensures idle { (hive : HiveFile) → slice_get self.old.hives.items place ≡ Some hive →
             (result ≡ Ok Progress.Idle) ↔ HasAll self.old.store.machine self.old.base
-            self.old.opened.items place (view_of hive) }
+            self.old.spelled.value.items place (view_of hive) }
     {
         if self.hives[place].applied() >= self.naming.last[place] {
             return Ok(Progress::Idle);
@@ -77,15 +80,35 @@ impl<D: Disk> Parts<D> {
         hive_steps_keep();
         let durable = self.store.durable();
         let before = self.store.before();
+        let at_hand = self.store.at_hand();
         let number = self.hives[place].number();
-        let from = number.max(before);
-        let skipped = (number.saturating_sub(self.base) as usize).min(self.opened.len());
+        let from = number.max(at_hand);
+        let first = before - self.opened.len() as u64;
+        let skipped = (number.saturating_sub(first) as usize).min(self.opened.len());
         let accepted = &self.store.above(from)[..(durable - from) as usize];
         self.hives[place].absorb(self.alloc, &self.opened[skipped..], accepted, durable)
     }
 
-    // one step of a hive's flush
+    // one step of a hive's flush; behind the last one the changes that no hive lacks any more are let go
     fn flush(&mut self, place: usize) -> Result<Progress, Refusal>
+        requires sound { IsSound self.old }
+        requires works { self.old.store.machine.faulted ≡ false }
+        requires there { place < length self.old.hives.items }
+        ensures goes_on { GoesOn D.state_at D.clock D.failures D.faithful
+            (Event.FlusherStep place) (reply_to result) self.old self.new }
+        ensures busy { ¬ (result ≡ Ok Progress.Idle) }
+    {
+        match self.write(place) {
+            Ok(Progress::Done) => {
+                self.let_go();
+                Ok(Progress::Done)
+            }
+            come => come,
+        }
+    }
+
+    // one call of a hive's flush
+    fn write(&mut self, place: usize) -> Result<Progress, Refusal>
         requires sound { IsSound self.old }
         requires works { self.old.store.machine.faulted ≡ false }
         requires there { place < length self.old.hives.items }
@@ -98,4 +121,47 @@ impl<D: Disk> Parts<D> {
         self.mark(come);
         come
     }
+
+    // lets go of the durable changes that no hive lacks
+    fn let_go(&mut self)
+        requires sound { IsSound self.old }
+        ensures sound { IsSound self.new }
+        ensures machine { self.new.store.machine ≡ self.old.store.machine }
+        ensures rest { self.new ≡ record self.old {
+          store = self.new.store;
+          opened = self.new.opened;
+        } }
+    {
+        let durable = self.store.durable();
+        let held = held_by_all(&self.hives, &self.naming.last, durable);
+        self.store.let_go(held);
+        let before = self.store.before();
+        keep_last(&mut self.opened, before.saturating_sub(held) as usize);
+    }
+}
+
+// keeps so many changes, the last ones, or all where there are no more
+fn keep_last(changes: &mut Vec<Element>, most: usize)
+    ensures { changes.new.items ≡ drop (length changes.old.items
+        - min (length changes.old.items) most) changes.old.items }
+{
+    let count = changes.len();
+    let left = count.min(most);
+    changes.rotate_left(count - left);
+    changes.truncate(left);
+}
+
+// the greatest number up to which no hive can lack a durable change, as far as its number tells
+fn held_by_all(hives: &[HiveFile], last: &[u64], durable: u64) -> u64
+    requires many { length last.now ≡ length hives.now }
+    ensures high { result ≤ durable }
+    ensures held { HaveUpTo result last.now hives.now }
+{
+    let mut held = durable;
+    for (place, hive) in hives.iter().enumerate() {
+        if hive.number() < last[place] {
+            held = held.min(hive.number());
+        }
+    }
+    held
 }

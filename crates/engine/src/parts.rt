@@ -6,6 +6,7 @@ use commit_journal::Journal;
 use hive_flush::HiveFile;
 use reg_tree::Element;
 use std::alloc::Global;
+use std::snapshot::Snapshot;
 use transactions::Store;
 
 /// The parts of an engine.
@@ -21,10 +22,12 @@ pub(crate) struct Parts<D> {
     pub hives: Vec<HiveFile>,
     /// What answers each event that makes no step.
     pub store: Store,
-    /// The changes that the journal spelled at the opening, which are numbered from `base` + 1 on.
-    pub opened: Vec<Element>,
+    /// The changes that the journal spelled at the opening, which are numbered from `base` + 1 on: known to contracts alone.
+    pub spelled: Snapshot<Vec<Element>>,
     /// The number below the first of them.
     pub base: u64,
+    /// Those of them that are at hand: the last ones.
+    pub opened: Vec<Element>,
     /// Of each hive the last durable change that names it.
     pub naming: Naming,
 }

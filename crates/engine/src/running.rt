@@ -1,5 +1,5 @@
 //! Whole runs of an engine.
-ghost use Rattle.std.specs.Prelude.{◌≡◌, ◌≤◌, IfOk, OnErr};
+ghost use Rattle.std.specs.Prelude.{◌≡◌, IfOk, OnErr};
 ghost use Rattle.machine.specs.Steps.{Run};
 ghost use Rattle.commit_journal.specs.Journals.{store_of};
 ghost use Rattle.engine_law.specs.Prefixes.{AreOnDisk, IsSafeAt};
@@ -16,7 +16,8 @@ impl<D: Disk> Parts<D> {
     /// Events, one after another, with their replies.
     pub fn run(&mut self, alloc: Global, events: Vec<Event>) -> Result<Vec<Reply>, AllocError>
         requires sound { IsSound self.old }
-        requires on_disk { D.faithful self.old.disk → AreOnDisk self.old.journal self.old.hives.items
+        requires on_disk { D.faithful self.old.disk →
+            AreOnDisk self.old.journal self.old.hives.items
             (D.state_at self.old.disk (D.clock self.old.disk)) }
         ensures crashes { IfOk result (λ replies. D.faithful self.new.disk →
             RunsSafely (IsSafeAt (store_of self.old.journal) (D.state_at self.new.disk))

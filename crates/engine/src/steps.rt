@@ -33,7 +33,7 @@ impl<D: Disk> Parts<D> {
         ensures goes_on { GoesOn D.state_at D.clock D.failures D.faithful
             event result self.old self.new }
         ensures idle { self.old.store.machine.faulted ≡ false → IdlesExactly event result
-            self.old.store.machine self.old.base self.old.opened.items
+            self.old.store.machine self.old.base self.old.spelled.value.items
             (choice_of self.old.journal) (map view_of self.old.hives.items) }
     {
         match event {
@@ -51,7 +51,7 @@ impl<D: Disk> Parts<D> {
         ensures goes_on { GoesOn D.state_at D.clock D.failures D.faithful
             event result self.old self.new }
         ensures idle { IdlesExactly event result
-            self.old.store.machine self.old.base self.old.opened.items
+            self.old.store.machine self.old.base self.old.spelled.value.items
             (choice_of self.old.journal) (map view_of self.old.hives.items) }
     {
         events_keep();
@@ -99,7 +99,7 @@ impl<D: Disk> Parts<D> {
         ensures goes_on { GoesOn D.state_at D.clock D.failures D.faithful
             Event.TrimStep (reply_to result) self.old self.new }
         ensures idle { self.old.store.machine.faulted ≡ false → (result ≡ Ok Progress.Idle) ↔
-            IsTrimmed self.old.store.machine self.old.base self.old.opened.items
+            IsTrimmed self.old.store.machine self.old.base self.old.spelled.value.items
             (choice_of self.old.journal) (map view_of self.old.hives.items) }
     {
         self.working()?;
@@ -119,9 +119,11 @@ impl<D: Disk> Parts<D> {
         requires sound { IsSound self.now }
         requires works { self.now.store.machine.faulted ≡ false }
         ensures yes { result ≡ true → MayTrim self.now.store.machine self.now.base
-            self.now.opened.items (choice_of self.now.journal) (map view_of self.now.hives.items) }
+            self.now.spelled.value.items (choice_of self.now.journal)
+            (map view_of self.now.hives.items) }
         ensures no { result ≡ false → IsTrimmed self.now.store.machine self.now.base
-            self.now.opened.items (choice_of self.now.journal) (map view_of self.now.hives.items) }
+            self.now.spelled.value.items (choice_of self.now.journal)
+            (map view_of self.now.hives.items) }
     {
         if self.journal.is_trimming() {
             return true;

@@ -52,7 +52,7 @@ take_both [] ys n le = let e : n ≡ n - 0 = omega arith in ap (λ k. take k ys)
 take_both (x ∷ xs) ys zero le = absurd (omega (arith, le))
 take_both (x ∷ xs) ys (suc n) le = ap (λ l. x ∷ l) (take_both xs ys n (omega (arith, le))) ∙ (let e : n - length xs ≡ suc n - length (x ∷ xs) = omega arith in ap (λ k. x ∷ (xs ++ take k ys)) e)
 
-lacked_is : (m : Machine) (base : ℕ) (opened : List Element) → m.before ≡ base + length opened → m.before ≤ m.durable → (k number : ℕ)
+pub lacked_is : (m : Machine) (base : ℕ) (opened : List Element) → m.before ≡ base + length opened → m.before ≤ m.durable → (k number : ℕ)
     → ops_in (life_of m base opened) k number m.durable ≡ ops_on k (timed_elements (drop (number - base) opened ++ drop (number - m.before) (take (m.durable - m.before) m.accepted)))
 lacked_is m base opened begun le k number = ap (ops_on k) (
     ap (drop (number - base)) (take_both (timed_elements opened) (timed_elements m.accepted) (m.durable - base) (omega (arith, begun, le, long)))

@@ -1,7 +1,9 @@
 //! The laws, each the contract of a function that does nothing.
-ghost use Rattle.std.specs.Prelude.{◌≡◌, ◌⊎◌, ℕ, ◌+◌, ◌≤◌, ◌++◌, ◌∷◌, [], false, List, length, map, slice_get, slice_set, Some, None, Result, Err};
+ghost use Rattle.std.specs.Prelude.{◌≡◌, ℕ, ◌+◌, ◌≤◌, ◌++◌, ◌∷◌, [], false, List, length, map, slice_get, slice_set, Some, None, Result, Err};
 ghost use Rattle.reg_tree.specs.Maps.{TreeMap};
 ghost use Rattle.reg_tree.specs.declared.element.Element.{Element};
+ghost use Rattle.prefix_law.specs.Changes.{ops_on};
+ghost use Rattle.prefix_law.specs.Life.{ops_in};
 ghost use Rattle.prefix_law.specs.Promises.{Choice, Spelled, JournalSays, TrimSays, HiveSays};
 ghost use Rattle.engine_words.specs.Changes.{TimedOp, timed_elements};
 ghost use Rattle.hive_flush.specs.HiveStates.{AreLegalOn};
@@ -13,7 +15,7 @@ ghost use Rattle.machine.specs.Kept.{IsKept};
 ghost use Rattle.machine.specs.declared.event.Event.{Event};
 ghost use Rattle.machine.specs.declared.event.Event.TheVariants as event;
 ghost use Rattle.machine.specs.declared.event.Reply.{Reply};
-ghost use Rattle.engine_law.specs.States.{HiveView, IsConsistent};
+ghost use Rattle.engine_law.specs.States.{HiveView, IsConsistent, life_of};
 ghost use Rattle.refusals.specs.declared.refusal.Refusal.{Refusal};
 ghost use Rattle.refusals.specs.declared.refusal.Refusal.TheVariants.{Faulted};
 ghost use Rattle.engine_law.specs.Answers.{reply_to, after_step, after_flush, MayTrim, opened_above, accepted_above, absorbed};
@@ -61,7 +63,8 @@ pub fn pending_may_be_handed()
         (journal : Choice (Spelled TimedOp)) (hives : List HiveView) →
         IsConsistent machine base opened journal hives →
         AllByRecursion IsShort (pending machine) →
-        IsHanded (length hives) (65 + room_of journal.now.elements) (machine.durable + 1) (pending machine) journal.now }
+        IsHanded (length hives) (65 + room_of journal.now.elements) (machine.durable + 1)
+        (pending machine) journal.now }
 {
     prefix_law::clauses_suffice::<Tree, (u64, Op)>();
 }
@@ -91,6 +94,8 @@ pub fn journal_steps_keep()
 /// What a hive takes in and what its steps say.
 ///
 /// - `lacks`: what a hive at rest lacks of the durable changes is legal on what it has in memory.
+/// - `above`: what a hive lacks above a number are the operations on it of the changes above that number, of those that the
+///   journal spelled at the opening and of those accepted since.
 /// - `takes`: a hive at rest may take that in.
 /// - `step`: a step of its flush keeps all and is a step of the machine, at each of its answers.
 pub fn hive_steps_keep()
@@ -100,6 +105,12 @@ pub fn hive_steps_keep()
         (old.memory.1 ≤ machine.durable)
         × AreLegalOn i (opened_above base opened old.memory.1
         ++ accepted_above machine old.memory.1) old.memory.0 }
+    ensures above { (machine : Machine) (base : ℕ) (opened : List Element)
+        (journal : Choice (Spelled TimedOp)) (hives : List HiveView) (i number : ℕ) →
+        IsConsistent machine base opened journal hives →
+        ops_in (life_of machine base opened) i number machine.durable
+        ≡ ops_on i (timed_elements (opened_above base opened number
+        ++ accepted_above machine number)) }
     ensures takes { (machine : Machine) (base : ℕ) (opened : List Element)
         (journal : Choice (Spelled TimedOp)) (hives : List HiveView) (i : ℕ) (old : HiveView) →
         IsConsistent machine base opened journal hives → slice_get hives i ≡ Some old →
@@ -147,7 +158,8 @@ pub fn safe_runs_go_on()
         (reply : Reply) → RunsSafely (IsSafeAt store was) start old events replies middle mid →
         ((k f : ℕ) → k ≤ middle → is k f ≡ was k f) → middle ≤ end → end ≤ middle + 1 →
         Step mid event reply new → IsSafeAt store is end new →
-        RunsSafely (IsSafeAt store is) start old (events ++ event ∷ []) (replies ++ reply ∷ []) end new }
+        RunsSafely (IsSafeAt store is) start old (events ++ event ∷ [])
+        (replies ++ reply ∷ []) end new }
     ensures runs { (store : Store) (states : ℕ → ℕ → FileState) (start end : ℕ) (old new : Machine)
         (events : List Event) (replies : List Reply) →
         RunsSafely (IsSafeAt store states) start old events replies end new →

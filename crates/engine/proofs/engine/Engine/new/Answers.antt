@@ -1,12 +1,17 @@
-use Rattle.std.proofs.Common.{◌≡◌, ◌∙◌, ◌+◌, sym, ap, subst, map, arith, []}
+use Rattle.std.proofs.Common.{◌≡◌, ◌∙◌, ◌+◌, sym, ap, subst, map, arith, List, []}
 use Rattle.std.proofs.lemmas.List.{length-replicate}
+use Rattle.reg_tree.specs.declared.element.Element.{Element}
 use Rattle.commit_journal.specs.Journals.{choice_of, store_of}
-use Rattle.engine.proofs.Namings.{naming_opens, none_named}
 use Rattle.machine.specs.Machine.{Machine}
 use Rattle.engine_law.specs.States.{IsConsistent}
 use Rattle.engine_law.specs.Prefixes.{view_of}
 use Rattle.recovery.specs.Kept.{AreWhole}
 use Rattle.recovery.specs.declared.found.Found.{Found}
+use Rattle.engine.specs.AtHand.{AreAtHand}
+use Rattle.engine.specs.Naming.{AreLastNaming}
+use Rattle.engine.specs.Parts.{AreSound}
+use Rattle.engine.proofs.AtHand.{hand_opens}
+use Rattle.engine.proofs.Namings.{naming_opens, none_named}
 use Rattle.engine.proofs.engine.Engine.new.Goals as goal
 
 pub begun-requires : goal.begun-requires
@@ -23,22 +28,25 @@ invariant_of-result g c =
     let told = c.in-Ok.ensures.machine in
     let counted = c.in-Ok.ensures.counted in
     let kept = subst (λ (m : Machine). IsConsistent m f.base f.opened.items (choice_of f.journal) (map view_of f.hives.items)) (sym told)
-    (c.openings_begin.ensures f.trees f.number 0 f.base f.opened.items (choice_of f.journal) (map view_of f.hives.items) e.kept.recovers) in
+        (c.openings_begin.ensures f.trees f.number 0 f.base f.opened.items (choice_of f.journal) (map view_of f.hives.items) e.kept.recovers) in
+    let spelled : c.of-spelled.result.value.items ≡ f.opened.items = ap (λ v. v.items) c.of-spelled.ensures in
+    let store = c.in-Ok.store in
+    let durable : store.machine.durable ≡ store.machine.before = ap (λ (m : Machine). m.durable) told ∙ sym (ap (λ (m : Machine). m.before) told) in
     record {
       sound = record {
-        holds = record {
+        holds = subst (λ (l : List Element). AreSound store f.base l f.journal f.hives.items) (sym spelled) (record {
           kept = kept;
           placed = e.kept.placed;
           many = e.kept.many;
           whole = subst (λ (x : Found). AreWhole x.hives.items) (sym e.found) c.requires.whole.0;
           journal_works = λ _. e.kept.works;
           hives_work = λ _. e.works c.requires.whole.1;
-          at_hand = omega (arith, c.in-Ok.ensures.at_hand, ap (λ (m : Machine). m.before) told);
-        };
-        naming = naming_opens c.in-Ok.store.machine f.base f.opened.items c.in-Ok.naming.last.items kept.begun
-            (ap (λ (m : Machine). m.durable) told ∙ sym (ap (λ (m : Machine). m.before) told)) (ap (λ (m : Machine). m.accepted) told)
-            (counted.last f.base [] (omega arith) (none_named f.base (store_of f.journal).hives));
+        });
+        naming = subst (λ (l : List Element). AreLastNaming store.machine f.base l c.in-Ok.naming.last.items) (sym spelled) (naming_opens store.machine f.base f.opened.items c.in-Ok.naming.last.items kept.begun
+            durable (ap (λ (m : Machine). m.accepted) told) (counted.last f.base [] (omega arith) (none_named f.base (store_of f.journal).hives)));
         named = counted.many ∙ length-replicate (store_of f.journal).hives 0 ∙ sym e.kept.many;
+        at_hand = subst (λ (l : List Element). AreAtHand store f.base l f.opened.items f.hives.items) (sym spelled) (hand_opens store f.base f.opened.items f.hives.items kept.begun durable
+            (omega (arith, c.in-Ok.ensures.at_hand, ap (λ (m : Machine). m.before) told)));
       };
       on_disk = e.on_disk;
     }

@@ -1,5 +1,4 @@
 use Rattle.std.specs.List.{AllByRecursion}
-use Rattle.std.proofs.Common.{Result}
 use Rattle.std.proofs.lemmas.Result.{IfOk-weaker}
 use Rattle.machine.specs.Steps.{Run}
 use Rattle.engine_law.specs.Runs.{IsHeld}

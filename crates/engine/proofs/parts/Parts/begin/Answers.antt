@@ -1,4 +1,4 @@
-use Rattle.std.proofs.Common.{arith, refl, ◌≡◌, Result, Ok, Err}
+use Rattle.std.proofs.Common.{arith, refl}
 use Rattle.std.proofs.lemmas.Result.{err_from_is_err_and}
 use Rattle.machine.specs.declared.event.Event.TheVariants as event
 use Rattle.engine_law.specs.Answers.{reply_to}
@@ -22,7 +22,7 @@ pub returns-then-applied-index-clause-idle : goal.returns-then-applied-index-cla
 returns-then-applied-index-clause-idle g c = λ hive is.
     let s = c.args.self.now in
     let h = c.requires.sound in (
-      λ e. rests_on s.store.machine s.base s.opened.items s.naming.last.items h.naming s.hives.items c.args.place c.index-2.result.now c.applied.result c.index.result.now hive (at_place s.hives.items c.args.place c.index.result.now c.requires.there c.index.ensures) is
+      λ e. rests_on s.store.machine s.base s.spelled.value.items s.naming.last.items h.naming s.hives.items c.args.place c.index-2.result.now c.applied.result c.index.result.now hive (at_place s.hives.items c.args.place c.index.result.now c.requires.there c.index.ensures) is
           (at_place s.naming.last.items c.args.place c.index-2.result.now (omega (arith, c.requires.there, h.named)) c.index-2.ensures) c.applied.ensures c.if-applied-index.true,
       λ has. refl,
     )
@@ -33,7 +33,7 @@ returns-in_err-absorb-clause-idle g c = λ hive is.
     let h = c.requires.sound in
     let told = err_from_is_err_and c.from_residual.result c.from_residual.ensures.1 in (
       λ e. absurd (not_ok _ _ told.1 e),
-      λ has. goes_from s.store.machine s.base s.opened.items s.naming.last.items h.naming s.hives.items c.args.place c.index-2.result.now c.applied.result c.index.result.now hive (at_place s.hives.items c.args.place c.index.result.now c.requires.there c.index.ensures) is
+      λ has. goes_from s.store.machine s.base s.spelled.value.items s.naming.last.items h.naming s.hives.items c.args.place c.index-2.result.now c.applied.result c.index.result.now hive (at_place s.hives.items c.args.place c.index.result.now c.requires.there c.index.ensures) is
           (at_place s.naming.last.items c.args.place c.index-2.result.now (omega (arith, c.requires.there, h.named)) c.index-2.ensures) c.applied.ensures c.if-applied-index.false has,
     )
 
@@ -42,6 +42,6 @@ returns-clause-idle g c = λ hive is.
     let s = c.args.self.now in
     let h = c.requires.sound in (
       λ e. absurd (c.flush.ensures.busy e),
-      λ has. goes_from s.store.machine s.base s.opened.items s.naming.last.items h.naming s.hives.items c.args.place c.index-2.result.now c.applied.result c.index.result.now hive (at_place s.hives.items c.args.place c.index.result.now c.requires.there c.index.ensures) is
+      λ has. goes_from s.store.machine s.base s.spelled.value.items s.naming.last.items h.naming s.hives.items c.args.place c.index-2.result.now c.applied.result c.index.result.now hive (at_place s.hives.items c.args.place c.index.result.now c.requires.there c.index.ensures) is
           (at_place s.naming.last.items c.args.place c.index-2.result.now (omega (arith, c.requires.there, h.named)) c.index-2.ensures) c.applied.ensures c.if-applied-index.false has,
     )

@@ -4,6 +4,7 @@ use Rattle.machine.specs.Steps.{Step}
 use Rattle.commit_journal.specs.Journals.{choice_of}
 use Rattle.engine_law.specs.Prefixes.{view_of}
 use Rattle.engine.proofs.Sound.{calm_sound}
+use Rattle.engine.proofs.AtHand.{hand_calms}
 use Rattle.engine.proofs.Namings.{naming_calm}
 use Rattle.engine.proofs.Idling.{calm_idles}
 use Rattle.engine.proofs.parts.Parts.calm_event.Goals as goal
@@ -19,10 +20,11 @@ returns-clause-goes_on g c =
     record {
       step = step;
       sound = record {
-        holds = calm_sound s.store c.event.new.self s.base s.opened.items s.journal s.hives.items c.requires.sound.holds
-            (c.events_keep.ensures m n s.base s.opened.items (choice_of s.journal) (map view_of s.hives.items) c.args.event c.event.result kept c.requires.calm step) how c.event.ensures.at_hand;
-        naming = naming_calm m n s.base s.opened.items s.naming.last.items kept.begun kept.kept.within.opened kept.kept.within.known how c.requires.sound.naming;
+        holds = calm_sound s.store c.event.new.self s.base s.spelled.value.items s.journal s.hives.items c.requires.sound.holds
+            (c.events_keep.ensures m n s.base s.spelled.value.items (choice_of s.journal) (map view_of s.hives.items) c.args.event c.event.result kept c.requires.calm step) how;
+        naming = naming_calm m n s.base s.spelled.value.items s.naming.last.items kept.begun kept.kept.within.opened kept.kept.within.known how c.requires.sound.naming;
         named = c.requires.sound.named;
+        at_hand = hand_calms s.store c.event.new.self s.base s.spelled.value.items s.opened.items s.hives.items kept.begun kept.kept.within.known how c.event.ensures.at_hand c.requires.sound.at_hand;
       };
       on_disk = λ f on. on;
       store = refl;
@@ -32,4 +34,4 @@ returns-clause-goes_on g c =
     }
 
 pub returns-clause-idle : goal.returns-clause-idle
-returns-clause-idle g c = let s = c.args.self.now in calm_idles c.args.event c.event.result s.store.machine s.base s.opened.items (choice_of s.journal) (map view_of s.hives.items) c.requires.calm
+returns-clause-idle g c = let s = c.args.self.now in calm_idles c.args.event c.event.result s.store.machine s.base s.spelled.value.items (choice_of s.journal) (map view_of s.hives.items) c.requires.calm

@@ -1,4 +1,4 @@
-use Rattle.std.proofs.Common.{◌≡◌, ◌∙◌, ◌+◌, sym, ap, subst, map}
+use Rattle.std.proofs.Common.{◌+◌, sym, subst}
 use Rattle.machine.specs.declared.event.Event.TheVariants as event
 use Rattle.engine_law.specs.Answers.{reply_to}
 use Rattle.engine.specs.Events.{GoesOn}
@@ -11,7 +11,7 @@ pub step-come-requires : goal.step-come-requires
 step-come-requires g c =
     let s = c.args.self.now in
     record {
-      handed = λ idle. may_hand s.store s.base s.opened.items s.journal s.hives.items c.requires.sound.holds c.durable-durable.result c.above-pending.result.now c.durable-durable.ensures.durable c.above-pending.ensures.changes
+      handed = λ idle. may_hand s.store s.base s.spelled.value.items s.journal s.hives.items c.requires.sound.holds c.durable-durable.result c.above-pending.result.now c.durable-durable.ensures.durable c.above-pending.ensures.changes
           c.pending_may_be_handed.ensures c.above-pending.ensures.short;
     }
 
@@ -19,7 +19,7 @@ pub returns-clause-goes_on : goal.returns-clause-goes_on
 returns-clause-goes_on g c =
     let s = c.args.self.now in
     let call = c.step-come.ensures in
-    let goes = batch_goes s.store s.base s.opened.items s.journal s.hives.items c.requires.sound.holds c.durable-durable.result c.above-pending.result.now c.durable-durable.ensures.durable c.above-pending.ensures.changes
+    let goes = batch_goes s.store s.base s.spelled.value.items s.journal s.hives.items c.requires.sound.holds c.durable-durable.result c.above-pending.result.now c.durable-durable.ensures.durable c.above-pending.ensures.changes
     c.journal_steps_keep.ensures.batch c.step-come.new.self c.step-come.result c.in_ok-working.ensures.works call.faulted call.says in
     subst (λ p. GoesOn g.D.Disk.state_at g.D.Disk.clock g.D.Disk.failures g.D.Disk.faithful event.JournalStep (reply_to c.step-come.result) s p) (sym c.settle.ensures.rest)
     (journal_goes_on g.D.Disk.state_at g.D.Disk.clock g.D.Disk.failures g.D.Disk.faithful event.JournalStep s c.step-come.new.self c.step-come.new.disk c.settle.new.self.store c.settle.new.self.naming c.step-come.result c.used-used.result

@@ -1,4 +1,4 @@
-use Rattle.std.proofs.Common.{◌≡◌, ◌∙◌, ◌-◌, arith, ap, length, Ok, List}
+use Rattle.std.proofs.Common.{◌∙◌, ◌-◌, arith, ap, length, Ok, List}
 use Rattle.std.proofs.lemmas.List.{length-drop, length-take}
 use Rattle.reg_tree.specs.declared.element.Element.{Element}
 use Rattle.machine.specs.Machine.{Machine}
