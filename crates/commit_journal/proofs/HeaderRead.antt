@@ -61,6 +61,13 @@ pub none_short : (file : List ℕ) → length file < 64 → SpellsNothing file
 none_short file short = none_without file (λ store is begin.
     omega (arith, short, ap (λ (l : List ℕ). length l) begin, header_length store is.id_is_whole, length-take 64 file))
 
+-- bytes are the journal of one store at most
+pub one_store : (file : List ℕ) (a b : Store) (x y : Spelled TimedOp) → IsStore a → IsStore b → spelled (texts a) file ≡ Some x → spelled (texts b) file ≡ Some y → a ≡ b
+one_store file a b x y a_is b_is ax by' =
+    let first = header_there a a_is file x ax in
+    let second = header_there b b_is file y by' in
+    same_store a b (id_there file a a_is first ∙ sym (id_there file b b_is second)) (hives_there file a a_is first ∙ sym (hives_there file b b_is second))
+
 pub none_for : (file : List ℕ) (store : Store) → IsStore store → take 64 file ≡ header_text store → spelled (texts store) file ≡ None → SpellsNothing file
 none_for file store is begin none other other_is = never (spelled (texts other) file) (λ x e.
     let there = header_there other other_is file x e in

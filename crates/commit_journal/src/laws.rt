@@ -5,6 +5,8 @@ ghost use Rattle.prefix_law.specs.Files.{SpellsBy};
 ghost use Rattle.disk_model.specs.FileState.{FileState, Writes, MayWrite, Syncs};
 ghost use Rattle.disk_model.specs.FileState as file;
 ghost use Rattle.commit_journal.specs.declared.layout.TheConstants.{OPEN_GATE};
+ghost use Rattle.engine_words.specs.Changes.{TimedOp};
+ghost use Rattle.commit_journal.specs.Store.{Store, IsStore, texts};
 ghost use Rattle.commit_journal.specs.Text.{Texts, Body, IsBody, Stands, spelled};
 ghost use Rattle.commit_journal.specs.OnDisk.{Value, is_on, MayBegin, longer, value_at, next_at};
 ghost use Rattle.commit_journal.specs.Journals.{ComesNearer, StoodWithin, IsStep, StandsLonger};
@@ -97,4 +99,10 @@ pub fn progress()
     ensures longer { (journals : ℕ → Journal) →
         ((k : ℕ) → k < 8 → IsStep (journals k) (journals (k + 1))) →
         (k : ℕ) × (k < 8) × StandsLonger (journals k) (journals (k + 1)) }
+{}
+
+/// Bytes are the journal of one store at most.
+pub fn one_store()
+    ensures { (bytes : List ℕ) (a b : Store) (x y : Spelled TimedOp) → IsStore a → IsStore b →
+        spelled (texts a) bytes ≡ Some x → spelled (texts b) bytes ≡ Some y → a ≡ b }
 {}

@@ -74,6 +74,7 @@ impl Journal {
             D.state_at disk.new (D.clock disk.new) f ≡ D.state_at disk.old (D.clock disk.old) f }
         ensures time { Extends (D.state_at disk.old) (D.state_at disk.new) (D.clock disk.old)
             (D.clock disk.new) }
+        ensures failures { D.failures disk.old ≤ D.failures disk.new }
         ensures faithful { D.faithful disk.new → D.faithful disk.old }
     {
         device::sync(disk)?;

@@ -27,9 +27,6 @@ use Rattle.engine_law.proofs.Room.{one_more_room, first_stay}
 abbrev pub Keeps : Type 0
 Keeps = (old new : Machine) (event : Event) (reply : Reply) → IsKept old → Step old event reply new → IsKept new
 
-abbrev pub Fits : Type 0
-Fits = (old new : Machine) (event : Event) (reply : Reply) → IsKept old → Step old event reply new → old.room ≤ MOST_JOURNAL_BYTES → new.room ≤ MOST_JOURNAL_BYTES
-
 abbrev pub Settle : Type 0
 Settle = (old new : Machine) (event : Event) (reply : Reply) → IsKept old → is_step event ≡ false → Step old event reply new → Stays old new ⊎ Grows old new
 
@@ -114,13 +111,17 @@ module _ (base : ℕ) (opened : List Element) (journal : Choice (Spelled TimedOp
       let one = one_more_room (pending old) g.element in
       omega (arith, g.room, e, more, one)
 
-  pub calm_keeps : Settle → Keeps → Fits → (old new : Machine) → IsConsistent old base opened journal hives → (e : Event) (r : Reply) → is_step e ≡ false → Step old e r new → IsConsistent new base opened journal hives
-  calm_keeps settle keeps fits old new i e r quiet step =
+  fits_on : (old new : Machine) → Stays old new ⊎ Grows old new → (0 < length (pending old) → old.room ≤ MOST_JOURNAL_BYTES) → 0 < length (pending new) → new.room ≤ MOST_JOURNAL_BYTES
+  fits_on old new (inl s) fit some = let was = fit (omega (arith, some, ap (λ (es : List Element). length es) (pending_same old new s))) in omega (arith, was, s.room)
+  fits_on old new (inr g) fit some = g.fits
+
+  pub calm_keeps : Settle → Keeps → (old new : Machine) → IsConsistent old base opened journal hives → (e : Event) (r : Reply) → is_step e ≡ false → Step old e r new → IsConsistent new base opened journal hives
+  calm_keeps settle keeps old new i e r quiet step =
       let c = settle old new e r i.kept quiet step in
       let known = i.kept.within.known in
       record {
         kept = keeps old new e r i.kept step;
-        fits = fits old new e r i.kept step i.fits;
+        fits = fits_on old new c i.fits;
         law = law_keeps old new i.begun c i.law;
         begun = before_is old new c ∙ i.begun;
         all = i.all ∙ ap length (sym (opened_is old new c));

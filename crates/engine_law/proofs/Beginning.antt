@@ -54,7 +54,7 @@ module _ (trees : List TreeMap) (n failures base : ℕ) (opened : List Element) 
   pub begins : ((ts : List TreeMap) (number : ℕ) (es : List Element) (f : ℕ) → AreTrees ts → number ≤ GREATEST_NUMBER → IsKept (opened_machine ts number es f)) → IsConsistent (opened_machine trees n opened failures) base opened journal hives
   begins kept = record {
     kept = kept trees n opened failures found.are_trees found.recovers.limit;
-    fits = omega (arith, found.room, rooms_are opened);
+    fits = λ some. absurd (omega (arith, some, ap (λ (es : List Element). length es) (nothing_left (n - n) [] refl)));
     law = remembered rules GREATEST_NUMBER (length trees) (held_by hives) (opened_state n (tree_of trees) (spelled_by found.below opened) (held_by hives)) (state_of (opened_machine trees n opened failures) base opened journal hives) first (record {
       fits = λ i lt. record { fits = first.hive_fits i lt (held_by hives i) (inl refl); higher = omega arith };
       life = ap (λ b. let l : Life TreeMap TimedOp = record { trees = tree_of trees; base = b; opened = timed_elements opened; accepted = [] } in l) found.base_is;

@@ -32,7 +32,7 @@ use Rattle.engine_words.specs.declared.Progress.TheVariants as progress
 use Rattle.engine_law.specs.States.{HiveView, counted, files_in, life_of, state_of, IsConsistent}
 use Rattle.engine_law.specs.Answers.{stepped_to, reply_to, failed, after_flush, opened_above, accepted_above, absorbed}
 use Rattle.engine_law.proofs.Bridge.{number_is, last_is}
-use Rattle.engine_law.proofs.Accepting.{Keeps, Fits}
+use Rattle.engine_law.proofs.Accepting.{Keeps}
 
 -- One hive of a list with another view
 
@@ -184,7 +184,7 @@ pub takes_in : (m : Machine) (base : ℕ) (opened : List Element) (journal : Cho
 takes_in m base opened journal hives i k old is idle =
     takes m base opened journal hives i k old is (opened_above base opened old.memory.1 ++ accepted_above m old.memory.1) (record { files = old.files; memory = absorbed m base opened k old.memory }) refl idle refl
 
-module _ (keeps : Keeps) (fits : Fits) (m : Machine) (base : ℕ) (opened : List Element) (journal : Choice (Spelled TimedOp)) (hives : List HiveView) (i : IsConsistent m base opened journal hives) (free : m.faulted ≡ false)
+module _ (keeps : Keeps) (m : Machine) (base : ℕ) (opened : List Element) (journal : Choice (Spelled TimedOp)) (hives : List HiveView) (i : IsConsistent m base opened journal hives) (free : m.faulted ≡ false)
     (k : ℕ) (old : HiveView) (is : slice_get hives k ≡ Some old) (v : HiveView) (same : v.memory ≡ old.memory) where
   none_wrong : fault m ≡ None
   none_wrong = ap (λ b. refused_if b refusal.Faulted) free
@@ -210,7 +210,7 @@ module _ (keeps : Keeps) (fits : Fits) (m : Machine) (base : ℕ) (opened : List
         step,
         record {
           kept = keeps m (failed m) (event.FlusherStep k) (reply.Refused refusal.DiskFault) i.kept step;
-          fits = fits m (failed m) (event.FlusherStep k) (reply.Refused refusal.DiskFault) i.kept step i.fits;
+          fits = i.fits;
           law = c.law;
           begun = c.begun;
           all = c.all;

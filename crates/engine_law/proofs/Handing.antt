@@ -46,5 +46,5 @@ may_be_handed follows m base opened journal hives i short =
           (subst (λ (es : List (law.Element TimedOp)). MayFollow GREATEST_NUMBER m.durable es journal.now) pending_is (follows (state_of m base opened journal hives) (length m.opened) i.law));
       there = all_dropped (OnHives (length hives)) (m.durable - m.before) m.accepted (all_there m.opened m.accepted (length hives) (sym i.all) i.kept.history);
       short = short;
-      room = λ some. omega (arith, i.fits, i.room, rooms_are (pending m));
+      room = λ some. omega (arith, i.fits some, i.room, rooms_are (pending m));
     }

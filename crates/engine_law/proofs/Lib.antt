@@ -1,3 +1,4 @@
+mod HiveLists
 mod Bridge
 mod Room
 mod Accepting

@@ -1,6 +1,6 @@
 -- What a crash leaves stands for a prefix, at each moment of an event.
 use Rattle.std.proofs.Common.{◌≡◌, ◌≢◌, ◌⊎◌, inl, inr, ℕ, ◌+◌, ◌*◌, ◌<◌, ◌≤◌, List, [], ◌∷◌, ◌++◌, length, map, refl, sym, ◌∙◌, ap, subst, arith, Option, Some, None, slice_get, option_map}
-use Rattle.std.proofs.lemmas.Option.{none-some, same_Some, slice_get-map, slice_get-get_or}
+use Rattle.std.proofs.lemmas.Option.{none-some, slice_get-get_or}
 use Rattle.refusals.specs.declared.limits.TheConstants.{GREATEST_NUMBER}
 use Rattle.reg_tree.specs.Maps.{TreeMap}
 use Rattle.reg_tree.specs.Fresh.{fresh_tree}
@@ -31,6 +31,7 @@ use Rattle.machine.specs.Machine.{Machine, last_number}
 use Rattle.engine_words.specs.Changes.{TimedOp, rules}
 use Rattle.engine_law.specs.States.{HiveView, tree_of, counted, files_in, life_of, state_of, IsConsistent}
 use Rattle.engine_law.specs.Prefixes.{Spells, Holds, view_of, trees_after, IsPrefix, IsSafeAt, AreOnDisk, ArePlaced}
+use Rattle.engine_law.proofs.HiveLists.{viewed}
 use Rattle.engine_law.proofs.Bridge.{last_is, tree_of_is}
 
 module _ (store : Store) (m : Machine) (base : ℕ) (opened : List Element) (journal : Choice (Spelled TimedOp)) (hives : List HiveView)
@@ -76,11 +77,6 @@ JournalPromise = (t : Texts TimedOp) (v : Value TimedOp) (state : FileState) →
 abbrev pub HivePromise : Type 0
 HivePromise = (hive : HiveFile) (primary log : FileState) → IsOn hive primary log → HiveOn (HoldsUnder (states.store_of hive)) (states.files_of hive) (λ c. file.Leaves primary c × IsHonest primary c) (file.Leaves log)
 
--- the hive that a view is of
-viewed : (o : Option HiveFile) (v : HiveView) → option_map view_of o ≡ Some v → (h : HiveFile) × (o ≡ Some h) × (view_of h ≡ v)
-viewed None v e = absurd (none-some v e)
-viewed (Some h) v e = (h, refl, same_Some (view_of h) v e)
-
 pub disk_stands : JournalPromise → HivePromise → (store : Store) (m : Machine) (base : ℕ) (opened : List Element) (journal : Journal) (hives : List HiveFile) (states_at : ℕ → ℕ → FileState) (k : ℕ)
     → IsConsistent m base opened (choice_of journal) (map view_of hives) → journals.store_of journal ≡ store → ArePlaced store hives → AreOnDisk journal hives (states_at k) → IsSafeAt store states_at k m
 disk_stands spells_on holds_on store m base opened journal hives states_at k i owner placed on = stands store m base opened (choice_of journal) (map view_of hives) i (states_at k)
@@ -88,7 +84,7 @@ disk_stands spells_on holds_on store m base opened journal hives states_at k i o
   where
     each : (j : ℕ) (v : HiveView) → slice_get (map view_of hives) j ≡ Some v → HiveOn (Holds store) v.files (λ c. file.Leaves (states_at k (primary_file j)) c × IsHonest (states_at k (primary_file j)) c) (file.Leaves (states_at k (log_file j)))
     each j v e =
-        let w = viewed (slice_get hives j) v (sym (slice_get-map view_of hives j) ∙ e) in
+        let w = viewed hives j v e in
         subst (λ (x : HiveView). HiveOn (Holds store) x.files (λ c. file.Leaves (states_at k (primary_file j)) c × IsHonest (states_at k (primary_file j)) c) (file.Leaves (states_at k (log_file j)))) w.2
         (subst (λ (id : List ℕ). HiveOn (HoldsUnder id) (states.files_of w.0) (λ c. file.Leaves (states_at k (primary_file j)) c × IsHonest (states_at k (primary_file j)) c) (file.Leaves (states_at k (log_file j)))) (placed.owner j w.0 w.1)
         (holds_on w.0 (states_at k (primary_file j)) (states_at k (log_file j)) (on.each j w.0 w.1)))

@@ -4,7 +4,7 @@ use Rattle.std.specs.Prelude.{slice_set, is_some}
 use Rattle.std.proofs.lemmas.Option.{none-some, same_Some, slice_get_within, slice_get-get_or}
 use Rattle.std.proofs.lemmas.List.{length-map, length-drop, length-take, drop-map, drop-take, take-map, take_all, map-append, length-set, length-append, take-append-drop}
 use Rattle.std.proofs.lemmas.Bool.{cases_eq}
-use Rattle.refusals.specs.declared.limits.TheConstants.{GREATEST_NUMBER}
+use Rattle.refusals.specs.declared.limits.TheConstants.{GREATEST_NUMBER, MOST_JOURNAL_BYTES}
 use Rattle.refusals.specs.declared.refusal.Refusal.{Refusal}
 use Rattle.refusals.specs.declared.refusal.Refusal.TheVariants as refusal
 use Rattle.reg_tree.specs.Maps.{TreeMap}
@@ -37,7 +37,7 @@ use Rattle.engine_law.specs.States.{HiveView, counted, files_in, life_of, state_
 use Rattle.engine_law.specs.Answers.{stepped_to, reply_to, failed, freed, after_step, after_flush, HaveAll}
 use Rattle.engine_law.specs.Answers as answers
 use Rattle.engine_law.proofs.Bridge.{number_is, last_is}
-use Rattle.engine_law.proofs.Accepting.{Keeps, Fits}
+use Rattle.engine_law.proofs.Accepting.{Keeps}
 use Rattle.engine_law.proofs.Room.{rooms_are, room_append}
 
 -- the machine with another durable number and other room
@@ -58,7 +58,7 @@ floor_on durable below [] [] = refl
 floor_on durable below [] (e ∷ es) = refl
 floor_on durable below (x ∷ xs) es = refl
 
-module _ (keeps : Keeps) (fits : Fits) (m : Machine) (base : ℕ) (opened : List Element) (old new : Choice (Spelled TimedOp)) (hives : List HiveView) (i : IsConsistent m base opened old hives) (free : m.faulted ≡ false) where
+module _ (keeps : Keeps) (m : Machine) (base : ℕ) (opened : List Element) (old new : Choice (Spelled TimedOp)) (hives : List HiveView) (i : IsConsistent m base opened old hives) (free : m.faulted ≡ false) where
   handed : List (law.Element TimedOp)
   handed = timed_elements (pending m)
 
@@ -95,13 +95,19 @@ module _ (keeps : Keeps) (fits : Fits) (m : Machine) (base : ℕ) (opened : List
           by_slot j lt None e = absurd (none-some _ (sym e ∙ slice_get-get_or hives j (record { files = settled (fresh_tree, 0); memory = (fresh_tree, 0) }) (omega (arith, lt, i.all))))
           by_slot j lt (Some h) e = (may idle).1 j h e
 
+  -- what is pending has its room
+  fits_on : (d r : ℕ) → m.durable ≤ d → r ≤ m.room → 0 < length (pending (moved_to m d r)) → r ≤ MOST_JOURNAL_BYTES
+  fits_on d r up low some =
+      let fit = i.fits (omega (arith, some, up, length-drop (d - m.before) m.accepted, length-drop (m.durable - m.before) m.accepted)) in
+      omega (arith, fit, low)
+
   -- what the engine keeps with another durable number, other room and another journal
-  consistent : (d r : ℕ) (e : Event) (p : Reply) → Step m e p (moved_to m d r) → law_kept.IsKept rules GREATEST_NUMBER (length m.opened) (state_of (moved_to m d r) base opened new hives)
+  consistent : (d r : ℕ) → m.durable ≤ d → r ≤ m.room → (e : Event) (p : Reply) → Step m e p (moved_to m d r) → law_kept.IsKept rules GREATEST_NUMBER (length m.opened) (state_of (moved_to m d r) base opened new hives)
       → ((next : Spelled TimedOp) → new.next ≡ Some next → (next ≡ nothing) ⊎ IsBatch (moved_to m d r) new.now next) → r ≡ 65 + room_of new.now.elements + room_of (timed_elements (pending (moved_to m d r)))
       → IsConsistent (moved_to m d r) base opened new hives
-  consistent d r e p step l onward room = record {
+  consistent d r up low e p step l onward room = record {
     kept = keeps m (moved_to m d r) e p i.kept step;
-    fits = fits m (moved_to m d r) e p i.kept step i.fits;
+    fits = fits_on d r up low;
     law = l;
     begun = i.begun;
     all = i.all;
@@ -197,7 +203,7 @@ module _ (keeps : Keeps) (fits : Fits) (m : Machine) (base : ℕ) (opened : List
       → ((next : Spelled TimedOp) → new.next ≡ Some next → (next ≡ nothing) ⊎ IsBatch m new.now next) → m.room ≡ 65 + room_of new.now.elements + room_of (timed_elements (pending m)) → IsConsistent (failed m) base opened new hives
   after_fault e step l onward room = record {
     kept = keeps m (failed m) e (reply.Refused refusal.DiskFault) i.kept step;
-    fits = fits m (failed m) e (reply.Refused refusal.DiskFault) i.kept step i.fits;
+    fits = i.fits;
     law = l;
     begun = i.begun;
     all = i.all;
@@ -216,7 +222,7 @@ module _ (keeps : Keeps) (fits : Fits) (m : Machine) (base : ℕ) (opened : List
   journal_idle says =
       let e = says.2 in
       let step : Step m event.JournalStep (reply.Stepped stepped.Idle) m = record { free = not_faulted m free; next = refl; grows = omega arith; within = i.kept.within.known; room = inl refl; idle = λ _. refl } in
-      (step, consistent m.durable m.room event.JournalStep (reply.Stepped stepped.Idle) step (journal_law Idle m.durable m.room says refl) (same_onward e) (same_room (ap (λ (c : Choice (Spelled TimedOp)). c.now) e)))
+      (step, consistent m.durable m.room (omega arith) (omega arith) event.JournalStep (reply.Stepped stepped.Idle) step (journal_law Idle m.durable m.room says refl) (same_onward e) (same_room (ap (λ (c : Choice (Spelled TimedOp)). c.now) e)))
 
   underway_or : BeginsBatch (m.durable + 1) (timed_elements (pending m)) old new ⊎ (((x : Spelled TimedOp) × (old.next ≡ Some x)) × (new ≡ old)) → BeginsBatch (m.durable + 1) (timed_elements (pending m)) old new ⊎ (new ≡ old)
   underway_or (inl b) = inl b
@@ -227,7 +233,7 @@ module _ (keeps : Keeps) (fits : Fits) (m : Machine) (base : ℕ) (opened : List
   journal_more says =
       let b = begins_or_not (underway_or says) in
       let step : Step m event.JournalStep (reply.Stepped stepped.More) m = record { free = not_faulted m free; next = refl; grows = omega arith; within = i.kept.within.known; room = inl refl; idle = λ e. absurd cc } in
-      (step, consistent m.durable m.room event.JournalStep (reply.Stepped stepped.More) step (journal_law More m.durable m.room says refl) b.0 (same_room b.1))
+      (step, consistent m.durable m.room (omega arith) (omega arith) event.JournalStep (reply.Stepped stepped.More) step (journal_law More m.durable m.room says refl) b.0 (same_room b.1))
 
   journal_done : JournalSays (m.durable + 1) (timed_elements (pending m)) Done old new → Goes event.JournalStep (Ok progress.Done)
   unfolding Goes
@@ -236,13 +242,13 @@ module _ (keeps : Keeps) (fits : Fits) (m : Machine) (base : ℕ) (opened : List
       let l = journal_law Done (top m.durable new.now) (m.room - freed old new) says refl in
       let step : Step m event.JournalStep (reply.Stepped stepped.Done) (moved_to m (top m.durable new.now) (m.room - freed old new)) =
       record { free = not_faulted m free; next = refl; grows = e.rises; within = omega (arith, l.fits.to_last, last_is m base opened i.begun); room = e.keeps_room; idle = λ f. absurd cc } in
-      (step, consistent (top m.durable new.now) (m.room - freed old new) event.JournalStep (reply.Stepped stepped.Done) step l (settled_onward (top m.durable new.now) (m.room - freed old new) says) e.room_is)
+      (step, consistent (top m.durable new.now) (m.room - freed old new) e.rises (omega arith) event.JournalStep (reply.Stepped stepped.Done) step l (settled_onward (top m.durable new.now) (m.room - freed old new) says) e.room_is)
 
   journal_hungry : JournalSays (m.durable + 1) (timed_elements (pending m)) NoMemory old new → Goes event.JournalStep (Err refusal.NoMemory)
   unfolding Goes
   journal_hungry says =
       let step : Step m event.JournalStep (reply.Refused refusal.NoMemory) m = inl (inr refl, refl) in
-      (step, consistent m.durable m.room event.JournalStep (reply.Refused refusal.NoMemory) step (journal_law NoMemory m.durable m.room says refl) (same_onward says.1) (same_room (ap (λ (c : Choice (Spelled TimedOp)). c.now) says.1)))
+      (step, consistent m.durable m.room (omega arith) (omega arith) event.JournalStep (reply.Refused refusal.NoMemory) step (journal_law NoMemory m.durable m.room says refl) (same_onward says.1) (same_room (ap (λ (c : Choice (Spelled TimedOp)). c.now) says.1)))
 
   journal_failed : JournalSays (m.durable + 1) (timed_elements (pending m)) DiskFault old new → Goes event.JournalStep (Err refusal.DiskFault)
   unfolding Goes
@@ -274,7 +280,7 @@ module _ (keeps : Keeps) (fits : Fits) (m : Machine) (base : ℕ) (opened : List
         let e = says.1 in
         let onward : (next : Spelled TimedOp) → new.next ≡ Some next → (next ≡ nothing) ⊎ IsBatch m new.now next = λ next is. inl (same_Some next nothing (sym is ∙ ap (λ (c : Choice (Spelled TimedOp)). c.next) e)) in
         let step : Step m event.TrimStep (reply.Stepped stepped.More) m = record { free = not_faulted m free; next = refl; room = inl refl } in
-        (step, consistent m.durable m.room event.TrimStep (reply.Stepped stepped.More) step (trim_law More m.durable m.room idle_has says refl) onward (same_room (ap (λ (c : Choice (Spelled TimedOp)). c.now) e)))
+        (step, consistent m.durable m.room (omega arith) (omega arith) event.TrimStep (reply.Stepped stepped.More) step (trim_law More m.durable m.room idle_has says refl) onward (same_room (ap (λ (c : Choice (Spelled TimedOp)). c.now) e)))
 
     either : (old.next ≡ None) ⊎ (old.next ≡ Some nothing)
     either = elim (may) [ inl trims ↦ inr trims | inr b ↦ inl b.0 ]
@@ -292,7 +298,7 @@ module _ (keeps : Keeps) (fits : Fits) (m : Machine) (base : ℕ) (opened : List
         let same : top m.durable new.now ≡ m.durable = ap (λ (c : Choice (Spelled TimedOp)). top m.durable c.now) says.2 ∙ ap (top m.durable) x_is ∙ (let f : m.durable + 0 ≡ m.durable = omega arith in f) in
         let step : Step m event.TrimStep (reply.Stepped stepped.Done) (moved_to m (top m.durable new.now) (m.room - freed old new)) =
         record { free = not_faulted m free; next = ap (λ n. record m { durable = n; room = m.room - freed old new }) same; room = e.keeps_room } in
-        (step, consistent (top m.durable new.now) (m.room - freed old new) event.TrimStep (reply.Stepped stepped.Done) step l (settled_onward (top m.durable new.now) (m.room - freed old new) says) e.room_is)
+        (step, consistent (top m.durable new.now) (m.room - freed old new) e.rises (omega arith) event.TrimStep (reply.Stepped stepped.Done) step l (settled_onward (top m.durable new.now) (m.room - freed old new) says) e.room_is)
 
     trim_failed : TrimSays DiskFault old new → Goes event.TrimStep (Err refusal.DiskFault)
     unfolding Goes

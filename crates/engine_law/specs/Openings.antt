@@ -1,7 +1,7 @@
 -- What an opening finds, and hands to an engine.
-use Rattle.std.specs.Prelude.{◌≡◌, ℕ, ◌+◌, ◌<◌, ◌≤◌, List, length, slice_get, Option, Some, None}
+use Rattle.std.specs.Prelude.{◌≡◌, ℕ, List, length, slice_get, Option, Some, None}
 use Rattle.std.specs.List.{AllByRecursion}
-use Rattle.refusals.specs.declared.limits.TheConstants.{GREATEST_NUMBER, MOST_JOURNAL_BYTES}
+use Rattle.refusals.specs.declared.limits.TheConstants.{GREATEST_NUMBER}
 use Rattle.reg_tree.specs.Maps.{TreeMap}
 use Rattle.reg_tree.specs.Fresh.{fresh_tree}
 use Rattle.reg_tree.specs.Sequences.{AreTrees}
@@ -10,7 +10,6 @@ use Rattle.prefix_law.specs.Promises.{Choice, Spelled, settled, floor}
 use Rattle.prefix_law.specs.Recovery.{Recovers}
 use Rattle.prefix_law.specs.Life.{NamesHive}
 use Rattle.engine_words.specs.Changes.{TimedOp, rules, timed_elements}
-use Rattle.commit_journal.specs.Store.{room_of}
 use Rattle.engine_law.specs.States.{HiveView, tree_of}
 
 abbrev pub held_if : Option HiveView → TreeMap × ℕ
@@ -31,4 +30,3 @@ pub record IsFound (trees : List TreeMap) (number base : ℕ) (opened : List Ele
   pub recovers : Recovers rules GREATEST_NUMBER (length trees) (record { below = below; elements = timed_elements opened }) (held_by hives) number (tree_of trees)
   pub named : AllByRecursion (NamesHive (length trees)) (timed_elements opened)
   pub are_trees : AreTrees trees
-  pub room : 65 + room_of (timed_elements opened) ≤ MOST_JOURNAL_BYTES

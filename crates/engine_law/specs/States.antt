@@ -1,5 +1,5 @@
 -- The engine's state as the law of one prefix sees it, and what an engine keeps.
-use Rattle.std.specs.Prelude.{◌≡◌, ◌⊎◌, ℕ, ◌+◌, ◌≤◌, List, ◌++◌, length, take, map, slice_get, slice_index_or, Option, Some, None}
+use Rattle.std.specs.Prelude.{◌≡◌, ◌⊎◌, ℕ, ◌+◌, ◌<◌, ◌≤◌, List, ◌++◌, length, take, map, slice_get, slice_index_or, Option, Some, None}
 use Rattle.refusals.specs.declared.limits.TheConstants.{GREATEST_NUMBER, MOST_JOURNAL_BYTES}
 use Rattle.reg_tree.specs.Maps.{TreeMap}
 use Rattle.reg_tree.specs.Fresh.{fresh_tree}
@@ -54,14 +54,15 @@ abbrev pub IsBatch : Machine → Spelled TimedOp → Spelled TimedOp → Type 0
 IsBatch machine now next = (count : ℕ) × (1 ≤ count) × (count ≤ length (pending machine))
     × (next ≡ record { below = floor machine.durable now; elements = now.elements ++ take count (timed_elements (pending machine)) })
 
--- What an engine keeps, but for the disk: what every machine keeps, and its room within the limit; the law's invariant, with
--- the hives' memory counted as on its way; that the life begins where the machine does; as many hives as trees; that what
--- is on its way to a hive's files is its memory; that what is on its way to the journal is nothing, by a trim, or a batch of
--- the pending changes; and that the machine's room is that of the changes which the journal spells and of those pending.
+-- What an engine keeps, but for the disk: what every machine keeps; its room within the limit where a change is pending, while a
+-- journal that was opened may have used more; the law's invariant, with the hives' memory counted as on its way; that the life
+-- begins where the machine does; as many hives as trees; that what is on its way to a hive's files is its memory; that what is
+-- on its way to the journal is nothing, by a trim, or a batch of the pending changes; and that the machine's room is that of the
+-- changes which the journal spells and of those pending.
 pub record IsConsistent (machine : Machine) (base : ℕ) (opened : List Element) (journal : Choice (Spelled TimedOp))
     (hives : List HiveView) : Type 0 where
   pub kept : IsKept machine
-  pub fits : machine.room ≤ MOST_JOURNAL_BYTES
+  pub fits : 0 < length (pending machine) → machine.room ≤ MOST_JOURNAL_BYTES
   pub law : law.IsKept rules GREATEST_NUMBER (length machine.opened) (state_of machine base opened journal hives)
   pub begun : machine.before ≡ base + length opened
   pub all : length hives ≡ length machine.opened

@@ -18,6 +18,7 @@ use Rattle.machine.specs.declared.event.Event.{Event}
 use Rattle.machine.specs.declared.event.Event.TheVariants as event
 use Rattle.machine.specs.declared.event.Reply.{Reply}
 use Rattle.machine.proofs.Replies.{done_or, read_or, accepted_or, added_or, begun_or, awaits_or, stands_or, receipt_or}
+use Rattle.machine.proofs.Limits.{has_room}
 use Rattle.machine.proofs.TransactionChanges.{none_first, not_refused, found_at, active_of}
 
 -- what is legal within the limit of weight
@@ -43,37 +44,28 @@ same : (old new : Machine) → new ≡ old → Calm old new
 same old new e = aside old new old.sessions old.places old.begun e
 
 -- one change more
-grown : (old new : Machine) (e : Element) (places : _) → 0 < length e.ops → AreLegalChanges (trees_now old) e.ops e.moment → last_number old < GREATEST_NUMBER
+grown : (old new : Machine) (e : Element) (places : _) → 0 < length e.ops → AreLegalChanges (trees_now old) e.ops e.moment → room_refusal old (element_text_len e) ≡ None
     → new ≡ record old { accepted = old.accepted ++ e ∷ []; room = old.room + room_of e; places = places } → Calm old new
-grown old new e places some legal number is = inr (record {
+grown old new e places some legal free is = let room = has_room old e free in inr (record {
   element = e;
   some = some;
   legal = legal;
-  number = number;
+  number = room.1;
   opened = ap (λ (m : Machine). m.opened) is;
   before = ap (λ (m : Machine). m.before) is;
   accepted = ap (λ (m : Machine). m.accepted) is;
   durable = ap (λ (m : Machine). m.durable) is;
   room = ap (λ (m : Machine). m.room) is;
+  fits = omega (arith, room.2, ap (λ (m : Machine). m.room) is);
   faulted = ap (λ (m : Machine). m.faulted) is;
 })
-
-roomy : (m : Machine) (long : ℕ) → room_refusal m long ≡ None → last_number m < GREATEST_NUMBER
-roomy m long none =
-    let first = none_first (refused_if (nat_le MOST_HISTORY (length m.accepted) || nat_le GREATEST_NUMBER (last_number m)) HistoryFull) (refused_if (nat_lt MOST_JOURNAL_BYTES (m.room + (17 + long))) JournalFull) none in
-    below (nat_le MOST_HISTORY (length m.accepted)) (nat_le GREATEST_NUMBER (last_number m)) refl (not_refused _ HistoryFull first.0)
-  where
-    below : (a b : Bool) → nat_le GREATEST_NUMBER (last_number m) ≡ b → (a || b) ≡ false → last_number m < GREATEST_NUMBER
-    below true b is e = absurd cc
-    below false true is e = absurd cc
-    below false false is e = grind (arith, nat_tests, is)
 
 accepts : (old new : Machine) (session moment : ℕ) (op : Op) (levels : Option ℕ) (number : ℕ) → Accepts old session moment op levels number new → Calm old new
 accepts old new session moment op levels number a =
     let f = none_first (fault old) _ a.free in
     let g = none_first (closed_refusal old session) _ f.1 in
     let h : room_refusal old (element_text_len (change moment op)) ≡ None = ap (λ j. refusal_by j (room_refusal old (element_text_len (change moment op)))) (sym a.is_legal) ∙ g.1 in
-    grown old new (change moment op) new.places (omega arith) (a.is_legal, tt) (roomy old (element_text_len (change moment op)) h) a.next
+    grown old new (change moment op) new.places (omega arith) (a.is_legal, tt) h a.next
 
 some_ops : (ops : List Op) → (length ops == 0) ≡ false → 0 < length ops
 some_ops [] e = absurd cc
@@ -93,7 +85,7 @@ commits within old new session tx moment number k c =
     by_case true e n none a = aside old new old.sessions new.places old.begun n
     by_case false e n none a =
         let h = none_first (refused_if (any_outweighs (trees_now old) c.one.ops moment) TooLarge) (room_refusal old (element_text_len made)) none in
-        grown old new made new.places (some_ops c.one.ops e) (within old tx.place c.one moment k a (not_refused _ TooLarge h.0)) (roomy old (element_text_len made) h.1) n
+        grown old new made new.places (some_ops c.one.ops e) (within old tx.place c.one moment k a (not_refused _ TooLarge h.0)) h.1 n
 
 session_opened : (old new : Machine) (session : ℕ) → new ≡ with_session old session → Calm old new
 session_opened old new session e = by_case (is_open old session) e

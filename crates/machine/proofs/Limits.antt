@@ -118,7 +118,7 @@ below n m e = grind (arith, nat_tests)
 within : (n m : ℕ) → nat_lt n m ≡ false → m ≤ n
 within n m e = grind (arith, nat_tests)
 
-has_room : (machine : Machine) (element : Element) → room_refusal machine (element_text_len element) ≡ None →
+pub has_room : (machine : Machine) (element : Element) → room_refusal machine (element_text_len element) ≡ None →
     (length machine.accepted < MOST_HISTORY) × (last_number machine < GREATEST_NUMBER) × (machine.room + room_of element ≤ MOST_JOURNAL_BYTES)
 has_room machine element e =
     let full = refused_if (nat_le MOST_HISTORY (length machine.accepted) || nat_le GREATEST_NUMBER (last_number machine)) HistoryFull in

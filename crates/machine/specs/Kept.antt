@@ -1,7 +1,7 @@
 -- What every state of the machine keeps: what is known of transactions that are held, and of handles.
 use Rattle.std.specs.Prelude.{◌≡◌, ◌≢◌, ◌⊎◌, ℕ, ◌+◌, ◌<◌, ◌≤◌, true, length, List, [], ◌∷◌, ◌++◌, map, filter_map, Option, Some, None, Ok, Err, ⊤}
 use Rattle.refusals.specs.declared.refusal.Refusal.TheVariants.{TooLarge}
-use Rattle.refusals.specs.declared.limits.TheConstants.{GREATEST_NUMBER, MOST_HISTORY, MOST_SESSIONS, MOST_TRANSACTIONS}
+use Rattle.refusals.specs.declared.limits.TheConstants.{GREATEST_NUMBER, MOST_HISTORY, MOST_JOURNAL_BYTES, MOST_SESSIONS, MOST_TRANSACTIONS}
 use Rattle.reg_tree.specs.Maps.{TreeMap}
 use Rattle.reg_tree.specs.Judgement.{legal, applied, applied_one}
 use Rattle.reg_tree.specs.Sequences.{AreTrees}
@@ -94,7 +94,7 @@ pub record Stays (old new : Machine) : Type 0 where
   pub faulted : new.faulted ≡ old.faulted
 
 -- One change is accepted, which has an operation, is legal operation by operation on the trees of now, and for which there is a
--- number; its room is used. The rest stays.
+-- number and room in the journal; that is used. The rest stays.
 pub record Grows (old new : Machine) : Type 0 where
   pub element : Element
   pub some : 0 < length element.ops
@@ -105,4 +105,5 @@ pub record Grows (old new : Machine) : Type 0 where
   pub accepted : new.accepted ≡ old.accepted ++ element ∷ []
   pub durable : new.durable ≡ old.durable
   pub room : new.room ≡ old.room + room_of element
+  pub fits : new.room ≤ MOST_JOURNAL_BYTES
   pub faulted : new.faulted ≡ old.faulted

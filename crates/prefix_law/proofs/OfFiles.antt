@@ -3,7 +3,7 @@ use Rattle.std.proofs.Common.{◌≡◌, ◌⊎◌, inl, inr, ℕ, zero, suc, �
 use Rattle.std.proofs.lemmas.Option.{same_Some}
 use Rattle.prefix_law.specs.Changes.{Rules, Element, ops_on, replay}
 use Rattle.prefix_law.specs.Promises.{Spelled, Leaves, JournalOn, HiveOn}
-use Rattle.prefix_law.specs.Recovery.{above, IsLastNumber}
+use Rattle.prefix_law.specs.Recovery.{above, IsLastNumber, Recovers}
 use Rattle.prefix_law.specs.Kept.{State, IsKept}
 use Rattle.prefix_law.specs.Files.{IsLastNumberOf, FilesRecover, FilesPrefix}
 use Rattle.prefix_law.proofs.KeepSteps.{safe}
@@ -25,6 +25,17 @@ module _ {T Op : Type 0} (r : Rules T Op) (spells : List ℕ → Spelled Op → 
   last_of files held all below [] n h = (h.0, h.1, ((held h.0).0, subst (λ k. holds (files (1 + 2 * h.0)) (files (2 + 2 * h.0)) ((held h.0).0, k)) h.2 (all h.0 h.1)))
   last_of files held all below (e ∷ es) n h = h
 
+  -- files that spell something and hold these trees and numbers recover what is recovered from them
+  pub files_recover : (files : ℕ → List ℕ) (journal : Spelled Op) (held : ℕ → T × ℕ) (n : ℕ) (trees : ℕ → T) → spells (files 0) journal
+      → ((i : ℕ) → i < hives → holds (files (1 + 2 * i)) (files (2 + 2 * i)) (held i)) → Recovers r most hives journal held n trees → FilesRecover r spells holds most hives files n trees
+  files_recover files journal held n trees told all p = record {
+    journal = journal;
+    spelled = told;
+    last = last_of files held all journal.below journal.elements n p.last;
+    limit = p.limit;
+    each = λ i lt. record { held = held i; holds_it = all i lt; not_above = p.not_above i lt; replayed = p.tree i lt; allowed = p.allowed i lt };
+  }
+
   -- files that spell and hold what may be left recover one number
   pub files_prefix : (s : State T Op) → IsKept r most hives s → (journal_leaves : List ℕ → Type 0) → JournalOn spells s.journal journal_leaves
       → (primary log : ℕ → List ℕ → Type 0) → ((i : ℕ) → i < hives → HiveOn holds (s.files i) (primary i) (log i))
@@ -32,18 +43,8 @@ module _ {T Op : Type 0} (r : Rules T Op) (spells : List ℕ → Spelled Op → 
       → FilesPrefix r spells holds most hives s files
   files_prefix s kept journal_leaves on primary log each files first rest =
       let j = on (files 0) first in
-      let p = safe r most hives s kept j.0 j.1 held left in (
-        p.0,
-        p.1,
-        p.2,
-        record {
-          journal = j.0;
-          spelled = j.2;
-          last = last_of files held held_by j.0.below j.0.elements p.0 p.3.last;
-          limit = p.3.limit;
-          each = λ i lt. record { held = held i; holds_it = held_by i lt; not_above = p.3.not_above i lt; replayed = p.3.tree i lt; allowed = p.3.allowed i lt };
-        },
-      )
+      let p = safe r most hives s kept j.0 j.1 held left in
+      (p.0, p.1, p.2, files_recover files j.0 held p.0 _ j.2 held_by p.3)
     where
       found : (i : ℕ) → i < hives → (x : T × ℕ) × Leaves (s.files i) x × holds (files (1 + 2 * i)) (files (2 + 2 * i)) x
       found i lt = let b = rest i lt in each i lt (files (1 + 2 * i)) (files (2 + 2 * i)) b.0 b.1

@@ -10,5 +10,5 @@ returns c = record {
       (up machine base opened journal hives kept i old is, may_take machine base opened journal hives kept i old is (opened_above base opened old.memory.1 ++ accepted_above machine old.memory.1) refl);
   takes = λ machine base opened journal hives i old kept is idle. takes_in machine base opened journal hives kept i old is idle;
   step = λ machine base opened journal hives i old new result kept free is same sound says.
-      flush_goes c.states_are_kept.ensures.step c.states_are_kept.ensures.room machine base opened journal hives kept free i old is new same result says sound;
+      flush_goes c.states_are_kept.ensures.step machine base opened journal hives kept free i old is new same result says sound;
 }
