@@ -7,7 +7,8 @@ ghost use Rattle.disk_model.specs.FileState.{FileState};
 ghost use Rattle.dirty_vector.specs.Pages.{is_bins_size};
 ghost use Rattle.base_block.specs.declared.block.TheConstants.{MINOR_VERSION};
 ghost use Rattle.reg_tree.specs.declared.element.Element.{Element as Change};
-ghost use Rattle.hive_flush.specs.Standing.{IsRefusedFor, StandsWithin};
+ghost use Rattle.hive_load.specs.Limits.{StandsWithin};
+ghost use Rattle.hive_flush.specs.Standing.{IsRefusedFor};
 ghost use Rattle.hive_flush.specs.HiveStates.{AreLegalOn, IsBroken, IsOn, IsWhole, files_of, led_to, memory_of, place_of, store_of};
 
 use crate::hive::HiveFile;
@@ -60,10 +61,7 @@ impl HiveFile {
         let hive = self.writer.hive;
         let tree = replayed(alloc, self.tree.clone()?, hive, first)?;
         let tree = replayed(alloc, tree, hive, then)?;
-        let (bins, root) = match written(alloc, &tree, self.pages.bins_size()) {
-            Ok(written) => written,
-            Err(why) => return Err(why),
-        };
+        let (bins, root) = written(alloc, &tree, self.pages.bins_size())?;
         let time = last_moment(hive, first, self.writer.block.last_written);
         let time = last_moment(hive, then, time);
         self.adopt(tree, bins, root, time, upto);
@@ -122,10 +120,7 @@ pub(crate) fn written(
     ensures heavy { MOST_WEIGHT < weight tree.now → result ≡ Err TooLarge }
 {
     let _ = tree.root();
-    let Emitted { image, root } = match emit(alloc, tree, least_size as u32) {
-        Ok(emitted) => emitted,
-        Err(why) => return Err(why),
-    };
+    let Emitted { image, root } = emit(alloc, tree, least_size as u32)?;
     image.tiles(0);
     Ok((image.into_bytes(), root))
 }
