@@ -10,5 +10,4 @@ mod reading;
 mod records;
 #[cfg(test)]
 mod spelled;
-#[cfg(test)]
-mod trees;
+pub mod trees;
