@@ -1,6 +1,6 @@
 //! How long a load takes.
-use crate::fault::Fault;
 use base_block::BaseBlock;
+use faults::Fault;
 use hive_load::load_bins;
 use std::fs::File;
 use std::io::Read;

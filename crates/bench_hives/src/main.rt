@@ -8,13 +8,12 @@
 //! The status is 0 where it was done, else 1, and nothing is said of why.
 #![tactic(auto)]
 
-mod fault;
 mod loading;
 mod making;
 
-use crate::fault::Fault;
 use crate::loading::load_file;
 use crate::making::make;
+use faults::Fault;
 use std::alloc::Global;
 use std::env;
 use std::process::ExitCode;

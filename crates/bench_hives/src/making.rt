@@ -1,6 +1,6 @@
 //! A hive made of the lines of a script.
-use crate::fault::Fault;
 use base_block::{BaseBlock, SequenceNumber};
+use faults::Fault;
 use hive_emit::emit;
 use refusals::Refusal;
 use reg_names::{Name, Path};

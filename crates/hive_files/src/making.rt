@@ -100,22 +100,8 @@ fn append<D: Disk>(disk: &mut D, file: u32, from: u64, bytes: &[u8]) -> Result<(
     let mut at = 0;
     'pieces: while at < bytes.len() {
         let end = at + (bytes.len() - at).min(PIECE_BYTES);
-        append_piece(disk, file, from + at as u64, &bytes[at..end])?;
+        disk.write_at(file, from + at as u64, &bytes[at..end])?;
         at = end;
     }
     Ok(())
-}
-
-// the same in one call
-fn append_piece<D: Disk>(disk: &mut D, file: u32, from: u64, piece: &[u8]) -> Result<(), Failed>
-    ensures seen { OnOk result (D.faithful disk.new →
-        length (D.state_at disk.old (D.clock disk.old) file).seen ≡ from →
-        (D.state_at disk.new (D.clock disk.new) file).seen
-        ≡ (D.state_at disk.old (D.clock disk.old) file).seen ++ piece.now) }
-    ensures stays { StaysOff (λ f. f ≡ file) (D.state_at disk.old) (D.state_at disk.new)
-        (D.clock disk.old) (D.clock disk.new) }
-    ensures failures { CountsFailure result (D.failures disk.old) (D.failures disk.new) }
-    ensures faithful { D.faithful disk.new → D.faithful disk.old }
-{
-    disk.write_at(file, from, piece)
 }

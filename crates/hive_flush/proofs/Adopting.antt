@@ -15,7 +15,8 @@ use Rattle.hive_writer.specs.declared.stage.Stage.TheVariants as stage
 use Rattle.hive_writer.specs.Writing.{phase_in, plan_of, work_of}
 use Rattle.hive_flush.specs.HiveStates.{IsOnBy}
 use Rattle.hive_flush.specs.Planned.{block_for}
-use Rattle.hive_flush.specs.Standing.{StandsWithin, with_tree}
+use Rattle.hive_load.specs.Limits.{StandsWithin}
+use Rattle.hive_flush.specs.Standing.{with_tree}
 use Rattle.hive_flush.proofs.Standing.{gives, gives_right, gives_still}
 
 -- one tree at most stands for bins data

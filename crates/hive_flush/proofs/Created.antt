@@ -15,7 +15,8 @@ use Rattle.disk_model.specs.FileState.{FileState}
 use Rattle.hive_files.specs.Made.{AreMade, primary_text}
 use Rattle.hive_files.proofs.Anew.{base_long}
 use Rattle.hive_flush.specs.Created.{AreCreated}
-use Rattle.hive_flush.specs.Standing.{HoldsUnder, StandsWithin}
+use Rattle.hive_load.specs.Limits.{StandsWithin}
+use Rattle.hive_flush.specs.Standing.{HoldsUnder}
 use Rattle.hive_flush.proofs.Opened.{match_at_true, true_false}
 use Rattle.hive_flush.proofs.Readying.{right_sum}
 

@@ -1,12 +1,9 @@
 -- What was found in a hive's files, as a hive in memory.
-use Rattle.std.proofs.Common.{◌≡◌, ◌≢◌, ◌⊎◌, inl, inr, ⊎_elim, ℕ, ◌+◌, ◌≤◌, List, Bool, true, false, length, take, drop, get_or, refl, sym, ap, subst, ◌∙◌, Some, arith}
+use Rattle.std.proofs.Common.{◌≡◌, inl, inr, ℕ, ◌+◌, ◌≤◌, List, Bool, true, false, length, take, drop, get_or, refl, sym, ap, subst, ◌∙◌, Some, arith}
 use Rattle.std.proofs.lemmas.Bool.{cases_Bool, MatchBool-at_true, MatchBool-at_false}
 use Rattle.std.proofs.lemmas.List.{get_or-take, length-drop}
 use Rattle.std.specs.Bool.{MatchBool}
-use Rattle.refusals.specs.declared.refusal.Refusal.{Refusal}
-use Rattle.refusals.specs.declared.refusal.Refusal.TheVariants.{NoMemory, TooLarge}
-use Rattle.hive_records.specs.Images.{StandsFor, FaultFor}
-use Rattle.hive_load.specs.Limits.{IsWithin, LoadRefused}
+use Rattle.hive_load.specs.Limits.{StandsWithin}
 use Rattle.reg_tree.specs.Maps.{TreeMap}
 use Rattle.base_block.specs.declared.block.BaseBlock.{BaseBlock}
 use Rattle.base_block.specs.Judgements.{IsPrimary}
@@ -26,7 +23,7 @@ use Rattle.hive_writer.specs.Writing.{IsFlushing, calls_left, plan_of, work_of}
 use Rattle.hive_flush.specs.HiveStates.{IsOnBy}
 use Rattle.hive_files.specs.Blocks.{IsPlanned}
 use Rattle.hive_flush.specs.Planned.{block_again, clean_writer, unclean_writer, repair_plan}
-use Rattle.hive_flush.specs.Standing.{HoldsUnder, IsRight, StandsWithin, no_tree, with_tree}
+use Rattle.hive_flush.specs.Standing.{HoldsUnder, IsRight, no_tree, with_tree}
 use Rattle.hive_flush.proofs.Standing.{gives, gives_right}
 
 pub match_at_true : {b : Bool} (P Q : Type 0) → b ≡ true → P → MatchBool b P Q
@@ -185,19 +182,6 @@ unclean_on hive primary log found tree clean x within fits =
       on = repair_begins stands (work_of plan found.bins.items found.pages (tree, block.applied.0) (tree, block.applied.0)) (at_rest primary) (at_rest log) ready refl clean x.sector behind
           (record { rest = refl; front = take-length log });
     }
-
--- ---- a refusal to load
-
-pub none_stands : (bytes : List ℕ) (root minor : ℕ) (why : Refusal)
-    → ((b : List ℕ) (r m : ℕ) (w : Refusal) → LoadRefused b r m w → w ≢ NoMemory → (tree : TreeMap) → StandsFor b r m tree → IsWithin tree → ⊥)
-    → ((b : List ℕ) (r m : ℕ) (tree : TreeMap) (w : Refusal) → FaultFor b r m w → StandsFor b r m tree → ⊥)
-    → LoadRefused bytes root minor why → (why ≡ NoMemory) ⊎ ((tree : TreeMap) → StandsWithin bytes root minor tree → ⊥)
-none_stands bytes root minor why limits faults refused = ⊎_elim (λ none. inl none) (λ rest. inr (λ tree stands. ⊎_elim
-    (λ large. limits bytes root minor why refused (λ none. absurd (large_differs (sym large.0 ∙ none))) tree stands.0 stands.1)
-    (λ fault. faults bytes root minor tree why fault stands.0) rest)) refused
-  where
-    large_differs : TooLarge ≡ NoMemory → ⊥
-    large_differs e = absurd cc
 
 -- ---- the writer
 

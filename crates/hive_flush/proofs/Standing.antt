@@ -7,7 +7,8 @@ use Rattle.std.proofs.lemmas.Slice.Eq.{bytes_eq-Decides}
 use Rattle.std.proofs.lemmas.Option.{same_Some}
 use Rattle.reg_tree.specs.Maps.{TreeMap}
 use Rattle.hive_phases.specs.Holding.{Standing, Holds}
-use Rattle.hive_flush.specs.Standing.{HoldsUnder, IsRight, StandsWithin, with_tree}
+use Rattle.hive_load.specs.Limits.{StandsWithin}
+use Rattle.hive_flush.specs.Standing.{HoldsUnder, IsRight, with_tree}
 
 -- what two files hold by a rule that is right in a store, they hold as a hive of it
 pub held_under : (store : List ℕ) (stands : Standing TreeMap) (primary log : List ℕ) (x : TreeMap × ℕ) → IsRight store stands → Holds stands primary log x → HoldsUnder store primary log x

@@ -6,6 +6,7 @@ use Rattle.engine_words.specs.Changes.{rules, timed_elements}
 use Rattle.reg_tree.specs.Maps.{TreeMap}
 use Rattle.reg_tree.specs.declared.element.Element.{Element}
 use Rattle.disk_model.specs.FileState.{FileState}
+use Rattle.disk_model.specs.StoreFiles.{primary_file, log_file}
 use Rattle.hive_phases.specs.Holding.{Standing}
 use Rattle.hive_phases.specs.Plans.{Plan, IsReady}
 use Rattle.hive_phases.specs.States.{is_on_in}
@@ -63,6 +64,15 @@ pub record IsOnBy (writer : HiveWriter) (image : List ℕ) (pages : Pages) (now 
 -- the primary file and the log are as the hive's stage says
 abbrev pub IsOn : HiveFile → FileState → FileState → Type 0
 IsOn file primary log = IsOnBy file.writer file.bins.items file.pages (now_of file) (memory_of file) primary log
+
+-- from one moment to another the two files go on as the hive's stages say
+abbrev pub GoesOn : HiveFile → HiveFile → (ℕ → FileState) → (ℕ → FileState) → Type 0
+GoesOn old new before after =
+    IsOn old (before (primary_file (place_of old))) (before (log_file (place_of old))) → IsOn new (after (primary_file (place_of old))) (after (log_file (place_of old)))
+
+-- two files that are as the hive's stage says are so still
+abbrev pub StaysOn : HiveFile → HiveFile → Type 0
+StaysOn old new = (primary log : FileState) → IsOn old primary log → IsOn new primary log
 
 -- The device has failed in a step.
 abbrev pub IsBroken : HiveFile → Type 0

@@ -8,13 +8,8 @@ use Rattle.reg_tree.specs.Maps.{TreeMap}
 use Rattle.base_block.specs.declared.block.BaseBlock.{BaseBlock}
 use Rattle.base_block.specs.Judgements.{IsPrimary}
 use Rattle.dirt_log.specs.Held.{is_clean_file, IsInUse}
-use Rattle.hive_records.specs.Images.{StandsFor}
-use Rattle.hive_load.specs.Limits.{IsWithin}
+use Rattle.hive_load.specs.Limits.{StandsWithin}
 use Rattle.hive_phases.specs.Holding.{Standing}
-
--- the bins data stand for the tree, from the root's offset on, and it is within what a hive may hold
-abbrev pub StandsWithin : List ℕ → ℕ → ℕ → TreeMap → Type 0
-StandsWithin bytes root minor tree = StandsFor bytes root minor tree × IsWithin tree
 
 -- A primary file and its log hold a tree and a number, as a hive of this store: the block that is in use, that of a primary
 -- file where it is its own, is of the store and has the number, and the bins data that are in use stand for the tree. An

@@ -3,12 +3,12 @@ ghost use Rattle.std.specs.Prelude.{◌≡◌, ◌<◌, ◌≤◌, ◌++◌, ℕ
 ghost use Rattle.refusals.specs.declared.limits.TheConstants.{MOST_BINS_BYTES, MOST_WEIGHT};
 ghost use Rattle.refusals.specs.declared.refusal.Refusal.TheVariants.{NoMemory, TooLarge};
 ghost use Rattle.reg_tree.specs.Maps.{TreeMap, weight};
-ghost use Rattle.disk_model.specs.FileState.{FileState};
 ghost use Rattle.dirty_vector.specs.Pages.{is_bins_size};
 ghost use Rattle.base_block.specs.declared.block.TheConstants.{MINOR_VERSION};
 ghost use Rattle.reg_tree.specs.declared.element.Element.{Element as Change};
-ghost use Rattle.hive_flush.specs.Standing.{IsRefusedFor, StandsWithin};
-ghost use Rattle.hive_flush.specs.HiveStates.{AreLegalOn, IsBroken, IsOn, IsWhole, files_of, led_to, memory_of, place_of, store_of};
+ghost use Rattle.hive_load.specs.Limits.{StandsWithin};
+ghost use Rattle.hive_flush.specs.Standing.{IsRefusedFor};
+ghost use Rattle.hive_flush.specs.HiveStates.{AreLegalOn, IsBroken, IsWhole, StaysOn, files_of, led_to, memory_of, place_of, store_of};
 
 use crate::hive::HiveFile;
 use crate::planning::plan_fits;
@@ -49,8 +49,7 @@ impl HiveFile {
         ensures light { OnOk result (weight (memory_of self.new).0 ≤ MOST_WEIGHT) }
         ensures err { OnErr result (self.new ≡ self.old) }
         ensures files { files_of self.new ≡ files_of self.old }
-        ensures on { (primary log : FileState) → IsOn self.old primary log →
-            IsOn self.new primary log }
+        ensures on { StaysOn self.old self.new }
         ensures place { place_of self.new ≡ place_of self.old }
         ensures store { store_of self.new ≡ store_of self.old }
         ensures whole { IsWhole self.new }
@@ -60,10 +59,7 @@ impl HiveFile {
         let hive = self.writer.hive;
         let tree = replayed(alloc, self.tree.clone()?, hive, first)?;
         let tree = replayed(alloc, tree, hive, then)?;
-        let (bins, root) = match written(alloc, &tree, self.pages.bins_size()) {
-            Ok(written) => written,
-            Err(why) => return Err(why),
-        };
+        let (bins, root) = written(alloc, &tree, self.pages.bins_size())?;
         let time = last_moment(hive, first, self.writer.block.last_written);
         let time = last_moment(hive, then, time);
         self.adopt(tree, bins, root, time, upto);
@@ -82,8 +78,7 @@ impl HiveFile {
         requires larger { length self.old.bins.items ≤ length bins.items }
         ensures memory { memory_of self.new ≡ (tree, number) }
         ensures files { files_of self.new ≡ files_of self.old }
-        ensures on { (primary log : FileState) → IsOn self.old primary log →
-            IsOn self.new primary log }
+        ensures on { StaysOn self.old self.new }
         ensures place { place_of self.new ≡ place_of self.old }
         ensures store { store_of self.new ≡ store_of self.old }
         ensures whole { IsWhole self.new }
@@ -122,10 +117,7 @@ pub(crate) fn written(
     ensures heavy { MOST_WEIGHT < weight tree.now → result ≡ Err TooLarge }
 {
     let _ = tree.root();
-    let Emitted { image, root } = match emit(alloc, tree, least_size as u32) {
-        Ok(emitted) => emitted,
-        Err(why) => return Err(why),
-    };
+    let Emitted { image, root } = emit(alloc, tree, least_size as u32)?;
     image.tiles(0);
     Ok((image.into_bytes(), root))
 }

@@ -50,16 +50,11 @@ impl HiveFile {
             (D.clock disk.old) (D.clock disk.new) }
         ensures faithful { D.faithful disk.new → D.faithful disk.old }
     {
-        let (bins, root) = match written(alloc, tree, LEAST_BINS_BYTES) {
-            Ok(written) => written,
-            Err(why) => return Err(why),
-        };
+        let (bins, root) = written(alloc, tree, LEAST_BINS_BYTES)?;
         let size = bins.len() as u32;
         let block = BaseBlock::of_primary(SequenceNumber(FIRST_NUMBER), root, size, store);
         let _ = sector(&block);
-        match make(disk, hive, &block, &bins) {
-            Ok(()) => Ok(()),
-            Err(_) => Err(Refusal::DiskFault),
-        }
+        make(disk, hive, &block, &bins)?;
+        Ok(())
     }
 }

@@ -6,12 +6,12 @@ ghost use Rattle.engine_words.specs.declared.Progress.TheVariants as Progress;
 ghost use Rattle.reg_tree.specs.Maps.{TreeMap};
 ghost use Rattle.refusals.specs.declared.refusal.Refusal.TheVariants.{DiskFault, Faulted};
 ghost use Rattle.disk_model.specs.Call.{OneCall, HasFailed};
-ghost use Rattle.disk_model.specs.StoreFiles.{IsOfHive, primary_file, log_file};
+ghost use Rattle.disk_model.specs.StoreFiles.{IsOfHive};
 ghost use Rattle.hive_phases.specs.Holding.{Standing, tree_under};
 ghost use Rattle.hive_phases.specs.Plans.{IsReady};
 ghost use Rattle.hive_writer.specs.Writing.{plan_of};
 ghost use Rattle.hive_writer.specs.declared.stage.Stage.TheVariants as stage;
-ghost use Rattle.hive_flush.specs.HiveStates.{IsBroken, IsOn, IsWhole, Settled, dirty_pages, files_of, memory_of, place_of, steps_left, store_of};
+ghost use Rattle.hive_flush.specs.HiveStates.{GoesOn, IsBroken, IsWhole, Settled, dirty_pages, files_of, memory_of, place_of, steps_left, store_of};
 
 use crate::hive::HiveFile;
 use crate::planning::{next_block, plan_fits};
@@ -59,12 +59,8 @@ impl HiveFile {
     /// failed in an earlier one: nothing is done then.
     pub fn step<D: Disk>(&mut self, disk: &mut D) -> Result<Progress, Refusal>
         requires whole { IsWhole self.old }
-        ensures on { D.faithful disk.new → IsOn self.old
-            (D.state_at disk.old (D.clock disk.old) (primary_file (place_of self.old)))
-            (D.state_at disk.old (D.clock disk.old) (log_file (place_of self.old))) →
-            IsOn self.new
-            (D.state_at disk.new (D.clock disk.new) (primary_file (place_of self.old)))
-            (D.state_at disk.new (D.clock disk.new) (log_file (place_of self.old))) }
+        ensures on { D.faithful disk.new → GoesOn self.old self.new
+            (D.state_at disk.old (D.clock disk.old)) (D.state_at disk.new (D.clock disk.new)) }
         ensures says { Says (HiveSays (memory_of self.old)) result (files_of self.old) (files_of
             self.new) }
         ensures memory { memory_of self.new ≡ memory_of self.old }
@@ -135,12 +131,8 @@ impl HiveFile {
     ///
     /// Takes no memory. Refused as [`step`](HiveFile::step) is.
     pub fn repair_step<D: Disk>(&mut self, disk: &mut D) -> Result<Progress, Refusal>
-        ensures on { D.faithful disk.new → IsOn self.old
-            (D.state_at disk.old (D.clock disk.old) (primary_file (place_of self.old)))
-            (D.state_at disk.old (D.clock disk.old) (log_file (place_of self.old))) →
-            IsOn self.new
-            (D.state_at disk.new (D.clock disk.new) (primary_file (place_of self.old)))
-            (D.state_at disk.new (D.clock disk.new) (log_file (place_of self.old))) }
+        ensures on { D.faithful disk.new → GoesOn self.old self.new
+            (D.state_at disk.old (D.clock disk.old)) (D.state_at disk.new (D.clock disk.new)) }
         ensures files { files_of self.new ≡ files_of self.old }
         ensures memory { memory_of self.new ≡ memory_of self.old }
         ensures place { place_of self.new ≡ place_of self.old }

@@ -8,7 +8,7 @@ ghost use Rattle.disk_model.specs.FileState.{FileState, at_rest};
 ghost use Rattle.disk_model.specs.StoreFiles.{IsOfHive as IsFileOf, primary_file, log_file};
 ghost use Rattle.hive_files.specs.Finding.{IsFound};
 ghost use Rattle.hive_files.specs.Frames.{FailsBy, IsSyncedOrSame};
-ghost use Rattle.hive_flush.specs.Standing.{HoldsUnder, IsOfHive, NothingHeld, StandsWithin};
+ghost use Rattle.hive_flush.specs.Standing.{HoldsUnder, IsOfHive, NothingHeld};
 ghost use Rattle.hive_flush.specs.Planned.{clean_writer, unclean_writer};
 ghost use Rattle.hive_flush.specs.HiveStates.{IsBroken, IsOn, IsWhole, files_of, marked_pages, memory_of, place_of, steps_left, store_of};
 
@@ -16,14 +16,11 @@ use crate::hive::HiveFile;
 use crate::planning::{next_block, plan_fits, repair_fits};
 use base_block::BaseBlock;
 use disk_model::Disk;
-use hive_cells::{Image, Looks};
 use hive_files::{Found, find};
-use hive_load::laws::refusals_exclude_trees;
-use hive_load::load;
-use hive_records::one_tree;
+use hive_load::laws::refused_bins_exclude_trees;
+use hive_load::load_bins;
 use hive_writer::HiveWriter;
 use refusals::{Cause, Refusal};
-use reg_tree::Tree;
 use std::alloc::Global;
 use std::snapshot::Snapshot;
 use uuid::Uuid;
@@ -135,7 +132,8 @@ fn of_found(alloc: Global, found: Found, hive: u8, store: Uuid) -> Result<HiveFi
         pages,
         is_clean,
     } = found;
-    let (tree, bins) = match loaded(alloc, block.root, block.minor, bins) {
+    refused_bins_exclude_trees();
+    let (tree, bins) = match load_bins(alloc, bins, block.root, block.minor) {
         Ok(loaded) => loaded,
         Err(why) => return Err(told(why, hive)),
     };
@@ -169,24 +167,4 @@ fn writer_for(block: BaseBlock, hive: u8, is_clean: bool) -> HiveWriter
         block.applied.0,
     ));
     writer
-}
-
-// the tree that bins data stand for, with the data
-fn loaded(alloc: Global, root: u32, minor: u32, bins: Vec<u8>) -> Result<(Tree, Vec<u8>), Refusal>
-    ensures same { IfOk result (λ it. it.1.items ≡ bins.items) }
-    ensures stands { IfOk result (λ it. StandsWithin bins.items root minor it.0) }
-    ensures fails { IfErr result (λ why. (why ≡ NoMemory) ⊎ ((tree : TreeMap) →
-        StandsWithin bins.items root minor tree → ⊥)) }
-{
-    refusals_exclude_trees();
-    one_tree();
-    let image = match Image::open(alloc, bins) {
-        Ok(image) => image,
-        Err(unopened) => return Err(unopened.refusal),
-    };
-    let mut looks = Looks::new();
-    match load(alloc, &image, root, minor, &mut looks) {
-        Ok(tree) => Ok((tree, image.into_bytes())),
-        Err(why) => Err(why),
-    }
 }

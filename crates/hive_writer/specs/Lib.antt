@@ -1,1 +1,2 @@
+pub mod OwnFiles
 pub mod Writing

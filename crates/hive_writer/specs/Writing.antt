@@ -11,6 +11,7 @@ use Rattle.disk_model.specs.declared.disk.Failed.{Failed}
 use Rattle.base_block.specs.declared.block.BaseBlock.{BaseBlock}
 use Rattle.base_block.specs.Layout.{sector_of}
 use Rattle.dirt_log.specs.LogText.{log_text}
+use Rattle.dirt_log.specs.declared.steps.TheConstants.{PIECE_BYTES}
 use Rattle.dirty_vector.specs.Marks.{marked_count}
 use Rattle.dirty_vector.specs.Pages.{Pages, is_dirty, dirty_count}
 use Rattle.hive_phases.specs.Holding.{Standing}
@@ -42,10 +43,10 @@ abbrev pub purpose_in : Purpose → phases.Purpose
 purpose_in purpose.Flush = Flush
 purpose_in purpose.Repair = Repair
 
--- the phase of a stage, for a log of so many bytes: it is written in pieces of 65,536
+-- the phase of a stage, for a log of so many bytes, which is written in pieces
 abbrev pub phase_in : ℕ → Stage → Phase
 phase_in total stage.Quiet = Quiet
-phase_in total (stage.Logging pieces) = Logging (min (65536 * pieces) total)
+phase_in total (stage.Logging pieces) = Logging (min (PIECE_BYTES * pieces) total)
 phase_in total stage.Logged = Logged
 phase_in total stage.Raised = Raised
 phase_in total (stage.Paging purpose page) = Paging (purpose_in purpose) (512 * page)
@@ -122,12 +123,16 @@ IsFlushing (stage.Finished whose) = whose ≡ purpose.Flush
 abbrev pub dirty_from : Pages → ℕ → ℕ
 dirty_from pages page = dirty_count pages - marked_count (is_dirty pages) page
 
+-- how many pieces a log of so many bytes has
+abbrev pub piece_count : ℕ → ℕ
+piece_count total = (total + (PIECE_BYTES - 1)) / PIECE_BYTES
+
 -- How many calls are left until a flush or a repair is done, at most, for a log of so many bytes: its pieces and its sync, the
 -- raised sector and its sync, a write for each dirty page and their sync, the last sector and its sync. Of a quiet hive it is
 -- a whole flush.
 abbrev pub calls_left : ℕ → Pages → Stage → ℕ
-calls_left total pages stage.Quiet = (total + 65535) / 65536 + dirty_count pages + 6
-calls_left total pages (stage.Logging pieces) = (total + 65535) / 65536 - pieces + dirty_count pages + 6
+calls_left total pages stage.Quiet = piece_count total + dirty_count pages + 6
+calls_left total pages (stage.Logging pieces) = piece_count total - pieces + dirty_count pages + 6
 calls_left total pages stage.Logged = dirty_count pages + 5
 calls_left total pages stage.Raised = dirty_count pages + 4
 calls_left total pages (stage.Paging purpose page) = dirty_from pages page + 3

@@ -9,7 +9,7 @@ ghost use Rattle.hive_writer.specs.Writing.{EndsWith, Falls, Leads, plan_of};
 ghost use Rattle.hive_writer.specs.declared.stage.Purpose.TheVariants as purpose;
 ghost use Rattle.hive_writer.specs.declared.stage.Stage.TheVariants as stage;
 
-use crate::device;
+use crate::device::{OwnFile, sync_file, write_file};
 use crate::stage::{Purpose, Stage};
 use crate::writer::HiveWriter;
 use dirt_log::{PIECE_BYTES, write_steps};
@@ -33,7 +33,7 @@ impl HiveWriter {
     ) -> Result<Stage, Failed>
         requires short { length (plan_of self.now image.now pages.now).text < 2 ^ 32 }
         requires some { 0 < length piece.now }
-        requires piece { piece.now ≡ take 65536 (drop (65536 * index)
+        requires piece { piece.now ≡ take PIECE_BYTES (drop (PIECE_BYTES * index)
             (plan_of self.now image.now pages.now).text) }
         ensures leads { D.faithful disk.new → (stands : Standing T) →
             Leads stands (plan_of self.now image.now pages.now) image.now pages.now self.now.hive
@@ -47,12 +47,8 @@ impl HiveWriter {
         ensures failures { CountsFailure result (D.failures disk.old) (D.failures disk.new) }
         ensures faithful { D.faithful disk.new → D.faithful disk.old }
     {
-        match device::write_log(
-            disk,
-            self.hive,
-            PIECE_BYTES as u64 * u64::from(index),
-            piece,
-        ) {
+        let offset = PIECE_BYTES as u64 * u64::from(index);
+        match write_file(disk, self.hive, OwnFile::Log, offset, piece) {
             Ok(()) => Ok(Stage::Logging(index + 1)),
             Err(failed) => Err(failed),
         }
@@ -62,7 +58,7 @@ impl HiveWriter {
     pub(crate) fn sync_log<D: Disk, T>(&self, disk: &mut D, index: u32) -> Result<Stage, Failed>
         ensures leads { D.faithful disk.new →
             (stands : Standing T) (image : List ℕ) (pages : Pages) →
-            length (plan_of self.now image pages).text ≤ 65536 * index →
+            length (plan_of self.now image pages).text ≤ PIECE_BYTES * index →
             Leads stands (plan_of self.now image pages) image pages self.now.hive
             (stage.Logging index) result
             (D.state_at disk.old (D.clock disk.old)) (D.state_at disk.new (D.clock disk.new)) }
@@ -74,7 +70,7 @@ impl HiveWriter {
         ensures failures { CountsFailure result (D.failures disk.old) (D.failures disk.new) }
         ensures faithful { D.faithful disk.new → D.faithful disk.old }
     {
-        match device::sync_log(disk, self.hive) {
+        match sync_file(disk, self.hive, OwnFile::Log) {
             Ok(()) => Ok(Stage::Logged),
             Err(failed) => Err(failed),
         }
@@ -128,7 +124,7 @@ impl HiveWriter {
     {
         let mut raised = self.base;
         raised.primary = raised.secondary.next();
-        match device::write_primary(disk, self.hive, 0, &raised.write()) {
+        match write_file(disk, self.hive, OwnFile::Primary, 0, &raised.write()) {
             Ok(()) => Ok(Stage::Raised),
             Err(failed) => Err(failed),
         }
@@ -148,7 +144,7 @@ impl HiveWriter {
         ensures failures { CountsFailure result (D.failures disk.old) (D.failures disk.new) }
         ensures faithful { D.faithful disk.new → D.faithful disk.old }
     {
-        match device::sync_primary(disk, self.hive) {
+        match sync_file(disk, self.hive, OwnFile::Primary) {
             Ok(()) => Ok(Stage::Paging(Purpose::Flush, 0)),
             Err(failed) => Err(failed),
         }
@@ -171,8 +167,8 @@ impl HiveWriter {
             Leads stands plan image.now pages.now self.now.hive
             (stage.Paging purpose from) result
             (D.state_at disk.old (D.clock disk.old)) (D.state_at disk.new (D.clock disk.new)) }
-        ensures next { IfOk result (λ next. next ≡ stage.Paging purpose (run.start + min 128
-            (run.end - run.start))) }
+        ensures next { IfOk result (λ next. next ≡ stage.Paging purpose (run.start +
+            min MOST_PAGES (run.end - run.start))) }
         ensures falls { (total : ℕ) → IfOk result (Falls total pages.now
             (stage.Paging purpose from)) }
         ensures call { OneCall (IsOfHive self.now.hive) (D.state_at disk.old) (D.state_at disk.new)
@@ -182,7 +178,8 @@ impl HiveWriter {
     {
         let end = run.start + MOST_PAGES.min(run.end - run.start);
         let (first, last) = (PAGE_BYTES * run.start, PAGE_BYTES * end);
-        match device::write_primary(disk, self.hive, BINS_AT + first as u64, &image[first..last]) {
+        let (at, bytes) = (BINS_AT + first as u64, &image[first..last]);
+        match write_file(disk, self.hive, OwnFile::Primary, at, bytes) {
             Ok(()) => Ok(Stage::Paging(purpose, end)),
             Err(failed) => Err(failed),
         }
@@ -209,7 +206,7 @@ impl HiveWriter {
         ensures failures { CountsFailure result (D.failures disk.old) (D.failures disk.new) }
         ensures faithful { D.faithful disk.new → D.faithful disk.old }
     {
-        match device::sync_primary(disk, self.hive) {
+        match sync_file(disk, self.hive, OwnFile::Primary) {
             Ok(()) => Ok(Stage::Paged(purpose)),
             Err(failed) => Err(failed),
         }
@@ -235,7 +232,7 @@ impl HiveWriter {
         ensures failures { CountsFailure result (D.failures disk.old) (D.failures disk.new) }
         ensures faithful { D.faithful disk.new → D.faithful disk.old }
     {
-        match device::write_primary(disk, self.hive, 0, &self.block.write()) {
+        match write_file(disk, self.hive, OwnFile::Primary, 0, &self.block.write()) {
             Ok(()) => Ok(Stage::Finished(purpose)),
             Err(failed) => Err(failed),
         }
@@ -259,7 +256,7 @@ impl HiveWriter {
         ensures failures { CountsFailure result (D.failures disk.old) (D.failures disk.new) }
         ensures faithful { D.faithful disk.new → D.faithful disk.old }
     {
-        match device::sync_primary(disk, self.hive) {
+        match sync_file(disk, self.hive, OwnFile::Primary) {
             Ok(()) => Ok(Stage::Quiet),
             Err(failed) => Err(failed),
         }

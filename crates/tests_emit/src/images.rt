@@ -40,7 +40,7 @@ fn leaves_are_full_but_the_last(rt: HostRuntime) -> Result<(), Fail> {
 // the size field of the root's one value of so many bytes, and whether its cell's data begin with `db`
 fn value_for(alloc: Global, len: usize) -> Result<(u32, bool), Refusal> {
     let mut ops = Vec::new(alloc);
-    ops.push(set(alloc, b"v", len)?)?;
+    ops.push(set(alloc, b"", b"v", len)?)?;
     let emitted = image_of(alloc, &ops)?;
     let list = data(&emitted, root(&emitted)?.values)?;
     let value = ValueRec::read(data(&emitted, number(list, 0))?)?;

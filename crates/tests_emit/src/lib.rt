@@ -11,8 +11,7 @@ mod reading;
 mod records;
 #[cfg(test)]
 mod spelled;
-#[cfg(test)]
-mod trees;
+pub mod trees;
 #[cfg(test)]
 mod twice;
 

@@ -14,37 +14,16 @@ mod trees;
 
 use crate::compared::is_same;
 use crate::trees::{flat, small};
+use faults::Fault;
 use hive_cells::Looks;
 use hive_emit::emit;
 use hive_load::load;
 use refusals::Refusal;
 use reg_tree::Tree;
-use std::alloc::{AllocError, Global};
-use std::io::{self, BufRead, BufReader};
+use std::alloc::Global;
+use std::io::{BufRead, BufReader};
 use std::process::ExitCode;
 use std::time::CpuClock;
-
-/// Why no image was measured.
-#[derive(Clone, Copy)]
-struct Fault;
-
-impl From<Refusal> for Fault {
-    fn from(_: Refusal) -> Fault {
-        Fault
-    }
-}
-
-impl From<AllocError> for Fault {
-    fn from(_: AllocError) -> Fault {
-        Fault
-    }
-}
-
-impl From<io::Error> for Fault {
-    fn from(_: io::Error) -> Fault {
-        Fault
-    }
-}
 
 /// What came of making an image.
 #[derive(Clone, Copy, PartialEq, Eq)]

@@ -1,16 +1,16 @@
 //! Flushes that are stopped, and what is opened then.
-ghost use Rattle.std.specs.Prelude.{◌≤◌};
-
 use crate::changes::creation;
-use crate::hives::{flushed, fresh, has, left, open, planned, repaired};
-use disk_model::{MemDisk, Tear};
+use crate::held::first_block;
+use crate::hives::{PRIMARY, bytes_of, flushed, fresh, has, left, open, open_whole};
+use crate::stops::{TEARS, stopped};
+use disk_model::MemDisk;
+use refusals::Refusal;
 use std::alloc::Global;
 use std::test::Fail;
 
 // what is opened of a disk: the number, and whether the key of a letter is there
-fn found(alloc: Global, disk: &mut MemDisk, letter: u8) -> Result<(u64, bool), Fail> {
-    let mut file = open(alloc, disk)?;
-    repaired(&mut file, disk)?;
+fn found(alloc: Global, disk: &mut MemDisk, letter: u8) -> Result<(u64, bool), Refusal> {
+    let file = open_whole(alloc, disk)?;
     Ok((file.applied(), has(alloc, &file, letter)?))
 }
 
@@ -25,34 +25,20 @@ fn a_new_hive_is_at_number_0(rt: HostRuntime) -> Result<(), Fail> {
 #[test]
 fn a_flush_that_is_done_is_found_whatever_is_torn(rt: HostRuntime) -> Result<(), Fail> {
     let alloc = rt.alloc();
-    for number in [1, 4_294_967_295] {
+    for (number, next) in [(1, 2), (4_294_967_295, 0)] {
         let mut disk = fresh(alloc, number)?;
         let mut file = open(alloc, &mut disk)?;
         let element = creation(alloc, b'K')?;
         flushed(alloc, &mut file, &mut disk, element, 1)?;
         assert_eq!(rt; file.applied(), 1);
-        for tear in [Tear::Old, Tear::New, Tear::Torn] {
+        let block = first_block(&bytes_of(alloc, &mut disk, PRIMARY)?)?;
+        assert_eq!(rt; (block.primary.0, block.secondary.0), (next, next));
+        for tear in TEARS {
             let mut disk = left(alloc, &disk, tear)?;
             assert_eq!(rt; found(alloc, &mut disk, b'K')?, (1, true), "{tear:?}");
         }
     }
     Ok(())
-}
-
-// what is opened of a flush that was stopped at a call, by each tear
-fn stopped(alloc: Global, call: u64) -> Result<[(u64, bool); 3], Fail>
-    requires { 1 ≤ call }
-{
-    let disk = fresh(alloc, 1)?;
-    let (mut disk, plan) = planned(alloc, &disk, Tear::New)?;
-    let mut file = open(alloc, &mut disk)?;
-    plan.stop_at(call);
-    let element = creation(alloc, b'K')?;
-    let _ = flushed(alloc, &mut file, &mut disk, element, 1);
-    let old = found(alloc, &mut left(alloc, &disk, Tear::Old)?, b'K')?;
-    let new = found(alloc, &mut left(alloc, &disk, Tear::New)?, b'K')?;
-    let torn = found(alloc, &mut left(alloc, &disk, Tear::Torn)?, b'K')?;
-    Ok([old, new, torn])
 }
 
 #[test]
@@ -71,9 +57,14 @@ fn each_stop_leaves_the_old_tree_or_the_new(rt: HostRuntime) -> Result<(), Fail>
         [after, after, after],
         [after, after, after],
     ];
-    for (call, outcome) in outcomes.iter().enumerate() {
-        let told = stopped(alloc, call as u64 + 1)?;
-        assert_eq!(rt; told, *outcome, "call {}", call + 1);
+    let disk = fresh(alloc, 1)?;
+    for (index, outcome) in outcomes.iter().enumerate() {
+        let call = index as u64 + 1;
+        let stopped = stopped(alloc, &disk, call, creation(alloc, b'K')?, 1)?;
+        for (tear, wanted) in TEARS.iter().zip(outcome) {
+            let told = found(alloc, &mut left(alloc, &stopped, *tear)?, b'K')?;
+            assert_eq!(&rt; told, *wanted, "call {call}, {tear:?}");
+        }
     }
     Ok(())
 }

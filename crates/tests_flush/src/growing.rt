@@ -1,11 +1,8 @@
 //! A hive that grows by so much that its log is in three pieces, and a run of its pages in several writes.
-ghost use Rattle.std.specs.Prelude.{◌≤◌};
-
 use crate::changes::{change, setting};
-use crate::hives::{
-    LOG, PRIMARY, byte_of, bytes_of, flushed, fresh, left, open, planned, repaired,
-};
-use disk_model::{Disk, MemDisk, Tear};
+use crate::hives::{LOG, PRIMARY, byte_of, bytes_of, flushed, fresh, left, open, open_whole};
+use crate::stops::{TEARS, stopped};
+use disk_model::{Disk, MemDisk};
 use refusals::Refusal;
 use reg_tree::Element;
 use std::alloc::Global;
@@ -17,9 +14,6 @@ const LEN: usize = 150_000;
 const PLACE: usize = LEN - 1;
 
 const TELLS: u8 = 0x33;
-
-/// Every tear.
-const TEARS: [Tear; 3] = [Tear::Old, Tear::New, Tear::Torn];
 
 // of the format: where bins data begin, and a page; a piece of a log, and how many pages a write takes
 const BINS_AT: usize = 4_096;
@@ -99,26 +93,13 @@ fn a_hive_that_grows_is_written_in_pieces(rt: HostRuntime) -> Result<(), Fail> {
 
 // the number of what is opened of a disk, once it is repaired, and what the value tells there
 fn found(alloc: Global, disk: &mut MemDisk) -> Result<(u64, u8), Refusal> {
-    let mut file = open(alloc, disk)?;
-    repaired(&mut file, disk)?;
-    let told = match byte_of(alloc, &file, b'V', PLACE) {
+    let file = open_whole(alloc, disk)?;
+    let told = match byte_of(alloc, file.tree(), b'V', PLACE) {
         Ok(byte) => byte,
         Err(Refusal::NotFound) => 0,
         Err(why) => return Err(why),
     };
     Ok((file.applied(), told))
-}
-
-// the disk of a flush that was stopped at a call
-fn stopped(alloc: Global, disk: &MemDisk, call: u64) -> Result<MemDisk, Refusal>
-    requires { 1 ≤ call }
-{
-    let (mut disk, plan) = planned(alloc, disk, Tear::New)?;
-    let mut file = open(alloc, &mut disk)?;
-    plan.stop_at(call);
-    let element = growth(alloc)?;
-    let _ = flushed(alloc, &mut file, &mut disk, element, 1);
-    Ok(disk)
 }
 
 #[test]
@@ -128,7 +109,7 @@ fn each_stop_of_it_leaves_the_old_tree_or_the_new(rt: HostRuntime) -> Result<(),
     let before = (0, 0);
     let after = (1, TELLS);
     for call in 1..13 {
-        let stopped = stopped(alloc, &disk, call)?;
+        let stopped = stopped(alloc, &disk, call, growth(alloc)?, 1)?;
         // three pieces and their sync; the raised sector and its sync, which isn't done
         let outcome = if call <= 4 {
             [before, before, before]

@@ -59,6 +59,13 @@ pub fn open(alloc: Global, disk: &mut MemDisk) -> Result<HiveFile, Refusal> {
     HiveFile::open(alloc, disk, 0, Uuid::nil())
 }
 
+/// Hive 0 of the store, once it is repaired.
+pub fn open_whole(alloc: Global, disk: &mut MemDisk) -> Result<HiveFile, Refusal> {
+    let mut file = open(alloc, disk)?;
+    repaired(&mut file, disk)?;
+    Ok(file)
+}
+
 /// Repairs a hive: how many steps it took.
 pub fn repaired(file: &mut HiveFile, disk: &mut MemDisk) -> Result<u32, Refusal> {
     repair_on(file, disk, 0, MANY)
@@ -123,10 +130,10 @@ pub fn has(alloc: Global, file: &HiveFile, letter: u8) -> Result<bool, Refusal> 
 }
 
 /// The byte at a place of a value of the root, of one letter; 0 where it isn't there.
-pub fn byte_of(alloc: Global, file: &HiveFile, letter: u8, place: usize) -> Result<u8, Refusal> {
+pub fn byte_of(alloc: Global, tree: &Tree, letter: u8, place: usize) -> Result<u8, Refusal> {
     let path = Path::root(alloc)?;
     let name = Name::value(alloc, &[u16::from(letter)])?;
-    let value = file.tree().get_value(&path, name.name())?;
+    let value = tree.get_value(&path, name.name())?;
     Ok(value.data.bytes().get(place).copied().unwrap_or(0))
 }
 

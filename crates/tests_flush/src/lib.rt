@@ -10,6 +10,12 @@ mod flushes;
 #[cfg(test)]
 mod growing;
 #[cfg(test)]
+mod held;
+#[cfg(test)]
 mod hives;
 #[cfg(test)]
+mod logs;
+#[cfg(test)]
 mod pages;
+#[cfg(test)]
+mod stops;

@@ -2,10 +2,12 @@
 ghost use Rattle.std.specs.Prelude.{◌≤◌};
 
 use crate::changes::{change, setting};
-use crate::hives::{byte_of, flushed, fresh, left, open, planned, repaired};
+use crate::held::held;
+use crate::hives::{byte_of, flushed, fresh, left, open, open_whole, planned, repaired};
+use crate::stops::{TEARS, stopped};
 use disk_model::{MemDisk, Tear};
 use refusals::Refusal;
-use reg_tree::Element;
+use reg_tree::{Element, Tree};
 use std::alloc::Global;
 use std::test::Fail;
 
@@ -20,9 +22,6 @@ const LETTERS: [u8; 3] = [b'A', b'B', b'C'];
 const LEN: usize = 2_000;
 
 const PLACE: usize = 1_000;
-
-/// Every tear.
-const TEARS: [Tear; 3] = [Tear::Old, Tear::New, Tear::Torn];
 
 // sets the three values
 fn telling(alloc: Global, byte: u8) -> Result<Element, Refusal> {
@@ -48,17 +47,26 @@ fn begun(alloc: Global) -> Result<MemDisk, Refusal> {
     Ok(disk)
 }
 
+// what the three values tell
+fn told(alloc: Global, tree: &Tree) -> Result<[u8; 3], Refusal> {
+    let [first, second, third] = LETTERS;
+    Ok([
+        byte_of(alloc, tree, first, PLACE)?,
+        byte_of(alloc, tree, second, PLACE)?,
+        byte_of(alloc, tree, third, PLACE)?,
+    ])
+}
+
 // what is opened of a disk, once it is repaired: the number and what the three values tell
 fn found(alloc: Global, disk: &mut MemDisk) -> Result<(u64, [u8; 3]), Refusal> {
-    let mut file = open(alloc, disk)?;
-    repaired(&mut file, disk)?;
-    let [first, second, third] = LETTERS;
-    let told = [
-        byte_of(alloc, &file, first, PLACE)?,
-        byte_of(alloc, &file, second, PLACE)?,
-        byte_of(alloc, &file, third, PLACE)?,
-    ];
-    Ok((file.applied(), told))
+    let file = open_whole(alloc, disk)?;
+    Ok((file.applied(), told(alloc, file.tree())?))
+}
+
+// the same of what the files hold, read by the readers of their parts
+fn read(alloc: Global, disk: &mut MemDisk) -> Result<(u64, [u8; 3]), Refusal> {
+    let (number, tree) = held(alloc, disk)?;
+    Ok((number, told(alloc, &tree)?))
 }
 
 #[test]
@@ -70,18 +78,6 @@ fn three_single_pages_are_ten_calls(rt: HostRuntime) -> Result<(), Fail> {
     assert_eq!(&rt; flushed(alloc, &mut file, &mut disk, element, 3), Ok(10));
     assert_eq!(&rt; found(alloc, &mut disk), Ok((3, [AFTER; 3])));
     Ok(())
-}
-
-// the disk of a flush that was stopped at a call
-fn stopped(alloc: Global, disk: &MemDisk, call: u64) -> Result<MemDisk, Refusal>
-    requires { 1 ≤ call }
-{
-    let (mut disk, plan) = planned(alloc, disk, Tear::New)?;
-    let mut file = open(alloc, &mut disk)?;
-    plan.stop_at(call);
-    let element = telling(alloc, AFTER)?;
-    let _ = flushed(alloc, &mut file, &mut disk, element, 3);
-    Ok(disk)
 }
 
 #[test]
@@ -106,10 +102,11 @@ fn each_stop_of_a_flush_leaves_all_of_one_tree(rt: HostRuntime) -> Result<(), Fa
     ];
     for (index, outcome) in outcomes.iter().enumerate() {
         let call = index as u64 + 1;
-        let stopped = stopped(alloc, &disk, call)?;
+        let stopped = stopped(alloc, &disk, call, telling(alloc, AFTER)?, 3)?;
         for (tear, wanted) in TEARS.iter().zip(outcome) {
-            let told = found(alloc, &mut left(alloc, &stopped, *tear)?)?;
-            assert_eq!(&rt; told, *wanted, "call {call}, {tear:?}");
+            let mut disk = left(alloc, &stopped, *tear)?;
+            assert_eq!(&rt; read(alloc, &mut disk)?, *wanted, "call {call}, {tear:?}");
+            assert_eq!(&rt; found(alloc, &mut disk)?, *wanted, "call {call}, {tear:?}");
         }
     }
     Ok(())
@@ -137,7 +134,7 @@ fn again(
 fn each_stop_of_a_repair_leaves_the_same(rt: HostRuntime) -> Result<(), Fail> {
     let alloc = rt.alloc();
     // the raised sector stands, and no page
-    let disk = stopped(alloc, &begun(alloc)?, 8)?;
+    let disk = stopped(alloc, &begun(alloc)?, 8, telling(alloc, AFTER)?, 3)?;
     let disk = left(alloc, &disk, Tear::Old)?;
     let mut whole = left(alloc, &disk, Tear::New)?;
     let mut file = open(alloc, &mut whole)?;

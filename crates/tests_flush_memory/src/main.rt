@@ -10,11 +10,10 @@
 //! and those of the flush's steps, how many pages it wrote, and how many bytes.
 #![tactic(auto)]
 
-mod fault;
 mod memory;
 mod timing;
 
-use crate::fault::Fault;
+use faults::Fault;
 use std::io::{BufRead, BufReader};
 use std::process::ExitCode;
 use std::time::CpuClock;
@@ -23,8 +22,8 @@ fn main(rt: HostRuntime) -> ExitCode {
     match run(&rt) {
         Ok(status) => ExitCode::from(status),
         Err(Fault::NoMemory) => ExitCode::from(1),
-        Err(Fault::Otherwise) => ExitCode::from(2),
         Err(Fault::Twice) => ExitCode::from(3),
+        Err(Fault::NotUnderstood | Fault::Otherwise(_)) => ExitCode::from(2),
     }
 }
 

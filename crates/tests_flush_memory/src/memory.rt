@@ -1,9 +1,9 @@
 //! A hive's calls with memory refused: what is refused changes nothing, and the call made again is as if nothing had been.
 ghost use Rattle.hive_flush.specs.HiveStates.{IsWhole};
 
-use crate::fault::Fault;
 use disk_model::{Disk, MemDisk, Plan};
 use engine_words::Progress;
+use faults::Fault;
 use hive_flush::HiveFile;
 use refusals::Refusal;
 use reg_names::Path;
@@ -49,7 +49,7 @@ pub(crate) fn status(alloc: Global) -> Result<u8, Fault> {
     let file = desk.open(alloc)?;
     let path = Path::parse(alloc, &[u16::from(b'K')])?;
     if file.applied() != 1 || file.tree().query_info(&path).is_err() {
-        return Err(Fault::Otherwise);
+        return Err(Fault::Otherwise("another tree"));
     }
     Ok(u8::from(desk.was_refused))
 }
@@ -67,7 +67,7 @@ impl Desk {
             Err(Refusal::NoMemory) => {
                 self.was_refused = true;
                 if self.disk.len(PRIMARY)? != 0 || self.disk.len(LOG)? != 0 {
-                    return Err(Fault::Otherwise);
+                    return Err(Fault::Otherwise("files that changed"));
                 }
                 sure(HiveFile::create(alloc, &mut self.disk, 0, Uuid::nil(), tree))
             }
@@ -94,13 +94,13 @@ impl Desk {
         ensures { IsWhole file.old → IsWhole file.new }
     {
         if !file.is_at_rest() || file.number() != 0 {
-            return Err(Fault::Otherwise);
+            return Err(Fault::Otherwise("a hive that is busy"));
         }
         match file.absorb(alloc, changes, &[], 1) {
             Err(Refusal::NoMemory) => {
                 self.was_refused = true;
                 if !file.is_at_rest() || file.number() != 0 {
-                    return Err(Fault::Otherwise);
+                    return Err(Fault::Otherwise("a hive that changed"));
                 }
                 sure(file.absorb(alloc, changes, &[], 1))
             }
@@ -111,7 +111,7 @@ impl Desk {
     // a step may be refused nothing
     fn flush(&mut self, file: &mut HiveFile) -> Result<(), Fault> {
         if !file.is_whole() {
-            return Err(Fault::Otherwise);
+            return Err(Fault::Otherwise("a repair"));
         }
         flushed(&mut self.disk, file, 64)
     }
@@ -123,12 +123,12 @@ pub(crate) fn flushed(disk: &mut MemDisk, file: &mut HiveFile, most: u32) -> Res
     requires { IsWhole file.old }
 {
     if most == 0 {
-        return Err(Fault::Otherwise);
+        return Err(Fault::Otherwise("more steps"));
     }
     match file.step(disk) {
         Ok(Progress::Done) => Ok(()),
         Ok(_) => flushed(disk, file, most - 1),
-        Err(_) => Err(Fault::Otherwise),
+        Err(_) => Err(Fault::Otherwise("a refusal")),
     }
 }
 
@@ -137,6 +137,6 @@ fn sure<T>(made: Result<T, Refusal>) -> Result<T, Fault> {
     match made {
         Ok(made) => Ok(made),
         Err(Refusal::NoMemory) => Err(Fault::Twice),
-        Err(_) => Err(Fault::Otherwise),
+        Err(_) => Err(Fault::Otherwise("a refusal")),
     }
 }

@@ -1,9 +1,9 @@
 //! How long a flush of one changed value takes, and what it writes.
-use crate::fault::Fault;
 use crate::memory::flushed;
 use base_block::{BaseBlock, SequenceNumber};
 use dirty_vector::PAGE_BYTES;
 use disk_model::{Disk, MemDisk, Plan};
+use faults::Fault;
 use hive_emit::{Emitted, emit};
 use hive_flush::HiveFile;
 use refusals::limits::MOST_BINS_BYTES;
@@ -37,18 +37,18 @@ const MANY: u32 = 100_000;
 pub(crate) fn play<R: Print + CpuClock>(rt: &R, alloc: Global, line: &str) -> Result<(), Fault> {
     let words: Vec<&str> = line.split_whitespace().collect(alloc)?;
     let [values, bytes] = words.as_slice() else {
-        return Err(Fault::Otherwise);
+        return Err(Fault::NotUnderstood);
     };
     let (values, bytes) = (number(values)?, number(bytes)?);
     if bytes > MOST_BINS_BYTES {
-        return Err(Fault::Otherwise);
+        return Err(Fault::NotUnderstood);
     }
     let mut disk = made(alloc, values, bytes as u32)?;
     let mut file = HiveFile::open(alloc, &mut disk, 0, Uuid::nil())?;
     let mut changes = Vec::new(alloc);
     changes.push(change(alloc, values / 2)?)?;
     if !file.is_at_rest() || file.number() != 0 {
-        return Err(Fault::Otherwise);
+        return Err(Fault::Otherwise("a hive that is busy"));
     }
     let start = rt.process_cpu_time()?;
     match file.absorb(alloc, &changes, &[], 1) {
@@ -74,7 +74,7 @@ pub(crate) fn play<R: Print + CpuClock>(rt: &R, alloc: Global, line: &str) -> Re
 fn number(word: &str) -> Result<usize, Fault> {
     match word.parse() {
         Ok(number) => Ok(number),
-        Err(_) => Err(Fault::Otherwise),
+        Err(_) => Err(Fault::NotUnderstood),
     }
 }
 
@@ -124,12 +124,12 @@ fn tree(alloc: Global, values: usize) -> Result<Trees, Fault> {
 fn made(alloc: Global, values: usize, least: u32) -> Result<MemDisk, Fault> {
     let trees = tree(alloc, values)?;
     let Some(tree) = trees.tree(0) else {
-        return Err(Fault::Otherwise);
+        return Err(Fault::Otherwise("no tree"));
     };
     let Emitted { image, root } = emit(alloc, tree, least)?;
     let bins = image.into_bytes();
     let Ok(size) = u32::try_from(bins.len()) else {
-        return Err(Fault::Otherwise);
+        return Err(Fault::Otherwise("too many bytes"));
     };
     let block = BaseBlock::of_primary(SequenceNumber(1), root, size, Uuid::nil());
     let mut disk = MemDisk::new(alloc, Arc::new(alloc, Plan::new())?);

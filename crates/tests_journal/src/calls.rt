@@ -3,11 +3,11 @@ ghost use Rattle.std.specs.Prelude.{◌≤◌};
 ghost use Rattle.refusals.specs.declared.limits.TheConstants.{MOST_HIVES};
 
 use crate::desk::{Desk, ID};
-use crate::fault::Fault;
 use crate::names::number;
 use crate::steps;
 use commit_journal::{Journal, Opened};
 use engine_words::Progress;
+use faults::Fault;
 use refusals::Refusal;
 use refusals::limits::MOST_HIVES;
 use uuid::Uuid;

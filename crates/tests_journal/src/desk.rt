@@ -1,9 +1,9 @@
 //! A journal, the disk in memory that it is on, and what lines have named.
-use crate::fault::Fault;
 use crate::files::tear_of;
 use crate::names::{Names, number};
 use commit_journal::Journal;
 use disk_model::{Disk, MemDisk, Plan};
+use faults::Fault;
 use refusals::limits::MOST_HIVES;
 use reg_tree::Element;
 use std::alloc::{AllocError, Global};

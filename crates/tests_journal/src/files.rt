@@ -1,9 +1,9 @@
 //! The calls of the disk, and what a crash would leave of a file.
 use crate::calls::{are_numbers, expect};
 use crate::desk::{Desk, plan};
-use crate::fault::Fault;
 use crate::names::number;
 use disk_model::{Disk, Failed, Tear};
+use faults::Fault;
 
 impl Desk {
     /// Writes into a file.

@@ -1,9 +1,9 @@
 //! What is on the disk and in the journal, as lines see it.
 use crate::desk::Desk;
-use crate::fault::Fault;
 use crate::files::same;
 use crate::names::number;
 use disk_model::{Disk, Tear};
+use faults::Fault;
 
 /// The bytes that one reading call asks for.
 const PIECE_BYTES: usize = 65_536;

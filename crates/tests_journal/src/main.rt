@@ -29,14 +29,13 @@
 
 mod calls;
 mod desk;
-mod fault;
 mod files;
 mod looks;
 mod names;
 mod steps;
 
 use crate::desk::Desk;
-use crate::fault::Fault;
+use faults::Fault;
 use std::alloc::Global;
 use std::io::{BufRead, BufReader};
 use std::process::ExitCode;

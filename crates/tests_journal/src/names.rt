@@ -1,5 +1,5 @@
 //! Bytes as lines spell them.
-use crate::fault::Fault;
+use faults::Fault;
 use std::alloc::Global;
 use std::collections::BTreeMap;
 

@@ -1,7 +1,7 @@
 use Rattle.std.proofs.Common.{◌≡◌, ℕ, ◌+◌, ◌-◌, ◌++◌, List, length, take, drop, sym, ap, ◌∙◌, arith, append_assoc, length-append, rules}
 use Rattle.std.proofs.lemmas.List.{length-take}
 use Rattle.std.proofs.Math.Seq.{take-add}
-use Rattle.hive_files.proofs.Anew.{stays_on}
+use Rattle.hive_files.proofs.Anew.{appended, stays_on, stays_once}
 use Rattle.hive_files.proofs.making.append.Goals as goal
 
 pub pieces-preserved : goal.pieces-preserved
@@ -14,14 +14,14 @@ pieces-preserved g c =
     record {
       within = search rules;
       seen = λ faithful long.
-          let mid = c.pieces.invariant.seen (c.in_ok-append_piece.ensures.faithful faithful) long in
+          let mid = c.pieces.invariant.seen (c.in_ok-write_at.ensures.faithful faithful) long in
           let end = ap (λ (l : List ℕ). length l) mid ∙ length-append old (take at bytes) in
-          c.in_ok-append_piece.ensures.seen faithful (omega (arith, end, long, length-take at bytes, c.pieces.invariant.within))
+          appended (c.args.from + at) (take (at + n - at) (drop at bytes)) _ _ (c.in_ok-write_at.ensures.written faithful) (omega (arith, end, long, length-take at bytes, c.pieces.invariant.within))
           ∙ ap (λ (l : List ℕ). l ++ take (at + n - at) (drop at bytes)) mid
           ∙ append_assoc old (take at bytes) (take (at + n - at) (drop at bytes))
           ∙ ap (λ (k : ℕ). old ++ (take at bytes ++ take k (drop at bytes))) same
           ∙ ap (λ (l : List ℕ). old ++ l) (sym (take-add at n bytes));
-      stays = stays_on _ _ _ _ _ _ _ c.pieces.invariant.stays c.in_ok-append_piece.ensures.stays;
+      stays = stays_on _ _ _ _ _ _ _ c.pieces.invariant.stays (stays_once _ _ _ _ _ c.in_ok-write_at.ensures.time c.in_ok-write_at.ensures.others);
       failures = search rules;
-      faithful = λ faithful. c.pieces.invariant.faithful (c.in_ok-append_piece.ensures.faithful faithful);
+      faithful = λ faithful. c.pieces.invariant.faithful (c.in_ok-write_at.ensures.faithful faithful);
     }

@@ -1,6 +1,7 @@
 use Rattle.std.proofs.Common.{◌≡◌, ◌≤◌, ◌+◌, inl, inr, ⊎_elim, ℕ, List, length, refl, sym, ap, subst, ◌∙◌}
 use Rattle.std.proofs.lemmas.Bool.{cases_Bool, not-false, not-true, MatchBool-at_true, MatchBool-at_false}
 use Rattle.std.proofs.lemmas.Slice.Eq.{bytes_eq-Decides}
+use Rattle.refusals.specs.declared.refusal.Refusal.{Refusal}
 use Rattle.disk_model.specs.FileState.{FileState, at_rest}
 use Rattle.hive_writer.specs.declared.writer.HiveWriter.{HiveWriter}
 use Rattle.hive_writer.specs.Writing.{calls_left, plan_of}
@@ -8,6 +9,7 @@ use Rattle.dirty_vector.specs.Pages.{Pages, dirty_count}
 use Rattle.hive_files.specs.Finding.{IsFoundUnclean}
 use Rattle.hive_flush.specs.HiveStates.{IsOnBy}
 use Rattle.hive_flush.specs.Planned.{clean_writer, unclean_writer}
+use Rattle.hive_flush.specs.Standing.{IsOfHive}
 use Rattle.hive_flush.proofs.Going.{same_on}
 use Rattle.hive_flush.proofs.Opened.{IsWriterFor, clean_ready, found_agrees, found_holds, clean_on, unclean_on, true_false, few_left, writer_ahead, writer_number, writer_planned, writer_steady}
 use Rattle.hive_flush.proofs.opening.of_found.Goals as goal
@@ -21,9 +23,13 @@ returns-then-ne-clause-fails c = inr (
 )
 
 pub returns-in-Err-clause-fails : goal.returns-in-Err-clause-fails
-returns-in-Err-clause-fails c = ⊎_elim (λ none. inl (c.told.ensures.memory none))
-    (λ nothing. ⊎_elim (λ none. inl none) (λ is. inr (is, λ primary log f held h. nothing held.0 (found_agrees primary log c.args.found c.args.store held f h).1)) c.told.ensures.told)
-    c.in-Err.ensures.fails
+returns-in-Err-clause-fails c = ⊎_elim (λ none. inl none) (λ is. inr (
+  is,
+  λ primary log f held h.
+      let block = c.args.found.block in
+      c.refused_bins_exclude_trees.ensures c.args.found.bins.items block.root block.minor c.in-Err.why c.in-Err.ensures.refused
+      (λ none. subst (λ (r : Refusal). IsOfHive c.args.hive r) (c.told.ensures.memory none) is) held.0 (found_agrees primary log c.args.found c.args.store held f h).1,
+)) c.told.ensures.told
 
 pub plan_fits-requires-clause-size : goal.plan_fits-requires-clause-size
 plan_fits-requires-clause-size c = ap (λ (l : List ℕ). length l) (c.deref.ensures.value ∙ c.in-Ok.ensures.same) ∙ c.args.found.sizes

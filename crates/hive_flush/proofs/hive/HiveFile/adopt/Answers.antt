@@ -3,7 +3,7 @@ use Rattle.hive_phases.specs.Plans.{Marks}
 use Rattle.hive_writer.specs.declared.writer.HiveWriter.{HiveWriter}
 use Rattle.hive_flush.specs.HiveStates.{IsOnBy, memory_of, now_of}
 use Rattle.hive_flush.specs.Planned.{block_for}
-use Rattle.hive_flush.specs.Standing.{StandsWithin}
+use Rattle.hive_load.specs.Limits.{StandsWithin}
 use Rattle.hive_flush.proofs.Adopting.{adopted}
 use Rattle.hive_flush.proofs.Going.{ready_same, rests}
 use Rattle.hive_flush.proofs.hive.HiveFile.adopt.Goals as goal

@@ -13,12 +13,12 @@ returns-in-Ok-clause-leads g c = λ faithful stands image pages now memory other
     let hive = c.args.self.now.hive in
     let p = g.D.Disk.state_at c.args.disk.now (g.D.Disk.clock c.args.disk.now) (primary_file hive) in
     let l = g.D.Disk.state_at c.args.disk.now (g.D.Disk.clock c.args.disk.now) (log_file hive) in
-    let p2 = g.D.Disk.state_at c.write_primary.new.disk (g.D.Disk.clock c.write_primary.new.disk) (primary_file hive) in
-    let l2 = g.D.Disk.state_at c.write_primary.new.disk (g.D.Disk.clock c.write_primary.new.disk) (log_file hive) in
-    let sound = g.met.D.Disk.sound c.args.disk.now (g.D.Disk.clock c.args.disk.now) (primary_file hive) (c.write_primary.ensures.faithful faithful) (omega arith) in
+    let p2 = g.D.Disk.state_at c.write_file.new.disk (g.D.Disk.clock c.write_file.new.disk) (primary_file hive) in
+    let l2 = g.D.Disk.state_at c.write_file.new.disk (g.D.Disk.clock c.write_file.new.disk) (log_file hive) in
+    let sound = g.met.D.Disk.sound c.args.disk.now (g.D.Disk.clock c.args.disk.now) (primary_file hive) (c.write_file.ensures.faithful faithful) (omega arith) in
     let is = raised_is c.args.self.now.base c.next-raised.result c.write.result c.next-raised.ensures c.write.ensures.text in
     let done = subst (λ (s : List ℕ). Writes 0 s p p2) is (c.in-Ok.ensures.done faithful) in
-    log_same stands w Raised p2 l l2 c.write_primary.ensures.other (raised_written stands w p l p2 sound on done)
+    log_same stands w Raised p2 l l2 c.write_file.ensures.other (raised_written stands w p l p2 sound on done)
 
 pub returns-in-Err-clause-leads : goal.returns-in-Err-clause-leads
 returns-in-Err-clause-leads g c = λ faithful stands image pages now memory others size ready on.
@@ -26,9 +26,9 @@ returns-in-Err-clause-leads g c = λ faithful stands image pages now memory othe
     let hive = c.args.self.now.hive in
     let p = g.D.Disk.state_at c.args.disk.now (g.D.Disk.clock c.args.disk.now) (primary_file hive) in
     let l = g.D.Disk.state_at c.args.disk.now (g.D.Disk.clock c.args.disk.now) (log_file hive) in
-    let p2 = g.D.Disk.state_at c.write_primary.new.disk (g.D.Disk.clock c.write_primary.new.disk) (primary_file hive) in
-    let l2 = g.D.Disk.state_at c.write_primary.new.disk (g.D.Disk.clock c.write_primary.new.disk) (log_file hive) in
-    let sound = g.met.D.Disk.sound c.args.disk.now (g.D.Disk.clock c.args.disk.now) (primary_file hive) (c.write_primary.ensures.faithful faithful) (omega arith) in
+    let p2 = g.D.Disk.state_at c.write_file.new.disk (g.D.Disk.clock c.write_file.new.disk) (primary_file hive) in
+    let l2 = g.D.Disk.state_at c.write_file.new.disk (g.D.Disk.clock c.write_file.new.disk) (log_file hive) in
+    let sound = g.met.D.Disk.sound c.args.disk.now (g.D.Disk.clock c.args.disk.now) (primary_file hive) (c.write_file.ensures.faithful faithful) (omega arith) in
     let is = raised_is c.args.self.now.base c.next-raised.result c.write.result c.next-raised.ensures c.write.ensures.text in
     let part = subst (λ (s : List ℕ). MayWrite 0 s p p2) is (c.in-Err.ensures.failed faithful) in
-    log_same stands w Logged p2 l l2 c.write_primary.ensures.other (raised_failed stands w p l p2 sound on part)
+    log_same stands w Logged p2 l l2 c.write_file.ensures.other (raised_failed stands w p l p2 sound on part)

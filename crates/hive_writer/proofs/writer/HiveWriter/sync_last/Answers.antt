@@ -12,9 +12,9 @@ returns-in-Ok-clause-leads g c = λ faithful stands plan image pages ends now me
     let hive = c.args.self.now.hive in
     let p = g.D.Disk.state_at c.args.disk.now (g.D.Disk.clock c.args.disk.now) (primary_file hive) in
     let l = g.D.Disk.state_at c.args.disk.now (g.D.Disk.clock c.args.disk.now) (log_file hive) in
-    let p2 = g.D.Disk.state_at c.sync_primary.new.disk (g.D.Disk.clock c.sync_primary.new.disk) (primary_file hive) in
-    let l2 = g.D.Disk.state_at c.sync_primary.new.disk (g.D.Disk.clock c.sync_primary.new.disk) (log_file hive) in
-    let sound = g.met.D.Disk.sound c.args.disk.now (g.D.Disk.clock c.args.disk.now) (primary_file hive) (c.sync_primary.ensures.faithful faithful) (omega arith) in
+    let p2 = g.D.Disk.state_at c.sync_file.new.disk (g.D.Disk.clock c.sync_file.new.disk) (primary_file hive) in
+    let l2 = g.D.Disk.state_at c.sync_file.new.disk (g.D.Disk.clock c.sync_file.new.disk) (log_file hive) in
+    let sound = g.met.D.Disk.sound c.args.disk.now (g.D.Disk.clock c.args.disk.now) (primary_file hive) (c.sync_file.ensures.faithful faithful) (omega arith) in
     let quiet = final_synced stands w others p l p2 sound on size (c.in-Ok.ensures.done faithful) in
     record { rest = quiet.rest; clean = quiet.clean; behind = quiet.behind }
 
@@ -24,7 +24,7 @@ returns-in-Err-clause-leads g c = λ faithful stands plan image pages ends now m
     let hive = c.args.self.now.hive in
     let p = g.D.Disk.state_at c.args.disk.now (g.D.Disk.clock c.args.disk.now) (primary_file hive) in
     let l = g.D.Disk.state_at c.args.disk.now (g.D.Disk.clock c.args.disk.now) (log_file hive) in
-    let p2 = g.D.Disk.state_at c.sync_primary.new.disk (g.D.Disk.clock c.sync_primary.new.disk) (primary_file hive) in
-    let l2 = g.D.Disk.state_at c.sync_primary.new.disk (g.D.Disk.clock c.sync_primary.new.disk) (log_file hive) in
+    let p2 = g.D.Disk.state_at c.sync_file.new.disk (g.D.Disk.clock c.sync_file.new.disk) (primary_file hive) in
+    let l2 = g.D.Disk.state_at c.sync_file.new.disk (g.D.Disk.clock c.sync_file.new.disk) (log_file hive) in
     let at = Finished (purpose_in c.args.purpose) in
-    log_same stands w at p2 l l2 c.sync_primary.ensures.other (primary_same stands w at p p2 l (c.in-Err.ensures.failed faithful) on)
+    log_same stands w at p2 l l2 c.sync_file.ensures.other (primary_same stands w at p p2 l (c.in-Err.ensures.failed faithful) on)

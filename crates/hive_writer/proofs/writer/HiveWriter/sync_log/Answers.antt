@@ -11,9 +11,9 @@ returns-in-Ok-clause-leads g c = λ faithful stands image pages all now memory o
     let hive = c.args.self.now.hive in
     let p = g.D.Disk.state_at c.args.disk.now (g.D.Disk.clock c.args.disk.now) (primary_file hive) in
     let l = g.D.Disk.state_at c.args.disk.now (g.D.Disk.clock c.args.disk.now) (log_file hive) in
-    let p2 = g.D.Disk.state_at c.sync_log.new.disk (g.D.Disk.clock c.sync_log.new.disk) (primary_file hive) in
-    let l2 = g.D.Disk.state_at c.sync_log.new.disk (g.D.Disk.clock c.sync_log.new.disk) (log_file hive) in
-    primary_same stands w Logged p p2 l2 c.sync_log.ensures.other (all_synced stands w c.args.index p l l2 all on (c.in-Ok.ensures.done faithful))
+    let p2 = g.D.Disk.state_at c.sync_file.new.disk (g.D.Disk.clock c.sync_file.new.disk) (primary_file hive) in
+    let l2 = g.D.Disk.state_at c.sync_file.new.disk (g.D.Disk.clock c.sync_file.new.disk) (log_file hive) in
+    primary_same stands w Logged p p2 l2 c.sync_file.ensures.other (all_synced stands w c.args.index p l l2 all on (c.in-Ok.ensures.done faithful))
 
 pub returns-in-Err-clause-leads : goal.returns-in-Err-clause-leads
 returns-in-Err-clause-leads g c = λ faithful stands image pages all now memory others size ready on.
@@ -21,7 +21,7 @@ returns-in-Err-clause-leads g c = λ faithful stands image pages all now memory 
     let hive = c.args.self.now.hive in
     let p = g.D.Disk.state_at c.args.disk.now (g.D.Disk.clock c.args.disk.now) (primary_file hive) in
     let l = g.D.Disk.state_at c.args.disk.now (g.D.Disk.clock c.args.disk.now) (log_file hive) in
-    let p2 = g.D.Disk.state_at c.sync_log.new.disk (g.D.Disk.clock c.sync_log.new.disk) (primary_file hive) in
-    let l2 = g.D.Disk.state_at c.sync_log.new.disk (g.D.Disk.clock c.sync_log.new.disk) (log_file hive) in
+    let p2 = g.D.Disk.state_at c.sync_file.new.disk (g.D.Disk.clock c.sync_file.new.disk) (primary_file hive) in
+    let l2 = g.D.Disk.state_at c.sync_file.new.disk (g.D.Disk.clock c.sync_file.new.disk) (log_file hive) in
     let at = Logging (min (65536 * c.args.index) (length w.plan.text)) in
-    primary_same stands w at p p2 l2 c.sync_log.ensures.other (log_same stands w at p l l2 (c.in-Err.ensures.failed faithful) on)
+    primary_same stands w at p p2 l2 c.sync_file.ensures.other (log_same stands w at p l l2 (c.in-Err.ensures.failed faithful) on)

@@ -12,9 +12,9 @@ returns-in-Ok-clause-leads g c = λ faithful stands now memory others size ready
     let hive = c.args.self.now.hive in
     let p = g.D.Disk.state_at c.args.disk.now (g.D.Disk.clock c.args.disk.now) (primary_file hive) in
     let l = g.D.Disk.state_at c.args.disk.now (g.D.Disk.clock c.args.disk.now) (log_file hive) in
-    let p2 = g.D.Disk.state_at c.write_log.new.disk (g.D.Disk.clock c.write_log.new.disk) (primary_file hive) in
-    let l2 = g.D.Disk.state_at c.write_log.new.disk (g.D.Disk.clock c.write_log.new.disk) (log_file hive) in
-    primary_same stands w (Logging (min (65536 * (c.args.index + 1)) (length w.plan.text))) p p2 l2 c.write_log.ensures.other
+    let p2 = g.D.Disk.state_at c.write_file.new.disk (g.D.Disk.clock c.write_file.new.disk) (primary_file hive) in
+    let l2 = g.D.Disk.state_at c.write_file.new.disk (g.D.Disk.clock c.write_file.new.disk) (log_file hive) in
+    primary_same stands w (Logging (min (65536 * (c.args.index + 1)) (length w.plan.text))) p p2 l2 c.write_file.ensures.other
     (piece_written stands w c.args.index c.args.piece.now p l l2 c.requires.piece c.requires.some on (subst (λ (n : ℕ). Writes (65536 * n) c.args.piece.now l l2) c.from.ensures (c.in-Ok.ensures.done faithful)))
 
 pub returns-in-Err-clause-leads : goal.returns-in-Err-clause-leads
@@ -23,7 +23,7 @@ returns-in-Err-clause-leads g c = λ faithful stands now memory others size read
     let hive = c.args.self.now.hive in
     let p = g.D.Disk.state_at c.args.disk.now (g.D.Disk.clock c.args.disk.now) (primary_file hive) in
     let l = g.D.Disk.state_at c.args.disk.now (g.D.Disk.clock c.args.disk.now) (log_file hive) in
-    let p2 = g.D.Disk.state_at c.write_log.new.disk (g.D.Disk.clock c.write_log.new.disk) (primary_file hive) in
-    let l2 = g.D.Disk.state_at c.write_log.new.disk (g.D.Disk.clock c.write_log.new.disk) (log_file hive) in
+    let p2 = g.D.Disk.state_at c.write_file.new.disk (g.D.Disk.clock c.write_file.new.disk) (primary_file hive) in
+    let l2 = g.D.Disk.state_at c.write_file.new.disk (g.D.Disk.clock c.write_file.new.disk) (log_file hive) in
     let at = min (65536 * c.args.index) (length w.plan.text) in
-    primary_same stands w (Logging at) p p2 l2 c.write_log.ensures.other (piece_failed stands w c.args.index c.args.piece.now p l l2 c.requires.piece c.requires.some on (subst (λ (n : ℕ). MayWrite (65536 * n) c.args.piece.now l l2) c.from.ensures (c.in-Err.ensures.failed faithful)))
+    primary_same stands w (Logging at) p p2 l2 c.write_file.ensures.other (piece_failed stands w c.args.index c.args.piece.now p l l2 c.requires.piece c.requires.some on (subst (λ (n : ℕ). MayWrite (65536 * n) c.args.piece.now l l2) c.from.ensures (c.in-Err.ensures.failed faithful)))

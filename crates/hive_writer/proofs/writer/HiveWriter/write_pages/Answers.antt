@@ -11,14 +11,14 @@ returns-in-Ok-clause-leads g c = λ faithful stands plan ends now memory others 
     let hive = c.args.self.now.hive in
     let p = g.D.Disk.state_at c.args.disk.now (g.D.Disk.clock c.args.disk.now) (primary_file hive) in
     let l = g.D.Disk.state_at c.args.disk.now (g.D.Disk.clock c.args.disk.now) (log_file hive) in
-    let p2 = g.D.Disk.state_at c.write_primary.new.disk (g.D.Disk.clock c.write_primary.new.disk) (primary_file hive) in
-    let l2 = g.D.Disk.state_at c.write_primary.new.disk (g.D.Disk.clock c.write_primary.new.disk) (log_file hive) in
-    let sound = g.met.D.Disk.sound c.args.disk.now (g.D.Disk.clock c.args.disk.now) (primary_file hive) (c.write_primary.ensures.faithful faithful) (omega arith) in
+    let p2 = g.D.Disk.state_at c.write_file.new.disk (g.D.Disk.clock c.write_file.new.disk) (primary_file hive) in
+    let l2 = g.D.Disk.state_at c.write_file.new.disk (g.D.Disk.clock c.write_file.new.disk) (log_file hive) in
+    let sound = g.met.D.Disk.sound c.args.disk.now (g.D.Disk.clock c.args.disk.now) (primary_file hive) (c.write_file.ensures.faithful faithful) (omega arith) in
     let run = c.args.run in
     let last = run.start + c.min.result in
     let some : run.start ≤ last = omega arith in
     let le : last ≤ run.end = omega (arith, c.min.ensures, c.requires.run.some) in
-    log_same stands w (Paging (purpose_in c.args.purpose) (512 * last)) p2 l l2 c.write_primary.ensures.other
+    log_same stands w (Paging (purpose_in c.args.purpose) (512 * last)) p2 l l2 c.write_file.ensures.other
     (run_written stands w c.args.from run.start run.end last p l p2 (take (512 * last - 512 * run.start) (drop (512 * run.start) c.args.image.now)) sound c.requires.size c.requires.run some le refl on (c.in-Ok.ensures.done faithful))
 
 pub returns-in-Err-clause-leads : goal.returns-in-Err-clause-leads
@@ -27,13 +27,13 @@ returns-in-Err-clause-leads g c = λ faithful stands plan ends now memory others
     let hive = c.args.self.now.hive in
     let p = g.D.Disk.state_at c.args.disk.now (g.D.Disk.clock c.args.disk.now) (primary_file hive) in
     let l = g.D.Disk.state_at c.args.disk.now (g.D.Disk.clock c.args.disk.now) (log_file hive) in
-    let p2 = g.D.Disk.state_at c.write_primary.new.disk (g.D.Disk.clock c.write_primary.new.disk) (primary_file hive) in
-    let l2 = g.D.Disk.state_at c.write_primary.new.disk (g.D.Disk.clock c.write_primary.new.disk) (log_file hive) in
+    let p2 = g.D.Disk.state_at c.write_file.new.disk (g.D.Disk.clock c.write_file.new.disk) (primary_file hive) in
+    let l2 = g.D.Disk.state_at c.write_file.new.disk (g.D.Disk.clock c.write_file.new.disk) (log_file hive) in
     let run = c.args.run in
     let last = run.start + c.min.result in
     let some : run.start ≤ last = omega arith in
     let le : last ≤ run.end = omega (arith, c.min.ensures, c.requires.run.some) in
-    log_same stands w (Paging (purpose_in c.args.purpose) (512 * c.args.from)) p2 l l2 c.write_primary.ensures.other
+    log_same stands w (Paging (purpose_in c.args.purpose) (512 * c.args.from)) p2 l l2 c.write_file.ensures.other
     (run_failed stands w c.args.from run.start run.end last p l p2 (take (512 * last - 512 * run.start) (drop (512 * run.start) c.args.image.now)) c.requires.run some le refl on (c.in-Err.ensures.failed faithful))
 
 pub returns-in-Ok-clause-falls : goal.returns-in-Ok-clause-falls

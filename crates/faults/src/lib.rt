@@ -1,15 +1,22 @@
-//! What ends a line otherwise than it expects.
+//! What ends a run of one of the repository's own programs early: of those that tests run and those that `bench/` runs.
+//!
+//! What becomes a [`Fault`] by `?` becomes the stated one: memory that was not given is `NoMemory`, whoever asked for it. The
+//! programs turn it into the status that they state.
+#![tactic(auto)]
+
 use disk_model::Failed;
 use refusals::Refusal;
 use std::alloc::{AllocError, AllocFailed};
 use std::io;
 
-/// Why a line was not played, or what came in place of what it expects.
+/// Why a run ends early, or what came in place of what should.
 #[derive(Clone, Copy)]
-pub(crate) enum Fault {
+pub enum Fault {
     /// Memory was refused to the program itself.
     NoMemory,
-    /// The line is none, or asks for what its journal can't be asked.
+    /// Memory was refused to a call that was made again.
+    Twice,
+    /// A word, a line or a file is none of those that are understood, or can't be read or written.
     NotUnderstood,
     /// This came.
     Otherwise(&'static str),
@@ -20,6 +27,7 @@ impl Fault {
     pub fn text(self) -> &'static str {
         match self {
             Fault::NoMemory => "no memory",
+            Fault::Twice => "no memory twice",
             Fault::NotUnderstood => "not understood",
             Fault::Otherwise(came) => came,
         }
@@ -42,7 +50,7 @@ impl From<Refusal> for Fault {
     fn from(refusal: Refusal) -> Fault {
         match refusal {
             Refusal::NoMemory => Fault::NoMemory,
-            _ => Fault::NotUnderstood,
+            _ => Fault::Otherwise("a refusal"),
         }
     }
 }
