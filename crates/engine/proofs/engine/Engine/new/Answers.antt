@@ -28,7 +28,7 @@ invariant_of-result g c =
     let told = c.in-Ok.ensures.machine in
     let counted = c.in-Ok.ensures.counted in
     let kept = subst (λ (m : Machine). IsConsistent m f.base f.opened.items (choice_of f.journal) (map view_of f.hives.items)) (sym told)
-        (c.openings_begin.ensures f.trees f.number 0 f.base f.opened.items (choice_of f.journal) (map view_of f.hives.items) e.kept.recovers) in
+    (c.openings_begin.ensures f.trees f.number 0 f.base f.opened.items (choice_of f.journal) (map view_of f.hives.items) e.kept.recovers) in
     let spelled : c.of-spelled.result.value.items ≡ f.opened.items = ap (λ v. v.items) c.of-spelled.ensures in
     let store = c.in-Ok.store in
     let durable : store.machine.durable ≡ store.machine.before = ap (λ (m : Machine). m.durable) told ∙ sym (ap (λ (m : Machine). m.before) told) in
