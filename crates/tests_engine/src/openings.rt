@@ -88,14 +88,14 @@ fn a_change_that_is_not_legal_on_what_a_hive_holds_is_refused(rt: HostRuntime) -
 fn an_opening_whose_device_fails_hands_the_disk_back(rt: HostRuntime) -> Result<(), Fail> {
     let alloc = rt.alloc();
     let disk = journaled(alloc)?;
-    let mut failed = 0;
+    let mut failed = 0u32;
     for call in 1..40u64 {
         let plan = Arc::new(alloc, Plan::new())?;
         let disk = disk.crashed(Tear::Old, Arc::try_clone(&plan)?)?;
         plan.fail_at(call);
         if let Err((why, back)) = open(alloc, disk) {
             assert_eq!(&rt; why, Refusal::DiskFault);
-            failed += 1;
+            failed = failed.saturating_add(1);
             let store = opened(alloc, back)?;
             assert_eq!(&rt; store.number(), 1);
         }
