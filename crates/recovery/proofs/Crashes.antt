@@ -20,6 +20,9 @@ use Rattle.engine_law.specs.Openings.{IsFound}
 use Rattle.engine_law.specs.Prefixes.{AreOnDisk, ArePlaced, IsSafeAt, Recover, view_of}
 use Rattle.recovery.specs.Kept.{IsKept}
 use Rattle.recovery.specs.Recovered.{IsRecovered}
+use Rattle.recovery.specs.Shown.{Shown}
+use Rattle.recovery.specs.Shown as shown
+use Rattle.commit_journal.specs.Journals as journals
 use Rattle.recovery.specs.declared.found.Found.{Found}
 
 -- The laws that are used
@@ -51,3 +54,28 @@ still_recovered begins safe found kept states moment on files left =
 -- a moment that is past is as it was
 pub same_moment : (old new : ℕ → ℕ → FileState) (clock : ℕ) → ((k f : ℕ) → k ≤ clock → new k f ≡ old k f) → old clock ≡ new clock
 same_moment old new clock past = sym (λ i f. past clock f (omega arith) i)
+
+-- The same of a store as it is shown: at the moment at which a step begins, which is seen at that of its end too, and at that
+
+module _ {D : Type 0} (state_at : D → ℕ → ℕ → FileState) (clock : D → ℕ) (faithful : D → Type 0) (begins : Begins) (safe : Safe) (inside it : Shown D) (is : inside ≡ it) (kept : IsKept inside.found)
+    (on_disk : faithful inside.disk → AreOnDisk inside.found.journal inside.found.hives.items (state_at inside.disk (clock inside.disk))) where
+  -- whatever a crash leaves at a moment of a disk recovers what is shown
+  abbrev pub StillShown : D → ℕ → Type 0
+  StillShown disk moment = faithful disk → (files : ℕ → List ℕ) → LeavesHonest IsPrimary (state_at disk moment) files → IsRecovered files (shown.store_of it) it.found.number it.found.trees
+
+  pub before_call : (disk : D) → (faithful disk → faithful inside.disk) → ((k f : ℕ) → k ≤ clock inside.disk → state_at disk k f ≡ state_at inside.disk k f) → StillShown disk (clock it.disk)
+  before_call disk back past =
+      subst (λ (v : Shown D). faithful disk → (files : ℕ → List ℕ) → LeavesHonest IsPrimary (state_at disk (clock v.disk)) files → IsRecovered files (shown.store_of v) v.found.number v.found.trees) is
+      (λ f. still_recovered begins safe inside.found kept (state_at disk) (clock inside.disk)
+      (subst (AreOnDisk inside.found.journal inside.found.hives.items) (same_moment (state_at inside.disk) (state_at disk) (clock inside.disk) past) (on_disk (back f))))
+
+  pub no_call : StillShown it.disk (clock it.disk)
+  no_call = subst (λ (v : Shown D). faithful v.disk → (files : ℕ → List ℕ) → LeavesHonest IsPrimary (state_at v.disk (clock v.disk)) files → IsRecovered files (shown.store_of v) v.found.number v.found.trees) is
+      (λ f. still_recovered begins safe inside.found kept (state_at inside.disk) (clock inside.disk) (on_disk f))
+
+  pub after_call : (disk : D) (found : Found) → (faithful disk → faithful inside.disk) → found ≡ record inside.found { hives = found.hives } → IsKept found
+      → (faithful disk → AreOnDisk inside.found.journal inside.found.hives.items (state_at inside.disk (clock inside.disk)) → AreOnDisk found.journal found.hives.items (state_at disk (clock disk))) → StillShown disk (clock disk)
+  after_call disk found back rest still on =
+      subst (λ (v : Shown D). faithful disk → (files : ℕ → List ℕ) → LeavesHonest IsPrimary (state_at disk (clock disk)) files → IsRecovered files (shown.store_of v) v.found.number v.found.trees) is
+      (λ f files left. subst (λ (x : Found). IsRecovered files (journals.store_of x.journal) x.number x.trees) rest
+      (still_recovered begins safe found still (state_at disk) (clock disk) (on f (on_disk (back f))) files left))

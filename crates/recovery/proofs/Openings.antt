@@ -51,15 +51,15 @@ refused_hives one_store faithful before back rose risen up journal is now old mi
     inr (inr (tells told.0 why told.1, λ f. none_held one_store journal is now old mid (spells (back f)) others (none f)))
 
 -- what was read is of the files as they were seen
-pub are_of : (faithful : Type 0) (journal : Journal) (hives : List HiveFile) (old mid new : ℕ → FileState) → spelled (texts_of journal) (old journal_file).seen ≡ Some (choice_of journal).now → ((f : ℕ) → ¬ (IsJournal f) → mid f ≡ old f)
-    → AreOpened faithful (store_of journal).id mid new hives → faithful → AreOf (seen_in old) journal hives
-are_of faithful journal hives old mid new spells others opened f = record {
+pub are_of : (faithful : Type 0) (journal : Journal) (id : List ℕ) → id ≡ (store_of journal).id → (hives : List HiveFile) (old mid new : ℕ → FileState) → spelled (texts_of journal) (old journal_file).seen ≡ Some (choice_of journal).now → ((f : ℕ) → ¬ (IsJournal f) → mid f ≡ old f)
+    → AreOpened faithful id mid new hives → faithful → AreOf (seen_in old) journal hives
+are_of faithful journal id own hives old mid new spells others opened f = record {
   spells = spells;
-  holds = λ i h is. holds_on (store_of journal).id mid old (λ g none. sym (others g none)) i (memory_of h) ((opened.each i h is).held f);
+  holds = λ i h is. holds_on (store_of journal).id mid old (λ g none. sym (others g none)) i (memory_of h) (subst (λ (s : List ℕ). HoldsUnder s (mid (primary_file i)).seen (mid (log_file i)).seen (memory_of h)) own ((opened.each i h is).held f));
 }
 
-pub are_on : (faithful : Type 0) (journal : Journal) (hives : List HiveFile) (mid new : ℕ → FileState) → is_on (texts_of journal) (value_of journal) (mid journal_file) → AreOpened faithful (store_of journal).id mid new hives → faithful → AreOnDisk journal hives new
-are_on faithful journal hives mid new on opened f = record {
+pub are_on : (faithful : Type 0) (journal : Journal) (id : List ℕ) (hives : List HiveFile) (mid new : ℕ → FileState) → is_on (texts_of journal) (value_of journal) (mid journal_file) → AreOpened faithful id mid new hives → faithful → AreOnDisk journal hives new
+are_on faithful journal id hives mid new on opened f = record {
   spells = subst (is_on (texts_of journal) (value_of journal)) (sym opened.journal) on;
   each = λ i h is. (opened.each i h is).on f;
 }

@@ -51,10 +51,9 @@ returns-in_err-found-clause-fails g c =
     let old = D.state_at c.args.disk.now (D.clock c.args.disk.now) in
     let mid = D.state_at c.open.new.disk (D.clock c.open.new.disk) in
     let new = D.state_at c.open_hives.new.disk (D.clock c.open_hives.new.disk) in
-    let opened = subst (λ (s : List ℕ). AreOpened (D.faithful c.open_hives.new.disk) s mid new c.in_ok-hives.hives.items) c.id.ensures c.in_ok-hives.ensures.opened in
     rw (p.1, p.2) (elim (c.in_err-found.ensures.fails) [
       | inl hungry ↦ inl hungry
-      | inr told ↦ inr (inr (told.0, λ f. told.1 (seen_in old) (are_of (D.faithful c.open_hives.new.disk) j c.in_ok-hives.hives.items old mid new (c.in_ok-read.ensures.spells (c.open_hives.ensures.faithful f)) c.open.ensures.others opened f)))
+      | inr told ↦ inr (inr (told.0, λ f. told.1 (seen_in old) (are_of (D.faithful c.open_hives.new.disk) j c.id.result c.id.ensures c.in_ok-hives.hives.items old mid new (c.in_ok-read.ensures.spells (c.open_hives.ensures.faithful f)) c.open.ensures.others c.in_ok-hives.ensures.opened f)))
     ])
 
 pub returns-clause-works : goal.returns-clause-works
@@ -67,8 +66,7 @@ returns-clause-recovered g c = λ f.
     let old = D.state_at c.args.disk.now (D.clock c.args.disk.now) in
     let mid = D.state_at c.open.new.disk (D.clock c.open.new.disk) in
     let new = D.state_at c.open_hives.new.disk (D.clock c.open_hives.new.disk) in
-    let opened = subst (λ (s : List ℕ). AreOpened (D.faithful c.open_hives.new.disk) s mid new c.in_ok-hives.hives.items) c.id.ensures c.in_ok-hives.ensures.opened in
-    let own = are_of (D.faithful c.open_hives.new.disk) j c.in_ok-hives.hives.items old mid new (c.in_ok-read.ensures.spells (c.open_hives.ensures.faithful f)) c.open.ensures.others opened f in
+    let own = are_of (D.faithful c.open_hives.new.disk) j c.id.result c.id.ensures c.in_ok-hives.hives.items old mid new (c.in_ok-read.ensures.spells (c.open_hives.ensures.faithful f)) c.open.ensures.others c.in_ok-hives.ensures.opened f in
     let it = c.in_ok-found.found in
     let k = c.in_ok-found.ensures.kept in
     of_found it.trees it.number it.base it.opened.items it.journal it.hives.items k.recovers k.store k.many (seen_in old)
@@ -80,7 +78,6 @@ returns-clause-on_disk g c = λ f.
     let j = c.in_ok-read.read.journal in
     let mid = D.state_at c.open.new.disk (D.clock c.open.new.disk) in
     let new = D.state_at c.open_hives.new.disk (D.clock c.open_hives.new.disk) in
-    let opened = subst (λ (s : List ℕ). AreOpened (D.faithful c.open_hives.new.disk) s mid new c.in_ok-hives.hives.items) c.id.ensures c.in_ok-hives.ensures.opened in
     let it = c.in_ok-found.found in
     subst (λ (x : Journal). AreOnDisk x it.hives.items new) (sym c.in_ok-found.ensures.journal) (subst (λ (hs : List HiveFile). AreOnDisk j hs new) (sym c.in_ok-found.ensures.hives)
-    (are_on (D.faithful c.open_hives.new.disk) j c.in_ok-hives.hives.items mid new (c.in_ok-read.ensures.on (c.open_hives.ensures.faithful f)) opened f))
+    (are_on (D.faithful c.open_hives.new.disk) j c.id.result c.in_ok-hives.hives.items mid new (c.in_ok-read.ensures.on (c.open_hives.ensures.faithful f)) c.in_ok-hives.ensures.opened f))
