@@ -44,20 +44,21 @@ listed_stays list plain kids own old new stay (inr (inr h)) =
       near = h.near;
     }))
 
--- values
-segments_stay : (old new : Cells) (segments : List Segment) → ((cell : ℕ) → IsIn cell (segment_places segments) → new cell ≡ old cell) → AllByRecursion (IsSegment old) segments → AllByRecursion (IsSegment new) segments
-segments_stay old new [] stay h = tt
-segments_stay old new (s ∷ segments) stay h = (holds_stays old new s.at s.text (stay s.at (inl refl)) h.0, segments_stay old new segments (λ cell i. stay cell (inr i)) h.1)
+-- values, where each cell that they lie in holds what it held
+segments_hold : (old new : Cells) (segments : List Segment) → ((cell : ℕ) (text : List ℕ) → IsIn cell (segment_places segments) → Holds old cell text → Holds new cell text) → AllByRecursion (IsSegment old) segments → AllByRecursion (IsSegment new) segments
+segments_hold old new [] keeps h = tt
+segments_hold old new (s ∷ segments) keeps h = (keeps s.at s.text (inl refl) h.0, segments_hold old new segments (λ cell text i. keeps cell text (inr i)) h.1)
 
-written_stays : (old new : Cells) (v : Written) → ((cell : ℕ) → IsIn cell v.own → new cell ≡ old cell) → IsWritten true old v → IsWritten true new v
-written_stays old new v stay (fits, inl s) =
-    let here : new v.at ≡ old v.at = stay v.at (subst (λ (o : List ℕ). IsIn v.at o) (sym s.own) (inl refl)) in
-    (fits, inl (record { few = s.few; own = s.own; text = holds_stays old new v.at (small_value v.value) here s.text }))
-written_stays old new v stay (fits, inr (inl s)) =
-    let here : (cell : ℕ) → IsIn cell (v.at ∷ s.to ∷ []) → new cell ≡ old cell = λ cell i. stay cell (subst (λ (o : List ℕ). IsIn cell o) (sym s.own) i) in
-    (fits, inr (inl (record { to = s.to; near = s.near; some = s.some; few = s.few; one = s.one; own = s.own; text = holds_stays old new v.at (large_value v.value s.to) (here v.at (inl refl)) s.text; its = holds_stays old new s.to v.value.«data» (here s.to (inr (inl refl))) s.its })))
-written_stays old new v stay (fits, inr (inr s)) =
-    let here : (cell : ℕ) → IsIn cell (v.at ∷ s.to ∷ s.list ∷ segment_places s.segments) → new cell ≡ old cell = λ cell i. stay cell (subst (λ (o : List ℕ). IsIn cell o) (sym s.own) i) in (
+pub written_holds : (old new : Cells) (v : Written) → ((cell : ℕ) (text : List ℕ) → IsIn cell v.own → Holds old cell text → Holds new cell text) → IsWritten true old v → IsWritten true new v
+written_holds old new v keeps (fits, inl s) =
+    let here : (text : List ℕ) → Holds old v.at text → Holds new v.at text = λ text. keeps v.at text (subst (λ (o : List ℕ). IsIn v.at o) (sym s.own) (inl refl)) in
+    (fits, inl (record { few = s.few; own = s.own; text = here (small_value v.value) s.text }))
+written_holds old new v keeps (fits, inr (inl s)) =
+    let here : (cell : ℕ) (text : List ℕ) → IsIn cell (v.at ∷ s.to ∷ []) → Holds old cell text → Holds new cell text = λ cell text i. keeps cell text (subst (λ (o : List ℕ). IsIn cell o) (sym s.own) i) in
+    (fits, inr (inl (record { to = s.to; near = s.near; some = s.some; few = s.few; one = s.one; own = s.own; text = here v.at (large_value v.value s.to) (inl refl) s.text; its = here s.to v.value.«data» (inr (inl refl)) s.its })))
+written_holds old new v keeps (fits, inr (inr s)) =
+    let here : (cell : ℕ) (text : List ℕ) → IsIn cell (v.at ∷ s.to ∷ s.list ∷ segment_places s.segments) → Holds old cell text → Holds new cell text
+    = λ cell text i. keeps cell text (subst (λ (o : List ℕ). IsIn cell o) (sym s.own) i) in (
       fits,
       inr (inr (record {
         splits = s.splits;
@@ -73,10 +74,10 @@ written_stays old new v stay (fits, inr (inr s)) =
         count = s.count;
         are = s.are;
         own = s.own;
-        text = holds_stays old new v.at (large_value v.value s.to) (here v.at (inl refl)) s.text;
-        leads = holds_stays old new s.to (big_text s.segments s.list) (here s.to (inr (inl refl))) s.leads;
-        listing = holds_stays old new s.list (offsets_text (segment_places s.segments)) (here s.list (inr (inr (inl refl)))) s.listing;
-        held = segments_stay old new s.segments (λ cell i. here cell (inr (inr (inr i)))) s.held;
+        text = here v.at (large_value v.value s.to) (inl refl) s.text;
+        leads = here s.to (big_text s.segments s.list) (inr (inl refl)) s.leads;
+        listing = here s.list (offsets_text (segment_places s.segments)) (inr (inr (inl refl))) s.listing;
+        held = segments_hold old new s.segments (λ cell text i. here cell text (inr (inr (inr i)))) s.held;
       })),
     )
 
@@ -84,7 +85,7 @@ all_written_stay : (old new : Cells) (vs : List Written) → ((cell : ℕ) → I
 all_written_stay old new [] stay h = tt
 all_written_stay old new (v ∷ vs) stay h =
     let here : (cell : ℕ) → IsIn cell (v.own ++ flat_map value_own vs) → new cell ≡ old cell = λ cell i. stay cell (subst (λ (o : List ℕ). IsIn cell o) (sym (flat_map-cons value_own v vs)) i) in
-    (written_stays old new v (λ cell i. here cell (in_front cell v.own (flat_map value_own vs) i)) h.0, all_written_stay old new vs (λ cell i. here cell (in_back cell v.own (flat_map value_own vs) i)) h.1)
+    (written_holds old new v (λ cell text i. holds_stays old new cell text (here cell (in_front cell v.own (flat_map value_own vs) i))) h.0, all_written_stay old new vs (λ cell i. here cell (in_back cell v.own (flat_map value_own vs) i)) h.1)
 
 pub values_stay : (list : ℕ) (values : ValueMap) (own : List ℕ) (old new : Cells) → ((cell : ℕ) → IsIn cell own → new cell ≡ old cell) → AreListedValues list values own old → AreListedValues list values own new
 values_stay list values own old new stay (inl h) = inl h

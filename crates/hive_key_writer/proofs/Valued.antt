@@ -12,6 +12,7 @@ use Rattle.hive_records.specs.Wholes.{IsWritten}
 use Rattle.hive_key_writer.specs.Making.{Makes, Puts}
 use Rattle.hive_key_writer.specs.Values.{IsSegment, DataAt, ValueAt, CanPut}
 use Rattle.hive_key_writer.proofs.Makings.{made_then, made_as, holds_grown, adds_ahead, all_as}
+use Rattle.hive_key_writer.proofs.Stays.{written_holds}
 
 pub small_made : (a b : List ℕ) (at : ℕ) (value : Value) → CanPut value → value.kind < 2 ^ 32 → length value.«data» ≤ 4 → Makes a b (Puts at (small_value value)) → Makes a b (ValueAt at value)
 small_made a b at value can kind few m = made_as a b (Puts at (small_value value)) (ValueAt at value) m (λ x y g p. record {
@@ -67,27 +68,4 @@ large_made a b c at to value can kind some m n = made_then a b c (DataAt to valu
 
 -- a value that is written stays so
 pub written_grown : (y z : Cells) (v : Written) → Grows y z → IsWritten true y v → IsWritten true z v
-written_grown y z v g (fits, inl s) = (fits, inl (record { few = s.few; own = s.own; text = holds_grown y z v.at (small_value v.value) g s.text }))
-written_grown y z v g (fits, inr (inl s)) = (fits, inr (inl (record { to = s.to; near = s.near; some = s.some; few = s.few; one = s.one; own = s.own; text = holds_grown y z v.at (large_value v.value s.to) g s.text; its = holds_grown y z s.to v.value.«data» g s.its })))
-written_grown y z v g (fits, inr (inr s)) = (
-  fits,
-  inr (inr (record {
-    splits = s.splits;
-    to = s.to;
-    list = s.list;
-    segments = s.segments;
-    near = s.near;
-    near_list = s.near_list;
-    many = s.many;
-    few = s.few;
-    its = s.its;
-    full = s.full;
-    count = s.count;
-    are = s.are;
-    own = s.own;
-    text = holds_grown y z v.at (large_value v.value s.to) g s.text;
-    leads = holds_grown y z s.to (big_text s.segments s.list) g s.leads;
-    listing = holds_grown y z s.list (offsets_text (segment_places s.segments)) g s.listing;
-    held = all_as (IsSegment y) (IsSegment z) s.segments (λ t held. holds_grown y z t.at t.text g held) s.held;
-  })),
-)
+written_grown y z v g = written_holds y z v (λ cell text i h. holds_grown y z cell text g h)
