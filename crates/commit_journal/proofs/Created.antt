@@ -1,14 +1,15 @@
 -- A journal that was made.
-use Rattle.std.proofs.Common.{◌≡◌, ℕ, ◌+◌, List, [], ◌∷◌, ◌++◌, length, drop, replicate, sym, ◌∙◌, ap, subst, arith, append_assoc, length-append}
+use Rattle.std.proofs.Common.{◌≡◌, ℕ, List, [], ◌∷◌, ◌++◌, length, replicate, refl, sym, ◌∙◌, ap, subst, arith, length-append}
 use Rattle.std.specs.Prelude.{codes}
-use Rattle.std.proofs.lemmas.List.{length-replicate}
+use Rattle.std.proofs.lemmas.List.{length-replicate, nil_from_length}
 use Rattle.byteorder.specs.Endian.{little_bytes}
 use Rattle.byteorder.specs.Numbers.{length-bytes_low_first}
 use Rattle.prefix_law.specs.Promises.{Spelled, nothing}
-use Rattle.disk_model.specs.FileState.{FileState, at_rest, put, Writes, Syncs}
-use Rattle.disk_model.proofs.Leaves.{put_within}
+use Rattle.disk_model.specs.FileState.{FileState, at_rest, put, resized, Cuts, Writes, Syncs}
+use Rattle.disk_model.proofs.Leaves.{put_end}
+use Rattle.disk_model.proofs.Put.{length-resized}
 use Rattle.engine_words.specs.Changes.{TimedOp}
-use Rattle.commit_journal.specs.Store.{Store, header_text, texts}
+use Rattle.commit_journal.specs.Store.{Store, created_text, header_text, texts}
 use Rattle.commit_journal.specs.OnDisk.{is_on, value_at, Phase.Quiet}
 use Rattle.commit_journal.proofs.Opening.{created}
 
@@ -19,16 +20,18 @@ header_length store size =
     let hives = little_bytes 4 store.hives in
     omega (arith, size, length-append (codes "KTMJRNL1") (store.id ++ (hives ++ zeros)), length-append store.id (hives ++ zeros), length-append hives zeros, length-bytes_low_first 0 4 store.hives, length-replicate {A = ℕ} 36 0)
 
-pub created_on : (store : Store) → length store.id ≡ 16 → (bytes : List ℕ) → bytes ≡ header_text store ++ 0 ∷ [] → (old mid new : FileState) → Writes 0 bytes old mid → Syncs mid new
-    → (s : Spelled TimedOp) (gate : ℕ) → s ≡ nothing → gate ≡ 64 → is_on (texts store) (value_at s nothing gate gate Quiet) new
-created_on store size bytes is old mid new wrote syncs s gate none first =
-    let tail = drop (length bytes) old.seen in
-    let same : 0 + length bytes ≡ length bytes = omega arith in
-    let front : put old.seen 0 bytes ≡ bytes ++ tail
-    = put_within old.seen bytes 0 (omega arith) ∙ ap (λ (n : ℕ). bytes ++ drop n old.seen) same in
-    let file : put old.seen 0 bytes ≡ header_text store ++ 0 ∷ tail = front ∙ ap (λ (l : List ℕ). l ++ tail) is ∙ append_assoc (header_text store) (0 ∷ []) tail in
-    let there : new ≡ at_rest (header_text store ++ 0 ∷ tail) = syncs ∙ ap (λ (x : FileState). at_rest x.seen) wrote ∙ ap at_rest file in
-    subst (λ (x : FileState). is_on (texts store) (value_at s nothing gate gate Quiet) x) (sym there)
-    (subst (λ (x : Spelled TimedOp). is_on (texts store) (value_at x nothing gate gate Quiet) (at_rest (header_text store ++ 0 ∷ tail))) (sym none)
-    (subst (λ (k : ℕ). is_on (texts store) (value_at nothing nothing k k Quiet) (at_rest (header_text store ++ 0 ∷ tail))) (sym first)
-    (created (texts store) (header_length store size) 0 64 tail nothing (λ e. omega (arith, e)))))
+-- a file that is made empty and written is what was written
+pub created_file : (store : Store) (bytes : List ℕ) → bytes ≡ created_text store → (old empty mid new : FileState) → Cuts 0 old empty → Writes 0 bytes empty mid → Syncs mid new
+    → new ≡ at_rest (created_text store)
+created_file store bytes is old empty mid new cuts wrote syncs =
+    let none : empty.seen ≡ [] = ap (λ (s : FileState). s.seen) cuts ∙ nil_from_length (resized old.seen 0) (length-resized old.seen 0) in
+    let all : put empty.seen 0 bytes ≡ bytes = ap (λ (l : List ℕ). put l 0 bytes) none ∙ put_end [] bytes 0 refl in
+    syncs ∙ ap (λ (x : FileState). at_rest x.seen) wrote ∙ ap at_rest (all ∙ is)
+
+pub created_on : (store : Store) → length store.id ≡ 16 → (state : FileState) → state ≡ at_rest (created_text store)
+    → (s : Spelled TimedOp) (gate : ℕ) → s ≡ nothing → gate ≡ 64 → is_on (texts store) (value_at s nothing gate gate Quiet) state
+created_on store size state is s gate none first =
+    subst (λ (x : FileState). is_on (texts store) (value_at s nothing gate gate Quiet) x) (sym is)
+    (subst (λ (x : Spelled TimedOp). is_on (texts store) (value_at x nothing gate gate Quiet) (at_rest (created_text store))) (sym none)
+    (subst (λ (k : ℕ). is_on (texts store) (value_at nothing nothing k k Quiet) (at_rest (created_text store))) (sym first)
+    (created (texts store) (header_length store size) 0 64 [] nothing (λ e. omega (arith, e)))))

@@ -1,5 +1,5 @@
 -- The text of a store's journal: its header, and its elements as the law of one prefix sees them.
-use Rattle.std.specs.Prelude.{◌≡◌, ◌≤◌, ℕ, ◌+◌, List, length, ◌++◌, replicate, codes, sum_by, Option, None, option_map}
+use Rattle.std.specs.Prelude.{◌≡◌, ◌≤◌, ℕ, ◌+◌, List, [], ◌∷◌, length, ◌++◌, replicate, codes, sum_by, Option, None, option_map}
 use Rattle.byteorder.specs.Endian.{little_bytes}
 use Rattle.refusals.specs.declared.limits.TheConstants.{GREATEST_NUMBER, MOST_HIVES}
 use Rattle.reg_tree.specs.Texts.{op_text_len}
@@ -22,6 +22,10 @@ pub record IsStore (store : Store) : Type 0 where
 -- the header: `KTMJRNL1`, the id, the number of hives in four bytes, and zeros up to 64 bytes
 abbrev pub header_text : Store → List ℕ
 header_text store = codes "KTMJRNL1" ++ (store.id ++ (little_bytes 4 store.hives ++ replicate 36 0))
+
+-- the text of a store's journal as it is made: its header, and a gate that isn't open
+abbrev pub created_text : Store → List ℕ
+created_text store = header_text store ++ 0 ∷ []
 
 -- the change on one of so many hives that bytes begin with, as the law sees it, and the bytes behind it
 abbrev pub timed_at : ℕ → List ℕ → Option (law.Element TimedOp × List ℕ)

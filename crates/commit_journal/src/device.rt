@@ -1,6 +1,6 @@
 //! The calls of the device that a journal makes.
 ghost use Rattle.std.specs.Prelude.{◌≡◌, ◌+◌, ◌≤◌, ℕ, length, IfOk, OnOk, OnErr, MatchResult};
-ghost use Rattle.disk_model.specs.FileState.{Writes, MayWrite, Syncs};
+ghost use Rattle.disk_model.specs.FileState.{Cuts, Writes, MayWrite, Syncs};
 ghost use Rattle.disk_model.specs.Call.{OneCall, Extends, Reads};
 ghost use Rattle.disk_model.specs.StoreFiles.{IsJournal};
 
@@ -21,6 +21,19 @@ pub(crate) fn write<D: Disk>(disk: &mut D, offset: u64, bytes: &[u8]) -> Result<
     ensures faithful { D.faithful disk.new → D.faithful disk.old }
 {
     disk.write_at(JOURNAL, offset, bytes)
+}
+
+/// Makes the journal's file empty.
+pub(crate) fn clear<D: Disk>(disk: &mut D) -> Result<(), Failed>
+    ensures done { OnOk result (D.faithful disk.new → Cuts 0
+        (D.state_at disk.old (D.clock disk.old) 0) (D.state_at disk.new (D.clock disk.new) 0)) }
+    ensures call { OneCall IsJournal (D.state_at disk.old) (D.state_at disk.new) (D.clock disk.old)
+        (D.clock disk.new) }
+    ensures failures { MatchResult result (λ _. D.failures disk.new ≡ D.failures disk.old)
+        (λ _. D.failures disk.new ≡ D.failures disk.old + 1) }
+    ensures faithful { D.faithful disk.new → D.faithful disk.old }
+{
+    disk.cut(JOURNAL, 0)
 }
 
 /// Syncs the journal's file.

@@ -11,7 +11,8 @@ ghost use Rattle.engine_words.specs.Steps.{Says};
 ghost use Rattle.commit_journal.specs.OnDisk.{is_on, longer, value_at};
 ghost use Rattle.commit_journal.specs.Told.{elements_told};
 ghost use Rattle.commit_journal.specs.OnDisk as phase;
-ghost use Rattle.commit_journal.specs.Store.{texts, room_of};
+ghost use Rattle.disk_model.specs.FileState.{at_rest};
+ghost use Rattle.commit_journal.specs.Store.{created_text, texts, room_of};
 ghost use Rattle.commit_journal.specs.Handed.{IsHanded, IsLongestFront};
 
 use crate::layout::{CLOSED_GATE, FIRST_GATE, OPEN_GATE};
@@ -68,7 +69,8 @@ pub struct Journal {
 impl Journal {
     ghost use Rattle.commit_journal.specs.Journals.{spelled_by, value_in, value_of, choice_of, store_of, texts_of, IsReady, BeginsLongest, IsTrimming, IsBroken, steps_left, ComesNearer};
 
-    /// Makes the journal of a store: an empty one, whatever the file held. It is on the disk then.
+    /// Makes the journal of a store: an empty one, whatever the file held. It is on the disk then, and the file holds nothing
+    /// else.
     ///
     /// Refused with `NoMemory` before any device call, and with `DiskFault` where the device failed; nothing is said of
     /// the file's bytes then.
@@ -85,8 +87,9 @@ impl Journal {
             store_of journal ≡ record { id = id; hives = hives }) }
         ensures on { IfOk result (λ journal. D.faithful disk.new →
             is_on (texts_of journal) (value_of journal) (D.state_at disk.new (D.clock disk.new) 0)) }
-        ensures fails { IfErr result (λ why. ((why ≡ NoMemory)
-            × (D.clock disk.new ≡ D.clock disk.old))
+        ensures file { IfOk result (λ journal. D.faithful disk.new →
+            D.state_at disk.new (D.clock disk.new) 0 ≡ at_rest (created_text (store_of journal))) }
+        ensures fails { IfErr result (λ why. ((why ≡ NoMemory) × (disk.new ≡ disk.old))
             ⊎ ((why ≡ DiskFault) × (D.failures disk.old < D.failures disk.new))) }
         ensures others { (f : ℕ) → ¬ (IsJournal f) →
             D.state_at disk.new (D.clock disk.new) f ≡ D.state_at disk.old (D.clock disk.old) f }
@@ -96,6 +99,7 @@ impl Journal {
     {
         let mut text = header::encode(alloc, id, hives)?;
         text.push(CLOSED_GATE)?;
+        device::clear(disk)?;
         device::write(disk, 0, &text)?;
         device::sync(disk)?;
         Ok(Journal {
