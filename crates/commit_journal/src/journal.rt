@@ -11,13 +11,12 @@ ghost use Rattle.engine_words.specs.Steps.{Says};
 ghost use Rattle.commit_journal.specs.OnDisk.{is_on, longer, value_at};
 ghost use Rattle.commit_journal.specs.Told.{elements_told};
 ghost use Rattle.commit_journal.specs.OnDisk as phase;
-ghost use Rattle.disk_model.specs.FileState.{at_rest};
-ghost use Rattle.commit_journal.specs.Store.{created_text, texts, room_of};
+ghost use Rattle.commit_journal.specs.Store.{texts, room_of};
 ghost use Rattle.commit_journal.specs.Handed.{IsHanded, IsLongestFront};
 
 use crate::layout::{CLOSED_GATE, FIRST_GATE, OPEN_GATE};
 use crate::standing::Standing;
-use crate::{body, device, header};
+use crate::{body, device};
 use disk_model::Disk;
 use engine_words::Progress;
 use refusals::Refusal;
@@ -68,48 +67,6 @@ pub struct Journal {
 
 impl Journal {
     ghost use Rattle.commit_journal.specs.Journals.{spelled_by, value_in, value_of, choice_of, store_of, texts_of, IsReady, BeginsLongest, IsTrimming, IsBroken, steps_left, ComesNearer};
-
-    /// Makes the journal of a store: an empty one, whatever the file held. It is on the disk then, and the file holds nothing
-    /// else.
-    ///
-    /// Refused with `NoMemory` before any device call, and with `DiskFault` where the device failed; nothing is said of
-    /// the file's bytes then.
-    pub fn create<D: Disk>(
-        alloc: Global,
-        disk: &mut D,
-        id: Uuid,
-        hives: u8,
-    ) -> Result<Journal, Refusal>
-        requires size { length id ≡ 16 }
-        requires hives { (1 ≤ hives) × (hives ≤ MOST_HIVES) }
-        ensures empty { IfOk result (λ journal. choice_of journal ≡ settled nothing) }
-        ensures store { IfOk result (λ journal.
-            store_of journal ≡ record { id = id; hives = hives }) }
-        ensures on { IfOk result (λ journal. D.faithful disk.new →
-            is_on (texts_of journal) (value_of journal) (D.state_at disk.new (D.clock disk.new) 0)) }
-        ensures file { IfOk result (λ journal. D.faithful disk.new →
-            D.state_at disk.new (D.clock disk.new) 0 ≡ at_rest (created_text (store_of journal))) }
-        ensures fails { IfErr result (λ why. ((why ≡ NoMemory) × (disk.new ≡ disk.old))
-            ⊎ ((why ≡ DiskFault) × (D.failures disk.old < D.failures disk.new))) }
-        ensures others { (f : ℕ) → ¬ (IsJournal f) →
-            D.state_at disk.new (D.clock disk.new) f ≡ D.state_at disk.old (D.clock disk.old) f }
-        ensures time { Extends (D.state_at disk.old) (D.state_at disk.new) (D.clock disk.old)
-            (D.clock disk.new) }
-        ensures faithful { D.faithful disk.new → D.faithful disk.old }
-    {
-        let mut text = header::encode(alloc, id, hives)?;
-        text.push(CLOSED_GATE)?;
-        device::clear(disk)?;
-        device::write(disk, 0, &text)?;
-        device::sync(disk)?;
-        Ok(Journal {
-            alloc,
-            id,
-            hives,
-            stands: Standing::nothing(),
-            phase: Phase::Quiet,
-        })
-    }
 
     /// The journal of what stands in a file that is at rest.
     pub(crate) fn found(alloc: Global, id: Uuid, hives: u8, stands: Standing) -> Journal

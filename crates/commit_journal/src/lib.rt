@@ -7,6 +7,7 @@
 #![tactic(auto)]
 
 mod body;
+mod creating;
 mod device;
 mod header;
 mod journal;
@@ -18,6 +19,7 @@ mod standing;
 mod told;
 mod window;
 
+pub use creating::JournalImage;
 pub use journal::Journal;
 pub use layout::{FIRST_GATE, MOST_BODY_BYTES, OPEN_GATE};
 pub use scanning::Opened;
