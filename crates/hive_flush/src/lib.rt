@@ -5,9 +5,11 @@ mod absorbing;
 mod creating;
 mod file;
 mod hive;
+mod image;
 pub mod laws;
 mod opening;
 mod planning;
 mod replaying;
 
 pub use crate::hive::HiveFile;
+pub use crate::image::HiveImage;
