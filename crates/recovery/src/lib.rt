@@ -1,4 +1,6 @@
-//! Opening a store: the number and the trees that its files recover.
+//! Making and opening a store: the number and the trees that its files recover.
+//!
+//! [`create`] makes a store of some trees, at number 0.
 //!
 //! The journal and the hives are each read by themselves. Together they recover one number and one tree for each hive: that which
 //! its files hold, with the changes of the journal above the hive's own number. [`open`] answers them, and refuses files only where
@@ -6,6 +8,7 @@
 //! crash leaves meanwhile recovers the same.
 #![tactic(auto)]
 
+mod creating;
 mod found;
 pub mod laws;
 mod numbers;
@@ -16,5 +19,6 @@ mod recovering;
 mod repairing;
 mod replaying;
 
+pub use creating::create;
 pub use found::Found;
 pub use opened::{Opened, open};
