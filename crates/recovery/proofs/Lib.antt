@@ -4,3 +4,4 @@ mod Hives
 mod Openings
 mod Repairs
 mod Crashes
+mod Beginnings

@@ -2,3 +2,4 @@ pub mod Recovered
 pub mod Reading
 pub mod Kept
 pub mod Shown
+pub mod Beginnings
