@@ -1,8 +1,9 @@
 //! The calls of the device that a journal makes.
 ghost use Rattle.std.specs.Prelude.{◌≡◌, ◌+◌, ◌≤◌, ℕ, length, IfOk, OnOk, OnErr, MatchResult};
 ghost use Rattle.disk_model.specs.FileState.{Cuts, Writes, MayWrite, Syncs};
-ghost use Rattle.disk_model.specs.Call.{OneCall, Extends, Reads};
+ghost use Rattle.disk_model.specs.Call.{OneCall, Reads};
 ghost use Rattle.disk_model.specs.StoreFiles.{IsJournal};
+ghost use Rattle.disk_model.specs.Unwritten.{OnlyReads, OnlySyncs};
 
 use disk_model::{Disk, Failed};
 
@@ -44,6 +45,8 @@ pub(crate) fn sync<D: Disk>(disk: &mut D) -> Result<(), Failed>
         D.state_at disk.new (D.clock disk.new) 0 ≡ D.state_at disk.old (D.clock disk.old) 0) }
     ensures call { OneCall IsJournal (D.state_at disk.old) (D.state_at disk.new) (D.clock disk.old)
         (D.clock disk.new) }
+    ensures syncs { D.faithful disk.new → OnlySyncs (D.state_at disk.old) (D.state_at disk.new)
+        (D.clock disk.old) (D.clock disk.new) }
     ensures failures { MatchResult result (λ _. D.failures disk.new ≡ D.failures disk.old)
         (λ _. D.failures disk.new ≡ D.failures disk.old + 1) }
     ensures faithful { D.faithful disk.new → D.faithful disk.old }
@@ -55,9 +58,7 @@ pub(crate) fn sync<D: Disk>(disk: &mut D) -> Result<(), Failed>
 pub(crate) fn len<D: Disk>(disk: &mut D) -> Result<u64, Failed>
     ensures len { IfOk result (λ n. D.faithful disk.new →
         n ≡ length (D.state_at disk.old (D.clock disk.old) 0).seen) }
-    ensures same { (f : ℕ) → D.state_at disk.new (D.clock disk.new) f
-        ≡ D.state_at disk.old (D.clock disk.old) f }
-    ensures time { Extends (D.state_at disk.old) (D.state_at disk.new) (D.clock disk.old)
+    ensures still { OnlyReads (D.state_at disk.old) (D.state_at disk.new) (D.clock disk.old)
         (D.clock disk.new) }
     ensures failures { MatchResult result (λ _. D.failures disk.new ≡ D.failures disk.old)
         (λ _. D.failures disk.new ≡ D.failures disk.old + 1) }
@@ -73,9 +74,7 @@ pub(crate) fn read<D: Disk>(disk: &mut D, offset: u64, piece: &mut Vec<u8>) -> R
     ensures read { IfOk result (λ n. D.faithful disk.new →
         Reads offset (D.state_at disk.old (D.clock disk.old) 0).seen
         piece.old.items piece.new.items n) }
-    ensures same { (f : ℕ) → D.state_at disk.new (D.clock disk.new) f
-        ≡ D.state_at disk.old (D.clock disk.old) f }
-    ensures time { Extends (D.state_at disk.old) (D.state_at disk.new) (D.clock disk.old)
+    ensures still { OnlyReads (D.state_at disk.old) (D.state_at disk.new) (D.clock disk.old)
         (D.clock disk.new) }
     ensures failures { MatchResult result (λ _. D.failures disk.new ≡ D.failures disk.old)
         (λ _. D.failures disk.new ≡ D.failures disk.old + 1) }

@@ -1,11 +1,12 @@
 //! The opening of a journal: what its file spells.
-ghost use Rattle.std.specs.Prelude.{◌≡◌, ◌+◌, ◌<◌, ◌≤◌, ℕ, List, length, None, Some, IfOk, IfErr, OnOk, ◌⊎◌};
+ghost use Rattle.std.specs.Prelude.{◌≡◌, ◌+◌, ◌<◌, ◌≤◌, ℕ, List, length, None, Some, IfOk, IfErr, OnOk};
 ghost use Rattle.std.specs.List.{AllByRecursion};
 ghost use Rattle.prefix_law.specs.Promises.{settled, top};
 ghost use Rattle.refusals.specs.declared.limits.TheConstants.{GREATEST_NUMBER};
-ghost use Rattle.disk_model.specs.FileState.{Syncs, at_rest};
+ghost use Rattle.disk_model.specs.FileState.{at_rest};
 ghost use Rattle.disk_model.specs.Call.{Extends};
 ghost use Rattle.disk_model.specs.StoreFiles.{IsJournal};
+ghost use Rattle.disk_model.specs.Unwritten.{OnlyReads, OnlySyncs};
 ghost use Rattle.element_text.specs.Text.{Fits};
 ghost use Rattle.engine_words.specs.Changes.{timed_elements};
 ghost use Rattle.commit_journal.specs.Text.{spelled};
@@ -66,10 +67,8 @@ impl Journal {
         ensures fails { IfErr result (FailsBy (D.failures disk.old < D.failures disk.new)
             (D.faithful disk.new →
             SpellsNothing (seen_at (D.state_at disk.old) (D.clock disk.old)))) }
-        ensures synced { D.faithful disk.new →
-            (D.state_at disk.new (D.clock disk.new) 0 ≡ D.state_at disk.old (D.clock disk.old) 0)
-            ⊎ Syncs (D.state_at disk.old (D.clock disk.old) 0)
-            (D.state_at disk.new (D.clock disk.new) 0) }
+        ensures synced { D.faithful disk.new → OnlySyncs (D.state_at disk.old) (D.state_at disk.new)
+            (D.clock disk.old) (D.clock disk.new) }
         ensures others { (f : ℕ) → ¬ (IsJournal f) →
             D.state_at disk.new (D.clock disk.new) f ≡ D.state_at disk.old (D.clock disk.old) f }
         ensures time { Extends (D.state_at disk.old) (D.state_at disk.new) (D.clock disk.old)
@@ -102,9 +101,7 @@ fn read<D: Disk>(alloc: Global, disk: &mut D) -> Result<Opened, Refusal>
     ensures fails { IfErr result (FailsBy (D.failures disk.old < D.failures disk.new)
         (D.faithful disk.new →
         SpellsNothing (seen_at (D.state_at disk.old) (D.clock disk.old)))) }
-    ensures same { (f : ℕ) → D.state_at disk.new (D.clock disk.new) f
-        ≡ D.state_at disk.old (D.clock disk.old) f }
-    ensures time { Extends (D.state_at disk.old) (D.state_at disk.new) (D.clock disk.old)
+    ensures still { OnlyReads (D.state_at disk.old) (D.state_at disk.new) (D.clock disk.old)
         (D.clock disk.new) }
     ensures failures { D.failures disk.old ≤ D.failures disk.new }
     ensures faithful { D.faithful disk.new → D.faithful disk.old }
@@ -158,9 +155,7 @@ fn scan<D: Disk>(disk: &mut D, window: &mut Window, reader: &mut Reader) -> Resu
         (rest_of (seen_at (D.state_at disk.old) (D.clock disk.old)) window.old) →
         spelled (texts_for id reader.old) (seen_at (D.state_at disk.old) (D.clock disk.old))
         ≡ None)) }
-    ensures same { (f : ℕ) → D.state_at disk.new (D.clock disk.new) f
-        ≡ D.state_at disk.old (D.clock disk.old) f }
-    ensures time { Extends (D.state_at disk.old) (D.state_at disk.new) (D.clock disk.old)
+    ensures still { OnlyReads (D.state_at disk.old) (D.state_at disk.new) (D.clock disk.old)
         (D.clock disk.new) }
     ensures failures { D.failures disk.old ≤ D.failures disk.new }
     ensures faithful { D.faithful disk.new → D.faithful disk.old }

@@ -1,6 +1,6 @@
 //! The journal's file, read in pieces.
 ghost use Rattle.std.specs.Prelude.{◌≡◌, ◌+◌, ◌-◌, ◌<◌, ◌≤◌, ℕ, List, length, drop, IfOk, OnOk, IfErr};
-ghost use Rattle.disk_model.specs.Call.{Extends};
+ghost use Rattle.disk_model.specs.Unwritten.{OnlyReads};
 
 use crate::device;
 use disk_model::Disk;
@@ -92,9 +92,7 @@ impl Window {
             (D.faithful disk.new →
             self.old.end ≡ length (seen_at (D.state_at disk.old) (D.clock disk.old)) →
             length (rest_of (seen_at (D.state_at disk.old) (D.clock disk.old)) self.old) < wanted)) }
-        ensures same { (f : ℕ) → D.state_at disk.new (D.clock disk.new) f
-            ≡ D.state_at disk.old (D.clock disk.old) f }
-        ensures time { Extends (D.state_at disk.old) (D.state_at disk.new) (D.clock disk.old)
+        ensures still { OnlyReads (D.state_at disk.old) (D.state_at disk.new) (D.clock disk.old)
             (D.clock disk.new) }
         ensures failures { D.failures disk.old ≤ D.failures disk.new }
         ensures faithful { D.faithful disk.new → D.faithful disk.old }
@@ -142,9 +140,7 @@ impl Window {
             self.old.end ≡ length (seen_at (D.state_at disk.old) (D.clock disk.old)) →
             self.old.at < self.old.end → 0 < n) }
         ensures fails { IfErr result (FailsBy (D.failures disk.old < D.failures disk.new) ⊥) }
-        ensures same { (f : ℕ) → D.state_at disk.new (D.clock disk.new) f
-            ≡ D.state_at disk.old (D.clock disk.old) f }
-        ensures time { Extends (D.state_at disk.old) (D.state_at disk.new) (D.clock disk.old)
+        ensures still { OnlyReads (D.state_at disk.old) (D.state_at disk.new) (D.clock disk.old)
             (D.clock disk.new) }
         ensures failures { D.failures disk.old ≤ D.failures disk.new }
         ensures faithful { D.faithful disk.new → D.faithful disk.old }

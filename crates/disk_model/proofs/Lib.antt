@@ -11,4 +11,5 @@ pub mod Sectors
 pub mod Sound
 pub mod Steps
 pub mod Tears
+pub mod Unwritten
 pub mod Whole

@@ -10,4 +10,5 @@ pub mod Sector
 pub mod Shown
 pub mod StoreFiles
 pub mod Tear
+pub mod Unwritten
 pub mod Written

@@ -3,18 +3,12 @@ use Rattle.std.proofs.Common.{ℕ, ◌∙◌, inl, inr, ⊎_elim, arith, Result,
 use Rattle.refusals.specs.declared.refusal.Refusal.{Refusal}
 use Rattle.disk_model.specs.FileState.{FileState}
 use Rattle.disk_model.specs.Call.{Extends}
-use Rattle.hive_files.specs.Frames.{OnlyReads, FailsBy}
+use Rattle.hive_files.specs.Frames.{FailsBy}
 
 pub extends_on : (first mid last : ℕ → ℕ → FileState) (a b c : ℕ) → Extends first mid a b → Extends mid last b c → Extends first last a c
 extends_on first mid last a b c x y = record {
   later = omega (arith, x.later, y.later);
   past = λ k f le. y.past k f (omega (arith, le, x.later)) ∙ x.past k f le;
-}
-
-pub reads_on : (first mid last : ℕ → ℕ → FileState) (a b c : ℕ) → OnlyReads first mid a b → OnlyReads mid last b c → OnlyReads first last a c
-reads_on first mid last a b c x y = record {
-  time = extends_on first mid last a b c x.time y.time;
-  same = λ f. y.same f ∙ x.same f;
 }
 
 pub fails_on : (F G : Type 0) (S R : Refusal → Type 0) (why : Refusal) → (F → G) → (S why → R why) → FailsBy F S why → FailsBy G R why

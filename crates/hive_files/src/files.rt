@@ -1,7 +1,8 @@
 //! The device's calls on files that are read whole.
 ghost use Rattle.std.specs.Prelude.{◌≡◌, ◌⊎◌, ◌+◌, ◌<◌, ◌≤◌, ◌^◌, ℕ, length, take, drop, IfOk, IfErr, OnOk};
 ghost use Rattle.disk_model.specs.StoreFiles.{primary_file, log_file};
-ghost use Rattle.hive_files.specs.Frames.{OnlyReads, FailsBy, nothing_told};
+ghost use Rattle.disk_model.specs.Unwritten.{OnlyReads};
+ghost use Rattle.hive_files.specs.Frames.{FailsBy, nothing_told};
 
 use dirt_log::PIECE_BYTES;
 use disk_model::{Disk, Failed};

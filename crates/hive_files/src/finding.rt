@@ -7,8 +7,9 @@ ghost use Rattle.dirty_vector.specs.Pages.{clean_pages};
 ghost use Rattle.disk_model.specs.Call.{Extends};
 ghost use Rattle.disk_model.specs.FileState.{at_rest};
 ghost use Rattle.disk_model.specs.StoreFiles.{IsOfHive, primary_file, log_file};
+ghost use Rattle.disk_model.specs.Unwritten.{OnlyReads, OnlySyncs};
 ghost use Rattle.hive_files.specs.Finding.{IsByLog, IsFound, IsLogOf, IsLogged, IsPart, NothingThere, TellsOfHive, as_primary};
-ghost use Rattle.hive_files.specs.Frames.{OnlyReads, FailsBy, IsSyncedOrSame};
+ghost use Rattle.hive_files.specs.Frames.{FailsBy};
 ghost use Rattle.refusals.specs.Answers.{RefusedFor};
 
 use crate::files::{BINS_AT, SECTOR_BYTES, log_number, primary_number, read_part};
@@ -44,8 +45,8 @@ pub fn find<D: Disk>(alloc: Global, disk: &mut D, hive: u8) -> Result<Found, Ref
         (NothingThere (D.faithful disk.new)
         (D.state_at disk.old (D.clock disk.old) (primary_file hive)).seen
         (D.state_at disk.old (D.clock disk.old) (log_file hive)).seen)) }
-    ensures synced { D.faithful disk.new → (f : ℕ) → IsOfHive hive f → IsSyncedOrSame
-        (D.state_at disk.old (D.clock disk.old) f) (D.state_at disk.new (D.clock disk.new) f) }
+    ensures synced { D.faithful disk.new → OnlySyncs (D.state_at disk.old) (D.state_at disk.new)
+        (D.clock disk.old) (D.clock disk.new) }
     ensures others { (f : ℕ) → ¬ (IsOfHive hive f) →
         D.state_at disk.new (D.clock disk.new) f ≡ D.state_at disk.old (D.clock disk.old) f }
     ensures time { Extends (D.state_at disk.old) (D.state_at disk.new) (D.clock disk.old)
@@ -137,9 +138,8 @@ fn find_repaired<D: Disk>(alloc: Global, disk: &mut D, hive: u8) -> Result<Found
         (λ why. TellsOfHive why × (D.faithful disk.new → IsLogged
         (D.state_at disk.old (D.clock disk.old) (primary_file hive)).seen
         (D.state_at disk.old (D.clock disk.old) (log_file hive)).seen → ⊥))) }
-    ensures synced { D.faithful disk.new → IsSyncedOrSame
-        (D.state_at disk.old (D.clock disk.old) (log_file hive))
-        (D.state_at disk.new (D.clock disk.new) (log_file hive)) }
+    ensures synced { D.faithful disk.new → OnlySyncs (D.state_at disk.old) (D.state_at disk.new)
+        (D.clock disk.old) (D.clock disk.new) }
     ensures others { (f : ℕ) → ¬ (f ≡ log_file hive) →
         D.state_at disk.new (D.clock disk.new) f ≡ D.state_at disk.old (D.clock disk.old) f }
     ensures time { Extends (D.state_at disk.old) (D.state_at disk.new) (D.clock disk.old)

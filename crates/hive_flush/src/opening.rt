@@ -6,8 +6,9 @@ ghost use Rattle.refusals.specs.declared.refusal.Refusal.TheVariants.{DiskFault,
 ghost use Rattle.disk_model.specs.Call.{Extends};
 ghost use Rattle.disk_model.specs.FileState.{FileState, at_rest};
 ghost use Rattle.disk_model.specs.StoreFiles.{IsOfHive as IsFileOf, primary_file, log_file};
+ghost use Rattle.disk_model.specs.Unwritten.{OnlySyncs};
 ghost use Rattle.hive_files.specs.Finding.{IsFound};
-ghost use Rattle.hive_files.specs.Frames.{FailsBy, IsSyncedOrSame};
+ghost use Rattle.hive_files.specs.Frames.{FailsBy};
 ghost use Rattle.hive_flush.specs.Standing.{HoldsUnder, IsOfHive, NothingHeld};
 ghost use Rattle.hive_flush.specs.Planned.{clean_writer, unclean_writer};
 ghost use Rattle.hive_flush.specs.HiveStates.{IsBroken, IsOn, IsWhole, files_of, marked_pages, memory_of, place_of, steps_left, store_of};
@@ -58,9 +59,8 @@ impl HiveFile {
             (NothingHeld (D.faithful disk.new) hive store
             (D.state_at disk.old (D.clock disk.old) (primary_file hive)).seen
             (D.state_at disk.old (D.clock disk.old) (log_file hive)).seen)) }
-        ensures synced { D.faithful disk.new → (f : ℕ) → IsFileOf hive f → IsSyncedOrSame
-            (D.state_at disk.old (D.clock disk.old) f)
-            (D.state_at disk.new (D.clock disk.new) f) }
+        ensures synced { D.faithful disk.new → OnlySyncs (D.state_at disk.old) (D.state_at disk.new)
+            (D.clock disk.old) (D.clock disk.new) }
         ensures others { (f : ℕ) → ¬ (IsFileOf hive f) →
             D.state_at disk.new (D.clock disk.new) f ≡ D.state_at disk.old (D.clock disk.old) f }
         ensures time { Extends (D.state_at disk.old) (D.state_at disk.new) (D.clock disk.old)

@@ -1,12 +1,13 @@
 -- Hives are opened one after another.
-use Rattle.std.proofs.Common.{◌≡◌, ◌⊎◌, inl, inr, ℕ, ◌<◌, List, [], ◌∷◌, ◌++◌, length, refl, sym, ◌∙◌, ap, subst, arith, Some, slice_get}
-use Rattle.std.proofs.lemmas.Bool.{cases_eq}
+use Rattle.std.proofs.Common.{◌≡◌, inl, inr, ℕ, ◌<◌, List, [], ◌∷◌, ◌++◌, length, refl, sym, ◌∙◌, subst, arith, Some, slice_get}
 use Rattle.std.proofs.lemmas.Option.{slice_get_within}
 use Rattle.refusals.specs.declared.refusal.Refusal.{Refusal}
 use Rattle.prefix_law.specs.Promises.{settled}
-use Rattle.disk_model.specs.FileState.{FileState, at_rest}
+use Rattle.disk_model.specs.FileState.{FileState}
 use Rattle.disk_model.specs.StoreFiles.{IsOfHive, primary_file, log_file, journal_file}
-use Rattle.hive_files.specs.Frames.{FailsBy, IsSyncedOrSame}
+use Rattle.disk_model.specs.Unwritten.{IsSyncedOrSame}
+use Rattle.disk_model.proofs.Unwritten.{seen_same, synced_on}
+use Rattle.hive_files.specs.Frames.{FailsBy}
 use Rattle.hive_flush.specs.Standing.{HoldsUnder, NothingHeld}
 use Rattle.hive_flush.specs.HiveStates.{IsBroken, IsOn, files_of, memory_of, place_of}
 use Rattle.hive_flush.specs.HiveStates as states
@@ -14,26 +15,10 @@ use Rattle.hive_flush.specs.declared.hive.HiveFile.{HiveFile}
 use Rattle.engine_law.proofs.HiveLists.{each_pushed}
 use Rattle.recovery.specs.Reading.{AreOpened, IsNoHive, IsOpened}
 
--- what a read gives stays by a sync, and one sync after another is one
-pub seen_same : (old new : FileState) → IsSyncedOrSame old new → new.seen ≡ old.seen
-seen_same old new (inl same) = ap (λ (s : FileState). s.seen) same
-seen_same old new (inr syncs) = ap (λ (s : FileState). s.seen) syncs
-
-pub synced_on : (old mid new : FileState) → IsSyncedOrSame old mid → IsSyncedOrSame mid new → IsSyncedOrSame old new
-synced_on old mid new first (inl same) = subst (IsSyncedOrSame old) (sym same) first
-synced_on old mid new first (inr syncs) = inr (syncs ∙ ap at_rest (seen_same old mid first))
-
--- a file is of a hive, or not
-of_hive : (i f : ℕ) → IsOfHive i f ⊎ ¬ (IsOfHive i f)
-of_hive i f = elim (cases_eq f (primary_file i)) [
-  | inl e ↦ inl (inl e)
-  | inr ne ↦ elim (cases_eq f (log_file i)) [ inl e ↦ inl (inr e) | inr other ↦ inr (λ either. elim (either) [ inl e ↦ ne e | inr e ↦ other e ]) ]
-]
-
 module _ (before after : Type 0) (back : after → before) (store : List ℕ) (then mid now : ℕ → FileState) (hives : List HiveFile) (a : AreOpened before store then mid hives)
-    (k : ℕ) (many : length hives ≡ k) (others : (f : ℕ) → ¬ (IsOfHive k f) → now f ≡ mid f) (synced : after → (f : ℕ) → IsOfHive k f → IsSyncedOrSame (mid f) (now f)) where
-  pub files_synced : after → (f : ℕ) → IsSyncedOrSame (then f) (now f)
-  files_synced faithful f = synced_on (then f) (mid f) (now f) (a.files (back faithful) f) (elim (of_hive k f) [ inl its ↦ synced faithful f its | inr other ↦ inl (others f other) ])
+    (k : ℕ) (many : length hives ≡ k) (others : (f : ℕ) → ¬ (IsOfHive k f) → now f ≡ mid f) (synced : after → (f : ℕ) → IsSyncedOrSame (mid f) (now f)) where
+  files_synced : after → (f : ℕ) → IsSyncedOrSame (then f) (now f)
+  files_synced faithful f = synced_on (then f) (mid f) (now f) (a.files (back faithful) f) (synced faithful f)
 
   was_seen : after → (f : ℕ) → (mid f).seen ≡ (then f).seen
   was_seen faithful f = seen_same (then f) (mid f) (a.files (back faithful) f)

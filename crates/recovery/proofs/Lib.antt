@@ -5,3 +5,4 @@ mod Openings
 mod Repairs
 mod Crashes
 mod Creations
+mod Beginnings

@@ -3,3 +3,4 @@ pub mod Reading
 pub mod Kept
 pub mod Shown
 pub mod Created
+pub mod Beginnings

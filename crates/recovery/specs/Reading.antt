@@ -16,7 +16,7 @@ use Rattle.commit_journal.specs.Text.{spelled}
 use Rattle.commit_journal.specs.Store.{IsStore}
 use Rattle.commit_journal.specs.Journals.{choice_of, store_of, texts_of}
 use Rattle.commit_journal.specs.declared.journal.Journal.{Journal}
-use Rattle.hive_files.specs.Frames.{IsSyncedOrSame}
+use Rattle.disk_model.specs.Unwritten.{IsSyncedOrSame}
 use Rattle.hive_flush.specs.Standing.{HoldsUnder, IsOfHive}
 use Rattle.hive_flush.specs.HiveStates.{IsBroken, IsOn, files_of, memory_of, place_of}
 use Rattle.hive_flush.specs.HiveStates as states

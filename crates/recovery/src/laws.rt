@@ -1,8 +1,12 @@
-//! What files recover: a law.
+//! What files recover, and what openings that came to nothing leave of them: laws.
 ghost use Rattle.std.specs.Prelude.{◌≡◌, ℕ, List};
 ghost use Rattle.reg_tree.specs.Maps.{TreeMap};
+ghost use Rattle.disk_model.specs.Crash.{LeavesHonest};
+ghost use Rattle.disk_model.specs.FileState.{FileState};
+ghost use Rattle.disk_model.specs.StoreFiles.{IsPrimary};
 ghost use Rattle.commit_journal.specs.Store.{Store};
-ghost use Rattle.recovery.specs.Recovered.{IsRecovered};
+ghost use Rattle.recovery.specs.Beginnings.{AllCameToNothing, MayBegin, after_crash};
+ghost use Rattle.recovery.specs.Recovered.{IsRecovered, seen_in};
 
 use commit_journal::laws::one_store;
 use hive_flush::laws::one_is_held;
@@ -15,3 +19,26 @@ pub fn one_is_recovered()
     one_store();
     one_is_held();
 }
+
+/// Laws of openings, one after another, that came to nothing: each ended in a crash at any moment of it, or was refused. They began
+/// on files on which a life may begin.
+///
+/// - `begins`: a life may begin on the files then, too; `crash`: as it may on any that a crash left.
+/// - `left`: whatever a crash leaves then, with honest first sectors, one might have left at first.
+/// - `read`: and so might what a read gives then. So a number and trees that are opened then are some that might have been opened
+///   after a crash at first.
+/// - `recovered`: where that is one number and trees whatever a crash left at first, it is those.
+pub fn openings_lose_nothing()
+    ensures crash { (files : ℕ → List ℕ) → MayBegin (after_crash files) }
+    ensures begins { (first last : ℕ → FileState) → MayBegin first →
+        AllCameToNothing first last → MayBegin last }
+    ensures left { (first last : ℕ → FileState) → MayBegin first → AllCameToNothing first last →
+        (files : ℕ → List ℕ) → LeavesHonest IsPrimary last files →
+        LeavesHonest IsPrimary first files }
+    ensures read { (first last : ℕ → FileState) → MayBegin first → AllCameToNothing first last →
+        LeavesHonest IsPrimary first (seen_in last) }
+    ensures recovered { (first last : ℕ → FileState) → MayBegin first →
+        AllCameToNothing first last → (store : Store) (number : ℕ) (trees : List TreeMap) →
+        ((files : ℕ → List ℕ) → LeavesHonest IsPrimary first files →
+        IsRecovered files store number trees) → IsRecovered (seen_in last) store number trees }
+{}

@@ -5,7 +5,8 @@ ghost use Rattle.engine_words.specs.declared.Progress.TheVariants as Progress;
 ghost use Rattle.disk_model.specs.Call.{Extends, OneCall, HasFailed};
 ghost use Rattle.disk_model.specs.Crash.{LeavesHonest};
 ghost use Rattle.disk_model.specs.StoreFiles.{IsPrimary};
-ghost use Rattle.hive_files.specs.Frames.{FailsBy, IsSyncedOrSame};
+ghost use Rattle.disk_model.specs.Unwritten.{OnlySyncs};
+ghost use Rattle.hive_files.specs.Frames.{FailsBy};
 ghost use Rattle.engine_law.specs.Prefixes.{AnyFile, AreOnDisk};
 ghost use Rattle.recovery.specs.Kept.{AllWork, IsKept};
 ghost use Rattle.recovery.specs.Recovered.{IsNoStore, IsRecovered, seen_in};
@@ -60,10 +61,12 @@ impl<D: Disk> Model for Opened<D> {
 /// Opens the store that is on a disk: the number and the trees that its files recover. Hives that were being written as the
 /// power went are to be repaired before anything else, by [`Opened::repair_step`].
 ///
-/// Each file that is read is synced first, so that nothing which was found is lost at the next crash.
+/// Each file that is read is synced first, so that nothing which was found is lost at the next crash. At each moment of the call each
+/// file is as it was, or synced: so whatever a crash leaves within might have been left before
+/// ([`laws::openings_lose_nothing`](crate::laws::openings_lose_nothing)).
 ///
 /// Refused with `HiveDamaged` of a hive, `Unsupported` or `JournalDamaged` only where the files recover nothing; with `DiskFault`
-/// where the device failed; and with `NoMemory`. The disk is handed back then; no file changes but by its sync.
+/// where the device failed; and with `NoMemory`. The disk is handed back then, and so much holds of it too.
 pub fn open<D: Disk>(alloc: Global, disk: D) -> Result<Opened<D>, (Refusal, D)>
     ensures recovered { IfOk result (λ opened. D.faithful opened.disk →
         IsRecovered (seen_in (D.state_at disk (D.clock disk)))
@@ -71,12 +74,10 @@ pub fn open<D: Disk>(alloc: Global, disk: D) -> Result<Opened<D>, (Refusal, D)>
     ensures works { IfOk result (λ opened. opened.failed ≡ false) }
     ensures fails { IfErr result (λ back. FailsBy (D.failures disk < D.failures back.1)
         (IsNoStore (D.faithful back.1) (seen_in (D.state_at disk (D.clock disk)))) back.0) }
-    ensures synced { IfOk result (λ opened. D.faithful opened.disk → (f : ℕ) →
-        IsSyncedOrSame (D.state_at disk (D.clock disk) f)
-        (D.state_at opened.disk (D.clock opened.disk) f)) }
-    ensures back { IfErr result (λ back. D.faithful back.1 → (f : ℕ) →
-        IsSyncedOrSame (D.state_at disk (D.clock disk) f)
-        (D.state_at back.1 (D.clock back.1) f)) }
+    ensures synced { IfOk result (λ opened. D.faithful opened.disk → OnlySyncs (D.state_at disk)
+        (D.state_at opened.disk) (D.clock disk) (D.clock opened.disk)) }
+    ensures back { IfErr result (λ back. D.faithful back.1 → OnlySyncs (D.state_at disk)
+        (D.state_at back.1) (D.clock disk) (D.clock back.1)) }
     ensures time { IfOk result (λ opened. Extends (D.state_at disk) (D.state_at opened.disk)
         (D.clock disk) (D.clock opened.disk)) }
     ensures back_time { IfErr result (λ back. Extends (D.state_at disk) (D.state_at back.1)

@@ -2,9 +2,10 @@
 ghost use Rattle.std.specs.Prelude.{◌≡◌, ℕ, ◌<◌, ◌≤◌, IfOk, IfErr};
 ghost use Rattle.disk_model.specs.Call.{Extends};
 ghost use Rattle.disk_model.specs.FileState.{FileState};
+ghost use Rattle.disk_model.specs.Unwritten.{OnlySyncs};
 ghost use Rattle.commit_journal.specs.Journals.{store_of};
 ghost use Rattle.engine_law.specs.Prefixes.{AreOnDisk};
-ghost use Rattle.hive_files.specs.Frames.{FailsBy, IsSyncedOrSame};
+ghost use Rattle.hive_files.specs.Frames.{FailsBy};
 ghost use Rattle.recovery.specs.Kept.{AllWork, IsKept};
 ghost use Rattle.recovery.specs.Recovered.{IsNoStore, IsRecovered, seen_in};
 
@@ -31,8 +32,8 @@ pub(crate) fn find<D: Disk>(alloc: Global, disk: &mut D) -> Result<Found, Refusa
         AreOnDisk found.journal found.hives.items (D.state_at disk.new (D.clock disk.new))) }
     ensures fails { IfErr result (FailsBy (D.failures disk.old < D.failures disk.new)
         (IsNoStore (D.faithful disk.new) (seen_in (D.state_at disk.old (D.clock disk.old))))) }
-    ensures synced { D.faithful disk.new → (f : ℕ) → IsSyncedOrSame
-        (D.state_at disk.old (D.clock disk.old) f) (D.state_at disk.new (D.clock disk.new) f) }
+    ensures synced { D.faithful disk.new → OnlySyncs (D.state_at disk.old) (D.state_at disk.new)
+        (D.clock disk.old) (D.clock disk.new) }
     ensures time { Extends (D.state_at disk.old) (D.state_at disk.new) (D.clock disk.old)
         (D.clock disk.new) }
     ensures faithful { D.faithful disk.new → D.faithful disk.old }

@@ -3,7 +3,8 @@ ghost use Rattle.std.specs.Prelude.{◌≡◌, ℕ, ◌<◌, ◌≤◌, length, 
 ghost use Rattle.disk_model.specs.Call.{Extends};
 ghost use Rattle.disk_model.specs.FileState.{FileState};
 ghost use Rattle.disk_model.specs.StoreFiles.{journal_file};
-ghost use Rattle.hive_files.specs.Frames.{FailsBy, IsSyncedOrSame};
+ghost use Rattle.disk_model.specs.Unwritten.{OnlySyncs};
+ghost use Rattle.hive_files.specs.Frames.{FailsBy};
 ghost use Rattle.recovery.specs.Reading.{AreOpened, IsNoHive};
 
 use disk_model::Disk;
@@ -27,8 +28,8 @@ pub(crate) fn open_hives<D: Disk>(
         hives.items) }
     ensures fails { IfErr result (FailsBy (D.failures disk.old < D.failures disk.new)
         (IsNoHive (D.faithful disk.new) store count (D.state_at disk.old (D.clock disk.old)))) }
-    ensures synced { D.faithful disk.new → (f : ℕ) → IsSyncedOrSame
-        (D.state_at disk.old (D.clock disk.old) f) (D.state_at disk.new (D.clock disk.new) f) }
+    ensures synced { D.faithful disk.new → OnlySyncs (D.state_at disk.old) (D.state_at disk.new)
+        (D.clock disk.old) (D.clock disk.new) }
     ensures time { Extends (D.state_at disk.old) (D.state_at disk.new) (D.clock disk.old)
         (D.clock disk.new) }
     ensures failures { D.failures disk.old ≤ D.failures disk.new }

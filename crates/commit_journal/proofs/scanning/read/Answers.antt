@@ -1,5 +1,6 @@
 use Rattle.std.proofs.Common.{◌≡◌, ◌∙◌, ◌<◌, List, ℕ, length, take, sym, ap, subst, arith, Some, None}
 use Rattle.prefix_law.specs.Promises.{nothing}
+use Rattle.disk_model.proofs.Unwritten.{still}
 use Rattle.disk_model.specs.FileState.{FileState, at_rest}
 use Rattle.engine_words.specs.Changes.{TimedOp}
 use Rattle.commit_journal.specs.Text.{Texts, spelled}
@@ -17,7 +18,7 @@ pub returns-in-Err-clause-fails : goal.returns-in-Err-clause-fails
 returns-in-Err-clause-fails g c =
     let file = seen_at (g.D.Disk.state_at c.args.disk.now) (g.D.Disk.clock c.args.disk.now) in
     let w = c.in_ok-window.window in
-    let same : seen_at (g.D.Disk.state_at c.len.new.disk) (g.D.Disk.clock c.len.new.disk) ≡ file = ap (λ (s : FileState). s.seen) (c.in_ok-end.ensures.same 0) in
+    let same : seen_at (g.D.Disk.state_at c.len.new.disk) (g.D.Disk.clock c.len.new.disk) ≡ file = ap (λ (s : FileState). s.seen) (still c.in_ok-end.ensures.still 0) in
     fails_on _ _ _ _ c.in-Err.why (λ f. omega (arith, f, c.in_ok-end.ensures.failures)) (λ short faithful.
     let end : w.end ≡ length file = c.in_ok-window.ensures.end ∙ c.in_ok-end.ensures.len (c.in-Err.ensures.faithful faithful) in
     let few : length (rest_of file w) < 64 = subst (λ (l : List ℕ). length (rest_of l w) < 64) same (short faithful (end ∙ ap (λ (l : List ℕ). length l) (sym same))) in
@@ -27,7 +28,7 @@ pub returns-in-Err-decode-clause-fails : goal.returns-in-Err-decode-clause-fails
 returns-in-Err-decode-clause-fails g c =
     let file = seen_at (g.D.Disk.state_at c.args.disk.now) (g.D.Disk.clock c.args.disk.now) in
     let w = c.fill.new.self in
-    let same : seen_at (g.D.Disk.state_at c.len.new.disk) (g.D.Disk.clock c.len.new.disk) ≡ file = ap (λ (s : FileState). s.seen) (c.in_ok-end.ensures.same 0) in
+    let same : seen_at (g.D.Disk.state_at c.len.new.disk) (g.D.Disk.clock c.len.new.disk) ≡ file = ap (λ (s : FileState). s.seen) (still c.in_ok-end.ensures.still 0) in
     fails_of _ _ _ c.in-Err-decode.why (λ none faithful.
     let end : c.in_ok-window.window.end ≡ length file = c.in_ok-window.ensures.end ∙ c.in_ok-end.ensures.len (c.in-Ok.ensures.faithful faithful) in
     let rest : rest_of file w ≡ file
@@ -41,8 +42,8 @@ returns-in-Err-scan-clause-fails g c =
     let skipped = c.skip.new.self in
     let reader = c.new-reader.result in
     let store : Store = record { id = c.in-Ok-decode.store.0; hives = c.in-Ok-decode.store.1 } in
-    let same : seen_at (g.D.Disk.state_at c.len.new.disk) (g.D.Disk.clock c.len.new.disk) ≡ file = ap (λ (s : FileState). s.seen) (c.in_ok-end.ensures.same 0) in
-    let later : seen_at (g.D.Disk.state_at c.fill.new.disk) (g.D.Disk.clock c.fill.new.disk) ≡ file = ap (λ (s : FileState). s.seen) (c.in-Ok.ensures.same 0) ∙ same in
+    let same : seen_at (g.D.Disk.state_at c.len.new.disk) (g.D.Disk.clock c.len.new.disk) ≡ file = ap (λ (s : FileState). s.seen) (still c.in_ok-end.ensures.still 0) in
+    let later : seen_at (g.D.Disk.state_at c.fill.new.disk) (g.D.Disk.clock c.fill.new.disk) ≡ file = ap (λ (s : FileState). s.seen) (still c.in-Ok.ensures.still 0) ∙ same in
     fails_on _ _ _ _ c.in-Err-scan.why (λ f. omega (arith, f, c.in-Ok.ensures.failures, c.in_ok-end.ensures.failures)) (λ none faithful.
     let filled = c.in-Err-scan.ensures.faithful faithful in
     let end : c.in_ok-window.window.end ≡ length file = c.in_ok-window.ensures.end ∙ c.in_ok-end.ensures.len (c.in-Ok.ensures.faithful filled) in
@@ -66,8 +67,8 @@ returns-clause-spells g c = λ faithful.
     let reader = c.new-reader.result in
     let read = c.scan.new.reader in
     let store : Store = record { id = c.in-Ok-decode.store.0; hives = c.in-Ok-decode.store.1 } in
-    let same : seen_at (g.D.Disk.state_at c.len.new.disk) (g.D.Disk.clock c.len.new.disk) ≡ file = ap (λ (s : FileState). s.seen) (c.in_ok-end.ensures.same 0) in
-    let later : seen_at (g.D.Disk.state_at c.fill.new.disk) (g.D.Disk.clock c.fill.new.disk) ≡ file = ap (λ (s : FileState). s.seen) (c.in-Ok.ensures.same 0) ∙ same in
+    let same : seen_at (g.D.Disk.state_at c.len.new.disk) (g.D.Disk.clock c.len.new.disk) ≡ file = ap (λ (s : FileState). s.seen) (still c.in_ok-end.ensures.still 0) in
+    let later : seen_at (g.D.Disk.state_at c.fill.new.disk) (g.D.Disk.clock c.fill.new.disk) ≡ file = ap (λ (s : FileState). s.seen) (still c.in-Ok.ensures.still 0) ∙ same in
     let filled = c.in-Ok-scan.ensures.faithful faithful in
     let end : c.in_ok-window.window.end ≡ length file = c.in_ok-window.ensures.end ∙ c.in_ok-end.ensures.len (c.in-Ok.ensures.faithful filled) in
     let rest : rest_of file w ≡ file
@@ -93,8 +94,8 @@ returns-clause-on g c = λ faithful.
     let reader = c.new-reader.result in
     let read = c.scan.new.reader in
     let store : Store = record { id = c.in-Ok-decode.store.0; hives = c.in-Ok-decode.store.1 } in
-    let same : seen_at (g.D.Disk.state_at c.len.new.disk) (g.D.Disk.clock c.len.new.disk) ≡ file = ap (λ (s : FileState). s.seen) (c.in_ok-end.ensures.same 0) in
-    let later : seen_at (g.D.Disk.state_at c.fill.new.disk) (g.D.Disk.clock c.fill.new.disk) ≡ file = ap (λ (s : FileState). s.seen) (c.in-Ok.ensures.same 0) ∙ same in
+    let same : seen_at (g.D.Disk.state_at c.len.new.disk) (g.D.Disk.clock c.len.new.disk) ≡ file = ap (λ (s : FileState). s.seen) (still c.in_ok-end.ensures.still 0) in
+    let later : seen_at (g.D.Disk.state_at c.fill.new.disk) (g.D.Disk.clock c.fill.new.disk) ≡ file = ap (λ (s : FileState). s.seen) (still c.in-Ok.ensures.still 0) ∙ same in
     let filled = c.in-Ok-scan.ensures.faithful faithful in
     let end : c.in_ok-window.window.end ≡ length file = c.in_ok-window.ensures.end ∙ c.in_ok-end.ensures.len (c.in-Ok.ensures.faithful filled) in
     let rest : rest_of file w ≡ file

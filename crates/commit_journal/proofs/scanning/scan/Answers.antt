@@ -1,4 +1,5 @@
 use Rattle.std.proofs.Common.{◌≡◌, ◌∙◌, ◌+◌, ◌++◌, ◌<◌, List, ℕ, length, length-drop, drop, sym, ap, subst, arith}
+use Rattle.disk_model.proofs.Unwritten.{still}
 use Rattle.disk_model.specs.FileState.{FileState}
 use Rattle.commit_journal.specs.Text.{spelled}
 use Rattle.commit_journal.specs.Store.{texts}
@@ -12,7 +13,7 @@ returns-in-Err-clause-fails g c =
     let file = seen_at (g.D.Disk.state_at c.args.disk.now) (g.D.Disk.clock c.args.disk.now) in
     let inv = c.reading.invariant in
     let w = c.reading.window in
-    let same : seen_at (g.D.Disk.state_at c.reading.disk) (g.D.Disk.clock c.reading.disk) ≡ file = ap (λ (s : FileState). s.seen) (inv.same 0) in
+    let same : seen_at (g.D.Disk.state_at c.reading.disk) (g.D.Disk.clock c.reading.disk) ≡ file = ap (λ (s : FileState). s.seen) (still inv.still 0) in
     fails_on _ _ _ _ c.in-Err.why (λ f. omega (arith, f, inv.failures)) (λ short faithful end id here.
     let at : IsReading id file c.reading.reader (rest_of file w) = inv.reads (c.in-Err.ensures.faithful faithful) end id here in
     let few : length (rest_of file w) < c.wants.result
@@ -24,7 +25,7 @@ returns-in-Err-take-clause-fails g c =
     let file = seen_at (g.D.Disk.state_at c.args.disk.now) (g.D.Disk.clock c.args.disk.now) in
     let inv = c.reading.invariant in
     let w = c.fill.new.self in
-    let same : seen_at (g.D.Disk.state_at c.reading.disk) (g.D.Disk.clock c.reading.disk) ≡ file = ap (λ (s : FileState). s.seen) (inv.same 0) in
+    let same : seen_at (g.D.Disk.state_at c.reading.disk) (g.D.Disk.clock c.reading.disk) ≡ file = ap (λ (s : FileState). s.seen) (still inv.still 0) in
     fails_of _ _ _ c.in-Err-take.why (λ none faithful end id here.
     let at : IsReading id file c.reading.reader (rest_of file c.reading.window) = inv.reads (c.in-Ok.ensures.faithful faithful) end id here in
     let filled : rest_of file w ≡ rest_of file c.reading.window

@@ -1,5 +1,5 @@
 use Rattle.std.proofs.Common.{◌≡◌, ◌+◌, ◌*◌, ◌≤◌, List, ℕ, length}
-use Rattle.disk_model.specs.Call.{Extends}
+use Rattle.disk_model.specs.Unwritten.{OnlyReads}
 use Rattle.commit_journal.specs.Reading.{Keeps, IsReading, waits}
 use Rattle.commit_journal.specs.Windows.{seen_at, rest_of, left_of}
 use Rattle.commit_journal.proofs.scanning.scan.Given as goal
@@ -12,8 +12,7 @@ invariant-reading g l =
       hives : l.reader.hives ≡ l.fn.reader.hives;
       end : l.window.end ≡ l.fn.window.end;
       reads : g.D.Disk.faithful l.disk → l.fn.window.end ≡ length file → (id : List ℕ) → IsReading id file l.fn.reader (rest_of file l.fn.window) → IsReading id file l.reader (rest_of file l.window);
-      same : (f : ℕ) → g.D.Disk.state_at l.disk (g.D.Disk.clock l.disk) f ≡ g.D.Disk.state_at l.fn.disk (g.D.Disk.clock l.fn.disk) f;
-      time : Extends (g.D.Disk.state_at l.fn.disk) (g.D.Disk.state_at l.disk) (g.D.Disk.clock l.fn.disk) (g.D.Disk.clock l.disk);
+      still : OnlyReads (g.D.Disk.state_at l.fn.disk) (g.D.Disk.state_at l.disk) (g.D.Disk.clock l.fn.disk) (g.D.Disk.clock l.disk);
       failures : g.D.Disk.failures l.fn.disk ≤ g.D.Disk.failures l.disk;
       faithful : g.D.Disk.faithful l.disk → g.D.Disk.faithful l.fn.disk;
     }

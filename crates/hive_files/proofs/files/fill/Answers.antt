@@ -3,7 +3,7 @@ use Rattle.std.proofs.lemmas.Slice.{take-put_mid}
 use Rattle.std.proofs.lemmas.List.{drop-drop, length-take, length-drop}
 use Rattle.std.proofs.Math.Seq.{take-add}
 use Rattle.disk_model.specs.FileState.{FileState}
-use Rattle.hive_files.proofs.Frames.{reads_on}
+use Rattle.disk_model.proofs.Unwritten.{reads_on, still}
 use Rattle.hive_files.proofs.files.fill.Goals as goal
 
 pub pieces-preserved : goal.pieces-preserved
@@ -13,7 +13,7 @@ pieces-preserved g c =
     let at = c.pieces.at in
     let n = c.min.result in
     let rest = drop c.args.offset old.seen in
-    let same : mid.seen ≡ old.seen = ap (λ (s : FileState). s.seen) (c.pieces.invariant.reads.same c.args.file) in
+    let same : mid.seen ≡ old.seen = ap (λ (s : FileState). s.seen) (still c.pieces.invariant.reads c.args.file) in
     record {
       size = search rules;
       within = search rules;

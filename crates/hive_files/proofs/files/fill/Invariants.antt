@@ -1,5 +1,5 @@
 use Rattle.std.proofs.Common.{◌≡◌, ◌-◌, ◌+◌, ◌≤◌, length, take, drop}
-use Rattle.hive_files.specs.Frames.{OnlyReads}
+use Rattle.disk_model.specs.Unwritten.{OnlyReads}
 use Rattle.hive_files.proofs.files.fill.Given as goal
 
 abbrev pub invariant-pieces : goal.invariant-pieces

@@ -1,10 +1,11 @@
 use Rattle.std.proofs.Common.{◌≡◌, ◌≢◌, ℕ, ◌+◌, ◌≤◌, true, false, List, length, take, length-take, inr, refl, sym, ap, subst, ◌∙◌, arith}
-use Rattle.std.proofs.lemmas.Result.{IfErr-weaker}
+use Rattle.std.proofs.lemmas.Result.{IfErr-weaker, IfOk-weaker}
 use Rattle.refusals.specs.declared.refusal.Refusal.{Refusal}
 use Rattle.base_block.specs.declared.block.BaseBlock.{BaseBlock}
 use Rattle.base_block.specs.Judgements.{IsPrimary}
-use Rattle.disk_model.specs.FileState.{FileState}
+use Rattle.disk_model.specs.FileState.{FileState, at_rest}
 use Rattle.disk_model.specs.StoreFiles.{primary_file, log_file}
+use Rattle.disk_model.proofs.Unwritten.{only_reads, still, sync_call, syncs_on}
 use Rattle.dirty_vector.specs.Pages.{clean_pages}
 use Rattle.hive_files.specs.Finding.{IsByLog, IsLogged, IsPart, TellsOfHive}
 use Rattle.hive_files.proofs.Founding.{sector_tells, short_has_none, clean_found, unclean_found, clean_has_none, unclean_has_none, told_on}
@@ -40,7 +41,7 @@ returns-then-is_clean-clause-found g c = ok_of_three c.find_own.result _ _ _ _ (
     let sector : c.deref.result.now ≡ take 512 primary = c.deref.ensures.value ∙ c.in-Ok.ensures.bytes read ∙ ap (λ (l : List ℕ). take 512 l) shown in
     let tells : (c.in-Some.block ≡ block_of primary) × (512 ≤ length primary) × (is_clean_file primary ≡ is_clean_block c.in-Some.block) = sector_tells primary c.deref.result.now c.in-Some.block sector c.in-Some.ensures.some.0 c.in-Some.ensures.some.1 in
     let clean : is_clean_file primary ≡ true = tells.2 ∙ sym c.is_clean.ensures ∙ c.if-is_clean.true in
-    let there : (late c.primary_number-primary.result).seen ≡ primary = ap (λ (s : FileState). s.seen) (c.in-Ok.ensures.reads.same c.primary_number-primary.result) ∙ shown in
+    let there : (late c.primary_number-primary.result).seen ≡ primary = ap (λ (s : FileState). s.seen) (still c.in-Ok.ensures.reads c.primary_number-primary.result) ∙ shown in
     clean_found primary log found clean says.2 (says.0 ∙ tells.0) (subst (λ (b : BaseBlock). IsPrimary b) (sym says.0) judged)
     (subst (λ (b : BaseBlock). IsPart primary b.bins_size found.bins.items) (sym says.0) (subst (λ (p : List ℕ). IsPart p c.in-Some.block.bins_size found.bins.items) there (bins faithful)))
     (says.1 ∙ ap (λ (b : BaseBlock). clean_pages b.bins_size) (sym says.0))) c.find_own.ensures.bins c.find_own.ensures.judged c.find_own.ensures.found
@@ -58,7 +59,7 @@ returns-then-is_clean-clause-fails g c = IfErr-weaker c.find_own.result _ _ (λ 
     let sector : c.deref.result.now ≡ take 512 primary = c.deref.ensures.value ∙ c.in-Ok.ensures.bytes read ∙ ap (λ (l : List ℕ). take 512 l) shown in
     let tells : (c.in-Some.block ≡ block_of primary) × (512 ≤ length primary) × (is_clean_file primary ≡ is_clean_block c.in-Some.block) = sector_tells primary c.deref.result.now c.in-Some.block sector c.in-Some.ensures.some.0 c.in-Some.ensures.some.1 in
     let clean : is_clean_file primary ≡ true = tells.2 ∙ sym c.is_clean.ensures ∙ c.if-is_clean.true in
-    let there : (late c.primary_number-primary.result).seen ≡ primary = ap (λ (s : FileState). s.seen) (c.in-Ok.ensures.reads.same c.primary_number-primary.result) ∙ shown in
+    let there : (late c.primary_number-primary.result).seen ≡ primary = ap (λ (s : FileState). s.seen) (still c.in-Ok.ensures.reads c.primary_number-primary.result) ∙ shown in
     clean_has_none primary log c.in-Some.block clean tells.0 (λ judged long. none faithful judged (subst (λ (l : List ℕ). 4096 + c.in-Some.block.bins_size ≤ length l) (sym there) long))) fails) c.find_own.ensures.fails
 
 pub returns-clause-found : goal.returns-clause-found
@@ -74,9 +75,9 @@ returns-clause-found g c = ok_joined c.find_repaired.result _ _ _ (λ found by s
     let sector : c.deref.result.now ≡ take 512 primary = c.deref.ensures.value ∙ c.in-Ok.ensures.bytes read ∙ ap (λ (l : List ℕ). take 512 l) shown in
     let tells : (c.in-Some.block ≡ block_of primary) × (512 ≤ length primary) × (is_clean_file primary ≡ is_clean_block c.in-Some.block) = sector_tells primary c.deref.result.now c.in-Some.block sector c.in-Some.ensures.some.0 c.in-Some.ensures.some.1 in
     let clean : is_clean_file primary ≡ false = tells.2 ∙ sym c.is_clean.ensures ∙ c.if-is_clean.false in
-    let there : (late (primary_file c.args.hive)).seen ≡ primary = ap (λ (f : ℕ). (late f).seen) (sym number) ∙ ap (λ (s : FileState). s.seen) (c.in-Ok.ensures.reads.same c.primary_number-primary.result) ∙ shown in
+    let there : (late (primary_file c.args.hive)).seen ≡ primary = ap (λ (f : ℕ). (late f).seen) (sym number) ∙ ap (λ (s : FileState). s.seen) (still c.in-Ok.ensures.reads c.primary_number-primary.result) ∙ shown in
     let apart : log_file c.args.hive ≢ c.primary_number-primary.result = λ same. omega (arith, same, number) in
-    let behind : (late (log_file c.args.hive)).seen ≡ log = ap (λ (s : FileState). s.seen) (c.in-Ok.ensures.reads.same (log_file c.args.hive) ∙ c.in_ok-sync.ensures.others (log_file c.args.hive) apart) in
+    let behind : (late (log_file c.args.hive)).seen ≡ log = ap (λ (s : FileState). s.seen) (still c.in-Ok.ensures.reads (log_file c.args.hive) ∙ c.in_ok-sync.ensures.others (log_file c.args.hive) apart) in
     unclean_found primary log found clean says tells.1 (subst (λ (l : List ℕ). IsByLog primary l found) behind (subst (λ (p : List ℕ). IsByLog p (late (log_file c.args.hive)).seen found) there (by faithful)))) c.find_repaired.ensures.found c.find_repaired.ensures.clean
 
 pub returns-clause-fails : goal.returns-clause-fails
@@ -92,7 +93,26 @@ returns-clause-fails g c = IfErr-weaker c.find_repaired.result _ _ (λ why fails
     let sector : c.deref.result.now ≡ take 512 primary = c.deref.ensures.value ∙ c.in-Ok.ensures.bytes read ∙ ap (λ (l : List ℕ). take 512 l) shown in
     let tells : (c.in-Some.block ≡ block_of primary) × (512 ≤ length primary) × (is_clean_file primary ≡ is_clean_block c.in-Some.block) = sector_tells primary c.deref.result.now c.in-Some.block sector c.in-Some.ensures.some.0 c.in-Some.ensures.some.1 in
     let clean : is_clean_file primary ≡ false = tells.2 ∙ sym c.is_clean.ensures ∙ c.if-is_clean.false in
-    let there : (late (primary_file c.args.hive)).seen ≡ primary = ap (λ (f : ℕ). (late f).seen) (sym number) ∙ ap (λ (s : FileState). s.seen) (c.in-Ok.ensures.reads.same c.primary_number-primary.result) ∙ shown in
+    let there : (late (primary_file c.args.hive)).seen ≡ primary = ap (λ (f : ℕ). (late f).seen) (sym number) ∙ ap (λ (s : FileState). s.seen) (still c.in-Ok.ensures.reads c.primary_number-primary.result) ∙ shown in
     let apart : log_file c.args.hive ≢ c.primary_number-primary.result = λ same. omega (arith, same, number) in
-    let behind : (late (log_file c.args.hive)).seen ≡ log = ap (λ (s : FileState). s.seen) (c.in-Ok.ensures.reads.same (log_file c.args.hive) ∙ c.in_ok-sync.ensures.others (log_file c.args.hive) apart) in
+    let behind : (late (log_file c.args.hive)).seen ≡ log = ap (λ (s : FileState). s.seen) (still c.in-Ok.ensures.reads (log_file c.args.hive) ∙ c.in_ok-sync.ensures.others (log_file c.args.hive) apart) in
     unclean_has_none primary log clean (λ logged. none faithful (subst (λ (l : List ℕ). IsLogged (late (primary_file c.args.hive)).seen l) (sym behind) (subst (λ (p : List ℕ). IsLogged p log) (sym there) logged)))) fails) c.find_repaired.ensures.fails
+
+pub returns-then-is_clean-clause-synced : goal.returns-then-is_clean-clause-synced
+returns-then-is_clean-clause-synced g c = λ faithful.
+    let late = c.find_own.ensures.faithful faithful in
+    let synced = sync_call c.sync.result c.primary_number-primary.result _ _ _ _ c.sync.ensures.time c.sync.ensures.others c.sync.ensures.synced c.sync.ensures.failed (c.read_part.ensures.faithful late) in
+    syncs_on _ _ _ _ _ _ (syncs_on _ _ _ _ _ _ synced (only_reads _ _ _ _ c.read_part.ensures.reads)) (only_reads _ _ _ _ c.find_own.ensures.reads)
+
+pub returns-clause-synced : goal.returns-clause-synced
+returns-clause-synced g c = λ faithful.
+    let late = c.find_repaired.ensures.faithful faithful in
+    let synced = sync_call c.sync.result c.primary_number-primary.result _ _ _ _ c.sync.ensures.time c.sync.ensures.others c.sync.ensures.synced c.sync.ensures.failed (c.read_part.ensures.faithful late) in
+    syncs_on _ _ _ _ _ _ (syncs_on _ _ _ _ _ _ synced (only_reads _ _ _ _ c.read_part.ensures.reads)) (c.find_repaired.ensures.synced faithful)
+
+pub returns-clause-log_rest : goal.returns-clause-log_rest
+returns-clause-log_rest g c = IfOk-weaker c.find_repaired.result _ _ (λ found rest faithful unclean.
+    let old = g.D.Disk.state_at c.args.disk.now (g.D.Disk.clock c.args.disk.now) in
+    let log = log_file c.args.hive in
+    let apart : log ≢ c.primary_number-primary.result = λ same. omega (arith, same, c.primary_number-primary.ensures) in
+    rest faithful ∙ ap (λ (s : FileState). at_rest s.seen) (still c.in-Ok.ensures.reads log ∙ c.in_ok-sync.ensures.others log apart)) c.find_repaired.ensures.rest

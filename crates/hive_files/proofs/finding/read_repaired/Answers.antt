@@ -2,6 +2,7 @@ use Rattle.std.proofs.Common.{ℕ, take, drop, ap, ◌∙◌}
 use Rattle.std.proofs.lemmas.Result.{IfOk-weaker, IfErr-weaker}
 use Rattle.disk_model.specs.FileState.{FileState}
 use Rattle.disk_model.specs.StoreFiles.{primary_file, log_file}
+use Rattle.disk_model.proofs.Unwritten.{reads_on, still}
 use Rattle.hive_files.proofs.Founding.{told_of_log}
 use Rattle.hive_files.proofs.finding.read_repaired.Goals as goal
 
@@ -23,7 +24,7 @@ returns-clause-found g c = IfOk-weaker c.repaired.result _ _ (λ found by faithf
     (c.in-Ok-read_log.ensures.log log (c.deref.ensures.value ∙ c.in-Ok.ensures.bytes before ∙ ap (λ (f : ℕ). take 67126272 (state f).seen) c.log_number.ensures))
     (c.in-Ok-read_part.ensures.bytes faithful ∙ ap (λ (n : ℕ). take n (drop 4096 (mid c.primary_number.result).seen)) c.bins_size-size.ensures.value
     ∙ ap (λ (f : ℕ). take size (drop 4096 (mid f).seen)) c.primary_number.ensures
-    ∙ ap (λ (s : FileState). take size (drop 4096 s.seen)) (c.in-Ok.ensures.reads.same (primary_file c.args.hive)))) c.repaired.ensures.found
+    ∙ ap (λ (s : FileState). take size (drop 4096 s.seen)) (still c.in-Ok.ensures.reads (primary_file c.args.hive)))) c.repaired.ensures.found
 
 pub returns-clause-fails : goal.returns-clause-fails
 returns-clause-fails g c = IfErr-weaker c.repaired.result _ _ (λ why by. told_of_log _ _ _ why (λ none faithful logged.
@@ -37,4 +38,7 @@ returns-clause-fails g c = IfErr-weaker c.repaired.result _ _ (λ why by. told_o
     (c.in-Ok-read_log.ensures.log log (c.deref.ensures.value ∙ c.in-Ok.ensures.bytes before ∙ ap (λ (f : ℕ). take 67126272 (state f).seen) c.log_number.ensures))
     (c.in-Ok-read_part.ensures.bytes faithful ∙ ap (λ (n : ℕ). take n (drop 4096 (mid c.primary_number.result).seen)) c.bins_size-size.ensures.value
     ∙ ap (λ (f : ℕ). take size (drop 4096 (mid f).seen)) c.primary_number.ensures
-    ∙ ap (λ (s : FileState). take size (drop 4096 s.seen)) (c.in-Ok.ensures.reads.same (primary_file c.args.hive))) logged) by) c.repaired.ensures.fails
+    ∙ ap (λ (s : FileState). take size (drop 4096 s.seen)) (still c.in-Ok.ensures.reads (primary_file c.args.hive))) logged) by) c.repaired.ensures.fails
+
+pub returns-in-Err-read_part-clause-reads : goal.returns-in-Err-read_part-clause-reads
+returns-in-Err-read_part-clause-reads g c = reads_on _ _ _ _ _ _ c.in-Ok.ensures.reads c.in-Err-read_part.ensures.reads

@@ -6,7 +6,7 @@ use Rattle.hive_flush.specs.declared.hive.HiveFile.{HiveFile}
 use Rattle.engine_law.specs.Prefixes.{AreOnDisk}
 use Rattle.recovery.specs.Kept.{AllWork}
 use Rattle.hive_files.specs.Frames.{FailsBy}
-use Rattle.recovery.specs.Reading.{AreOf, AreOpened, IsNoHive}
+use Rattle.recovery.specs.Reading.{AreOf, IsNoHive}
 use Rattle.recovery.specs.Recovered.{seen_in}
 use Rattle.recovery.proofs.Openings.{are_of, are_on, refused_hives}
 use Rattle.recovery.proofs.Together.{of_found}

@@ -2,7 +2,8 @@ use Rattle.std.proofs.Common.{◌<◌, ◌∙◌, List, ◌∷◌, [], length, r
 use Rattle.std.proofs.lemmas.Result.{err_from_is_err_and}
 use Rattle.hive_flush.specs.declared.hive.HiveFile.{HiveFile}
 use Rattle.recovery.specs.Reading.{AreOpened}
-use Rattle.recovery.proofs.Hives.{files_synced, none_yet, one_more, refused}
+use Rattle.disk_model.proofs.Unwritten.{only_reads, reads_none, synced_still, syncs_on}
+use Rattle.recovery.proofs.Hives.{none_yet, one_more, refused}
 use Rattle.recovery.proofs.reading.open_hives.Goals as goal
 
 pub returns-in_err-hive-clause-fails : goal.returns-in_err-hive-clause-fails
@@ -12,15 +13,12 @@ returns-in_err-hive-clause-fails g c =
     let i = l.invariant in
     let D = g.D.Disk in
     rw (p.1, p.2) (refused (D.faithful l.disk) (D.faithful c.open.new.disk) c.open.ensures.faithful c.args.store (D.state_at c.args.disk.now (D.clock c.args.disk.now)) (D.state_at l.disk (D.clock l.disk)) (D.state_at c.open.new.disk (D.clock c.open.new.disk)) l.hives.items i.opened
-    l.place i.many c.open.ensures.others c.open.ensures.synced c.args.count c.in_err-hive.field-0.0 (D.failures l.disk < D.failures c.open.new.disk) (D.failures c.args.disk.now < D.failures c.open.new.disk)
+    l.place i.many c.open.ensures.others (λ faithful. synced_still (c.open.ensures.synced faithful)) c.args.count c.in_err-hive.field-0.0 (D.failures l.disk < D.failures c.open.new.disk) (D.failures c.args.disk.now < D.failures c.open.new.disk)
     (λ rose. omega (arith, rose, i.failures)) (omega arith) c.in_err-hive.ensures.fails)
 
 pub returns-in_err-hive-clause-synced : goal.returns-in_err-hive-clause-synced
 returns-in_err-hive-clause-synced g c =
-    let l = c.loop-place in
-    let D = g.D.Disk in
-    files_synced (D.faithful l.disk) (D.faithful c.open.new.disk) c.open.ensures.faithful c.args.store (D.state_at c.args.disk.now (D.clock c.args.disk.now)) (D.state_at l.disk (D.clock l.disk)) (D.state_at c.open.new.disk (D.clock c.open.new.disk)) l.hives.items l.invariant.opened
-    l.place l.invariant.many c.open.ensures.others c.open.ensures.synced
+    λ faithful. syncs_on _ _ _ _ _ _ (c.loop-place.invariant.synced (c.open.ensures.faithful faithful)) (c.open.ensures.synced faithful)
 
 pub push_reserved-requires : goal.push_reserved-requires
 push_reserved-requires g c = let i = c.loop-place.invariant in omega (arith, i.many, i.room)
@@ -33,6 +31,7 @@ loop-place-init g c =
       room = omega (arith, c.in_ok-hives.ensures.capacity, c.from.ensures);
       opened = subst (AreOpened (D.faithful c.args.disk.now) c.args.store (D.state_at c.args.disk.now (D.clock c.args.disk.now)) (D.state_at c.args.disk.now (D.clock c.args.disk.now))) (sym c.in_ok-hives.ensures.items)
           (none_yet (D.faithful c.args.disk.now) c.args.store (D.state_at c.args.disk.now (D.clock c.args.disk.now)));
+      synced = λ faithful. only_reads _ _ _ _ (reads_none (D.state_at c.args.disk.now) (D.clock c.args.disk.now));
       time = record { later = omega arith; past = λ k f le. refl };
       failures = omega arith;
       faithful = λ f. f;
@@ -50,8 +49,9 @@ loop-place-preserved g c =
       many = ap (λ (l : List HiveFile). length l) c.push_reserved.ensures.items ∙ length-append l.hives.items (c.in_ok-hive.hive ∷ []) ∙ omega (arith, i.many);
       room = omega (arith, i.room, c.push_reserved.ensures.capacity);
       opened = subst (AreOpened (D.faithful c.open.new.disk) c.args.store then now) (sym c.push_reserved.ensures.items)
-          (one_more (D.faithful l.disk) (D.faithful c.open.new.disk) o.faithful c.args.store then (D.state_at l.disk (D.clock l.disk)) now l.hives.items i.opened l.place i.many o.others o.synced
+          (one_more (D.faithful l.disk) (D.faithful c.open.new.disk) o.faithful c.args.store then (D.state_at l.disk (D.clock l.disk)) now l.hives.items i.opened l.place i.many o.others (λ faithful. synced_still (o.synced faithful))
           c.in_ok-hive.hive c.in_ok-hive.ensures.settled c.in_ok-hive.ensures.place c.in_ok-hive.ensures.store c.in_ok-hive.ensures.sound c.in_ok-hive.ensures.held c.in_ok-hive.ensures.on);
+      synced = λ faithful. syncs_on _ _ _ _ _ _ (i.synced (o.faithful faithful)) (o.synced faithful);
       time = record {
         later = omega (arith, i.time.later, o.time.later);
         past = λ k f le. o.time.past k f (omega (arith, le, i.time.later)) ∙ i.time.past k f le;

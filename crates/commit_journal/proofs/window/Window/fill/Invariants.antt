@@ -1,5 +1,5 @@
-use Rattle.std.proofs.Common.{◌≡◌, ◌-◌, ◌≤◌, ℕ, length}
-use Rattle.disk_model.specs.Call.{Extends}
+use Rattle.std.proofs.Common.{◌≡◌, ◌-◌, ◌≤◌, length}
+use Rattle.disk_model.specs.Unwritten.{OnlyReads}
 use Rattle.commit_journal.specs.Windows.{seen_at, rest_of, left_of}
 use Rattle.commit_journal.proofs.window.Window.fill.Given as goal
 
@@ -11,8 +11,7 @@ invariant-pieces g l =
       end : l.self.end ≡ l.fn.self.end;
       left : left_of l.self ≡ left_of l.fn.self;
       rest : g.D.Disk.faithful l.disk → l.fn.self.end ≡ length file → rest_of file l.self ≡ rest_of file l.fn.self;
-      same : (f : ℕ) → g.D.Disk.state_at l.disk (g.D.Disk.clock l.disk) f ≡ g.D.Disk.state_at l.fn.disk (g.D.Disk.clock l.fn.disk) f;
-      time : Extends (g.D.Disk.state_at l.fn.disk) (g.D.Disk.state_at l.disk) (g.D.Disk.clock l.fn.disk) (g.D.Disk.clock l.disk);
+      still : OnlyReads (g.D.Disk.state_at l.fn.disk) (g.D.Disk.state_at l.disk) (g.D.Disk.clock l.fn.disk) (g.D.Disk.clock l.disk);
       failures : g.D.Disk.failures l.fn.disk ≤ g.D.Disk.failures l.disk;
       faithful : g.D.Disk.faithful l.disk → g.D.Disk.faithful l.fn.disk;
     }
