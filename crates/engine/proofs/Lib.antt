@@ -6,4 +6,5 @@ mod Frames
 mod OnDisk
 mod Journaling
 mod Taking
+mod Advancing
 mod RunLists
