@@ -8,3 +8,5 @@ mod Journaling
 mod Taking
 mod Advancing
 mod RunLists
+mod OpenedStays
+mod Living
