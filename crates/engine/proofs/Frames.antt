@@ -1,5 +1,5 @@
 -- An engine's parts go on by an event.
-use Rattle.std.proofs.Common.{◌≡◌, inl, inr, ℕ, ◌+◌, ◌<◌, refl, sym, ◌∙◌, ap, subst, arith, Result, Ok, Err}
+use Rattle.std.proofs.Common.{◌≡◌, inl, inr, ℕ, ◌+◌, ◌<◌, refl, sym, ◌∙◌, ap, subst, arith, Result, Ok, Err, slice_get}
 use Rattle.refusals.specs.declared.refusal.Refusal.{Refusal}
 use Rattle.refusals.specs.declared.refusal.Refusal.TheVariants.{DiskFault, NoMemory}
 use Rattle.disk_model.specs.FileState.{FileState}
@@ -42,12 +42,16 @@ module _ {D : Type 0} (states : D → ℕ → ℕ → FileState) (clock failures
     call = record { later = omega arith; one = omega arith; past = λ k f le. refl; others = λ f none. refl };
     failed = λ e. absurd (fine e);
     faithful = λ f. f;
+    life = (refl, refl);
+    journal_stays = λ nj nt. refl;
+    hives_stay = λ i no. refl;
   }
 
   -- a hive has taken something in before
   pub behind : (old mid new : Parts D) → mid ≡ record old { hives = mid.hives } → ((state : ℕ → FileState) → AreOnDisk old.journal old.hives.items state → AreOnDisk mid.journal mid.hives.items state)
+      → ((i : ℕ) → (event ≡ FlusherStep i → ⊥) → slice_get mid.hives.items i ≡ slice_get old.hives.items i)
       → GoesOn states clock failures is_faithful event answer mid new → GoesOn states clock failures is_faithful event answer old new
-  behind old mid new rest moves on =
+  behind old mid new rest moves others on =
       let disk : mid.disk ≡ old.disk = ap (λ (p : Parts D). p.disk) rest in
       let machine : mid.store.machine ≡ old.store.machine = ap (λ (p : Parts D). p.store.machine) rest in
       let journal : mid.journal ≡ old.journal = ap (λ (p : Parts D). p.journal) rest in
@@ -59,6 +63,9 @@ module _ {D : Type 0} (states : D → ℕ → ℕ → FileState) (clock failures
         call = subst (λ (d : D). OneCall AnyFile (states d) (states new.disk) (clock d) (clock new.disk)) disk on.call;
         failed = λ e. subst (λ (d : D). failures d < failures new.disk) disk (on.failed e);
         faithful = λ f. subst is_faithful disk (on.faithful f);
+        life = (on.life.0 ∙ ap (λ (p : Parts D). p.base) rest, on.life.1 ∙ ap (λ (p : Parts D). p.spelled.value.items) rest);
+        journal_stays = λ nj nt. on.journal_stays nj nt ∙ journal;
+        hives_stay = λ i no. on.hives_stay i no ∙ others i no;
       }
 
 -- a step that was refused for want of memory

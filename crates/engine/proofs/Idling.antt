@@ -105,7 +105,7 @@ pub trim_idles : (m : Machine) (base : ℕ) (opened : List Element) (journal new
 trim_idles m base opened journal new hives come may says = (λ e. absurd (subst (λ r. Says TrimSays r journal new) e says), λ none. absurd (not_both m base opened journal hives may none))
 
 -- what is on its way, where no trim is and the device has not failed, has a change
-told_some : (s : Standing) → 0 < length (journals.spelled_by s).elements → Some (journals.spelled_by s) ≡ Some nothing → ⊥
+pub told_some : (s : Standing) → 0 < length (journals.spelled_by s).elements → Some (journals.spelled_by s) ≡ Some nothing → ⊥
 told_some s some e = omega (arith, some, ap (λ (x : Spelled TimedOp). length x.elements) (same_Some (journals.spelled_by s) nothing e))
 
 in_phase : (now : Standing) (p : Phase) → ((value_in now p).phase ≡ phase.Phase.TrimWritten → ⊥) → ((value_in now p).phase ≡ phase.Phase.Broken → ⊥) → (value_in now p).choice.next ≡ Some nothing → ⊥

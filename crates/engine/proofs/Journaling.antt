@@ -1,5 +1,5 @@
 -- What the journal says of its steps is what the engine answers and keeps.
-use Rattle.std.proofs.Common.{◌≡◌, ◌⊎◌, ◌↔◌, inr, ℕ, ◌+◌, ◌-◌, ◌<◌, ◌≤◌, false, List, [], ◌∷◌, length, get_or, map, take, drop, refl, sym, ◌∙◌, ap, subst, arith, Some, None, Result, Ok, Err, slice_get}
+use Rattle.std.proofs.Common.{◌≡◌, ◌⊎◌, ◌↔◌, inl, inr, ℕ, ◌+◌, ◌-◌, ◌<◌, ◌≤◌, false, List, [], ◌∷◌, length, get_or, map, take, drop, refl, sym, ◌∙◌, ap, subst, arith, Some, None, Result, Ok, Err, slice_get}
 use Rattle.std.specs.List.{AllByRecursion}
 use Rattle.std.proofs.lemmas.List.{length-map}
 use Rattle.refusals.specs.declared.refusal.Refusal.{Refusal}
@@ -111,7 +111,7 @@ settled_within : (m t : Machine) (base : ℕ) (opened : List Element) (old new :
 settled_within m t base opened old new hives result kept is = omega (arith, kept.kept.within.known, ap (λ (x : Machine). x.durable) is, step_before m old new result, ap (λ (l : List Element). length l) (step_accepted m old new result))
 
 -- A call of the journal, and what the store is told behind it
-module _ {D : Type 0} (states : D → ℕ → ℕ → FileState) (clock failures : D → ℕ) (is_faithful : D → Type 0) (e : Event) where
+module _ {D : Type 0} (states : D → ℕ → ℕ → FileState) (clock failures : D → ℕ) (is_faithful : D → Type 0) (e : Event) (steps : (e ≡ event.JournalStep) ⊎ (e ≡ event.TrimStep)) where
   pub journal_goes_on : (s : Parts D) (new : Journal) (disk : D) (store : StoreView) (naming : Naming) (come : Result Progress Refusal) (used : ℕ) → IsSound s → s.store.machine.faulted ≡ false
       → Step s.store.machine e (reply_to come) (after_step s.store.machine (choice_of s.journal) (choice_of new) come)
       × IsConsistent (after_step s.store.machine (choice_of s.journal) (choice_of new) come) s.base s.spelled.value.items (choice_of new) (map view_of s.hives.items)
@@ -142,6 +142,9 @@ module _ {D : Type 0} (states : D → ℕ → ℕ → FileState) (clock failures
         call = any_call IsJournal (states s.disk) (states disk) (clock s.disk) (clock disk) call;
         failed = has_failed come (failures s.disk) (failures disk) fails;
         faithful = faithful;
+        life = (refl, refl);
+        journal_stays = λ nj nt. absurd (elim (steps) [ inl j ↦ nj j | inr t ↦ nt t ]);
+        hives_stay = λ i no. refl;
       }
 
 -- a trim may begin where each hive's number is not below that of the last change that names it

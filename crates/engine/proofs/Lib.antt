@@ -6,4 +6,7 @@ mod Frames
 mod OnDisk
 mod Journaling
 mod Taking
+mod Advancing
 mod RunLists
+mod OpenedStays
+mod Living

@@ -1,20 +1,26 @@
 -- What an event makes of an engine's parts, whichever event it is.
-use Rattle.std.specs.Prelude.{◌≡◌, ℕ, ◌<◌}
+use Rattle.std.specs.Prelude.{◌≡◌, ◌⊎◌, ℕ, ◌<◌, slice_get, Some}
 use Rattle.refusals.specs.declared.refusal.Refusal.TheVariants.{DiskFault}
 use Rattle.disk_model.specs.Call.{OneCall}
 use Rattle.disk_model.specs.FileState.{FileState}
 use Rattle.machine.specs.Steps.{Step}
 use Rattle.machine.specs.declared.event.Event.{Event}
+use Rattle.machine.specs.declared.event.Event.TheVariants as events
 use Rattle.machine.specs.declared.event.Reply.{Reply}
-use Rattle.machine.specs.declared.event.Reply.TheVariants.{Refused}
-use Rattle.commit_journal.specs.Journals.{store_of}
-use Rattle.engine_law.specs.Prefixes.{AnyFile, AreOnDisk}
+use Rattle.machine.specs.declared.event.Progress.TheVariants.{Idle, More}
+use Rattle.machine.specs.declared.event.Reply.TheVariants.{Refused, Stepped}
+use Rattle.prefix_law.specs.Promises.{BeginsTrim}
+use Rattle.commit_journal.specs.Journals.{choice_of, steps_left, store_of}
+use Rattle.hive_flush.specs.declared.hive.HiveFile.{HiveFile}
+use Rattle.engine_law.specs.Prefixes.{AnyFile, AreOnDisk, view_of}
+use Rattle.engine_law.specs.Progress.{FlushesOn, flush_of, HasPending, HasTrimmed, IsMade, IsTrimming, NearsDurable}
 use Rattle.engine.specs.Parts.{IsSound}
 use Rattle.engine.specs.declared.parts.Parts.{Parts}
 
 -- Over a disk of these states, this clock and these failures, the parts go on by an event with an answer. It is a step of the
 -- machine, with at most one call of the device. The parts stay sound, and on the disk as they say, where they were and the disk
--- is faithful. The files are of the same store. The device has failed where the answer says so.
+-- is faithful. The files are of the same store. The device has failed where the answer says so. What the journal spelled at the
+-- opening stays; the journal changes in a step of it or of a trim alone, and a hive in a step of its flush.
 pub record GoesOn {D : Type 0} (states : D → ℕ → ℕ → FileState) (clock failures : D → ℕ) (is_faithful : D → Type 0)
     (event : Event) (answer : Reply) (old new : Parts D) : Type 0 where
   pub step : Step old.store.machine event answer new.store.machine
@@ -25,3 +31,19 @@ pub record GoesOn {D : Type 0} (states : D → ℕ → ℕ → FileState) (clock
   pub call : OneCall AnyFile (states old.disk) (states new.disk) (clock old.disk) (clock new.disk)
   pub failed : answer ≡ Refused DiskFault → failures old.disk < failures new.disk
   pub faithful : is_faithful new.disk → is_faithful old.disk
+  pub life : (new.base ≡ old.base) × (new.spelled.value.items ≡ old.spelled.value.items)
+  pub journal_stays : ¬ (event ≡ events.JournalStep) → ¬ (event ≡ events.TrimStep) → new.journal ≡ old.journal
+  pub hives_stay : (i : ℕ) → ¬ (event ≡ events.FlusherStep i) → slice_get new.hives.items i ≡ slice_get old.hives.items i
+
+-- How far a step that isn't refused brings an engine's parts. One of the journal brings what waits nearer to being durable. One of
+-- a trim, where none is halfway and there is something to do, begins one; and the next step of either ends it. One of a hive's flush
+-- begins a flush of what is durable, goes on with it, or ends it.
+pub record ComesOn {D : Type 0} (event : Event) (answer : Reply) (old new : Parts D) : Type 0 where
+  pub nears : event ≡ events.JournalStep → IsMade answer → HasPending old.store.machine
+      → NearsDurable old.store.machine (steps_left old.journal) new.store.machine (steps_left new.journal)
+  pub begins_trim : event ≡ events.TrimStep → IsMade answer → ¬ (answer ≡ Stepped Idle) → ¬ (IsTrimming (choice_of old.journal))
+      → (answer ≡ Stepped More) × BeginsTrim (choice_of old.journal) (choice_of new.journal)
+  pub ends_trim : (event ≡ events.JournalStep) ⊎ (event ≡ events.TrimStep) → IsMade answer → IsTrimming (choice_of old.journal)
+      → HasTrimmed old.store.machine answer new.store.machine (choice_of new.journal)
+  pub flushes : (i : ℕ) (was is : HiveFile) → event ≡ events.FlusherStep i → IsMade answer → ¬ (answer ≡ Stepped Idle) → slice_get old.hives.items i ≡ Some was
+      → slice_get new.hives.items i ≡ Some is → FlushesOn old.store.machine.durable answer (view_of was) (view_of is) (flush_of was) (flush_of is)

@@ -3,3 +3,4 @@ pub mod AtHand
 pub mod Parts
 pub mod Events
 pub mod Shown
+pub mod Lives

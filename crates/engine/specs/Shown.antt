@@ -13,9 +13,11 @@ use Rattle.machine.specs.Machine.{Machine}
 use Rattle.transactions.specs.Stores.{machine_code}
 use Rattle.commit_journal.specs.Store.{Store}
 use Rattle.engine_law.specs.States.{HiveView}
+use Rattle.engine_law.specs.Progress.{FlushView}
 
 -- the machine; the disk; the store that the files are of; the changes that the journal spelled at the opening, and the number
--- below the first of them; what surely stands and what is on its way of the journal and of each hive, and the hive's memory
+-- below the first of them; what surely stands and what is on its way of the journal and of each hive, and the hive's memory; how
+-- many steps of the journal are left, where changes wait and none is refused, until some are durable; and each hive's flush
 pub record Shown (D : Type 0) : Type 0 where
   pub machine : Machine
   pub disk : D
@@ -24,6 +26,8 @@ pub record Shown (D : Type 0) : Type 0 where
   pub opened : List Element
   pub journal : Choice (Spelled TimedOp)
   pub hives : List HiveView
+  pub left : ℕ
+  pub flushes : List FlushView
 
 abbrev pub held_code : Coded (TreeMap × ℕ)
 held_code = coded× (finite.code (coded_list (coded_list coded_ℕ)) row_code) coded_ℕ
@@ -38,9 +42,12 @@ spelled_code = code_by (ℕ × List (List (ℕ × TimedOp))) (coded× coded_ℕ 
 abbrev pub hive_code : Coded HiveView
 hive_code = code_by (Choice (TreeMap × ℕ) × (TreeMap × ℕ)) (coded× (choice_code held_code) held_code) (λ h. (h.files, h.memory)) (λ p. record { files = p.0; memory = p.1 }) (λ _. refl)
 
+abbrev pub flush_code : Coded FlushView
+flush_code = code_by (ℕ × ℕ) (coded× coded_ℕ coded_ℕ) (λ f. (f.left, f.pages)) (λ p. record { left = p.0; pages = p.1 }) (λ _. refl)
+
 abbrev pub shown_code : {D : Type 0} → Coded D → Coded (Shown D)
 shown_code {D = D} code =
-    code_by (Machine × (D × ((List ℕ × ℕ) × (ℕ × (List Element × (Choice (Spelled TimedOp) × List HiveView))))))
-    (coded× machine_code (coded× code (coded× (coded× (coded_list coded_ℕ) coded_ℕ) (coded× coded_ℕ (coded× (coded_list element.the_row.coded) (coded× (choice_code spelled_code) (coded_list hive_code)))))))
-    (λ s. (s.machine, (s.disk, ((s.store.id, s.store.hives), (s.base, (s.opened, (s.journal, s.hives)))))))
-    (λ p. record { machine = p.0; disk = p.1.0; store = record { id = p.1.1.0.0; hives = p.1.1.0.1 }; base = p.1.1.1.0; opened = p.1.1.1.1.0; journal = p.1.1.1.1.1.0; hives = p.1.1.1.1.1.1 }) (λ _. refl)
+    code_by (Machine × (D × ((List ℕ × ℕ) × (ℕ × (List Element × (Choice (Spelled TimedOp) × (List HiveView × (ℕ × List FlushView))))))))
+    (coded× machine_code (coded× code (coded× (coded× (coded_list coded_ℕ) coded_ℕ) (coded× coded_ℕ (coded× (coded_list element.the_row.coded) (coded× (choice_code spelled_code) (coded× (coded_list hive_code) (coded× coded_ℕ (coded_list flush_code)))))))))
+    (λ s. (s.machine, (s.disk, ((s.store.id, s.store.hives), (s.base, (s.opened, (s.journal, (s.hives, (s.left, s.flushes)))))))))
+    (λ p. record { machine = p.0; disk = p.1.0; store = record { id = p.1.1.0.0; hives = p.1.1.0.1 }; base = p.1.1.1.0; opened = p.1.1.1.1.0; journal = p.1.1.1.1.1.0; hives = p.1.1.1.1.1.1.0; left = p.1.1.1.1.1.1.1.0; flushes = p.1.1.1.1.1.1.1.1 }) (λ _. refl)

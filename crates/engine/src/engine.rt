@@ -1,5 +1,5 @@
 //! The engine as its callers see it: what it keeps is in its type, so that no call asks for it.
-ghost use Rattle.std.specs.Prelude.{◌≡◌, ◌+◌, ◌<◌, ◌≤◌, ◌^◌, [], ℕ, false, IfErr, IfOk, OnErr, length, map, replicate};
+ghost use Rattle.std.specs.Prelude.{◌≡◌, ◌⊎◌, ◌+◌, ◌<◌, ◌≤◌, ◌^◌, [], ℕ, false, IfErr, IfOk, OnErr, Some, length, map, replicate, slice_get};
 ghost use Rattle.refusals.specs.declared.refusal.Refusal.TheVariants.{DiskFault, NoMemory};
 ghost use Rattle.disk_model.specs.Call.{OneCall};
 ghost use Rattle.machine.specs.Machine.{opened_machine, trees_now};
@@ -8,7 +8,11 @@ ghost use Rattle.commit_journal.specs.Journals.{choice_of};
 ghost use Rattle.commit_journal.specs.Journals as journals;
 ghost use Rattle.recovery.specs.Shown.{IsWhole, store_of};
 ghost use Rattle.engine_law.specs.Idle.{IdlesExactly};
+ghost use Rattle.engine_law.specs.States.{HiveView};
+ghost use Rattle.engine_law.specs.Progress.{FlushView, FlushesOn, HasPending, HasTrimmed, IsMade, IsTrimming, NearsDurable};
+ghost use Rattle.prefix_law.specs.Promises.{BeginsTrim};
 ghost use Rattle.machine.specs.Steps.{Step, Run};
+ghost use Rattle.machine.specs.declared.event.Progress.TheVariants.{Idle, More};
 ghost use Rattle.machine.specs.declared.event.Reply.TheVariants as reply;
 ghost use Rattle.engine_law.specs.Prefixes.{AnyFile, IsSafeAt, view_of};
 ghost use Rattle.engine_law.specs.Runs.{IsHeld, RunsSafely};
@@ -39,8 +43,9 @@ pub struct Engine<D: Disk> {
 
 impl<D: Disk> Model for Engine<D> {
     ghost use Rattle.std.specs.Prelude.{map};
-    ghost use Rattle.commit_journal.specs.Journals.{choice_of, store_of};
+    ghost use Rattle.commit_journal.specs.Journals.{choice_of, steps_left, store_of};
     ghost use Rattle.engine_law.specs.Prefixes.{AnyFile, AreOnDisk, view_of};
+    ghost use Rattle.engine_law.specs.Progress.{flush_of};
     ghost use Rattle.engine.specs.Parts.{IsSound};
     ghost use Rattle.engine.specs.Shown.{Shown, shown_code};
 
@@ -56,6 +61,8 @@ impl<D: Disk> Model for Engine<D> {
       opened = inside.parts.spelled.value.items;
       journal = choice_of inside.parts.journal;
       hives = map view_of inside.parts.hives.items;
+      left = steps_left inside.parts.journal;
+      flushes = map flush_of inside.parts.hives.items;
     } };
 
     ghost invariant = { λ inside. record {
@@ -104,6 +111,10 @@ impl<D: Disk> Engine<D> {
     ///
     /// A crash before, within or after it leaves a prefix of the changes accepted before the event at the moment at which it
     /// began, and of those accepted then at the moment at which it ended. A step is idle exactly where there is nothing to do.
+    ///
+    /// A step of the journal that isn't refused brings what waits nearer to being durable. A trim that is begun is ended by the
+    /// next step of the journal or of a trim that isn't refused. A flush that begins with `p` dirty pages is done within
+    /// `2 * p + 7` of its steps that aren't refused. What an event doesn't step stays as it was.
     pub fn event(&mut self, event: Event) -> Reply
         ensures step { Step self.old.machine event result self.new.machine }
         ensures before { D.faithful self.new.disk → IsSafeAt self.old.store
@@ -116,6 +127,26 @@ impl<D: Disk> Engine<D> {
             D.failures self.old.disk < D.failures self.new.disk }
         ensures idle { self.old.machine.faulted ≡ false → IdlesExactly event result self.old.machine
             self.old.base self.old.opened self.old.journal self.old.hives }
+        ensures nears { event ≡ Event.JournalStep → IsMade result →
+            HasPending self.old.machine → NearsDurable
+            self.old.machine self.old.left self.new.machine self.new.left }
+        ensures begins_trim { event ≡ Event.TrimStep → IsMade result →
+            ¬ (result ≡ reply.Stepped Idle) → ¬ (IsTrimming self.old.journal) →
+            (result ≡ reply.Stepped More) × BeginsTrim self.old.journal self.new.journal }
+        ensures ends_trim { (event ≡ Event.JournalStep) ⊎ (event ≡ Event.TrimStep) →
+            IsMade result → IsTrimming self.old.journal → HasTrimmed
+            self.old.machine result self.new.machine self.new.journal }
+        ensures flushes { (i : ℕ) (was is : HiveView) (before after : FlushView) →
+            event ≡ Event.FlusherStep i → IsMade result → ¬ (result ≡ reply.Stepped Idle) →
+            slice_get self.old.hives i ≡ Some was → slice_get self.old.flushes i ≡ Some before →
+            slice_get self.new.hives i ≡ Some is → slice_get self.new.flushes i ≡ Some after →
+            FlushesOn self.old.machine.durable result was is before after }
+        ensures life { (self.new.base ≡ self.old.base) × (self.new.opened ≡ self.old.opened) }
+        ensures journal_stays { ¬ (event ≡ Event.JournalStep) → ¬ (event ≡ Event.TrimStep) →
+            (self.new.journal ≡ self.old.journal) × (self.new.left ≡ self.old.left) }
+        ensures hives_stay { (i : ℕ) → ¬ (event ≡ Event.FlusherStep i) →
+            (slice_get self.new.hives i ≡ slice_get self.old.hives i)
+            × (slice_get self.new.flushes i ≡ slice_get self.old.flushes i) }
         ensures store { self.new.store ≡ self.old.store }
         ensures faithful { D.faithful self.new.disk → D.faithful self.old.disk }
     {

@@ -1,15 +1,16 @@
 //! The flush of one hive.
-ghost use Rattle.std.specs.Prelude.{◌≡◌, ◌↔◌, ◌-◌, ◌<◌, ◌≤◌, ℕ, drop, false, length, map, min, slice_get, None, Some, IfErr, Ok};
+ghost use Rattle.std.specs.Prelude.{◌≡◌, ◌↔◌, ◌-◌, ◌<◌, ◌≤◌, ℕ, drop, false, length, map, min, slice_get, None, Some, IfErr, Ok, OnOk};
 ghost use Rattle.refusals.specs.declared.refusal.Refusal.TheVariants.{NoMemory};
 ghost use Rattle.disk_model.specs.FileState.{FileState};
-ghost use Rattle.hive_flush.specs.HiveStates.{files_of};
+ghost use Rattle.hive_flush.specs.HiveStates.{files_of, memory_of};
 ghost use Rattle.hive_flush.specs.declared.hive.HiveFile.{HiveFile};
 ghost use Rattle.engine_law.specs.Answers.{reply_to};
 ghost use Rattle.engine_law.specs.Idle.{HasAll, IsFlushed};
 ghost use Rattle.engine_law.specs.Prefixes.{AreOnDisk, view_of};
+ghost use Rattle.engine_law.specs.Progress.{FlushesOn, IsMade, flush_of};
 ghost use Rattle.engine_words.specs.declared.Progress.TheVariants as Progress;
 ghost use Rattle.engine.specs.AtHand.{HaveUpTo};
-ghost use Rattle.engine.specs.Events.{GoesOn};
+ghost use Rattle.engine.specs.Events.{ComesOn, GoesOn};
 ghost use Rattle.engine.specs.Parts.{IsSound};
 ghost use Rattle.machine.specs.declared.event.Event.TheVariants as Event;
 
@@ -27,6 +28,7 @@ impl<D: Disk> Parts<D> {
         requires sound { IsSound self.old }
         ensures goes_on { GoesOn D.state_at D.clock D.failures D.faithful
             (Event.FlusherStep hive) (reply_to result) self.old self.new }
+        ensures comes_on { ComesOn (Event.FlusherStep hive) (reply_to result) self.old self.new }
         ensures idle { self.old.store.machine.faulted ≡ false → (result ≡ Ok Progress.Idle) ↔
             IsFlushed self.old.store.machine self.old.base self.old.spelled.value.items
             (map view_of self.old.hives.items) hive }
@@ -51,6 +53,7 @@ impl<D: Disk> Parts<D> {
             (files_of hive).next ≡ None }
         ensures goes_on { GoesOn D.state_at D.clock D.failures D.faithful
             (Event.FlusherStep place) (reply_to result) self.old self.new }
+        ensures comes_on { ComesOn (Event.FlusherStep place) (reply_to result) self.old self.new }
         ensures idle { (hive : HiveFile) → slice_get self.old.hives.items place ≡ Some hive →
             (result ≡ Ok Progress.Idle) ↔ HasAll self.old.store.machine self.old.base
             self.old.spelled.value.items place (view_of hive) }
@@ -75,6 +78,12 @@ impl<D: Disk> Parts<D> {
             AreOnDisk self.new.journal self.new.hives.items state }
         ensures rest { self.new ≡ record self.old { hives = self.new.hives } }
         ensures many { length self.new.hives.items ≡ length self.old.hives.items }
+        ensures others { (i : ℕ) → ¬ (i ≡ place) →
+            slice_get self.new.hives.items i ≡ slice_get self.old.hives.items i }
+        ensures taken { (was is : HiveFile) →
+            slice_get self.old.hives.items place ≡ Some was →
+            slice_get self.new.hives.items place ≡ Some is → (files_of is ≡ files_of was)
+            × OnOk result ((memory_of is).1 ≡ self.old.store.machine.durable) }
         ensures refused { IfErr result (λ why. why ≡ NoMemory) }
     {
         hive_steps_keep();
@@ -96,6 +105,11 @@ impl<D: Disk> Parts<D> {
         requires there { place < length self.old.hives.items }
         ensures goes_on { GoesOn D.state_at D.clock D.failures D.faithful
             (Event.FlusherStep place) (reply_to result) self.old self.new }
+        ensures flushes { (was is : HiveFile) →
+            slice_get self.old.hives.items place ≡ Some was →
+            slice_get self.new.hives.items place ≡ Some is → IsMade (reply_to result) →
+            FlushesOn (memory_of was).1 (reply_to result) (view_of was) (view_of is)
+            (flush_of was) (flush_of is) }
         ensures busy { ¬ (result ≡ Ok Progress.Idle) }
     {
         match self.write(place) {
@@ -114,6 +128,11 @@ impl<D: Disk> Parts<D> {
         requires there { place < length self.old.hives.items }
         ensures goes_on { GoesOn D.state_at D.clock D.failures D.faithful
             (Event.FlusherStep place) (reply_to result) self.old self.new }
+        ensures flushes { (was is : HiveFile) →
+            slice_get self.old.hives.items place ≡ Some was →
+            slice_get self.new.hives.items place ≡ Some is → IsMade (reply_to result) →
+            FlushesOn (memory_of was).1 (reply_to result) (view_of was) (view_of is)
+            (flush_of was) (flush_of is) }
         ensures busy { ¬ (result ≡ Ok Progress.Idle) }
     {
         hive_steps_keep();

@@ -7,6 +7,7 @@
 
 mod engine;
 mod flushes;
+pub mod laws;
 mod naming;
 mod parts;
 mod running;

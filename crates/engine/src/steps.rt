@@ -11,14 +11,14 @@ ghost use Rattle.hive_flush.specs.declared.hive.HiveFile.{HiveFile};
 ghost use Rattle.engine_law.specs.Answers.{MayTrim, after_flush, reply_to};
 ghost use Rattle.engine_law.specs.Idle.{IdlesExactly, IsSettled, IsTrimmed};
 ghost use Rattle.engine_law.specs.Prefixes.{view_of};
-ghost use Rattle.engine.specs.Events.{GoesOn};
+ghost use Rattle.engine.specs.Events.{ComesOn, GoesOn};
 ghost use Rattle.engine.specs.Naming.{HasCounted};
 ghost use Rattle.engine.specs.Parts.{IsSound, settled_by};
 
 use crate::parts::Parts;
 use disk_model::Disk;
 use engine_law::laws::{
-    events_keep, journal_steps_keep, pending_may_be_handed, receipts_are_durable,
+    ended_steps_tell, events_keep, journal_steps_keep, pending_may_be_handed, receipts_are_durable,
 };
 use engine_words::Progress;
 use hive_flush::HiveFile;
@@ -32,6 +32,7 @@ impl<D: Disk> Parts<D> {
         requires sound { IsSound self.old }
         ensures goes_on { GoesOn D.state_at D.clock D.failures D.faithful
             event result self.old self.new }
+        ensures comes_on { ComesOn event result self.old self.new }
         ensures idle { self.old.store.machine.faulted ≡ false → IdlesExactly event result
             self.old.store.machine self.old.base self.old.spelled.value.items
             (choice_of self.old.journal) (map view_of self.old.hives.items) }
@@ -50,6 +51,7 @@ impl<D: Disk> Parts<D> {
         requires sound { IsSound self.old }
         ensures goes_on { GoesOn D.state_at D.clock D.failures D.faithful
             event result self.old self.new }
+        ensures comes_on { ComesOn event result self.old self.new }
         ensures idle { IdlesExactly event result
             self.old.store.machine self.old.base self.old.spelled.value.items
             (choice_of self.old.journal) (map view_of self.old.hives.items) }
@@ -77,6 +79,7 @@ impl<D: Disk> Parts<D> {
         requires sound { IsSound self.old }
         ensures goes_on { GoesOn D.state_at D.clock D.failures D.faithful
             Event.JournalStep (reply_to result) self.old self.new }
+        ensures comes_on { ComesOn Event.JournalStep (reply_to result) self.old self.new }
         ensures idle { self.old.store.machine.faulted ≡ false →
             (result ≡ Ok Progress.Idle) ↔ IsSettled self.old.store.machine
             (choice_of self.old.journal) }
@@ -84,6 +87,7 @@ impl<D: Disk> Parts<D> {
         self.working()?;
         pending_may_be_handed();
         journal_steps_keep();
+        ended_steps_tell();
         receipts_are_durable();
         let durable = self.store.durable();
         let used = self.journal.used();
@@ -98,12 +102,14 @@ impl<D: Disk> Parts<D> {
         requires sound { IsSound self.old }
         ensures goes_on { GoesOn D.state_at D.clock D.failures D.faithful
             Event.TrimStep (reply_to result) self.old self.new }
+        ensures comes_on { ComesOn Event.TrimStep (reply_to result) self.old self.new }
         ensures idle { self.old.store.machine.faulted ≡ false → (result ≡ Ok Progress.Idle) ↔
             IsTrimmed self.old.store.machine self.old.base self.old.spelled.value.items
             (choice_of self.old.journal) (map view_of self.old.hives.items) }
     {
         self.working()?;
         journal_steps_keep();
+        ended_steps_tell();
         receipts_are_durable();
         if !self.may_trim() {
             return Ok(Progress::Idle);

@@ -4,7 +4,10 @@ mod Room
 mod Accepting
 mod Beginning
 mod Handing
+mod Ending
 mod Stepping
+mod Advancing
+mod FlushesEnd
 mod Flushing
 mod Standing
 mod Running

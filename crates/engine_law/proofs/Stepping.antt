@@ -1,7 +1,7 @@
 -- Steps of the journal, of a trim and of a flush keep what the engine keeps, and are steps of the machine.
 use Rattle.std.proofs.Common.{◌≡◌, ◌⊎◌, inl, inr, ℕ, zero, suc, ◌+◌, ◌-◌, ◌<◌, ◌≤◌, false, Result, Ok, Err, List, [], ◌∷◌, ◌++◌, length, take, drop, refl, sym, ◌∙◌, ap, subst, arith, Option, Some, None, slice_get}
 use Rattle.std.proofs.lemmas.Option.{none-some, same_Some, slice_get-get_or}
-use Rattle.std.proofs.lemmas.List.{length-map, length-drop, length-take, drop-map, length-append, take-append-drop}
+use Rattle.std.proofs.lemmas.List.{length-map, length-drop, drop-map, take-append-drop}
 use Rattle.refusals.specs.declared.limits.TheConstants.{GREATEST_NUMBER, MOST_JOURNAL_BYTES}
 use Rattle.refusals.specs.declared.refusal.Refusal.{Refusal}
 use Rattle.refusals.specs.declared.refusal.Refusal.TheVariants as refusal
@@ -9,7 +9,7 @@ use Rattle.reg_tree.specs.Fresh.{fresh_tree}
 use Rattle.reg_tree.specs.declared.element.Element.{Element}
 use Rattle.prefix_law.specs.Changes as law
 use Rattle.prefix_law.specs.Changes.{AreLegal, ops_on, replay, applied}
-use Rattle.prefix_law.specs.Promises.{Choice, Spelled, nothing, settled, under_way, floor, floor_of, top, Ends, BeginsBatch, Answer, Answer.Idle, Answer.More, Answer.Done, Answer.NoMemory, Answer.DiskFault, JournalSays, TrimSays}
+use Rattle.prefix_law.specs.Promises.{Choice, Spelled, nothing, settled, under_way, floor, top, Ends, BeginsBatch, Answer, Answer.Idle, Answer.More, Answer.Done, Answer.NoMemory, Answer.DiskFault, JournalSays, TrimSays}
 use Rattle.prefix_law.specs.Life.{ops_in}
 use Rattle.prefix_law.specs.Kept as law_kept
 use Rattle.prefix_law.specs.Steps.{pending_elements, MayTrim}
@@ -33,11 +33,8 @@ use Rattle.engine_law.specs.Answers.{stepped_to, reply_to, failed, freed, after_
 use Rattle.engine_law.specs.Answers as answers
 use Rattle.engine_law.proofs.Bridge.{number_is, last_is}
 use Rattle.engine_law.proofs.Accepting.{Keeps}
-use Rattle.engine_law.proofs.Room.{rooms_are, room_append}
-
--- the machine with another durable number and other room
-abbrev moved_to : Machine → ℕ → ℕ → Machine
-moved_to m d r = record m { durable = d; room = r }
+use Rattle.engine_law.proofs.Ending.{moved_to, batch_top, trim_ends}
+use Rattle.engine_law.proofs.Room.{room_append}
 
 not_faulted : (m : Machine) → m.faulted ≡ false → fault m ≡ None
 not_faulted m e = ap (λ b. refused_if b refusal.Faulted) e
@@ -47,11 +44,6 @@ drop_drop : {A : Type 0} (j k : ℕ) (l : List A) → drop k (drop j l) ≡ drop
 drop_drop {A = A} j k [] = ap (drop k) (drop_nil {A = A} j) ∙ drop_nil {A = A} k ∙ sym (drop_nil {A = A} (j + k))
 drop_drop zero k (x ∷ xs) = let e : k ≡ 0 + k = omega arith in ap (λ n. drop n (x ∷ xs)) e
 drop_drop (suc j) k (x ∷ xs) = drop_drop j k xs ∙ (let e : suc (j + k) ≡ suc j + k = omega arith in ap (λ n. drop n (x ∷ xs)) e)
-
-floor_on : (durable below : ℕ) (xs es : List (law.Element TimedOp)) → floor_of durable (floor_of durable below xs) (xs ++ es) ≡ floor_of durable below xs
-floor_on durable below [] [] = refl
-floor_on durable below [] (e ∷ es) = refl
-floor_on durable below (x ∷ xs) es = refl
 
 module _ (keeps : Keeps) (m : Machine) (base : ℕ) (opened : List Element) (old new : Choice (Spelled TimedOp)) (hives : List HiveView) (i : IsConsistent m base opened old hives) (free : m.faulted ≡ false) where
   handed : List (law.Element TimedOp)
@@ -149,22 +141,15 @@ module _ (keeps : Keeps) (m : Machine) (base : ℕ) (opened : List Element) (old
 
   by_trim : (x : Spelled TimedOp) → new ≡ settled x → x ≡ nothing → Ended (top m.durable new.now) (m.room - freed old new)
   by_trim x is e =
-      let now : new.now ≡ nothing = ap (λ (c : Choice (Spelled TimedOp)). c.now) is ∙ e in
-      let same : top m.durable new.now ≡ m.durable = ap (top m.durable) now ∙ (let f : m.durable + 0 ≡ m.durable = omega arith in f) in
-      let empty : room_of new.now.elements ≡ 0 = ap (λ (s : Spelled TimedOp). room_of s.elements) now in
-      let rest : room_of (timed_elements (pending (moved_to m (top m.durable new.now) (m.room - freed old new)))) ≡ room_of (timed_elements (pending m)) = ap (λ n. room_of (timed_elements (drop (n - m.before) m.accepted))) same in
-      record {
-        rises = omega (arith, same);
-        room_is = omega (arith, i.room, empty, rest);
-        keeps_room = inr (record { done = refl; durable = same; room = omega (arith, i.room, empty, rooms_are (pending m)) });
-      }
+      let ends = trim_ends m base opened old new hives i x is e in
+      let empty : room_of new.now.elements ≡ 0 = ap (λ (c : Choice (Spelled TimedOp)). room_of c.now.elements) is ∙ ap (λ (s : Spelled TimedOp). room_of s.elements) e in
+      let rest : room_of (timed_elements (pending (moved_to m (top m.durable new.now) (m.room - freed old new)))) ≡ room_of (timed_elements (pending m)) = ap (λ n. room_of (timed_elements (drop (n - m.before) m.accepted))) ends.durable in
+      record { rises = omega (arith, ends.durable); room_is = omega (arith, i.room, empty, rest); keeps_room = inr ends }
 
   by_batch : (x : Spelled TimedOp) → new ≡ settled x → IsBatch m old.now x → Ended (top m.durable new.now) (m.room - freed old new)
   by_batch x is (count, some, few, e) =
       let now : new.now ≡ record { below = floor m.durable old.now; elements = old.now.elements ++ take count (timed_elements (pending m)) } = ap (λ (c : Choice (Spelled TimedOp)). c.now) is ∙ e in
-      let ends = i.law.ends in
-      let few_timed : count ≤ length (timed_elements (pending m)) = omega (arith, few, length-map (pending m) timed_element) in
-      let up : top m.durable new.now ≡ m.durable + count = ap (top m.durable) now ∙ longer_top count few_timed in
+      let up : top m.durable new.now ≡ m.durable + count = batch_top m base opened old new hives i x is count few e in
       let grown : room_of new.now.elements ≡ room_of old.now.elements + room_of (take count (timed_elements (pending m))) = ap (λ (s : Spelled TimedOp). room_of s.elements) now ∙ room_append old.now.elements (take count (timed_elements (pending m))) in
       let left : pending (moved_to m (top m.durable new.now) (m.room - freed old new)) ≡ drop count (pending m) = ap (λ n. drop (n - m.before) m.accepted) up ∙ (let k : m.durable + count - m.before ≡ (m.durable - m.before) + count = omega (arith, i.kept.within.opened) in ap (λ n. drop n m.accepted) k) ∙ sym (drop_drop (m.durable - m.before) count m.accepted) in
       let split : room_of (timed_elements (pending m)) ≡ room_of (take count (timed_elements (pending m))) + room_of (timed_elements (drop count (pending m))) = parts count (pending m) in
@@ -176,12 +161,6 @@ module _ (keeps : Keeps) (m : Machine) (base : ℕ) (opened : List Element) (old
         keeps_room = inl same;
       }
     where
-      longer_top : (n : ℕ) → n ≤ length (timed_elements (pending m)) → top m.durable (record { below = floor m.durable old.now; elements = old.now.elements ++ take n (timed_elements (pending m)) }) ≡ m.durable + n
-      longer_top n le =
-          let ends = i.law.ends in
-          let low = floor_on m.durable old.now.below old.now.elements (take n (timed_elements (pending m))) in
-          omega (arith, ends, low, le, length-append old.now.elements (take n (timed_elements (pending m))), length-take n (timed_elements (pending m)))
-
       parts : (n : ℕ) (es : List Element) → room_of (timed_elements es) ≡ room_of (take n (timed_elements es)) + room_of (timed_elements (drop n es))
       parts n es = sym (ap room_of (take-append-drop n (timed_elements es))) ∙ room_append (take n (timed_elements es)) (drop n (timed_elements es))
           ∙ ap (λ (l : List (law.Element TimedOp)). room_of (take n (timed_elements es)) + room_of l) (drop-map timed_element n es)

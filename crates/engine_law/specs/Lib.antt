@@ -4,3 +4,4 @@ pub mod Runs
 pub mod Openings
 pub mod Answers
 pub mod Idle
+pub mod Progress

@@ -1,34 +1,39 @@
 //! The laws, each the contract of a function that does nothing.
-ghost use Rattle.std.specs.Prelude.{◌≡◌, ℕ, ◌+◌, ◌≤◌, ◌++◌, ◌∷◌, [], false, List, length, map, slice_get, slice_set, Some, None, Result, Err};
+ghost use Rattle.std.specs.Prelude.{◌≡◌, ◌⊎◌, ℕ, ◌+◌, ◌*◌, ◌<◌, ◌≤◌, ◌++◌, ◌∷◌, [], false, List, length, map, slice_get, slice_set, Some, None, Result, Ok, Err};
 ghost use Rattle.reg_tree.specs.Maps.{TreeMap};
 ghost use Rattle.reg_tree.specs.declared.element.Element.{Element};
 ghost use Rattle.prefix_law.specs.Changes.{ops_on};
 ghost use Rattle.prefix_law.specs.Life.{ops_in};
-ghost use Rattle.prefix_law.specs.Promises.{Choice, Spelled, JournalSays, TrimSays, HiveSays};
+ghost use Rattle.prefix_law.specs.Promises.{Choice, Spelled, Ends, JournalSays, TrimSays, HiveSays, settled, top};
 ghost use Rattle.engine_words.specs.Changes.{TimedOp, timed_elements};
 ghost use Rattle.hive_flush.specs.HiveStates.{AreLegalOn};
 ghost use Rattle.engine_words.specs.Steps.{Says};
 ghost use Rattle.engine_words.specs.declared.Progress.{Progress};
-ghost use Rattle.machine.specs.Machine.{Machine, opened_machine, pending};
-ghost use Rattle.machine.specs.Steps.{Step, Run, is_step};
+ghost use Rattle.engine_words.specs.declared.Progress.TheVariants as progress;
+ghost use Rattle.machine.specs.Machine.{Machine, last_number, opened_machine, pending, trees_now};
+ghost use Rattle.machine.specs.Steps.{EndsTrim, Step, Run, is_step};
 ghost use Rattle.machine.specs.Kept.{IsKept};
 ghost use Rattle.machine.specs.declared.event.Event.{Event};
 ghost use Rattle.machine.specs.declared.event.Event.TheVariants as event;
+ghost use Rattle.machine.specs.declared.event.Progress.TheVariants.{Done};
 ghost use Rattle.machine.specs.declared.event.Reply.{Reply};
 ghost use Rattle.engine_law.specs.States.{HiveView, IsConsistent, life_of};
 ghost use Rattle.refusals.specs.declared.refusal.Refusal.{Refusal};
 ghost use Rattle.refusals.specs.declared.refusal.Refusal.TheVariants.{Faulted};
 ghost use Rattle.engine_law.specs.Answers.{reply_to, after_step, after_flush, MayTrim, opened_above, accepted_above, absorbed};
 ghost use Rattle.disk_model.specs.FileState.{FileState};
+ghost use Rattle.disk_model.specs.Crash.{LeavesHonest};
+ghost use Rattle.disk_model.specs.StoreFiles.{IsPrimary};
 ghost use Rattle.std.specs.List.{AllByRecursion};
 ghost use Rattle.commit_journal.specs.Store.{Store, room_of};
 ghost use Rattle.commit_journal.specs.Handed.{IsHanded, IsShort};
 ghost use Rattle.commit_journal.specs.Journals.{choice_of, store_of};
 ghost use Rattle.commit_journal.specs.declared.journal.Journal.{Journal};
 ghost use Rattle.hive_flush.specs.declared.hive.HiveFile.{HiveFile};
-ghost use Rattle.engine_law.specs.Prefixes.{ArePlaced, AreOnDisk, IsSafeAt, view_of};
+ghost use Rattle.engine_law.specs.Prefixes.{ArePlaced, AreOnDisk, IsSafeAt, Recover, view_of};
 ghost use Rattle.engine_law.specs.Runs.{RunsSafely, IsBoundary, IsHeld};
 ghost use Rattle.engine_law.specs.Openings.{IsFound};
+ghost use Rattle.engine_law.specs.Progress.{FlushView, FlushesOn, HasFlushed, HasPending, IsJournalStep, IsTrimming};
 
 use reg_tree::{Op, Tree};
 
@@ -183,3 +188,47 @@ pub fn receipts_are_durable()
     machine::laws::states_are_kept();
     machine::laws::steps_alone_settle();
 }
+
+/// What a step has done that ended what was on its way to the journal, where all is kept.
+///
+/// - `settles`: a batch that stands has made changes durable.
+/// - `frees`: behind a trim that is done the room is that of the changes which are not durable.
+pub fn ended_steps_tell()
+    ensures settles { (machine : Machine) (base : ℕ) (opened : List Element)
+        (old new : Choice (Spelled TimedOp)) (hives : List HiveView) →
+        IsConsistent machine base opened old hives → ¬ (IsTrimming old) → Ends old new →
+        machine.durable < top machine.durable new.now }
+    ensures frees { (machine : Machine) (base : ℕ) (opened : List Element)
+        (old new : Choice (Spelled TimedOp)) (hives : List HiveView) →
+        IsConsistent machine base opened old hives → IsTrimming old → Ends old new →
+        EndsTrim machine Done (after_step machine old new (Ok progress.Done)) }
+{}
+
+/// Six steps of the journal in a row, or more, none of which is refused, make changes durable where some are not: a trim that is
+/// halfway is ended by one, and a batch takes four.
+pub fn six_steps_settle()
+    ensures { (machines : ℕ → Machine) (left : ℕ → ℕ) (count : ℕ) → 6 ≤ count →
+        HasPending (machines 0) →
+        ((k : ℕ) → k < count →
+        IsJournalStep (machines k) (left k) (machines (k + 1)) (left (k + 1))) →
+        (machines 0).durable < (machines count).durable }
+{}
+
+/// A flush that begins with so many dirty pages is done within twice as many steps and seven, none of which is refused; and its hive
+/// then has in its files each change that names it of those that were durable as it began.
+pub fn flushes_end()
+    ensures { (hives : ℕ → HiveView) (flushes : ℕ → FlushView) (numbers : ℕ → ℕ)
+        (answers : ℕ → Reply) → (hives 0).files.next ≡ None →
+        ((k : ℕ) → k < 2 * (flushes 1).pages + 7 → HasFlushed k answers hives
+        ⊎ FlushesOn (numbers k) (answers k) (hives k) (hives (k + 1)) (flushes k) (flushes (k + 1))) →
+        HasFlushed (2 * (flushes 1).pages + 7) answers hives × ((hives 1).memory.1 ≡ numbers 0) }
+{}
+
+/// Where all accepted changes are durable, whatever a crash leaves, and so what is there without one, recovers the last number and
+/// the trees of now.
+pub fn quiet_ends_recover()
+    ensures { (store : Store) (states : ℕ → ℕ → FileState) (moment : ℕ) (machine : Machine) →
+        IsSafeAt store states moment machine → ¬ (HasPending machine) → (files : ℕ → List ℕ) →
+        LeavesHonest IsPrimary (states moment) files →
+        Recover store (length machine.opened) files (last_number machine) (trees_now machine) }
+{}

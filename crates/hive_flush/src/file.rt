@@ -71,6 +71,7 @@ impl HiveFile {
             steps_left self.old ≤ 2 * dirty_pages self.old + 7 }
         ensures falls { result ≡ Ok Progress.More → steps_left self.new < steps_left self.old }
         ensures left { result ≡ Ok Progress.More → 0 < steps_left self.new }
+        ensures pages { result ≡ Ok Progress.More → dirty_pages self.new ≡ dirty_pages self.old }
         ensures refused { IfErr result (λ why. (why ≡ DiskFault) ⊎ (why ≡ Faulted)) }
         ensures faulted { (result ≡ Err Faulted) ↔ IsBroken self.old }
         ensures broken { IsBroken self.new ↔ (IsBroken self.old ⊎ (result ≡ Err DiskFault)) }

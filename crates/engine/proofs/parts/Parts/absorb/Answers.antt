@@ -1,6 +1,8 @@
 use Rattle.std.proofs.Common.{◌∙◌, ◌-◌, ◌++◌, sym, ap, arith, length, take, drop}
 use Rattle.std.proofs.lemmas.List.{length-drop, length-set}
 use Rattle.hive_flush.specs.HiveStates.{led_to, memory_of, place_of}
+use Rattle.engine_law.proofs.HiveLists.{get_other}
+use Rattle.engine.proofs.Advancing.{takes_at}
 use Rattle.engine.proofs.Sound.{at_place, same_hive}
 use Rattle.engine.proofs.AtHand.{hand_takes, taken_memory}
 use Rattle.engine.proofs.OnDisk.{hive_moves}
@@ -95,3 +97,13 @@ returns-clause-refused g c =
     (c.len-2.ensures ∙ sym c.deref.ensures.len ∙ ap length c.deref.ensures.value) (omega (arith, c.before-before.ensures, held)) (omega (arith, c.min-skipped.ensures, c.saturating_sub.ensures)) c.deref.ensures.value c.above.ensures.changes in
     let ops = handed_ops s.store s.base s.spelled.value.items s.journal s.hives.items c.requires.sound.holds c.requires.works c.args.place old is c.hive_steps_keep.ensures.above s.opened.items hand hand.gone hand.high (hand.lacked c.args.place old is) le es are in
     c.absorb.ensures.legal (lawful s.store s.base s.spelled.value.items s.journal s.hives.items c.requires.sound.holds c.requires.works c.args.place old is c.hive_steps_keep.ensures.lacks es ops)
+
+pub returns-clause-others : goal.returns-clause-others
+returns-clause-others g c = λ i no. get_other c.args.self.now.hives.items c.args.place i c.absorb.new.self no
+
+pub returns-clause-taken : goal.returns-clause-taken
+returns-clause-taken g c = λ was then at there.
+    let s = c.args.self.now in
+    let old = c.index_mut.result.now in
+    let is = at_place s.hives.items c.args.place old c.requires.there c.index_mut.ensures.value in
+    takes_at s.hives.items c.args.place old c.absorb.new.self was then is at there c.requires.there c.absorb.result c.durable-durable.result s.store.machine.durable _ c.absorb.ensures.files c.absorb.ensures.memory c.durable-durable.ensures.durable

@@ -7,6 +7,7 @@ use Rattle.engine.proofs.Sound.{calm_sound}
 use Rattle.engine.proofs.AtHand.{hand_calms}
 use Rattle.engine.proofs.Namings.{naming_calm}
 use Rattle.engine.proofs.Idling.{calm_idles}
+use Rattle.engine.proofs.Advancing.{calm_comes_on}
 use Rattle.engine.proofs.parts.Parts.calm_event.Goals as goal
 
 pub returns-clause-goes_on : goal.returns-clause-goes_on
@@ -31,7 +32,13 @@ returns-clause-goes_on g c =
       call = record { later = omega arith; one = omega arith; past = λ k f le. refl; others = λ f none. refl };
       failed = λ told. absurd (true≢false (sym (c.steps_alone_fail.ensures m n c.args.event (subst (λ r. Step m c.args.event r n) told step)) ∙ c.requires.calm));
       faithful = λ f. f;
+      life = (refl, refl);
+      journal_stays = λ nj nt. refl;
+      hives_stay = λ i no. refl;
     }
+
+pub returns-clause-comes_on : goal.returns-clause-comes_on
+returns-clause-comes_on g c = calm_comes_on c.args.event c.event.result c.args.self.now (record c.args.self.now { store = c.event.new.self }) c.requires.calm
 
 pub returns-clause-idle : goal.returns-clause-idle
 returns-clause-idle g c = let s = c.args.self.now in calm_idles c.args.event c.event.result s.store.machine s.base s.spelled.value.items (choice_of s.journal) (map view_of s.hives.items) c.requires.calm

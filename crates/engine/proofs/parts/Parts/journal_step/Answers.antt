@@ -1,7 +1,12 @@
-use Rattle.std.proofs.Common.{◌+◌, sym, subst}
+use Rattle.std.proofs.Common.{◌+◌, ◌-◌, ◌∙◌, inl, ap, arith, length, refl, sym, subst}
+use Rattle.std.proofs.lemmas.List.{length-drop}
+use Rattle.std.proofs.lemmas.Result.{err_from_is_err_and}
+use Rattle.engine_words.specs.Changes.{timed_elements}
 use Rattle.machine.specs.declared.event.Event.TheVariants as event
-use Rattle.engine_law.specs.Answers.{reply_to}
-use Rattle.engine.specs.Events.{GoesOn}
+use Rattle.engine_law.specs.Answers.{reply_to, after_step}
+use Rattle.engine.specs.Events.{ComesOn, GoesOn}
+use Rattle.engine.proofs.Advancing.{journal_comes_on, nearer_where, refused_comes_on}
+use Rattle.engine.proofs.Sound.{settled_is}
 use Rattle.engine.proofs.Journaling.{may_hand, batch_goes, journal_goes_on, rises_by}
 use Rattle.commit_journal.specs.Journals.{choice_of}
 use Rattle.engine.proofs.Idling.{journal_idles}
@@ -22,7 +27,7 @@ returns-clause-goes_on g c =
     let goes = batch_goes s.store s.base s.spelled.value.items s.journal s.hives.items c.requires.sound.holds c.durable-durable.result c.above-pending.result.now c.durable-durable.ensures.durable c.above-pending.ensures.changes
     c.journal_steps_keep.ensures.batch c.step-come.new.self c.step-come.result c.in_ok-working.ensures.works call.faulted call.says in
     subst (λ p. GoesOn g.D.Disk.state_at g.D.Disk.clock g.D.Disk.failures g.D.Disk.faithful event.JournalStep (reply_to c.step-come.result) s p) (sym c.settle.ensures.rest)
-    (journal_goes_on g.D.Disk.state_at g.D.Disk.clock g.D.Disk.failures g.D.Disk.faithful event.JournalStep s c.step-come.new.self c.step-come.new.disk c.settle.new.self.store c.settle.new.self.naming c.step-come.result c.used-used.result
+    (journal_goes_on g.D.Disk.state_at g.D.Disk.clock g.D.Disk.failures g.D.Disk.faithful event.JournalStep (inl refl) s c.step-come.new.self c.step-come.new.disk c.settle.new.self.store c.settle.new.self.naming c.step-come.result c.used-used.result
     c.requires.sound c.in_ok-working.ensures.works goes c.used-used.ensures c.settle.ensures.machine c.settle.ensures.at_hand (rises_by c.receipts_are_durable.ensures) c.settle.ensures.naming call.same call.broken.0 call.on call.call call.failures call.faithful)
 
 pub returns-clause-idle : goal.returns-clause-idle
@@ -30,3 +35,24 @@ returns-clause-idle g c = λ free.
     let s = c.args.self.now in
     journal_idles s.store.machine (choice_of s.journal) (choice_of c.step-come.new.self) c.durable-durable.result (c.durable-durable.result + 1) c.above-pending.result.now c.step-come.result c.requires.sound.holds.kept.kept
     c.durable-durable.ensures.durable c.above-pending.ensures.changes c.step-come.ensures.says c.step-come.ensures.idle
+
+pub returns-in_err-working-clause-comes_on : goal.returns-in_err-working-clause-comes_on
+returns-in_err-working-clause-comes_on g c =
+    let told = err_from_is_err_and c.from_residual.result c.from_residual.ensures.1 in
+    refused_comes_on event.JournalStep _ _ c.args.self.now c.args.self.now told.1
+
+pub returns-clause-comes_on : goal.returns-clause-comes_on
+returns-clause-comes_on g c =
+    let s = c.args.self.now in
+    let m = s.store.machine in
+    let call = c.step-come.ensures in
+    let free = c.in_ok-working.ensures.works in
+    let goes = batch_goes s.store s.base s.spelled.value.items s.journal s.hives.items c.requires.sound.holds c.durable-durable.result c.above-pending.result.now c.durable-durable.ensures.durable c.above-pending.ensures.changes
+    c.journal_steps_keep.ensures.batch c.step-come.new.self c.step-come.result free call.faulted call.says in
+    let is = c.settle.ensures.machine ∙ settled_is m (choice_of s.journal) (choice_of c.step-come.new.self) c.used-used.result c.step-come.result c.used-used.ensures in
+    subst (λ p. ComesOn event.JournalStep (reply_to c.step-come.result) s p) (sym c.settle.ensures.rest)
+    (journal_comes_on s c.requires.sound free c.step-come.new.self c.step-come.new.disk c.settle.new.self.store c.settle.new.self.naming c.step-come.result is c.ended_steps_tell.ensures.frees call.ends
+    c.ended_steps_tell.ensures.settles (c.durable-durable.result + 1) (timed_elements c.above-pending.result.now) call.says
+    (λ some. nearer_where _ _ c.step-come.result (length c.above-pending.result.now) call.nearer
+    (omega (arith, some, c.requires.sound.holds.kept.kept.within.opened, c.durable-durable.ensures.durable, ap length c.above-pending.ensures.changes, length-drop (c.durable-durable.result - m.before) m.accepted)))
+    (rises_by c.receipts_are_durable.ensures m (after_step m (choice_of s.journal) (choice_of c.step-come.new.self) c.step-come.result) event.JournalStep (reply_to c.step-come.result) c.requires.sound.holds.kept.kept goes.0))

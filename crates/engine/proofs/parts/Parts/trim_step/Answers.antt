@@ -1,7 +1,10 @@
-use Rattle.std.proofs.Common.{sym, subst, map}
+use Rattle.std.proofs.Common.{◌∙◌, inr, refl, sym, subst, map}
+use Rattle.std.proofs.lemmas.Result.{err_from_is_err_and}
 use Rattle.machine.specs.declared.event.Event.TheVariants as event
 use Rattle.engine_law.specs.Answers.{reply_to}
-use Rattle.engine.specs.Events.{GoesOn}
+use Rattle.engine.specs.Events.{ComesOn, GoesOn}
+use Rattle.engine.proofs.Advancing.{idle_comes_on, refused_comes_on, trim_comes_on}
+use Rattle.engine.proofs.Sound.{settled_is}
 use Rattle.engine.proofs.Journaling.{trim_goes, journal_goes_on, rises_by}
 use Rattle.commit_journal.specs.Journals.{choice_of}
 use Rattle.engine_law.specs.Prefixes.{view_of}
@@ -15,10 +18,27 @@ returns-clause-goes_on g c =
     let goes = trim_goes s.store s.base s.spelled.value.items s.journal s.hives.items c.requires.sound.holds c.journal_steps_keep.ensures.trim c.trim_step-come.new.self c.trim_step-come.result c.in_ok-working.ensures.works
     (c.may_trim.ensures.yes c.if-not-may_trim.false) call.faulted call.says in
     subst (λ p. GoesOn g.D.Disk.state_at g.D.Disk.clock g.D.Disk.failures g.D.Disk.faithful event.TrimStep (reply_to c.trim_step-come.result) s p) (sym c.settle.ensures.rest)
-    (journal_goes_on g.D.Disk.state_at g.D.Disk.clock g.D.Disk.failures g.D.Disk.faithful event.TrimStep s c.trim_step-come.new.self c.trim_step-come.new.disk c.settle.new.self.store c.settle.new.self.naming c.trim_step-come.result c.used-used.result
+    (journal_goes_on g.D.Disk.state_at g.D.Disk.clock g.D.Disk.failures g.D.Disk.faithful event.TrimStep (inr refl) s c.trim_step-come.new.self c.trim_step-come.new.disk c.settle.new.self.store c.settle.new.self.naming c.trim_step-come.result c.used-used.result
     c.requires.sound c.in_ok-working.ensures.works goes c.used-used.ensures c.settle.ensures.machine c.settle.ensures.at_hand (rises_by c.receipts_are_durable.ensures) c.settle.ensures.naming call.same call.broken.0 call.on call.call call.failures call.faithful)
 
 pub returns-clause-idle : goal.returns-clause-idle
 returns-clause-idle g c = λ free.
     let s = c.args.self.now in
     trim_idles s.store.machine s.base s.spelled.value.items (choice_of s.journal) (choice_of c.trim_step-come.new.self) (map view_of s.hives.items) c.trim_step-come.result (c.may_trim.ensures.yes c.if-not-may_trim.false) c.trim_step-come.ensures.says
+
+pub returns-in_err-working-clause-comes_on : goal.returns-in_err-working-clause-comes_on
+returns-in_err-working-clause-comes_on g c =
+    let told = err_from_is_err_and c.from_residual.result c.from_residual.ensures.1 in
+    refused_comes_on event.TrimStep _ _ c.args.self.now c.args.self.now told.1
+
+pub returns-then-not-may_trim-clause-comes_on : goal.returns-then-not-may_trim-clause-comes_on
+returns-then-not-may_trim-clause-comes_on g c = idle_comes_on c.args.self.now (c.may_trim.ensures.no c.if-not-may_trim.true)
+
+pub returns-clause-comes_on : goal.returns-clause-comes_on
+returns-clause-comes_on g c =
+    let s = c.args.self.now in
+    let call = c.trim_step-come.ensures in
+    let is = c.settle.ensures.machine ∙ settled_is s.store.machine (choice_of s.journal) (choice_of c.trim_step-come.new.self) c.used-used.result c.trim_step-come.result c.used-used.ensures in
+    subst (λ p. ComesOn event.TrimStep (reply_to c.trim_step-come.result) s p) (sym c.settle.ensures.rest)
+    (trim_comes_on s c.requires.sound c.in_ok-working.ensures.works c.trim_step-come.new.self c.trim_step-come.new.disk c.settle.new.self.store c.settle.new.self.naming c.trim_step-come.result is c.ended_steps_tell.ensures.frees call.ends
+    (c.may_trim.ensures.yes c.if-not-may_trim.false) call.says)

@@ -1,4 +1,4 @@
-use Rattle.std.proofs.Common.{◌≡◌, ◌∙◌, sym, subst, ℕ, refl}
+use Rattle.std.proofs.Common.{◌≡◌, ◌∙◌, ap, sym, subst, ℕ, refl, slice_get}
 use Rattle.machine.specs.Steps.{Step}
 use Rattle.machine.specs.Machine.{Machine}
 use Rattle.machine.specs.declared.event.Event.TheVariants as event
@@ -9,7 +9,10 @@ use Rattle.disk_model.specs.StoreFiles.{IsOfHive, primary_file, log_file}
 use Rattle.engine.specs.Events.{GoesOn}
 use Rattle.engine.proofs.Sound.{at_place, flush_sound}
 use Rattle.engine.proofs.Frames.{any_call, has_failed}
-use Rattle.engine_law.proofs.HiveLists.{hive_writes}
+use Rattle.engine_law.proofs.HiveLists.{get_other, hive_writes, view_at}
+use Rattle.engine_law.specs.Prefixes.{view_of}
+use Rattle.engine.specs.declared.parts.Parts.{Parts}
+use Rattle.engine.proofs.Advancing.{writes_at, writes_on}
 use Rattle.std.proofs.lemmas.List.{length-set}
 use Rattle.engine.proofs.AtHand.{hand_flushes}
 use Rattle.engine.proofs.Namings.{naming_flushes}
@@ -42,4 +45,17 @@ returns-clause-goes_on g c =
       call = any_call (IsOfHive (place_of c.index_mut.result.now)) _ _ _ _ call.call;
       failed = has_failed c.step-come.result _ _ call.failures;
       faithful = call.faithful;
+      life = (refl, refl);
+      journal_stays = λ nj nt. refl;
+      hives_stay = λ i no. get_other s.hives.items c.args.place i c.step-come.new.self (λ e. no (ap event.FlusherStep (sym e)));
     })
+
+pub returns-clause-flushes : goal.returns-clause-flushes
+returns-clause-flushes g c = λ was then at there made.
+    let s = c.args.self.now in
+    let call = c.step-come.ensures in
+    let old = c.index_mut.result.now in
+    let is = at_place s.hives.items c.args.place old c.requires.there c.index_mut.ensures.value in
+    writes_at s.hives.items c.args.place (reply_to c.step-come.result) old c.step-come.new.self was then is at
+    (sym (ap (λ (p : Parts _). slice_get p.hives.items c.args.place) c.mark.ensures.rest) ∙ there) c.requires.there
+    (writes_on old c.step-come.new.self c.step-come.result call.says call.memory (c.requires.sound.holds.kept.own c.args.place (view_of old) (view_at s.hives.items c.args.place old is)) call.few call.falls call.left call.pages made)

@@ -1,0 +1,131 @@
+-- Lives go on from one another.
+use Rattle.std.proofs.Common.{◌≡◌, inl, inr, ℕ, ◌-◌, ◌≤◌, List, [], ◌∷◌, length, take, refl, sym, ◌∙◌, ap, subst, arith}
+use Rattle.reg_tree.specs.Maps.{TreeMap}
+use Rattle.reg_tree.specs.Sequences.{after_elements}
+use Rattle.reg_tree.specs.declared.element.Element.{Element}
+use Rattle.disk_model.specs.FileState.{FileState, Leaves, at_rest}
+use Rattle.disk_model.specs.Sector.{IsHonest}
+use Rattle.disk_model.specs.Crash.{LeavesHonest}
+use Rattle.disk_model.specs.StoreFiles.{IsPrimary}
+use Rattle.disk_model.proofs.Leaves.{left_at_rest}
+use Rattle.disk_model.proofs.Sectors.{honest_at_rest}
+use Rattle.hive_files.specs.Frames.{IsSyncedOrSame}
+use Rattle.commit_journal.specs.Store.{Store, IsStore}
+use Rattle.machine.specs.Machine.{Machine, last_number, opened_machine}
+use Rattle.machine.specs.declared.event.Event.{Event}
+use Rattle.machine.specs.declared.event.Reply.{Reply}
+use Rattle.engine_law.specs.Prefixes.{IsSafeAt, Recover, trees_after}
+use Rattle.engine_law.specs.Runs.{IsBoundary, RunsSafely}
+use Rattle.engine_law.proofs.Bridge.{all_long}
+use Rattle.recovery.specs.Recovered.{IsRecovered, seen_in}
+use Rattle.engine.specs.Lives.{Life, Life.Unopened, Life.Opened, IsSafe, IsLife, IsNext, AreLives, OpensFrom, EachGoesOn}
+use Rattle.engine.proofs.OpenedStays.{run_stays}
+
+abbrev pub OneRecovered : Type 0
+OneRecovered = (files : ℕ → List ℕ) (a b : Store) (n m : ℕ) (ts us : List TreeMap) → IsRecovered files a n ts → IsRecovered files b m us → (a ≡ b) × (n ≡ m) × (ts ≡ us)
+
+-- What a crash leaves of files at rest is what they are
+rests_as : (bytes : List ℕ) → Leaves (at_rest bytes) bytes
+rests_as bytes = record { no_shorter = omega arith; no_longer = omega arith; kept = λ p lt none. refl }
+
+-- A file that was synced, or is as it was
+
+module _ (state end : ℕ → FileState) (seen : LeavesHonest IsPrimary state (seen_in state)) (kept : (f : ℕ) → IsSyncedOrSame (state f) (end f)) (files : ℕ → List ℕ) (left : LeavesHonest IsPrimary end files) where
+  left_before : (f : ℕ) → Leaves (state f) (files f)
+  left_before f = elim (kept f) [
+    | inl same ↦ subst (λ (s : FileState). Leaves s (files f)) same (left.0 f)
+    | inr synced ↦ subst (λ (c : List ℕ). Leaves (state f) c) (sym (left_at_rest (state f).seen (files f) (subst (λ (s : FileState). Leaves s (files f)) synced (left.0 f)))) (seen.0 f)
+  ]
+
+  honest_before : (f : ℕ) → IsPrimary f → IsHonest (state f) (files f)
+  honest_before f primary = elim (kept f) [
+    | inl same ↦ subst (λ (s : FileState). IsHonest s (files f)) same (left.1 f primary)
+    | inr synced ↦ subst (λ (c : List ℕ). IsHonest (state f) c) (sym (left_at_rest (state f).seen (files f) (subst (λ (s : FileState). Leaves s (files f)) synced (left.0 f)))) (seen.1 f primary)
+  ]
+
+  pub before : LeavesHonest IsPrimary state files
+  before = (left_before, honest_before)
+
+-- The next life's files
+
+-- all that may be left of them may have been left of those before, and so may what a read gives
+next_left : (end next : ℕ → FileState) → IsNext end next → (files : ℕ → List ℕ) → LeavesHonest IsPrimary next files → LeavesHonest IsPrimary end files
+next_left end next (inl (left, was, is)) files there =
+    let same : (f : ℕ) → files f ≡ left f = λ f. left_at_rest (left f) (files f) (subst (λ (s : FileState). Leaves s (files f)) (is f) (there.0 f)) in (
+      λ f. subst (λ (c : List ℕ). Leaves (end f) c) (sym (same f)) (was.0 f),
+      λ f primary. subst (λ (c : List ℕ). IsHonest (end f) c) (sym (same f)) (was.1 f primary),
+    )
+next_left end next (inr (seen, is)) files there = (
+  λ f. subst (λ (s : FileState). Leaves s (files f)) (is f) (there.0 f),
+  λ f primary. subst (λ (s : FileState). IsHonest s (files f)) (is f) (there.1 f primary),
+)
+
+next_seen : (end next : ℕ → FileState) → IsNext end next → LeavesHonest IsPrimary next (seen_in next)
+next_seen end next (inl (left, was, is)) = (
+  λ f. subst (λ (s : FileState). Leaves s s.seen) (sym (is f)) (rests_as (left f)),
+  λ f primary. subst (λ (s : FileState). IsHonest s s.seen) (sym (is f)) (honest_at_rest (left f) (left f) (rests_as (left f))),
+)
+next_seen end next (inr (seen, is)) = (
+  λ f. subst (λ (s : FileState). Leaves s s.seen) (sym (is f)) (seen.0 f),
+  λ f primary. subst (λ (s : FileState). IsHonest s s.seen) (sym (is f)) (seen.1 f primary),
+)
+
+-- A prefix is recovered
+recovers : (store : Store) (m : Machine) (files : ℕ → List ℕ) → IsStore store → length m.opened ≡ store.hives → (n : ℕ) → Recover store (length m.opened) files n (trees_after m n) → IsRecovered files store n (trees_after m n)
+recovers store m files is many n found = record {
+  store_is = is;
+  many = all_long m.opened (take (n - m.before) m.accepted) ∙ many;
+  recovers = subst (λ k. Recover store k files n (trees_after m n)) many found;
+}
+
+module _ (one : OneRecovered) (store : Store) (is : IsStore store) where
+  opens_from : (m : Machine) (state : ℕ → FileState) (number : ℕ) (trees : List TreeMap) → length m.opened ≡ store.hives → IsSafe store m state → LeavesHonest IsPrimary state (seen_in state) → IsRecovered (seen_in state) store number trees → OpensFrom m number trees
+  opens_from m state number trees many safe seen found = by_prefix (safe (seen_in state) seen)
+    where
+      by_prefix : (n : ℕ) × (m.durable ≤ n) × (n ≤ last_number m) × Recover store (length m.opened) (seen_in state) n (trees_after m n) → OpensFrom m number trees
+      by_prefix (n, low, high, there) =
+          let same = one (seen_in state) store store number n trees (trees_after m n) found (recovers store m (seen_in state) is many n there) in
+          record { low = omega (arith, low, same.1); high = omega (arith, high, same.1); trees_are = same.2 ∙ ap (trees_after m) (sym same.1) }
+
+  pub go_on : (m : Machine) (state : ℕ → FileState) (lives : List Life) → length m.opened ≡ store.hives → IsSafe store m state → LeavesHonest IsPrimary state (seen_in state) → AreLives store state lives → EachGoesOn m lives
+  go_on m state [] many safe seen rest = tt
+  go_on m state (Unopened end ∷ lives) many safe seen (kept, (next, on, rest)) =
+      go_on m next lives many (λ files left. safe files (before state end seen kept files (next_left end next on files left))) (next_seen end next on) rest
+  go_on m state (Opened number trees last end ∷ lives) many safe seen ((found, come, left), (next, on, rest)) = (
+    opens_from m state number trees many safe seen found,
+    go_on last next lives (ap length (run_stays (record (opened_machine trees number [] 0) { room = come.room }) last come.events come.replies come.run) ∙ found.many)
+        (λ files there. left files (next_left end next on files there)) (next_seen end next on) rest,
+  )
+
+-- Calls
+
+none_taken : (n : ℕ) → take {A = Element} (n - n) [] ≡ []
+none_taken n = let e : n - n ≡ 0 = omega arith in ap (λ k. take {A = Element} k []) e
+
+pub repaired : (store : Store) (state end : ℕ → FileState) (number room : ℕ) (trees : List TreeMap) → IsRecovered (seen_in state) store number trees → ((files : ℕ → List ℕ) → LeavesHonest IsPrimary end files → IsRecovered files store number trees)
+    → IsLife store state (Opened number trees (record (opened_machine trees number [] 0) { room = room }) end)
+repaired store state end number room trees found stays = (
+  found,
+  record { room = room; events = []; replies = []; run = refl },
+  λ files left.
+      let there = stays files left in
+      (number, omega arith, omega arith, subst (λ (l : List Element). Recover store (length trees) files number (after_elements trees l)) (sym (none_taken number)) (subst (λ k. Recover store k files number trees) (sym there.many) there.recovers)),
+)
+
+abbrev pub EachMoment : Type 0
+EachMoment = (store : Store) (states : ℕ → ℕ → FileState) (start end : ℕ) (old new : Machine) (events : List Event) (replies : List Reply) → RunsSafely (IsSafeAt store states) start old events replies end new → (moment : ℕ) → start ≤ moment → moment ≤ end
+    → IsBoundary (IsSafeAt store states) old events replies new moment
+
+pub ran : EachMoment → (store : Store) (state : ℕ → FileState) (number room : ℕ) (trees : List TreeMap) (states : ℕ → ℕ → FileState) (start end moment : ℕ) (events : List Event) (replies : List Reply) (new : Machine) → IsRecovered (seen_in state) store number trees
+    → RunsSafely (IsSafeAt store states) start (record (opened_machine trees number [] 0) { room = room }) events replies end new → start ≤ moment → moment ≤ end
+    → IsBoundary (λ at machine. IsLife store state (Opened number trees machine (states at))) (record (opened_machine trees number [] 0) { room = room }) events replies new moment
+ran each store state number room trees states start end moment events replies new found run low high =
+    let b = each store states start end (record (opened_machine trees number [] 0) { room = room }) new events replies run moment low high in
+    record {
+      answered = b.answered;
+      some = b.some;
+      machine = b.machine;
+      so_far = b.so_far;
+      then_on = b.then_on;
+      holds = (found, record { room = room; events = take b.answered events; replies = take b.answered replies; run = b.so_far }, b.holds);
+    }

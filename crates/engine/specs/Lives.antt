@@ -1,0 +1,64 @@
+-- Lives of a store, one after another on the same files.
+use Rattle.std.specs.Prelude.{◌≡◌, ◌⊎◌, ℕ, ◌≤◌, ⊤, List, [], ◌∷◌}
+use Rattle.reg_tree.specs.Maps.{TreeMap}
+use Rattle.disk_model.specs.FileState.{FileState, at_rest}
+use Rattle.disk_model.specs.Crash.{LeavesHonest}
+use Rattle.disk_model.specs.StoreFiles.{IsPrimary}
+use Rattle.hive_files.specs.Frames.{IsSyncedOrSame}
+use Rattle.machine.specs.Machine.{Machine, last_number, opened_machine}
+use Rattle.machine.specs.Steps.{Run}
+use Rattle.machine.specs.declared.event.Event.{Event}
+use Rattle.machine.specs.declared.event.Reply.{Reply}
+use Rattle.commit_journal.specs.Store.{Store}
+use Rattle.engine_law.specs.Prefixes.{IsPrefix, trees_after}
+use Rattle.recovery.specs.Recovered.{IsRecovered, seen_in}
+
+-- A life of a store, up to some moment at which the files are in this state: it hasn't opened, since an opening was refused or was on
+-- its way; or it has, at a number and trees, and its machine has come so far.
+pub data Life : Type 0 where
+  Unopened : (ℕ → FileState) → Life
+  Opened : ℕ → List TreeMap → Machine → (ℕ → FileState) → Life
+
+abbrev pub end_of : Life → ℕ → FileState
+end_of (Unopened end) = end
+end_of (Opened number trees last end) = end
+
+-- A machine that was opened at a number and trees, with some room, has come to this one by events.
+pub record HasCome (number : ℕ) (trees : List TreeMap) (last : Machine) : Type 0 where
+  pub room : ℕ
+  pub events : List Event
+  pub replies : List Reply
+  pub run : Run (record (opened_machine trees number [] 0) { room = room }) events replies last
+
+-- whatever a crash leaves of these files is a prefix of a machine's changes
+abbrev pub IsSafe : Store → Machine → (ℕ → FileState) → Type 0
+IsSafe store machine state = (files : ℕ → List ℕ) → LeavesHonest IsPrimary state files → IsPrefix store machine files
+
+-- A life on files that are in this state as it begins. Before it has opened, each file is as it was, or synced. It opens at what
+-- the files recover, as they are read; and then what a crash leaves is a prefix of what it accepted since.
+abbrev pub IsLife : Store → (ℕ → FileState) → Life → Type 0
+IsLife store state (Unopened end) = (f : ℕ) → IsSyncedOrSame (state f) (end f)
+IsLife store state (Opened number trees last end) = IsRecovered (seen_in state) store number trees × HasCome number trees last × IsSafe store last end
+
+-- Where a life has ended the next one begins: behind a crash on whatever that left, with honest first sectors; or, without one, on the
+-- files as they are, of which what a read gives has honest first sectors too.
+abbrev pub IsNext : (ℕ → FileState) → (ℕ → FileState) → Type 0
+IsNext end next = ((left : ℕ → List ℕ) × LeavesHonest IsPrimary end left × ((f : ℕ) → next f ≡ at_rest (left f)))
+    ⊎ (LeavesHonest IsPrimary end (seen_in end) × ((f : ℕ) → next f ≡ end f))
+
+-- lives, one after another
+abbrev pub AreLives : Store → (ℕ → FileState) → List Life → Type 0
+AreLives store state [] = ⊤
+AreLives store state (life ∷ lives) = IsLife store state life × ((next : ℕ → FileState) × IsNext (end_of life) next × AreLives store next lives)
+
+-- An opening goes on from a machine: at one of its numbers, not below the durable one, and at the trees after it.
+pub record OpensFrom (machine : Machine) (number : ℕ) (trees : List TreeMap) : Type 0 where
+  pub low : machine.durable ≤ number
+  pub high : number ≤ last_number machine
+  pub trees_are : trees ≡ trees_after machine number
+
+-- Each life that opens goes on from the last one before it that did.
+abbrev pub EachGoesOn : Machine → List Life → Type 0
+EachGoesOn machine [] = ⊤
+EachGoesOn machine (Unopened end ∷ lives) = EachGoesOn machine lives
+EachGoesOn machine (Opened number trees last end ∷ lives) = OpensFrom machine number trees × EachGoesOn last lives

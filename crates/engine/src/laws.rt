@@ -1,0 +1,56 @@
+//! Lives of a store, one after another: laws over what its calls promise.
+ghost use Rattle.std.specs.Prelude.{◌≡◌, ℕ, ◌≤◌, [], List, length};
+ghost use Rattle.reg_tree.specs.Maps.{TreeMap};
+ghost use Rattle.disk_model.specs.FileState.{FileState};
+ghost use Rattle.disk_model.specs.Crash.{LeavesHonest};
+ghost use Rattle.disk_model.specs.StoreFiles.{IsPrimary};
+ghost use Rattle.commit_journal.specs.Store.{Store, IsStore};
+ghost use Rattle.machine.specs.Machine.{Machine, opened_machine};
+ghost use Rattle.machine.specs.declared.event.Event.{Event};
+ghost use Rattle.machine.specs.declared.event.Reply.{Reply};
+ghost use Rattle.engine_law.specs.Prefixes.{IsSafeAt};
+ghost use Rattle.engine_law.specs.Runs.{IsBoundary, RunsSafely};
+ghost use Rattle.recovery.specs.Recovered.{IsRecovered, seen_in};
+ghost use Rattle.engine.specs.Lives.{AreLives, EachGoesOn, IsLife, IsSafe, Life, Life.Opened, Life.Unopened};
+
+use engine_law::laws::safe_runs_go_on;
+use recovery::laws::one_is_recovered;
+
+/// Of all lives of a store, one after another, each that opens does so at a number and the trees after it of the last one before
+/// that opened: not below what was durable there. A life may end anywhere: within an opening, within a repair, within an event or
+/// between two, by a crash or without one.
+///
+/// It begins with a machine of which whatever a crash leaves is a prefix, as of a store that was made.
+pub fn lives_go_on()
+    ensures { (store : Store) (machine : Machine) (state : ℕ → FileState) (lives : List Life) →
+        IsStore store → length machine.opened ≡ store.hives → IsSafe store machine state →
+        LeavesHonest IsPrimary state (seen_in state) → AreLives store state lives →
+        EachGoesOn machine lives }
+{
+    one_is_recovered();
+}
+
+/// Each call says of its life what these lives ask.
+///
+/// - `repairs`: a life that has opened and is being repaired, as `Opened::repair_step` tells at each of its moments.
+/// - `runs`: a life whose engine runs, as `Engine::run` tells at each moment.
+///
+/// Of a life that hasn't opened `open` tells it itself.
+pub fn calls_are_lives()
+    ensures repairs { (store : Store) (state end : ℕ → FileState) (number room : ℕ)
+        (trees : List TreeMap) → IsRecovered (seen_in state) store number trees →
+        ((files : ℕ → List ℕ) → LeavesHonest IsPrimary end files →
+        IsRecovered files store number trees) → IsLife store state
+        (Opened number trees (record (opened_machine trees number [] 0) { room = room }) end) }
+    ensures runs { (store : Store) (state : ℕ → FileState) (number room : ℕ) (trees : List TreeMap)
+        (states : ℕ → ℕ → FileState) (start end moment : ℕ) (events : List Event)
+        (replies : List Reply) (new : Machine) →
+        IsRecovered (seen_in state) store number trees →
+        RunsSafely (IsSafeAt store states) start
+        (record (opened_machine trees number [] 0) { room = room }) events replies end new →
+        start ≤ moment → moment ≤ end → IsBoundary
+        (λ at machine. IsLife store state (Opened number trees machine (states at)))
+        (record (opened_machine trees number [] 0) { room = room }) events replies new moment }
+{
+    safe_runs_go_on();
+}
