@@ -1,0 +1,127 @@
+//! The files of a store as a disk.
+ghost use Rattle.std.specs.Prelude.{◌≡◌, ◌∷◌, IsErr};
+ghost use Rattle.file_disk.specs.Records.{calls_in};
+
+use crate::folder::{Folder, Unheld};
+use crate::record::{Call, Record, noted};
+use crate::world::World;
+use disk_model::{Disk, Failed};
+use std::alloc::Global;
+use std::fs::File;
+use std::marker::PhantomData;
+use std::rt::Files;
+
+/// The files of a store in a folder. A file that isn't there reads as empty, its sync and its cut to nothing do nothing, and the
+/// first write makes it; the first sync of a file that was made syncs the folder too. The journal is `journal`, and hive 0 has the
+/// files `hive00.dat` and `hive00.log`, and so on.
+///
+/// No other program that holds the folder so has it until this is dropped.
+///
+/// What is proved of its files stands under the premise that each answer of the system is one that they allow, from what the world
+/// `W` says that they first hold.
+#[derive(Drop)]
+pub struct FileDisk<R: Files<File = File> + Drop, W: World> {
+    folder: Folder<R>,
+    calls: Record,
+    world: PhantomData<W>,
+}
+
+impl<R: Files<File = File> + Drop, W: World> FileDisk<R, W> {
+    /// Takes hold of a folder, which may be missing: its files read as empty then, and none can be made.
+    ///
+    /// Refused where another program has it, where the system refuses it, and for want of memory.
+    pub fn hold(rt: R, alloc: Global, folder: &str) -> Result<FileDisk<R, W>, Unheld> {
+        Ok(FileDisk {
+            folder: Folder::hold(rt, alloc, folder)?,
+            calls: Record::Begun,
+            world: PhantomData,
+        })
+    }
+}
+
+impl<R: Files<File = File> + Drop, W: World> Disk for FileDisk<R, W> {
+    ghost use Rattle.file_disk.specs.Records.{AreFaithful, calls_in, failures_in, states};
+    ghost use Rattle.file_disk.specs.Sound.{sound_states};
+    ghost use Rattle.std.specs.Prelude.{length};
+
+    ghost state_at = { λ d. states W.World.seen (calls_in d.calls) };
+
+    ghost clock = { λ d. length (calls_in d.calls) };
+
+    ghost failures = { λ d. failures_in (calls_in d.calls) };
+
+    ghost faithful = { λ d. AreFaithful W.World.seen (calls_in d.calls) };
+
+    ghost sound = { λ d k f faithful le. sound_states W.World.seen (calls_in d.calls) faithful k f };
+
+    fn len(&mut self, file: u32) -> Result<u64, Failed> {
+        match self.folder.len(file) {
+            Ok(length) => {
+                self.calls.note(Call::Measured { file, length });
+                Ok(length)
+            }
+            Err(_) => self.denied(),
+        }
+    }
+
+    fn read(&mut self, file: u32, offset: u64, buffer: &mut [u8]) -> Result<usize, Failed> {
+        let before = noted(buffer);
+        match self.folder.read(file, offset, buffer) {
+            Ok(count) => {
+                let after = noted(buffer);
+                self.calls.note(Call::Read {
+                    file,
+                    offset,
+                    before,
+                    after,
+                    count,
+                });
+                Ok(count)
+            }
+            Err(_) => self.denied(),
+        }
+    }
+
+    fn write_at(&mut self, file: u32, offset: u64, bytes: &[u8]) -> Result<(), Failed> {
+        let failed = self.folder.write(file, offset, bytes).is_err();
+        let bytes = noted(bytes);
+        self.calls.note(Call::Written {
+            file,
+            offset,
+            bytes,
+            failed,
+        });
+        if failed { Err(Failed) } else { Ok(()) }
+    }
+
+    fn cut(&mut self, file: u32, len: u64) -> Result<(), Failed> {
+        let failed = self.folder.cut(file, len).is_err();
+        self.calls.note(Call::Cut {
+            file,
+            length: len,
+            failed,
+        });
+        if failed { Err(Failed) } else { Ok(()) }
+    }
+
+    fn sync(&mut self, file: u32) -> Result<(), Failed> {
+        match self.folder.sync(file) {
+            Ok(()) => {
+                self.calls.note(Call::Synced { file });
+                Ok(())
+            }
+            Err(_) => self.denied(),
+        }
+    }
+}
+
+impl<R: Files<File = File> + Drop, W: World> FileDisk<R, W> {
+    // notes that a call failed which changes nothing
+    fn denied<T>(&mut self) -> Result<T, Failed>
+        ensures noted { calls_in self.new.calls ≡ Call.Denied ∷ calls_in self.old.calls }
+        ensures err { IsErr result }
+    {
+        self.calls.note(Call::Denied);
+        Err(Failed)
+    }
+}

@@ -1,0 +1,215 @@
+//! The files of a store in a folder, by their names.
+ghost use Rattle.std.specs.Prelude.{◌≤◌, length, IfOk};
+
+use std::alloc::{AllocError, AllocFailed, Global};
+use std::fs::{File, OpenOptions, TryLockError};
+use std::io::{self, ErrorKind};
+use std::os::unix::fs::FileExt;
+use std::rt::Files;
+
+/// How many files the folder of a store may have: a journal, and two files for each of 16 hives.
+pub const MOST_FILES: u32 = 33;
+
+// the longest name of a file, with the slash before it, in bytes
+const LONGEST_NAME: usize = 11;
+
+/// Why a folder can't be held.
+#[derive(Drop)]
+pub enum Unheld {
+    /// Memory was not given.
+    NoMemory,
+    /// Another program has it.
+    InUse,
+    /// The system refused it.
+    Denied(io::Error),
+}
+
+impl From<AllocError> for Unheld {
+    fn from(_: AllocError) -> Unheld {
+        Unheld::NoMemory
+    }
+}
+
+impl<T: Drop> From<AllocFailed<T>> for Unheld {
+    fn from(_: AllocFailed<T>) -> Unheld {
+        Unheld::NoMemory
+    }
+}
+
+impl From<io::Error> for Unheld {
+    fn from(error: io::Error) -> Unheld {
+        if error.kind() == ErrorKind::OutOfMemory {
+            Unheld::NoMemory
+        } else {
+            Unheld::Denied(error)
+        }
+    }
+}
+
+/// A folder whose files are opened as they are first asked for and stay open. A file that isn't there reads as empty, and is made
+/// by the first write.
+///
+/// No other program that holds folders so has it until this is dropped.
+#[derive(Drop)]
+pub(crate) struct Folder<R: Files<File = File> + Drop> {
+    rt: R,
+    // the folder's path, and that of a file that is being opened, for which there is room
+    folder: String,
+    path: String,
+    // the folder itself, which is locked; none where it isn't there
+    handle: Option<File>,
+    files: Vec<Option<File>>,
+    // a file was made since the folder was last synced
+    has_news: bool,
+}
+
+impl<R: Files<File = File> + Drop> Folder<R> {
+    /// Takes hold of a folder. One that isn't there has no files, and none can be made in it.
+    pub(crate) fn hold(rt: R, alloc: Global, folder: &str) -> Result<Folder<R>, Unheld> {
+        let path = String::with_capacity(alloc, folder.len().saturating_add(LONGEST_NAME))?;
+        let handle = match File::open(&rt, folder) {
+            Ok(handle) => Some(handle),
+            Err(error) if error.kind() == ErrorKind::NotFound => None,
+            Err(error) => return Err(error.into()),
+        };
+        if let Some(handle) = &handle {
+            lock(handle)?;
+        }
+        let mut files = Vec::with_capacity(alloc, MOST_FILES as usize)?;
+        for _file in 0..MOST_FILES {
+            files.push(None)?;
+        }
+        Ok(Folder {
+            rt,
+            folder: String::from_str(alloc, folder)?,
+            path,
+            handle,
+            files,
+            has_news: false,
+        })
+    }
+
+    /// The length of a file in bytes.
+    pub(crate) fn len(&mut self, number: u32) -> io::Result<u64> {
+        match self.find(number)? {
+            Some(file) => Ok(file.metadata()?.len()),
+            None => Ok(0),
+        }
+    }
+
+    /// Reads from an offset on, as many bytes as there are and the buffer takes: answers how many.
+    pub(crate) fn read(&mut self, number: u32, offset: u64, buffer: &mut [u8]) -> io::Result<usize>
+        ensures count { IfOk result (λ n. n ≤ length buffer.old) }
+    {
+        let Some(file) = self.find(number)? else {
+            return Ok(0);
+        };
+        let there = file.metadata()?.len().saturating_sub(offset);
+        let count = there.min(buffer.len() as u64) as usize;
+        file.read_exact_at(&mut buffer[..count], offset)?;
+        Ok(count)
+    }
+
+    /// Writes all of the bytes at an offset. A file that isn't there is made.
+    pub(crate) fn write(&mut self, number: u32, offset: u64, bytes: &[u8]) -> io::Result<()> {
+        if bytes.is_empty() {
+            return Ok(());
+        }
+        self.make(number)?.write_all_at(bytes, offset)
+    }
+
+    /// Makes a file so long. One that isn't there is made, but where it is to be empty.
+    pub(crate) fn cut(&mut self, number: u32, length: u64) -> io::Result<()> {
+        if length == 0 && self.find(number)?.is_none() {
+            return Ok(());
+        }
+        self.make(number)?.set_len(length)
+    }
+
+    /// Syncs a file, and the folder where a file was made in it: else a crash may leave the folder without the file. What is
+    /// synced are the bytes and the length (`fdatasync`), not the moment of the last change, which nothing reads.
+    pub(crate) fn sync(&mut self, number: u32) -> io::Result<()> {
+        let Some(file) = self.find(number)? else {
+            return Ok(());
+        };
+        file.sync_data()?;
+        if let Some(handle) = &self.handle {
+            if self.has_news {
+                handle.sync_all()?;
+                self.has_news = false;
+            }
+        }
+        Ok(())
+    }
+
+    // the file of a number, where it is there
+    fn find(&mut self, number: u32) -> io::Result<Option<&File>> {
+        if self.is_closed(number) {
+            let how = File::options();
+            self.open(number, how)?;
+        }
+        Ok(self.opened(number))
+    }
+
+    // the file of a number, which is made where it isn't there
+    fn make(&mut self, number: u32) -> io::Result<&File> {
+        if self.find(number)?.is_none() {
+            let mut how = File::options();
+            how.create(true);
+            self.open(number, how)?;
+            self.has_news = true;
+        }
+        self.opened(number).ok_or(ErrorKind::NotFound.into())
+    }
+
+    fn is_closed(&self, number: u32) -> bool {
+        self.opened(number).is_none()
+    }
+
+    fn opened(&self, number: u32) -> Option<&File> {
+        match self.files.get(number as usize) {
+            Some(slot) => slot.as_ref(),
+            None => None,
+        }
+    }
+
+    // opens a file to read and to write, where it is there or is made
+    fn open(&mut self, number: u32, how: OpenOptions) -> io::Result<()> {
+        let mut how = how;
+        how.read(true).write(true);
+        self.name(number)?;
+        match how.open(&self.rt, self.path.as_str()) {
+            Ok(file) => {
+                if let Some(slot) = self.files.get_mut(number as usize) {
+                    *slot = Some(file);
+                }
+                Ok(())
+            }
+            Err(error) if error.kind() == ErrorKind::NotFound => Ok(()),
+            Err(error) => Err(error),
+        }
+    }
+
+    // sets the path to that of a file
+    fn name(&mut self, number: u32) -> io::Result<()> {
+        self.path.clear();
+        self.path.push_str(self.folder.as_str())?;
+        if number == 0 {
+            self.path.push_str("/journal")?;
+            return Ok(());
+        }
+        let hive = (number - 1) / 2;
+        let ending = if number % 2 == 1 { "dat" } else { "log" };
+        write!(self.path, "/hive{hive:02}.{ending}")?;
+        Ok(())
+    }
+}
+
+// takes the lock on a folder, where no other program has it
+fn lock(handle: &File) -> Result<(), Unheld> {
+    match handle.try_lock() {
+        Ok(()) => Ok(()),
+        Err(TryLockError::WouldBlock) => Err(Unheld::InUse),
+        Err(TryLockError::Error(error)) => Err(error.into()),
+    }
+}
