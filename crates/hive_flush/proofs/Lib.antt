@@ -7,3 +7,4 @@ pub mod Replayed
 pub mod Created
 pub mod Legal
 pub mod Ahead
+pub mod Repairing

@@ -19,8 +19,9 @@ use Rattle.std.proofs.Math.Seq.{take-length}
 use Rattle.hive_phases.specs.Holding.{Standing, tree_under}
 use Rattle.hive_phases.specs.Plans.{IsBehind, IsReady}
 use Rattle.hive_writer.specs.declared.writer.HiveWriter.{HiveWriter}
-use Rattle.hive_writer.specs.Writing.{IsFlushing, calls_left, plan_of, work_of}
-use Rattle.hive_flush.specs.HiveStates.{IsOnBy}
+use Rattle.std.specs.Prelude.{if◌then◌else◌}
+use Rattle.hive_writer.specs.Writing.{IsFlushing, calls_left, dirty_from, plan_of, work_of}
+use Rattle.hive_flush.specs.HiveStates.{IsOnBy, marked_pages, most_repairs, repairs_at}
 use Rattle.hive_files.specs.Blocks.{IsPlanned}
 use Rattle.hive_flush.specs.Planned.{block_again, clean_writer, unclean_writer, repair_plan}
 use Rattle.hive_flush.specs.Standing.{HoldsUnder, IsRight, no_tree, with_tree}
@@ -226,6 +227,19 @@ pub few_left : (writer : HiveWriter) (hive : ℕ) (block : BaseBlock) (is_clean 
 few_left writer hive block is_clean total pages w not = elim (cases_Bool is_clean) [
   | inl e ↦ absurd (subst (λ (x : HiveWriter). IsFlushing x.stage → ⊥) (w.clean e) not tt)
   | inr e ↦ (e, subst (λ (x : HiveWriter). calls_left total pages x.stage ≤ dirty_count pages + 3) (sym (w.unclean e)) (omega arith))
+]
+
+-- few calls of a repair are left, and none where the primary file was found clean
+pub repairs_few : (primary log : List ℕ) (found : Found) (hive : ℕ) (writer : HiveWriter) → IsWriterFor writer hive found.block found.is_clean → IsFound primary log found → repairs_at found.pages writer.stage ≤ most_repairs primary log
+repairs_few primary log found hive writer w f = elim (cases_Bool found.is_clean) [
+  | inl e ↦
+    subst (λ (b : Bool). repairs_at found.pages writer.stage ≤ (if b then 0 else marked_pages log + 3)) (sym e ∙ f.clean)
+    (subst (λ (x : HiveWriter). repairs_at found.pages x.stage ≤ 0) (sym (w.clean e)) (omega arith))
+  | inr e ↦
+    let unclean : IsFoundUnclean primary log found = MatchBool-at_false _ _ e f.parts in
+    subst (λ (b : Bool). repairs_at found.pages writer.stage ≤ (if b then 0 else marked_pages log + 3)) (sym e ∙ f.clean)
+    (subst (λ (x : HiveWriter). repairs_at found.pages x.stage ≤ marked_pages log + 3) (sym (w.unclean e))
+    (subst (λ (v : Pages). dirty_from found.pages 0 + 3 ≤ dirty_count v + 3) unclean.by_log.pages (omega arith)))
 ]
 
 pub clean_ready : (writer : HiveWriter) (hive : ℕ) (block : BaseBlock) (image bins : List ℕ) (pages : Pages) (tree : TreeMap) (stands : Standing TreeMap) → writer ≡ clean_writer hive block → image ≡ bins

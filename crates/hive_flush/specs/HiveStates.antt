@@ -1,5 +1,5 @@
 -- What contracts see of a hive's files and memory.
-use Rattle.std.specs.Prelude.{◌≡◌, ℕ, true, List, length}
+use Rattle.std.specs.Prelude.{◌≡◌, ℕ, ◌+◌, if◌then◌else◌, true, List, length}
 use Rattle.prefix_law.specs.Promises.{Choice}
 use Rattle.prefix_law.specs.Changes.{AreLegal, applied, ops_on}
 use Rattle.engine_words.specs.Changes.{rules, timed_elements}
@@ -11,9 +11,13 @@ use Rattle.hive_phases.specs.Holding.{Standing}
 use Rattle.hive_phases.specs.Plans.{Plan, IsReady}
 use Rattle.hive_phases.specs.States.{is_on_in}
 use Rattle.dirty_vector.specs.Pages.{Pages, clean_pages, dirty_count}
+use Rattle.dirt_log.specs.Held.{is_clean_file}
 use Rattle.dirt_log.specs.WholeLog.{pages_in}
 use Rattle.hive_writer.specs.declared.writer.HiveWriter.{HiveWriter}
-use Rattle.hive_writer.specs.Writing.{EndsWith, IsFlushing, calls_left, choice_at, phase_in, plan_of, work_of}
+use Rattle.hive_writer.specs.declared.stage.Purpose.TheVariants as purpose
+use Rattle.hive_writer.specs.declared.stage.Stage.{Stage}
+use Rattle.hive_writer.specs.declared.stage.Stage.TheVariants as stage
+use Rattle.hive_writer.specs.Writing.{EndsWith, IsFlushing, calls_left, dirty_from, choice_at, phase_in, plan_of, work_of}
 use Rattle.hive_flush.specs.Standing.{IsRight}
 use Rattle.hive_flush.specs.Planned.{block_again}
 use Rattle.hive_flush.specs.declared.hive.HiveFile.{HiveFile}
@@ -94,6 +98,20 @@ dirty_pages file = dirty_count file.pages
 -- how many pages a log marks
 abbrev pub marked_pages : List ℕ → ℕ
 marked_pages log = dirty_count (pages_in log)
+
+-- how many calls of a repair are left at a stage, at most: none where no repair is
+abbrev pub repairs_at : Pages → Stage → ℕ
+repairs_at pages (stage.Paging purpose.Repair page) = dirty_from pages page + 3
+repairs_at pages (stage.Paged purpose.Repair) = 2
+repairs_at pages (stage.Finished purpose.Repair) = 1
+repairs_at pages _ = 0
+
+abbrev pub repairs_left : HiveFile → ℕ
+repairs_left file = repairs_at file.pages file.writer.stage
+
+-- how many calls the repair of two files takes, at most: none where the primary file is clean
+abbrev pub most_repairs : List ℕ → List ℕ → ℕ
+most_repairs primary log = if is_clean_file primary then 0 else marked_pages log + 3
 
 -- a flush's calls that are left, or those of a whole one
 abbrev pub steps_left : HiveFile → ℕ

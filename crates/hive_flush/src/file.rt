@@ -1,5 +1,5 @@
 //! The steps of a hive's flush and repair.
-ghost use Rattle.std.specs.Prelude.{◌≡◌, ◌↔◌, ◌⊎◌, ◌<◌, ◌≤◌, ◌+◌, ◌*◌, ℕ, length, true, false, Ok, Err, IfErr, IsTrue, Some, None};
+ghost use Rattle.std.specs.Prelude.{◌≡◌, ◌↔◌, ◌⊎◌, ◌<◌, ◌≤◌, ◌+◌, ◌*◌, ℕ, length, true, false, Ok, Err, IfErr, IsTrue, OnOk, Some, None};
 ghost use Rattle.prefix_law.specs.Promises.{HiveSays};
 ghost use Rattle.engine_words.specs.Steps.{Says};
 ghost use Rattle.engine_words.specs.declared.Progress.TheVariants as Progress;
@@ -11,7 +11,7 @@ ghost use Rattle.hive_phases.specs.Holding.{Standing, tree_under};
 ghost use Rattle.hive_phases.specs.Plans.{IsReady};
 ghost use Rattle.hive_writer.specs.Writing.{plan_of};
 ghost use Rattle.hive_writer.specs.declared.stage.Stage.TheVariants as stage;
-ghost use Rattle.hive_flush.specs.HiveStates.{GoesOn, IsBroken, IsWhole, Settled, dirty_pages, files_of, memory_of, place_of, steps_left, store_of};
+ghost use Rattle.hive_flush.specs.HiveStates.{GoesOn, IsBroken, IsWhole, Settled, dirty_pages, files_of, memory_of, place_of, repairs_left, steps_left, store_of};
 
 use crate::hive::HiveFile;
 use crate::planning::{next_block, plan_fits};
@@ -142,6 +142,8 @@ impl HiveFile {
         ensures idle { (result ≡ Ok Progress.Idle) → IsWhole self.old }
         ensures falls { result ≡ Ok Progress.More → steps_left self.new < steps_left self.old }
         ensures left { result ≡ Ok Progress.More → 0 < steps_left self.new }
+        ensures repairs { OnOk result (¬ (IsWhole self.old) →
+            repairs_left self.new < repairs_left self.old) }
         ensures ready { IsWhole self.old → (self.new ≡ self.old) × (disk.new ≡ disk.old) }
         ensures refused { IfErr result (λ why. (why ≡ DiskFault) ⊎ (why ≡ Faulted)) }
         ensures faulted { (result ≡ Err Faulted) ↔ IsBroken self.old }

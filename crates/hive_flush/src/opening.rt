@@ -11,7 +11,7 @@ ghost use Rattle.hive_files.specs.Finding.{IsFound};
 ghost use Rattle.hive_files.specs.Frames.{FailsBy};
 ghost use Rattle.hive_flush.specs.Standing.{HoldsUnder, IsOfHive, NothingHeld};
 ghost use Rattle.hive_flush.specs.Planned.{clean_writer, unclean_writer};
-ghost use Rattle.hive_flush.specs.HiveStates.{IsBroken, IsOn, IsWhole, files_of, marked_pages, memory_of, place_of, steps_left, store_of};
+ghost use Rattle.hive_flush.specs.HiveStates.{IsBroken, IsOn, IsWhole, files_of, marked_pages, memory_of, most_repairs, place_of, repairs_left, steps_left, store_of};
 
 use crate::hive::HiveFile;
 use crate::planning::{next_block, plan_fits, repair_fits};
@@ -55,6 +55,9 @@ impl HiveFile {
         ensures few { IfOk result (λ file. D.faithful disk.new → ¬ (IsWhole file) →
             steps_left file ≤ marked_pages
             (D.state_at disk.old (D.clock disk.old) (log_file hive)).seen + 3) }
+        ensures repairs { IfOk result (λ file. D.faithful disk.new → repairs_left file ≤ most_repairs
+            (D.state_at disk.old (D.clock disk.old) (primary_file hive)).seen
+            (D.state_at disk.old (D.clock disk.old) (log_file hive)).seen) }
         ensures fails { IfErr result (FailsBy (D.failures disk.old < D.failures disk.new)
             (NothingHeld (D.faithful disk.new) hive store
             (D.state_at disk.old (D.clock disk.old) (primary_file hive)).seen
@@ -116,6 +119,8 @@ fn of_found(alloc: Global, found: Found, hive: u8, store: Uuid) -> Result<HiveFi
     ensures sound { IfOk result (λ file. IsBroken file → ⊥) }
     ensures few { IfOk result (λ file. (primary log : List ℕ) → IsFound primary log found →
         ¬ (IsWhole file) → steps_left file ≤ marked_pages log + 3) }
+    ensures repairs { IfOk result (λ file. (primary log : List ℕ) → IsFound primary log found →
+        repairs_left file ≤ most_repairs primary log) }
     ensures fails { IfErr result (λ why. (why ≡ NoMemory) ⊎ (IsOfHive hive why
         × ((primary log : List ℕ) → IsFound primary log found → (held : TreeMap × ℕ) →
         HoldsUnder store primary log held → ⊥))) }

@@ -11,7 +11,7 @@ use Rattle.hive_flush.specs.HiveStates.{IsOnBy}
 use Rattle.hive_flush.specs.Planned.{clean_writer, unclean_writer}
 use Rattle.hive_flush.specs.Standing.{IsOfHive}
 use Rattle.hive_flush.proofs.Going.{same_on}
-use Rattle.hive_flush.proofs.Opened.{IsWriterFor, clean_ready, found_agrees, found_holds, clean_on, unclean_on, true_false, few_left, writer_ahead, writer_number, writer_planned, writer_steady}
+use Rattle.hive_flush.proofs.Opened.{IsWriterFor, clean_ready, found_agrees, found_holds, clean_on, unclean_on, true_false, few_left, repairs_few, writer_ahead, writer_number, writer_planned, writer_steady}
 use Rattle.hive_flush.proofs.opening.of_found.Goals as goal
 
 pub returns-then-ne-clause-fails : goal.returns-then-ne-clause-fails
@@ -58,6 +58,11 @@ returns-clause-few c = λ primary log f not.
     let left = few_left writer c.args.hive found.block found.is_clean total found.pages w not in
     let unclean : IsFoundUnclean primary log found = MatchBool-at_false _ _ left.0 f.parts in
     subst (λ (v : Pages). calls_left total found.pages writer.stage ≤ dirty_count v + 3) unclean.by_log.pages left.1
+
+pub returns-clause-repairs : goal.returns-clause-repairs
+returns-clause-repairs c = λ primary log f.
+    let w : IsWriterFor c.writer_for-writer.result c.args.hive c.args.found.block c.args.found.is_clean = record { clean = c.writer_for-writer.ensures.clean; unclean = c.writer_for-writer.ensures.unclean } in
+    repairs_few primary log c.args.found c.args.hive c.writer_for-writer.result w f
 
 pub returns-clause-held : goal.returns-clause-held
 returns-clause-held c = λ primary log f.

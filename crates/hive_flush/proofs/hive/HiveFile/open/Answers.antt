@@ -11,6 +11,11 @@ returns-in-Ok-clause-on g c = IfOk-weaker c.of_found.result _ _ (λ file on fait
     let old = g.D.Disk.state_at c.args.disk.now (g.D.Disk.clock c.args.disk.now) in
     on (old (primary_file c.args.hive)).seen (old (log_file c.args.hive)).seen _ _ (c.in-Ok.ensures.found faithful) (c.in-Ok.ensures.rest faithful) (c.in-Ok.ensures.log_rest faithful)) c.of_found.ensures.on
 
+pub returns-in-Ok-clause-repairs : goal.returns-in-Ok-clause-repairs
+returns-in-Ok-clause-repairs g c = IfOk-weaker c.of_found.result _ _ (λ file few faithful.
+    let old = g.D.Disk.state_at c.args.disk.now (g.D.Disk.clock c.args.disk.now) in
+    few (old (primary_file c.args.hive)).seen (old (log_file c.args.hive)).seen (c.in-Ok.ensures.found faithful)) c.of_found.ensures.repairs
+
 pub returns-in-Ok-clause-fails : goal.returns-in-Ok-clause-fails
 returns-in-Ok-clause-fails g c = IfErr-weaker c.of_found.result _ _ (λ why fails. ⊎_elim (λ none. inl none) (λ told. inr (inr (
   told.0,

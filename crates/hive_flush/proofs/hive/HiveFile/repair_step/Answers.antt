@@ -10,6 +10,7 @@ use Rattle.hive_flush.specs.Planned.{block_again}
 use Rattle.hive_writer.specs.declared.writer.HiveWriter.{HiveWriter}
 use Rattle.hive_writer.specs.Writing.{KeepsBlocks, plan_of}
 use Rattle.hive_flush.proofs.Going.{IsNotDone, LeadsBy, by_end, repairs_on, went, done, same_on, ready_same}
+use Rattle.hive_flush.proofs.Repairing.{fewer, repairing}
 use Rattle.hive_flush.proofs.hive.HiveFile.repair_step.Goals as goal
 
 pub unreachable-requires : goal.unreachable-requires
@@ -53,3 +54,10 @@ returns-in-Err-clause-on g c = λ faithful on.
     went (Err c.in-Err.why) f.writer c.repair_step.new.self f.bins.items f.pages f.held.value f.tree before after tt (λ any. absurd (repairs_on c.repair_step.new.self.stage (c.in-Err.ensures.repairing (λ e. absurd cc)) any)) f.sizes c.in-Err.ensures.keeps
     (by_end (Err c.in-Err.why) f.writer c.repair_step.new.self f.bins.items c.deref.result.now f.pages before after c.deref.ensures.value (c.in-Err.ensures.on faithful))
     on
+
+pub returns-in-Ok-More-clause-repairs : goal.returns-in-Ok-More-clause-repairs
+returns-in-Ok-More-clause-repairs g c = λ not.
+    let f = c.args.self.now in
+    let w = c.repair_step.new.self in
+    let falls = c.in-Ok-More.ensures.falls 0 (ap (λ (p : Progress). Ok p) c.in-Ok-More.field-0-is) in
+    fewer 0 f.pages f.writer.stage w.stage (repairing f.writer.stage not) (c.in-Ok-More.ensures.repairing (λ e. absurd cc)) falls
