@@ -6,3 +6,4 @@ mod Repairs
 mod Crashes
 mod Creations
 mod Beginnings
+mod Counting

@@ -4,3 +4,4 @@ pub mod Kept
 pub mod Shown
 pub mod Created
 pub mod Beginnings
+pub mod Repairs

@@ -1,5 +1,5 @@
 //! A store that was opened, as its callers see it, and its repair: what it keeps is in its type.
-ghost use Rattle.std.specs.Prelude.{◌≡◌, ◌⊎◌, ◌↔◌, ℕ, ◌+◌, ◌<◌, ◌≤◌, List, IsTrue, Ok, Err, IfErr, IfOk, false, true};
+ghost use Rattle.std.specs.Prelude.{◌≡◌, ◌⊎◌, ◌↔◌, ℕ, ◌+◌, ◌<◌, ◌≤◌, List, IsTrue, Ok, Err, IfErr, IfOk, OnOk, false, true};
 ghost use Rattle.refusals.specs.declared.refusal.Refusal.TheVariants.{DiskFault, Faulted};
 ghost use Rattle.engine_words.specs.declared.Progress.TheVariants as Progress;
 ghost use Rattle.disk_model.specs.Call.{Extends, OneCall, HasFailed};
@@ -10,6 +10,7 @@ ghost use Rattle.hive_files.specs.Frames.{FailsBy};
 ghost use Rattle.engine_law.specs.Prefixes.{AnyFile, AreOnDisk};
 ghost use Rattle.recovery.specs.Kept.{AllWork, IsKept};
 ghost use Rattle.recovery.specs.Recovered.{IsNoStore, IsRecovered, seen_in};
+ghost use Rattle.recovery.specs.Repairs.{most_repairs, repairs_left};
 ghost use Rattle.recovery.specs.Shown.{IsWhole, store_of};
 
 use crate::found::Found;
@@ -59,7 +60,8 @@ impl<D: Disk> Model for Opened<D> {
 }
 
 /// Opens the store that is on a disk: the number and the trees that its files recover. Hives that were being written as the
-/// power went are to be repaired before anything else, by [`Opened::repair_step`].
+/// power went are to be repaired before anything else, by [`Opened::repair_step`]: of `h` unclean hives, in whose logs `p` pages are
+/// marked, that takes at most `p + 3 h` steps, where none is refused.
 ///
 /// Each file that is read is synced first, so that nothing which was found is lost at the next crash. At each moment of the call each
 /// file is as it was, or synced: so whatever a crash leaves within might have been left before
@@ -72,6 +74,9 @@ pub fn open<D: Disk>(alloc: Global, disk: D) -> Result<Opened<D>, (Refusal, D)>
         IsRecovered (seen_in (D.state_at disk (D.clock disk)))
         (store_of opened) opened.found.number opened.found.trees) }
     ensures works { IfOk result (λ opened. opened.failed ≡ false) }
+    ensures few { IfOk result (λ opened. D.faithful opened.disk →
+        repairs_left opened.found.hives.items
+        ≤ most_repairs (seen_in (D.state_at disk (D.clock disk))) (store_of opened).hives) }
     ensures fails { IfErr result (λ back. FailsBy (D.failures disk < D.failures back.1)
         (IsNoStore (D.faithful back.1) (seen_in (D.state_at disk (D.clock disk)))) back.0) }
     ensures synced { IfOk result (λ opened. D.faithful opened.disk → OnlySyncs (D.state_at disk)
@@ -126,7 +131,7 @@ impl<D: Disk> Opened<D> {
     }
 
     /// One step of the repair, of the first hive that needs one: at most one device call. `More` where others follow, `Done`
-    /// where it was the last one, and `Idle` where no repair is left.
+    /// where it was the last one, and `Idle` where no repair is left. Each step leaves fewer.
     ///
     /// Whatever a crash leaves before, within or after it recovers the same number and trees. Takes no memory. Refused with
     /// `DiskFault` where the device failed in the call, and with `Faulted` exactly where it had failed in an earlier one: the
@@ -136,6 +141,8 @@ impl<D: Disk> Opened<D> {
         ensures store { store_of self.new ≡ store_of self.old }
         ensures idle { (result ≡ Ok Progress.Idle) → IsWhole self.old × (self.new ≡ self.old) }
         ensures done { (result ≡ Ok Progress.Done) → IsWhole self.new }
+        ensures fewer { OnOk result (¬ (IsWhole self.old) →
+            repairs_left self.new.found.hives.items < repairs_left self.old.found.hives.items) }
         ensures refused { IfErr result (λ why. (why ≡ DiskFault) ⊎ (why ≡ Faulted)) }
         ensures faulted { (result ≡ Err Faulted) ↔ (self.old.failed ≡ true) }
         ensures still { (result ≡ Err Faulted) → self.new ≡ self.old }

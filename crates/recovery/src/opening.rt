@@ -8,6 +8,7 @@ ghost use Rattle.engine_law.specs.Prefixes.{AreOnDisk};
 ghost use Rattle.hive_files.specs.Frames.{FailsBy};
 ghost use Rattle.recovery.specs.Kept.{AllWork, IsKept};
 ghost use Rattle.recovery.specs.Recovered.{IsNoStore, IsRecovered, seen_in};
+ghost use Rattle.recovery.specs.Repairs.{most_repairs, repairs_left};
 
 use crate::found::Found;
 use crate::reading::open_hives;
@@ -25,6 +26,9 @@ use std::alloc::Global;
 pub(crate) fn find<D: Disk>(alloc: Global, disk: &mut D) -> Result<Found, Refusal>
     ensures kept { IfOk result IsKept }
     ensures works { IfOk result (λ found. AllWork found.hives.items) }
+    ensures few { IfOk result (λ found. D.faithful disk.new → repairs_left found.hives.items
+        ≤ most_repairs (seen_in (D.state_at disk.old (D.clock disk.old)))
+        (store_of found.journal).hives) }
     ensures recovered { IfOk result (λ found. D.faithful disk.new →
         IsRecovered (seen_in (D.state_at disk.old (D.clock disk.old)))
         (store_of found.journal) found.number found.trees) }

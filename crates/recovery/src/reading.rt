@@ -6,6 +6,8 @@ ghost use Rattle.disk_model.specs.StoreFiles.{journal_file};
 ghost use Rattle.disk_model.specs.Unwritten.{OnlySyncs};
 ghost use Rattle.hive_files.specs.Frames.{FailsBy};
 ghost use Rattle.recovery.specs.Reading.{AreOpened, IsNoHive};
+ghost use Rattle.recovery.specs.Recovered.{seen_in};
+ghost use Rattle.recovery.specs.Repairs.{most_repairs, repairs_left};
 
 use disk_model::Disk;
 use hive_flush::HiveFile;
@@ -26,6 +28,8 @@ pub(crate) fn open_hives<D: Disk>(
     ensures opened { IfOk result (λ hives. AreOpened (D.faithful disk.new) store
         (D.state_at disk.old (D.clock disk.old)) (D.state_at disk.new (D.clock disk.new))
         hives.items) }
+    ensures few { IfOk result (λ hives. D.faithful disk.new → repairs_left hives.items
+        ≤ most_repairs (seen_in (D.state_at disk.old (D.clock disk.old))) count) }
     ensures fails { IfErr result (FailsBy (D.failures disk.old < D.failures disk.new)
         (IsNoHive (D.faithful disk.new) store count (D.state_at disk.old (D.clock disk.old)))) }
     ensures synced { D.faithful disk.new → OnlySyncs (D.state_at disk.old) (D.state_at disk.new)

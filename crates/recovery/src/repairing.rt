@@ -7,6 +7,7 @@ ghost use Rattle.hive_flush.specs.HiveStates.{IsWhole};
 ghost use Rattle.hive_flush.specs.declared.hive.HiveFile.{HiveFile};
 ghost use Rattle.engine_law.specs.Prefixes.{AnyFile, AreOnDisk, view_of};
 ghost use Rattle.recovery.specs.Kept.{AllWork, AreWhole, IsKept};
+ghost use Rattle.recovery.specs.Repairs.{repairs_left};
 
 use crate::found::Found;
 use disk_model::Disk;
@@ -52,6 +53,9 @@ impl Found {
         ensures on_disk { D.faithful disk.new →
             AreOnDisk self.old.journal self.old.hives.items (D.state_at disk.old (D.clock disk.old)) →
             AreOnDisk self.new.journal self.new.hives.items (D.state_at disk.new (D.clock disk.new)) }
+        ensures fewer { OnOk result ((hive : HiveFile) →
+            slice_get self.old.hives.items place ≡ Some hive → ¬ (IsWhole hive) →
+            repairs_left self.new.hives.items < repairs_left self.old.hives.items) }
         ensures refused { IfErr result (λ why. why ≡ DiskFault) }
         ensures call { OneCall AnyFile (D.state_at disk.old) (D.state_at disk.new)
             (D.clock disk.old) (D.clock disk.new) }

@@ -1,4 +1,4 @@
-use Rattle.std.proofs.Common.{inl, inr, ◌∙◌, ◌<◌, sym, subst, arith, List, ℕ}
+use Rattle.std.proofs.Common.{inl, inr, ◌∙◌, ◌<◌, ◌≤◌, ap, sym, subst, arith, List, ℕ}
 use Rattle.std.proofs.lemmas.Result.{err_from_is_err_and}
 use Rattle.commit_journal.specs.Journals.{choice_of, store_of}
 use Rattle.commit_journal.specs.declared.journal.Journal.{Journal}
@@ -9,6 +9,8 @@ use Rattle.hive_files.specs.Frames.{FailsBy}
 use Rattle.recovery.specs.Reading.{AreOf, IsNoHive}
 use Rattle.recovery.specs.Recovered.{seen_in}
 use Rattle.recovery.proofs.Openings.{are_of, are_on, refused_hives}
+use Rattle.recovery.specs.Repairs.{most_repairs, repairs_left}
+use Rattle.recovery.proofs.Counting.{most_beside}
 use Rattle.recovery.proofs.Together.{of_found}
 use Rattle.recovery.proofs.opening.find.Goals as goal
 
@@ -81,3 +83,13 @@ returns-clause-on_disk g c = λ f.
     let it = c.in_ok-found.found in
     subst (λ (x : Journal). AreOnDisk x it.hives.items new) (sym c.in_ok-found.ensures.journal) (subst (λ (hs : List HiveFile). AreOnDisk j hs new) (sym c.in_ok-found.ensures.hives)
     (are_on (D.faithful c.open_hives.new.disk) j c.id.result c.in_ok-hives.hives.items mid new (c.in_ok-read.ensures.on (c.open_hives.ensures.faithful f)) c.in_ok-hives.ensures.opened f))
+
+pub returns-clause-few : goal.returns-clause-few
+returns-clause-few g c = λ f.
+    let D = g.D.Disk in
+    let j = c.in_ok-read.read.journal in
+    let old = D.state_at c.args.disk.now (D.clock c.args.disk.now) in
+    let mid = D.state_at c.open.new.disk (D.clock c.open.new.disk) in
+    subst (λ (x : Journal). repairs_left c.in_ok-found.found.hives.items ≤ most_repairs (seen_in old) (store_of x).hives) (sym c.in_ok-found.ensures.journal)
+    (subst (λ (hs : List HiveFile). repairs_left hs ≤ most_repairs (seen_in old) (store_of j).hives) (sym c.in_ok-found.ensures.hives)
+    (omega (arith, c.in_ok-hives.ensures.few f, ap (most_repairs (seen_in mid)) c.hives.ensures, most_beside old mid (store_of j).hives c.open.ensures.others)))

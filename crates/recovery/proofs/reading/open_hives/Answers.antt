@@ -1,9 +1,12 @@
-use Rattle.std.proofs.Common.{◌<◌, ◌∙◌, List, ◌∷◌, [], length, refl, sym, ap, subst, arith, length-append}
+use Rattle.std.proofs.Common.{◌<◌, ◌≤◌, ◌+◌, ◌∙◌, List, ◌∷◌, [], length, refl, sym, ap, subst, arith, length-append}
 use Rattle.std.proofs.lemmas.Result.{err_from_is_err_and}
 use Rattle.hive_flush.specs.declared.hive.HiveFile.{HiveFile}
 use Rattle.recovery.specs.Reading.{AreOpened}
 use Rattle.disk_model.proofs.Unwritten.{only_reads, reads_none, synced_still, syncs_on}
-use Rattle.recovery.proofs.Hives.{none_yet, one_more, refused}
+use Rattle.recovery.specs.Recovered.{seen_in}
+use Rattle.recovery.specs.Repairs.{most_repairs, repairs_left}
+use Rattle.recovery.proofs.Counting.{one_more_left}
+use Rattle.recovery.proofs.Hives.{none_yet, one_more, refused, seen_same}
 use Rattle.recovery.proofs.reading.open_hives.Goals as goal
 
 pub returns-in_err-hive-clause-fails : goal.returns-in_err-hive-clause-fails
@@ -32,6 +35,7 @@ loop-place-init g c =
       opened = subst (AreOpened (D.faithful c.args.disk.now) c.args.store (D.state_at c.args.disk.now (D.clock c.args.disk.now)) (D.state_at c.args.disk.now (D.clock c.args.disk.now))) (sym c.in_ok-hives.ensures.items)
           (none_yet (D.faithful c.args.disk.now) c.args.store (D.state_at c.args.disk.now (D.clock c.args.disk.now)));
       synced = λ faithful. only_reads _ _ _ _ (reads_none (D.state_at c.args.disk.now) (D.clock c.args.disk.now));
+      few = λ faithful. omega (arith, ap repairs_left c.in_ok-hives.ensures.items);
       time = record { later = omega arith; past = λ k f le. refl };
       failures = omega arith;
       faithful = λ f. f;
@@ -52,6 +56,8 @@ loop-place-preserved g c =
           (one_more (D.faithful l.disk) (D.faithful c.open.new.disk) o.faithful c.args.store then (D.state_at l.disk (D.clock l.disk)) now l.hives.items i.opened l.place i.many o.others (λ faithful. synced_still (o.synced faithful))
           c.in_ok-hive.hive c.in_ok-hive.ensures.settled c.in_ok-hive.ensures.place c.in_ok-hive.ensures.store c.in_ok-hive.ensures.sound c.in_ok-hive.ensures.held c.in_ok-hive.ensures.on);
       synced = λ faithful. syncs_on _ _ _ _ _ _ (i.synced (o.faithful faithful)) (o.synced faithful);
+      few = λ faithful. subst (λ (hs : List HiveFile). repairs_left hs ≤ most_repairs (seen_in then) (l.place + 1)) (sym c.push_reserved.ensures.items)
+          (one_more_left then (D.state_at l.disk (D.clock l.disk)) l.hives.items l.place c.in_ok-hive.hive (λ f. seen_same (then f) (D.state_at l.disk (D.clock l.disk) f) (i.opened.files (o.faithful faithful) f)) (i.few (o.faithful faithful)) (c.in_ok-hive.ensures.repairs faithful));
       time = record {
         later = omega (arith, i.time.later, o.time.later);
         past = λ k f le. o.time.past k f (omega (arith, le, i.time.later)) ∙ i.time.past k f le;

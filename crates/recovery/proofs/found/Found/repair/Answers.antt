@@ -1,10 +1,13 @@
-use Rattle.std.proofs.Common.{◌≡◌, ℕ, sym, subst, refl, length}
+use Rattle.std.proofs.Common.{◌≡◌, ◌∙◌, ℕ, sym, subst, refl, length}
 use Rattle.std.specs.Vec.{with_item}
-use Rattle.std.proofs.lemmas.Option.{slice_get_read}
+use Rattle.std.proofs.lemmas.Option.{same_Some, slice_get_read}
+use Rattle.std.proofs.lemmas.Result.{on_ok_weaker}
 use Rattle.disk_model.specs.FileState.{FileState}
 use Rattle.disk_model.specs.StoreFiles.{IsOfHive, primary_file, log_file}
-use Rattle.hive_flush.specs.HiveStates.{IsOn, place_of}
+use Rattle.hive_flush.specs.HiveStates.{IsOn, IsWhole, place_of}
+use Rattle.hive_flush.specs.declared.hive.HiveFile.{HiveFile}
 use Rattle.engine_law.proofs.HiveLists.{hive_writes}
+use Rattle.recovery.proofs.Counting.{fewer_left}
 use Rattle.recovery.proofs.Repairs.{kept_on, works_on, views_on, only_fault}
 use Rattle.recovery.proofs.found.Found.repair.Goals as goal
 
@@ -40,3 +43,9 @@ returns-clause-refused g c =
     let s = c.args.self.now in
     let is = slice_get_read s.hives.items (length s.hives.items) c.args.place c.index_mut.result.now refl c.requires.there c.index_mut.ensures.value in
     only_fault c.repair_step.result c.repair_step.ensures.refused (λ e. c.requires.works c.args.place c.index_mut.result.now is (c.repair_step.ensures.faulted.0 e))
+
+pub returns-clause-fewer : goal.returns-clause-fewer
+returns-clause-fewer g c = on_ok_weaker c.repair_step.result (λ less hive at not.
+    let s = c.args.self.now in
+    let is = slice_get_read s.hives.items (length s.hives.items) c.args.place c.index_mut.result.now refl c.requires.there c.index_mut.ensures.value in
+    fewer_left s.hives.items c.args.place c.index_mut.result.now c.repair_step.new.self is (less (subst (λ (h : HiveFile). ¬ (IsWhole h)) (same_Some hive c.index_mut.result.now (sym at ∙ is)) not))) c.repair_step.ensures.repairs

@@ -1,0 +1,15 @@
+-- How many steps the repair of a store takes.
+use Rattle.std.specs.Prelude.{ℕ, zero, suc, ◌+◌, List, sum_by}
+use Rattle.disk_model.specs.StoreFiles.{primary_file, log_file}
+use Rattle.hive_flush.specs.HiveStates as hive
+use Rattle.hive_flush.specs.declared.hive.HiveFile.{HiveFile}
+
+-- how many steps of the repair of some hives are left, at most
+abbrev pub repairs_left : List HiveFile → ℕ
+repairs_left hives = sum_by hive.repairs_left hives
+
+-- How many steps the repair of a store of so many hives takes, at most: of each hive with an unclean primary file as many as its log
+-- marks pages, and three.
+abbrev pub most_repairs : (ℕ → List ℕ) → ℕ → ℕ
+most_repairs files zero = 0
+most_repairs files (suc n) = most_repairs files n + hive.most_repairs (files (primary_file n)) (files (log_file n))
