@@ -1,5 +1,5 @@
 -- An engine's parts stay sound where the store in memory alone goes on.
-use Rattle.std.proofs.Common.{◌≡◌, ◌⊎◌, ℕ, ◌≤◌, true, false, List, map, refl, sym, ap, subst, arith}
+use Rattle.std.proofs.Common.{◌≡◌, ◌⊎◌, ℕ, true, false, List, map, refl, sym, ap, subst, arith}
 use Rattle.reg_tree.specs.declared.element.Element.{Element}
 use Rattle.prefix_law.specs.Promises.{Choice, Spelled}
 use Rattle.machine.specs.Machine.{Machine}

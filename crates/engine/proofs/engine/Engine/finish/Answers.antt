@@ -1,4 +1,4 @@
-use Rattle.std.proofs.Common.{◌≡◌, ap, refl, subst, sym}
+use Rattle.std.proofs.Common.{ap, refl, subst, sym}
 use Rattle.commit_journal.specs.Store.{Store}
 use Rattle.commit_journal.specs.Journals.{store_of}
 use Rattle.engine_law.specs.Prefixes.{AreOnDisk, IsSafeAt}
