@@ -3,6 +3,7 @@ mod Namings
 mod AtHand
 mod Idling
 mod Frames
+mod Calm
 mod OnDisk
 mod Journaling
 mod Taking

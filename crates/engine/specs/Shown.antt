@@ -10,14 +10,28 @@ use Rattle.reg_tree.specs.declared.element.Element.{Element}
 use Rattle.prefix_law.specs.Promises.{Choice, Spelled}
 use Rattle.engine_words.specs.Changes.{TimedOp}
 use Rattle.machine.specs.Machine.{Machine}
+use Rattle.machine.specs.Codes.{trees_code}
+use Rattle.machine.specs.contracts.event.Event as event
+use Rattle.machine.specs.declared.event.Event.{Event}
+use Rattle.transactions.specs.Prepared.{will_show}
+use Rattle.transactions.specs.declared.prepared.Prepared.{Prepared}
 use Rattle.transactions.specs.Stores.{machine_code}
 use Rattle.commit_journal.specs.Store.{Store}
 use Rattle.engine_law.specs.States.{HiveView}
 use Rattle.engine_law.specs.Progress.{FlushView}
 
+-- an event that stands prepared, and the trees that will be those of now, where a change will be accepted
+pub record Awaiting : Type 0 where
+  pub event : Event
+  pub trees : Option (List TreeMap)
+
+abbrev pub awaiting_of : Prepared → Awaiting
+awaiting_of prepared = record { event = prepared.event.value; trees = will_show prepared }
+
 -- the machine; the disk; the store that the files are of; the changes that the journal spelled at the opening, and the number
 -- below the first of them; what surely stands and what is on its way of the journal and of each hive, and the hive's memory; how
--- many steps of the journal are left, where changes wait and none is refused, until some are durable; and each hive's flush
+-- many steps of the journal are left, where changes wait and none is refused, until some are durable; each hive's flush; and the
+-- event that stands prepared, if one does
 pub record Shown (D : Type 0) : Type 0 where
   pub machine : Machine
   pub disk : D
@@ -28,6 +42,7 @@ pub record Shown (D : Type 0) : Type 0 where
   pub hives : List HiveView
   pub left : ℕ
   pub flushes : List FlushView
+  pub prepared : Option Awaiting
 
 abbrev pub held_code : Coded (TreeMap × ℕ)
 held_code = coded× (finite.code (coded_list (coded_list coded_ℕ)) row_code) coded_ℕ
@@ -45,9 +60,12 @@ hive_code = code_by (Choice (TreeMap × ℕ) × (TreeMap × ℕ)) (coded× (choi
 abbrev pub flush_code : Coded FlushView
 flush_code = code_by (ℕ × ℕ) (coded× coded_ℕ coded_ℕ) (λ f. (f.left, f.pages)) (λ p. record { left = p.0; pages = p.1 }) (λ _. refl)
 
+abbrev pub awaiting_code : Coded Awaiting
+awaiting_code = code_by (Event × Option (List TreeMap)) (coded× event.the_row.coded (coded_option trees_code)) (λ a. (a.event, a.trees)) (λ p. record { event = p.0; trees = p.1 }) (λ _. refl)
+
 abbrev pub shown_code : {D : Type 0} → Coded D → Coded (Shown D)
 shown_code {D = D} code =
-    code_by (Machine × (D × ((List ℕ × ℕ) × (ℕ × (List Element × (Choice (Spelled TimedOp) × (List HiveView × (ℕ × List FlushView))))))))
-    (coded× machine_code (coded× code (coded× (coded× (coded_list coded_ℕ) coded_ℕ) (coded× coded_ℕ (coded× (coded_list element.the_row.coded) (coded× (choice_code spelled_code) (coded× (coded_list hive_code) (coded× coded_ℕ (coded_list flush_code)))))))))
-    (λ s. (s.machine, (s.disk, ((s.store.id, s.store.hives), (s.base, (s.opened, (s.journal, (s.hives, (s.left, s.flushes)))))))))
-    (λ p. record { machine = p.0; disk = p.1.0; store = record { id = p.1.1.0.0; hives = p.1.1.0.1 }; base = p.1.1.1.0; opened = p.1.1.1.1.0; journal = p.1.1.1.1.1.0; hives = p.1.1.1.1.1.1.0; left = p.1.1.1.1.1.1.1.0; flushes = p.1.1.1.1.1.1.1.1 }) (λ _. refl)
+    code_by (Machine × (D × ((List ℕ × ℕ) × (ℕ × (List Element × (Choice (Spelled TimedOp) × (List HiveView × (ℕ × (List FlushView × Option Awaiting)))))))))
+    (coded× machine_code (coded× code (coded× (coded× (coded_list coded_ℕ) coded_ℕ) (coded× coded_ℕ (coded× (coded_list element.the_row.coded) (coded× (choice_code spelled_code) (coded× (coded_list hive_code) (coded× coded_ℕ (coded× (coded_list flush_code) (coded_option awaiting_code))))))))))
+    (λ s. (s.machine, (s.disk, ((s.store.id, s.store.hives), (s.base, (s.opened, (s.journal, (s.hives, (s.left, (s.flushes, s.prepared))))))))))
+    (λ p. record { machine = p.0; disk = p.1.0; store = record { id = p.1.1.0.0; hives = p.1.1.0.1 }; base = p.1.1.1.0; opened = p.1.1.1.1.0; journal = p.1.1.1.1.1.0; hives = p.1.1.1.1.1.1.0; left = p.1.1.1.1.1.1.1.0; flushes = p.1.1.1.1.1.1.1.1.0; prepared = p.1.1.1.1.1.1.1.1.1 }) (λ _. refl)

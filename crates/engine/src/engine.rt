@@ -1,5 +1,5 @@
 //! The engine as its callers see it: what it keeps is in its type, so that no call asks for it.
-ghost use Rattle.std.specs.Prelude.{◌≡◌, ◌⊎◌, ◌+◌, ◌<◌, ◌≤◌, ◌^◌, [], ℕ, false, IfErr, IfOk, OnErr, Some, length, map, replicate, slice_get};
+ghost use Rattle.std.specs.Prelude.{◌≡◌, ◌⊎◌, ◌+◌, ◌<◌, ◌≤◌, ◌^◌, [], ℕ, false, true, IfErr, IfOk, IfSome, OnErr, OnOk, None, Some, is_some, length, map, replicate, slice_get};
 ghost use Rattle.refusals.specs.declared.refusal.Refusal.TheVariants.{DiskFault, NoMemory};
 ghost use Rattle.disk_model.specs.Call.{OneCall};
 ghost use Rattle.machine.specs.Machine.{opened_machine, trees_now};
@@ -18,6 +18,7 @@ ghost use Rattle.engine_law.specs.Prefixes.{AnyFile, IsSafeAt, view_of};
 ghost use Rattle.engine_law.specs.Runs.{IsHeld, RunsSafely};
 ghost use Rattle.std.specs.List.{AllByRecursion};
 ghost use Rattle.engine.specs.Naming.{HasCounted};
+ghost use Rattle.transactions.specs.Prepared.{Shows, may_accept};
 
 use crate::naming::Naming;
 use crate::parts::Parts;
@@ -30,24 +31,30 @@ use reg_tree::Trees;
 use std::alloc::{AllocError, Global};
 use std::marker::Model;
 use std::snapshot::Snapshot;
-use transactions::Store;
+use transactions::{Prepared, Store};
 
 /// An engine over a disk, seen by contracts as its machine, its disk, and the store that its files are of.
 ///
 /// Where the disk is faithful, whatever a crash leaves of the files at any moment, with honest first sectors of the primary files,
 /// recovers one number, not below the durable one, and the trees after it.
+///
+/// An event that may accept a change may be made in two parts: [`prepare`](Engine::prepare) makes all that it grows, and
+/// [`finish`](Engine::finish) is the event and takes no memory. Any other event drops what stands prepared.
 #[derive(Drop)]
 pub struct Engine<D: Disk> {
     parts: Parts<D>,
+    prepared: Option<Prepared>,
 }
 
 impl<D: Disk> Model for Engine<D> {
-    ghost use Rattle.std.specs.Prelude.{map};
+    ghost use Rattle.std.specs.Prelude.{map, IfSome};
+    ghost use Rattle.std.specs.Option.{option_map};
+    ghost use Rattle.transactions.specs.Prepared.{IsPrepared};
     ghost use Rattle.commit_journal.specs.Journals.{choice_of, steps_left, store_of};
     ghost use Rattle.engine_law.specs.Prefixes.{AnyFile, AreOnDisk, view_of};
     ghost use Rattle.engine_law.specs.Progress.{flush_of};
     ghost use Rattle.engine.specs.Parts.{IsSound};
-    ghost use Rattle.engine.specs.Shown.{Shown, shown_code};
+    ghost use Rattle.engine.specs.Shown.{Shown, awaiting_of, shown_code};
 
     ghost Value = { Shown D };
 
@@ -63,6 +70,7 @@ impl<D: Disk> Model for Engine<D> {
       hives = map view_of inside.parts.hives.items;
       left = steps_left inside.parts.journal;
       flushes = map flush_of inside.parts.hives.items;
+      prepared = option_map awaiting_of inside.prepared;
     } };
 
     ghost invariant = { λ inside. record {
@@ -70,6 +78,7 @@ impl<D: Disk> Model for Engine<D> {
       on_disk : D.faithful inside.parts.disk → AreOnDisk inside.parts.journal
           inside.parts.hives.items
           (D.state_at inside.parts.disk (D.clock inside.parts.disk));
+      prepared : IfSome inside.prepared (IsPrepared inside.parts.store);
     } };
 }
 
@@ -84,6 +93,7 @@ impl<D: Disk> Engine<D> {
             { room = 65 + room_of (choice_of opened.found.journal).now.elements }) }
         ensures disk { IfOk result (λ engine. engine.disk ≡ opened.disk) }
         ensures store { IfOk result (λ engine. engine.store ≡ store_of opened) }
+        ensures prepared { IfOk result (λ engine. engine.prepared ≡ None) }
         ensures refused { IfErr result (λ back. (back.0 ≡ NoMemory) × (back.1 ≡ opened)) }
     {
         openings_begin();
@@ -104,6 +114,7 @@ impl<D: Disk> Engine<D> {
                 opened: found.opened,
                 naming,
             },
+            prepared: None,
         })
     }
 
@@ -148,10 +159,56 @@ impl<D: Disk> Engine<D> {
             (slice_get self.new.hives i ≡ slice_get self.old.hives i)
             × (slice_get self.new.flushes i ≡ slice_get self.old.flushes i) }
         ensures store { self.new.store ≡ self.old.store }
+        ensures dropped { self.new.prepared ≡ None }
         ensures faithful { D.faithful self.new.disk → D.faithful self.old.disk }
     {
         crashes_leave_prefixes();
+        self.prepared = None;
         self.parts.event(event)
+    }
+
+    /// Prepares an event that may accept a change: makes all that it grows, and tells the trees that will be those of now, where
+    /// a change will be accepted. Nothing is accepted yet. What stood prepared before is dropped.
+    ///
+    /// Refused for want of memory alone; nothing stands prepared then.
+    pub fn prepare(&mut self, event: Event) -> Result<Option<Trees>, Refusal>
+        requires accepts { may_accept event ≡ true }
+        ensures prepared { IfOk result (λ trees. self.new.prepared
+            ≡ Some (record { event = event; trees = trees })) }
+        ensures refused { IfErr result (λ why. (why ≡ NoMemory) × (self.new.prepared ≡ None)) }
+        ensures same { self.new ≡ record self.old { prepared = self.new.prepared } }
+    {
+        self.prepared = None;
+        let prepared = self.parts.prepare(event)?;
+        let trees = prepared.trees(self.parts.alloc)?;
+        self.prepared = Some(prepared);
+        Ok(trees)
+    }
+
+    /// Finishes the event that stands prepared: it is that event, and makes no call of the device. Takes no memory.
+    ///
+    /// A crash before or after it leaves a prefix of the changes accepted then.
+    pub fn finish(&mut self) -> Reply
+        requires stands { is_some self.old.prepared ≡ true }
+        ensures step { IfSome self.old.prepared (λ awaiting.
+            Step self.old.machine awaiting.event result self.new.machine) }
+        ensures shown { IfSome self.old.prepared (λ awaiting.
+            Shows awaiting.trees self.old.machine self.new.machine) }
+        ensures fed { ¬ (result ≡ reply.Refused NoMemory) }
+        ensures same { self.new ≡ record self.old {
+          machine = self.new.machine;
+          prepared = None;
+        } }
+        ensures before { D.faithful self.new.disk → IsSafeAt self.old.store
+            (D.state_at self.new.disk) (D.clock self.old.disk) self.old.machine }
+        ensures after { D.faithful self.new.disk → IsSafeAt self.old.store
+            (D.state_at self.new.disk) (D.clock self.new.disk) self.new.machine }
+    {
+        crashes_leave_prefixes();
+        let Some(prepared) = self.prepared.take() else {
+            unreachable!();
+        };
+        self.parts.finish(prepared)
     }
 
     /// A whole run. The replies are those of a run of the machine. Each event makes at most one call of the device, so each moment
@@ -168,11 +225,14 @@ impl<D: Disk> Engine<D> {
         ensures receipts { IfOk result (λ replies.
             AllByRecursion (IsHeld self.new.machine.durable) replies.items) }
         ensures err { OnErr result (self.new ≡ self.old) }
+        ensures dropped { OnOk result (self.new.prepared ≡ None) }
         ensures store { self.new.store ≡ self.old.store }
         ensures faithful { D.faithful self.new.disk → D.faithful self.old.disk }
     {
         receipts_are_durable();
-        self.parts.run(alloc, events)
+        let replies = self.parts.run(alloc, events)?;
+        self.prepared = None;
+        Ok(replies)
     }
 
     /// The trees after all accepted changes.

@@ -1,9 +1,11 @@
 //! The steps of an engine: a batch of the journal, a trim, a flush of a hive.
-ghost use Rattle.std.specs.Prelude.{◌≡◌, ◌↔◌, ◌-◌, ◌<◌, ◌≤◌, ℕ, false, true, length, map, slice_get, take, IfErr, Ok, OnOk, Some};
-ghost use Rattle.refusals.specs.declared.refusal.Refusal.TheVariants.{Faulted};
+ghost use Rattle.std.specs.Prelude.{◌≡◌, ◌↔◌, ◌-◌, ◌<◌, ◌≤◌, ℕ, false, true, length, map, slice_get, take, IfErr, IfOk, Ok, OnOk, Some};
+ghost use Rattle.refusals.specs.declared.refusal.Refusal.TheVariants.{Faulted, NoMemory};
 ghost use Rattle.prefix_law.specs.Promises.{top};
 ghost use Rattle.machine.specs.Machine.{last_number, pending};
-ghost use Rattle.machine.specs.Steps.{is_step};
+ghost use Rattle.machine.specs.Steps.{Step, is_step};
+ghost use Rattle.machine.specs.declared.event.Reply.TheVariants as reply;
+ghost use Rattle.transactions.specs.Prepared.{IsPrepared, Shows, may_accept, will_show};
 ghost use Rattle.commit_journal.specs.Journals.{choice_of};
 ghost use Rattle.hive_flush.specs.HiveStates.{files_of};
 ghost use Rattle.engine_words.specs.declared.Progress.TheVariants as Progress;
@@ -25,6 +27,8 @@ use hive_flush::HiveFile;
 use machine::laws::{steps_alone_fail, steps_alone_settle};
 use machine::{Event, Reply};
 use refusals::Refusal;
+use std::alloc::AllocError;
+use transactions::Prepared;
 
 impl<D: Disk> Parts<D> {
     /// Any event: a step of the machine, with at most one call of the device.
@@ -60,6 +64,34 @@ impl<D: Disk> Parts<D> {
         steps_alone_fail();
         steps_alone_settle();
         self.store.event(event)
+    }
+
+    /// Prepares an event that may accept a change: all that it grows is made.
+    pub fn prepare(&mut self, event: Event) -> Result<Prepared, AllocError>
+        requires sound { IsSound self.old }
+        requires accepts { may_accept event ≡ true }
+        ensures prepared { IfOk result (λ prepared. (prepared.event.value ≡ event)
+            × IsPrepared self.new.store prepared) }
+        ensures sound { IsSound self.new }
+        ensures machine { self.new.store.machine ≡ self.old.store.machine }
+        ensures rest { self.new ≡ record self.old { store = self.new.store } }
+    {
+        self.store.prepare(event)
+    }
+
+    /// Finishes an event that was prepared: it accepts a change, or changes nothing that lasts.
+    pub fn finish(&mut self, prepared: Prepared) -> Reply
+        requires sound { IsSound self.old }
+        requires prepared { IsPrepared self.old.store prepared }
+        ensures step { Step self.old.store.machine prepared.event.value result self.new.store.machine }
+        ensures shown { Shows (will_show prepared) self.old.store.machine self.new.store.machine }
+        ensures fed { ¬ (result ≡ reply.Refused NoMemory) }
+        ensures sound { IsSound self.new }
+        ensures rest { self.new ≡ record self.old { store = self.new.store } }
+    {
+        events_keep();
+        steps_alone_settle();
+        self.store.finish(prepared)
     }
 
     /// Refuses each step once the device has failed.

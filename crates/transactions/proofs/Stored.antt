@@ -20,7 +20,7 @@ use Rattle.reg_tree.specs.declared.op.Op.{Op}
 use Rattle.reg_tree.specs.declared.op.Legality.TheVariants.{Legal}
 use Rattle.claims_law.specs.Skeleton.{Claim}
 use Rattle.conflicts.specs.Claims.{claim_of, meets}
-use Rattle.machine.specs.Machine.{Machine, trees_now, last_number, is_open, found_in, change, first_of, refused_if, fault, closed_refusal, looked_up, read_refusal, levels_made, refusal_by, room_of, room_refusal, write_refusal, added_refusal_if, commit_refusal_if}
+use Rattle.machine.specs.Machine.{Machine, trees_now, last_number, is_open, found_in, change, first_of, refused_if, fault, closed_refusal, commit_refusal, looked_up, read_refusal, levels_made, refusal_by, room_of, room_refusal, write_refusal, added_refusal_if, commit_refusal_if}
 use Rattle.machine.specs.Steps.{Step, Accepts, Commits, Flushes, Journals, Trims, StepFails, no_hive}
 use Rattle.machine.specs.declared.event.Progress.TheVariants.{Done, Idle}
 use Rattle.machine.specs.Transactions.{Transaction, Puts, at, own, is_active, ended, rolled_back_by, missing_refusal, inactive_refusal}
@@ -34,6 +34,9 @@ use Rattle.machine.specs.declared.event.Reply.TheVariants as reply
 use Rattle.transactions.specs.Tables.{Table, EndsWith, IsPending, IsPendingOf, holds_if, is_listed, rolled_back_if}
 use Rattle.transactions.specs.Histories.{IsShort}
 use Rattle.transactions.specs.Stores.{Answers, IsTied, store_of}
+use Rattle.transactions.specs.Prepared.{Readies, ReadiesWrite}
+use Rattle.transactions.specs.declared.prepared.Ready.{Ready}
+use Rattle.transactions.specs.declared.prepared.ReadyWrite.{ReadyWrite}
 
 -- an error that is handed on is the answer
 on_refusal : (m : Machine) (event : Event) (res : Result Reply Refusal) (why : Refusal) → IsErrAnd res (λ e. e ≡ why) → Step m event (reply.Refused why) m → Answers m event res m
@@ -318,3 +321,38 @@ settles m free known = record { free = sound m free; next = refl; grows = known;
 
 pub trims_none : (m : Machine) → m.faulted ≡ false → Trims m Idle m
 trims_none m free = record { free = sound m free; next = refl; room = inl refl }
+
+-- Events that are prepared
+
+-- why one is refused
+pub unready : (m : Machine) (spare : ℕ) (event : Event) (res : Result Ready Refusal) (why : Refusal) → IsErrAnd res (λ e. e ≡ why) → Step m event (reply.Refused why) m → Readies m spare event res
+unready m spare event (Ok x) why h s = absurd h
+unready m spare event (Err e) why h s = subst (λ r. Step m event (reply.Refused r) m) (sym h) s
+
+pub unready_write : (m : Machine) (session moment : ℕ) (op : Op) (res : Result (Option ReadyWrite) Refusal) (why : Refusal) → IsErrAnd res (λ e. e ≡ why) → Step m (event.Write session moment op) (reply.Refused why) m → ReadiesWrite m session moment op res
+unready_write m session moment op (Ok x) why h s = absurd h
+unready_write m session moment op (Err e) why h s = subst (λ r. Step m (event.Write session moment op) (reply.Refused r) m) (sym h) s
+
+-- a transaction that is active
+pub active_pending : (slot : Option Transaction) (ops : List Op) (long : ℕ) → IsPending slot ops long → inactive_refusal slot ≡ None
+active_pending None ops long p = absurd p
+active_pending (Some one) ops long p = p.active
+
+-- a transaction without operations commits as nothing
+pub commits_nothing : (o : List TreeMap) (n : ℕ) (a : List Element) (s : List ℕ) (t u : Table) (d r : ℕ) (faulted : Bool) → fault (store_of o n a s t d r faulted) ≡ None → (session moment : ℕ) (tx : Tx) (ops given : List Op) (long : ℕ) → is_open (store_of o n a s t d r faulted) session ≡ true
+    → IsPending (own t.places session tx) ops long → (length ops == 0) ≡ true → EndsWith t session tx Committed given u → Commits (store_of o n a s t d r faulted) session tx moment 0 (store_of o n a s u d r faulted)
+commits_nothing o n a s t u d r faulted free session moment tx ops given long there p none ends =
+    let old = store_of o n a s t d r faulted in
+    let mine : IsPendingOf ends.finishes.one ops long = subst (λ x. IsPending x ops long) ends.finishes.found p in
+    let empty : (length ends.finishes.one.ops == 0) ≡ true = ap (λ (x : List Op). length x == 0) (sym mine.given) ∙ none in
+    let begun : u.begun ≡ t.begun = ap (λ (x : Table). x.begun) ends.next in
+    let element : Element = record { moment = moment; ops = ends.finishes.one.ops } in
+    record {
+      one = ends.finishes.one;
+      found = found old session tx there ∙ ends.finishes.found;
+      free = second (fault old) (commit_refusal_if old moment (Some ends.finishes.one)) None free (second (inactive_refusal (Some ends.finishes.one)) (commit_refusal old moment ends.finishes.one) None mine.active
+          (ap (λ x. cond x None (first_of (refused_if (any_outweighs (trees_now old) ends.finishes.one.ops moment) TooLarge) (room_refusal old (element_text_len element)))) empty));
+      numbered = ap (λ x. cond x 0 (last_number old + 1)) (sym empty);
+      next = ap (λ x. record old { places = u.places; begun = x }) begun ∙ ap (λ x. record (cond x old (record old { accepted = a ++ element ∷ []; room = r + room_of element })) { places = u.places }) (sym empty);
+      put = ends.finishes.put;
+    }

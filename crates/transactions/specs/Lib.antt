@@ -3,3 +3,4 @@ pub mod Tables
 pub mod Codes
 pub mod Entries
 pub mod Stores
+pub mod Prepared

@@ -36,10 +36,11 @@ store_of opened before accepted sessions table durable room faulted = record {
   faulted = faulted;
 }
 
--- the machine, and the number above which its changes are at hand
+-- the machine, the number above which its changes are at hand, and for how many changes more there is place
 pub record StoreView : Type 0 where
   pub machine : Machine
   pub at_hand : ℕ
+  pub spare : ℕ
 
 -- the table's trees and number are those of the last accepted change, what is durable was accepted, and the history is
 -- within its limit
@@ -75,4 +76,4 @@ machine_code =
     (λ _. refl)
 
 abbrev pub store_code : Coded StoreView
-store_code = code_by (Machine × ℕ) (coded× machine_code coded_ℕ) (λ s. (s.machine, s.at_hand)) (λ p. record { machine = p.0; at_hand = p.1 }) (λ _. refl)
+store_code = code_by (Machine × (ℕ × ℕ)) (coded× machine_code (coded× coded_ℕ coded_ℕ)) (λ s. (s.machine, (s.at_hand, s.spare))) (λ p. record { machine = p.0; at_hand = p.1.0; spare = p.1.1 }) (λ _. refl)

@@ -1,13 +1,16 @@
 //! A store in memory: what it answers to each event that makes no step, and what it is told of those that do.
-ghost use Rattle.std.specs.Prelude.{◌≡◌, ◌≤◌, ◌+◌, ◌-◌, ◌⊎◌, ◌==◌, [], drop, max, true, false, Some, None, IfOk, IfErr, OnOk};
+ghost use Rattle.std.specs.Prelude.{◌≡◌, ◌<◌, ◌≤◌, ◌+◌, ◌-◌, ◌⊎◌, ◌==◌, ℕ, [], drop, max, true, false, Some, None, IfOk, IfErr, OnOk, OnSome};
 ghost use Rattle.std.specs.List.{AllByRecursion, list_any};
-ghost use Rattle.refusals.specs.declared.refusal.Refusal.TheVariants.{NoSuchHandle};
+ghost use Rattle.refusals.specs.declared.refusal.Refusal.TheVariants.{NoMemory, NoSuchHandle};
+ghost use Rattle.machine.specs.declared.event.Reply.TheVariants as reply;
 ghost use Rattle.machine.specs.Steps.{Step, is_step};
 ghost use Rattle.machine.specs.Machine.{opened_machine, last_number, fault, trees_now, room_refusal};
 ghost use Rattle.transactions.specs.Histories.{IsShort};
 ghost use Rattle.transactions.specs.Stores.{Answers, needs_device};
+ghost use Rattle.transactions.specs.Prepared.{IsPrepared, IsReady, IsReadyCommit, IsReadyNothing, IsReadyWrite, Readies, ReadiesWrite, Shows, may_accept, shown_by, will_show};
 
 use crate::history::History;
+use crate::prepared::{Prepared, Ready, ReadyCommit, ReadyWrite};
 use crate::short::change_is_short;
 use crate::table::{TxTable, Written};
 use machine::room::CHANGE_START;
@@ -21,12 +24,14 @@ use std::marker::Model;
 use std::snapshot::Snapshot;
 use uuid::Uuid;
 
-/// A store in memory, seen by contracts as the state of the machine, and the number above which its changes are at hand.
+/// A store in memory, seen by contracts as the state of the machine, the number above which its changes are at hand, and for how
+/// many changes more there is place.
 ///
 /// It keeps the trees of now, and of the accepted changes those that were not let go; the trees as they were opened and the
 /// whole list of accepted changes are known to contracts alone. It makes no step: whoever keeps the journal and the hives tells
 /// it how far changes are durable ([`settle`](Store::settle)), what room is free again ([`free`](Store::free)), and that the
-/// device has failed ([`fail`](Store::fail)).
+/// device has failed ([`fail`](Store::fail)). An event that may accept a change may be made in two parts: [`prepare`](Store::prepare)
+/// makes all that it grows, and [`finish`](Store::finish) answers it and takes no memory.
 #[derive(Drop)]
 pub struct Store {
     alloc: Global,
@@ -53,6 +58,7 @@ impl Model for Store {
           store_of inside.opened.value inside.before inside.history.changes inside.sessions
           inside.table inside.durable inside.room inside.faulted;
       at_hand = inside.before + inside.history.let_go;
+      spare = inside.history.spare;
     } };
 
     ghost invariant = { λ inside. IsTied inside.table
@@ -94,6 +100,64 @@ impl Store {
         match self.answer(event) {
             Ok(reply) => reply,
             Err(refusal) => Reply::Refused { refusal },
+        }
+    }
+
+    /// Prepares an event that may accept a change: all that it grows is made, and nothing is accepted yet.
+    ///
+    /// Refused for want of memory alone. What is prepared may be finished as long as the store is as it is now.
+    pub fn prepare(&mut self, event: Event) -> Result<Prepared, AllocError>
+        requires accepts { may_accept event ≡ true }
+        ensures prepared { IfOk result (λ prepared. (prepared.event.value ≡ event)
+            × IsPrepared self.new prepared) }
+        ensures machine { self.new.machine ≡ self.old.machine }
+        ensures at_hand { self.new.at_hand ≡ self.old.at_hand }
+    {
+        let kept = Snapshot::of(&event);
+        let ready = match self.make(event) {
+            Ok(ready) => ready,
+            Err(Refusal::NoMemory) => return Err(AllocError),
+            Err(refusal) => Ready::Told(Reply::Refused { refusal }),
+        };
+        Ok(Prepared { event: kept, ready })
+    }
+
+    /// Finishes an event that was prepared: answers it. Takes no memory.
+    pub fn finish(&mut self, prepared: Prepared) -> Reply
+        requires prepared { IsPrepared self.old prepared }
+        ensures step { Step self.old.machine prepared.event.value result self.new.machine }
+        ensures fed { ¬ (result ≡ reply.Refused NoMemory) }
+        ensures shown { Shows (will_show prepared) self.old.machine self.new.machine }
+        ensures at_hand { self.new.at_hand ≡ self.old.at_hand }
+    {
+        self.accept(prepared.ready)
+    }
+
+    // what an event that may accept a change is going to do
+    fn make(&mut self, event: Event) -> Result<Ready, Refusal>
+        requires accepts { may_accept event ≡ true }
+        ensures made { Readies self.old.machine self.new.spare event result }
+        ensures machine { self.new.machine ≡ self.old.machine }
+        ensures at_hand { self.new.at_hand ≡ self.old.at_hand }
+    {
+        if self.faulted {
+            return Err(Refusal::Faulted);
+        }
+        match event {
+            Event::Write {
+                session,
+                moment,
+                op,
+            } => match self.make_write(session, moment, op)? {
+                Some(write) => Ok(Ready::Write(write)),
+                None => Ok(Ready::Told(Reply::Opened)),
+            },
+            Event::CommitAccept {
+                session,
+                tx,
+                moment,
+            } => self.make_commit(session, tx, moment),
+            _ => unreachable!(),
         }
     }
 
@@ -283,9 +347,28 @@ impl Store {
         ensures step { Answers self.old.machine (Event.Write session moment op) result self.new.machine }
         ensures at_hand { self.new.at_hand ≡ self.old.at_hand }
     {
+        match self.make_write(session, moment, op)? {
+            Some(write) => Ok(self.accept_write(write)),
+            None => Ok(Reply::Opened),
+        }
+    }
+
+    // what an operation by itself leads to, all that it grows being made; nothing where the key that it creates is there
+    fn make_write(
+        &mut self,
+        session: u32,
+        moment: u64,
+        op: Op,
+    ) -> Result<Option<ReadyWrite>, Refusal>
+        requires free { fault self.old.machine ≡ None }
+        ensures made { ReadiesWrite self.old.machine session moment op result }
+        ensures spare { IfOk result (λ made. OnSome made (0 < self.new.spare)) }
+        ensures machine { self.new.machine ≡ self.old.machine }
+        ensures at_hand { self.new.at_hand ≡ self.old.at_hand }
+    {
         open(&self.sessions, session)?;
         let Some(made) = self.table.trees().write(self.alloc, &op, moment)? else {
-            return Ok(Reply::Opened);
+            return Ok(None);
         };
         let room = self.room_with(CHANGE_BYTES.saturating_add(op.text_len()))?;
         let levels = levels_made(self.table.trees(), &op);
@@ -293,14 +376,42 @@ impl Store {
         let holders = self.table.holders(&op)?;
         let ops = Ops::one(self.alloc, op)?;
         self.history.reserve()?;
-        self.history.push_reserved(Element { moment, ops });
-        self.table.accept(made);
+        Ok(Some(ReadyWrite {
+            element: Element { moment, ops },
+            trees: made,
+            levels,
+            holders,
+            room,
+        }))
+    }
+
+    // an operation is accepted by itself
+    fn accept_write(&mut self, write: ReadyWrite) -> Reply
+        requires spare { 0 < self.old.spare }
+        requires ready { (session : ℕ) × (moment : ℕ) × (op : Op)
+            × IsReadyWrite self.old.machine session moment op write }
+        ensures step { (session moment : ℕ) (op : Op) →
+            IsReadyWrite self.old.machine session moment op write →
+            Step self.old.machine (Event.Write session moment op) result self.new.machine }
+        ensures trees { trees_now self.new.machine ≡ write.trees }
+        ensures fed { ¬ (result ≡ reply.Refused NoMemory) }
+        ensures at_hand { self.new.at_hand ≡ self.old.at_hand }
+    {
+        let ReadyWrite {
+            element,
+            trees,
+            levels,
+            holders,
+            room,
+        } = write;
+        self.history.push_reserved(element);
+        self.table.accept(trees);
         self.table.roll_back_all(&holders);
         self.room = room;
-        Ok(Reply::Accepted {
+        Reply::Accepted {
             levels,
             number: self.table.number(),
-        })
+        }
     }
 
     // the room that the journal has used with one change more, of so many bytes
@@ -366,28 +477,99 @@ impl Store {
         ensures step { Answers self.old.machine (Event.CommitAccept session tx moment) result self.new.machine }
         ensures at_hand { self.new.at_hand ≡ self.old.at_hand }
     {
+        let ready = self.make_commit(session, tx, moment)?;
+        Ok(self.accept(ready))
+    }
+
+    // what a commit leads to, all that it grows being made
+    fn make_commit(&mut self, session: u32, tx: Tx, moment: u64) -> Result<Ready, Refusal>
+        requires free { fault self.old.machine ≡ None }
+        ensures made { Readies self.old.machine self.new.spare
+            (Event.CommitAccept session tx moment) result }
+        ensures machine { self.new.machine ≡ self.old.machine }
+        ensures at_hand { self.new.at_hand ≡ self.old.at_hand }
+    {
         open(&self.sessions, session)?;
         let pending = self.table.commit_ops(session, tx)?;
         if pending.ops.is_empty() {
-            self.table.commit(session, tx)?;
-            return Ok(Reply::Awaits { number: 0 });
+            return Ok(Ready::Nothing(session, tx));
         }
-        let made = self
+        let trees = self
             .table
             .trees()
             .apply_within(self.alloc, pending.ops, moment)?;
         let room = self.room_with(pending.text_len)?;
         self.history.reserve()?;
-        let ops = self.table.commit(session, tx)?;
+        Ok(Ready::Commit(ReadyCommit {
+            session,
+            tx,
+            moment,
+            trees,
+            room,
+        }))
+    }
+
+    // an event that is prepared: it takes no memory
+    fn accept(&mut self, ready: Ready) -> Reply
+        requires ready { (event : Event) × IsReady self.old.machine self.old.spare event ready }
+        ensures step { (event : Event) → IsReady self.old.machine self.old.spare event ready →
+            Step self.old.machine event result self.new.machine }
+        ensures fed { ¬ (result ≡ reply.Refused NoMemory) }
+        ensures shown { Shows (shown_by ready) self.old.machine self.new.machine }
+        ensures at_hand { self.new.at_hand ≡ self.old.at_hand }
+    {
+        match ready {
+            Ready::Told(reply) => reply,
+            Ready::Write(write) => self.accept_write(write),
+            Ready::Nothing(session, tx) => self.commit_nothing(session, tx),
+            Ready::Commit(commit) => self.accept_commit(commit),
+        }
+    }
+
+    // a transaction without operations commits as nothing
+    fn commit_nothing(&mut self, session: u32, tx: Tx) -> Reply
+        requires ready { IsReadyNothing self.old.machine session tx }
+        ensures step { (moment : ℕ) → Step self.old.machine
+            (Event.CommitAccept session tx moment) result self.new.machine }
+        ensures fed { ¬ (result ≡ reply.Refused NoMemory) }
+        ensures accepted { self.new.machine.accepted ≡ self.old.machine.accepted }
+        ensures at_hand { self.new.at_hand ≡ self.old.at_hand }
+    {
+        let Ok(_) = self.table.commit(session, tx) else {
+            unreachable!();
+        };
+        Reply::Awaits { number: 0 }
+    }
+
+    // a transaction's operations are accepted as one change
+    fn accept_commit(&mut self, commit: ReadyCommit) -> Reply
+        requires spare { 0 < self.old.spare }
+        requires ready { IsReadyCommit self.old.machine commit }
+        ensures step { Step self.old.machine
+            (Event.CommitAccept commit.session commit.tx commit.moment) result self.new.machine }
+        ensures trees { trees_now self.new.machine ≡ commit.trees }
+        ensures fed { ¬ (result ≡ reply.Refused NoMemory) }
+        ensures at_hand { self.new.at_hand ≡ self.old.at_hand }
+    {
+        let ReadyCommit {
+            session,
+            tx,
+            moment,
+            trees,
+            room,
+        } = commit;
+        let Ok(ops) = self.table.commit(session, tx) else {
+            unreachable!();
+        };
         let Some(ops) = Ops::from_vec(ops) else {
             unreachable!();
         };
         self.history.push_reserved(Element { moment, ops });
-        self.table.accept(made);
+        self.table.accept(trees);
         self.room = room;
-        Ok(Reply::Awaits {
+        Reply::Awaits {
             number: self.table.number(),
-        })
+        }
     }
 
     fn roll_back(&mut self, session: u32, tx: Tx) -> Result<Reply, Refusal>

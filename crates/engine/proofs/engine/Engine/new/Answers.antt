@@ -49,4 +49,5 @@ invariant_of-result g c =
             (omega (arith, c.in-Ok.ensures.at_hand, ap (λ (m : Machine). m.before) told)));
       };
       on_disk = e.on_disk;
+      prepared = tt;
     }

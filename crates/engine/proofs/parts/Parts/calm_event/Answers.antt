@@ -3,9 +3,7 @@ use Rattle.std.proofs.lemmas.Bool.{true≢false}
 use Rattle.machine.specs.Steps.{Step}
 use Rattle.commit_journal.specs.Journals.{choice_of}
 use Rattle.engine_law.specs.Prefixes.{view_of}
-use Rattle.engine.proofs.Sound.{calm_sound}
-use Rattle.engine.proofs.AtHand.{hand_calms}
-use Rattle.engine.proofs.Namings.{naming_calm}
+use Rattle.engine.proofs.Calm.{calm_keeps}
 use Rattle.engine.proofs.Idling.{calm_idles}
 use Rattle.engine.proofs.Advancing.{calm_comes_on}
 use Rattle.engine.proofs.parts.Parts.calm_event.Goals as goal
@@ -16,17 +14,9 @@ returns-clause-goes_on g c =
     let m = s.store.machine in
     let n = c.event.new.self.machine in
     let step = c.event.ensures.step in
-    let kept = c.requires.sound.holds.kept in
-    let how = c.steps_alone_settle.ensures m n c.args.event c.event.result kept.kept c.requires.calm step in
     record {
       step = step;
-      sound = record {
-        holds = calm_sound s.store c.event.new.self s.base s.spelled.value.items s.journal s.hives.items c.requires.sound.holds
-            (c.events_keep.ensures m n s.base s.spelled.value.items (choice_of s.journal) (map view_of s.hives.items) c.args.event c.event.result kept c.requires.calm step) how;
-        naming = naming_calm m n s.base s.spelled.value.items s.naming.last.items kept.begun kept.kept.within.opened kept.kept.within.known how c.requires.sound.naming;
-        named = c.requires.sound.named;
-        at_hand = hand_calms s.store c.event.new.self s.base s.spelled.value.items s.opened.items s.hives.items kept.begun kept.kept.within.known how c.event.ensures.at_hand c.requires.sound.at_hand;
-      };
+      sound = calm_keeps c.events_keep.ensures c.steps_alone_settle.ensures s c.event.new.self c.args.event c.event.result c.requires.sound c.requires.calm step c.event.ensures.at_hand;
       on_disk = λ f on. on;
       store = refl;
       call = record { later = omega arith; one = omega arith; past = λ k f le. refl; others = λ f none. refl };

@@ -1,0 +1,107 @@
+-- What an event that may accept a change is going to do, all that it grows being made.
+use Rattle.std.specs.Prelude.{◌≡◌, ℕ, ◌+◌, ◌<◌, ◌≤◌, ◌==◌, Bool, true, false, List, [], ◌∷◌, length, Option, Some, None, Ok, Err, Result}
+use Rattle.refusals.specs.declared.refusal.Refusal.{Refusal}
+use Rattle.refusals.specs.declared.refusal.Refusal.TheVariants.{NoMemory}
+use Rattle.refusals.specs.declared.limits.TheConstants.{MOST_ELEMENT_BYTES}
+use Rattle.reg_tree.specs.Maps.{TreeMap}
+use Rattle.reg_tree.specs.Judgement.{legal, applied, applied_one, any_outweighs}
+use Rattle.reg_tree.specs.Texts.{element_text_len}
+use Rattle.reg_tree.specs.declared.op.Op.{Op}
+use Rattle.reg_tree.specs.declared.op.Legality.TheVariants.{Legal}
+use Rattle.conflicts.specs.Claims.{claim_of}
+use Rattle.machine.specs.Transactions.{at, own}
+use Rattle.machine.specs.Machine.{Machine, change, fault, is_open, levels_made, room_refusal, trees_now}
+use Rattle.machine.specs.Steps.{Step}
+use Rattle.machine.specs.declared.event.Event.{Event}
+use Rattle.machine.specs.declared.event.Event.TheVariants as event
+use Rattle.machine.specs.declared.event.Reply.{Reply}
+use Rattle.machine.specs.declared.event.Reply.TheVariants as reply
+use Rattle.machine.specs.declared.handle.Tx.{Tx}
+use Rattle.transactions.specs.Tables.{IsPending, holds_if, is_listed}
+use Rattle.transactions.specs.Histories.{IsShort}
+use Rattle.transactions.specs.Stores.{StoreView}
+use Rattle.transactions.specs.declared.prepared.ReadyWrite.{ReadyWrite}
+use Rattle.transactions.specs.declared.prepared.ReadyCommit.{ReadyCommit}
+use Rattle.transactions.specs.declared.prepared.Ready.{Ready}
+use Rattle.transactions.specs.declared.prepared.Ready.TheVariants as ready
+use Rattle.transactions.specs.declared.prepared.Prepared.{Prepared}
+
+-- whether an event may accept a change: a write by itself, or a commit
+abbrev pub may_accept : Event → Bool
+may_accept (event.Write session moment op) = true
+may_accept (event.CommitAccept session tx moment) = true
+may_accept _ = false
+
+-- An operation may be accepted by itself, and all that it leads to is made: the change, the trees then, who is rolled back, the room.
+pub record IsReadyWrite (machine : Machine) (session moment : ℕ) (op : Op) (made : ReadyWrite) : Type 0 where
+  pub free : fault machine ≡ None
+  pub there : is_open machine session ≡ true
+  pub is_legal : legal (trees_now machine) op ≡ Ok Legal
+  pub roomy : room_refusal machine (element_text_len (change moment op)) ≡ None
+  pub levels : made.levels ≡ levels_made (trees_now machine) op
+  pub element : made.element ≡ change moment op
+  pub short : IsShort made.element
+  pub trees : made.trees ≡ applied_one (trees_now machine) op moment
+  pub holders : (place : ℕ) → is_listed made.holders place ≡ holds_if (claim_of op) (at machine.places place)
+  pub room : made.room ≡ machine.room + (17 + element_text_len (change moment op))
+
+-- A transaction's operations, which are some, may be accepted as one change, and what they lead to is made.
+pub record IsReadyCommit (machine : Machine) (made : ReadyCommit) : Type 0 where
+  pub ops : List Op
+  pub text_len : ℕ
+  pub free : fault machine ≡ None
+  pub there : is_open machine made.session ≡ true
+  pub pending : IsPending (own machine.places made.session made.tx) ops text_len
+  pub some : (length ops == 0) ≡ false
+  pub short : text_len ≤ MOST_ELEMENT_BYTES
+  pub light : any_outweighs (trees_now machine) ops made.moment ≡ false
+  pub trees : made.trees ≡ applied (trees_now machine) ops made.moment
+  pub roomy : room_refusal machine text_len ≡ None
+  pub room : made.room ≡ machine.room + (17 + text_len)
+
+-- A transaction has no operations, and may commit as nothing.
+pub record IsReadyNothing (machine : Machine) (session : ℕ) (tx : Tx) : Type 0 where
+  pub ops : List Op
+  pub text_len : ℕ
+  pub free : fault machine ≡ None
+  pub there : is_open machine session ≡ true
+  pub pending : IsPending (own machine.places session tx) ops text_len
+  pub none : (length ops == 0) ≡ true
+
+-- What an event is going to do, in a store with place for so many changes.
+abbrev pub IsReady : Machine → ℕ → Event → Ready → Type 0
+IsReady machine spare wanted (ready.Told answer) = Step machine wanted answer machine × (answer ≡ reply.Refused NoMemory → ⊥)
+IsReady machine spare wanted (ready.Write made) = (0 < spare) × ((session : ℕ) × (moment : ℕ) × (op : Op) × (wanted ≡ event.Write session moment op) × IsReadyWrite machine session moment op made)
+IsReady machine spare wanted (ready.Nothing session tx) = ((moment : ℕ) × (wanted ≡ event.CommitAccept session tx moment)) × IsReadyNothing machine session tx
+IsReady machine spare wanted (ready.Commit made) = (0 < spare) × (wanted ≡ event.CommitAccept made.session made.tx made.moment) × IsReadyCommit machine made
+
+-- what an operation by itself leads to, where it may be accepted; else how it is answered, and nothing has changed
+abbrev pub ReadiesWrite : Machine → ℕ → ℕ → Op → Result (Option ReadyWrite) Refusal → Type 0
+ReadiesWrite machine session moment op (Ok (Some made)) = IsReadyWrite machine session moment op made
+ReadiesWrite machine session moment op (Ok None) = Step machine (event.Write session moment op) reply.Opened machine
+ReadiesWrite machine session moment op (Err why) = Step machine (event.Write session moment op) (reply.Refused why) machine
+
+-- the trees that will be those of now, where a change will be accepted
+abbrev pub shown_by : Ready → Option (List TreeMap)
+shown_by (ready.Told answer) = None
+shown_by (ready.Write made) = Some made.trees
+shown_by (ready.Nothing session tx) = None
+shown_by (ready.Commit made) = Some made.trees
+
+abbrev pub will_show : Prepared → Option (List TreeMap)
+will_show prepared = shown_by prepared.ready
+
+-- The trees of now are those that were to be shown; where none were, no change has been accepted.
+abbrev pub Shows : Option (List TreeMap) → Machine → Machine → Type 0
+Shows (Some trees) old new = trees_now new ≡ trees
+Shows None old new = new.accepted ≡ old.accepted
+
+-- what an event that may accept a change leads to, or why it is refused
+abbrev pub Readies : Machine → ℕ → Event → Result Ready Refusal → Type 0
+Readies machine spare wanted (Ok made) = IsReady machine spare wanted made
+Readies machine spare wanted (Err why) = Step machine wanted (reply.Refused why) machine
+
+-- An event that may accept a change stands prepared in a store: it is answered so, and nothing changes, which is never for want of memory; or it is accepted as
+-- this says, and there is place for the change.
+abbrev pub IsPrepared : StoreView → Prepared → Type 0
+IsPrepared store prepared = (may_accept prepared.event.value ≡ true) × IsReady store.machine store.spare prepared.event.value prepared.ready
