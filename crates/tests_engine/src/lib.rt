@@ -4,6 +4,8 @@
 #[cfg(test)]
 mod crashes;
 #[cfg(test)]
+mod limits;
+#[cfg(test)]
 mod openings;
 #[cfg(test)]
 mod stores;
