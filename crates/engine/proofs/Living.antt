@@ -9,7 +9,7 @@ use Rattle.disk_model.specs.Crash.{LeavesHonest}
 use Rattle.disk_model.specs.StoreFiles.{IsPrimary}
 use Rattle.disk_model.proofs.Leaves.{left_at_rest}
 use Rattle.disk_model.proofs.Sectors.{honest_at_rest}
-use Rattle.hive_files.specs.Frames.{IsSyncedOrSame}
+use Rattle.disk_model.specs.Unwritten.{IsSyncedOrSame}
 use Rattle.commit_journal.specs.Store.{Store, IsStore}
 use Rattle.machine.specs.Machine.{Machine, last_number, opened_machine}
 use Rattle.machine.specs.declared.event.Event.{Event}

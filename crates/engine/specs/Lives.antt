@@ -4,7 +4,7 @@ use Rattle.reg_tree.specs.Maps.{TreeMap}
 use Rattle.disk_model.specs.FileState.{FileState, at_rest}
 use Rattle.disk_model.specs.Crash.{LeavesHonest}
 use Rattle.disk_model.specs.StoreFiles.{IsPrimary}
-use Rattle.hive_files.specs.Frames.{IsSyncedOrSame}
+use Rattle.disk_model.specs.Unwritten.{IsSyncedOrSame}
 use Rattle.machine.specs.Machine.{Machine, last_number, opened_machine}
 use Rattle.machine.specs.Steps.{Run}
 use Rattle.machine.specs.declared.event.Event.{Event}
