@@ -6,7 +6,8 @@ use Rattle.disk_model.proofs.Unwritten.{only_reads, reads_none, synced_still, sy
 use Rattle.recovery.specs.Recovered.{seen_in}
 use Rattle.recovery.specs.Repairs.{most_repairs, repairs_left}
 use Rattle.recovery.proofs.Counting.{one_more_left}
-use Rattle.recovery.proofs.Hives.{none_yet, one_more, refused, seen_same}
+use Rattle.disk_model.proofs.Unwritten.{seen_same}
+use Rattle.recovery.proofs.Hives.{none_yet, one_more, refused}
 use Rattle.recovery.proofs.reading.open_hives.Goals as goal
 
 pub returns-in_err-hive-clause-fails : goal.returns-in_err-hive-clause-fails

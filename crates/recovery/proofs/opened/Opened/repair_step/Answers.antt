@@ -1,3 +1,6 @@
+use Rattle.std.proofs.Common.{refl}
+use Rattle.engine_law.proofs.HiveLists.{at_slot}
+use Rattle.recovery.proofs.Counting.{fewer_shown, told}
 use Rattle.recovery.proofs.Crashes.{after_call, before_call, no_call}
 use Rattle.recovery.proofs.opened.Opened.repair_step.Goals as goal
 
@@ -24,3 +27,10 @@ returns-clause-before g c = before_call g.D.Disk.state_at g.D.Disk.clock g.D.Dis
 
 pub returns-clause-after : goal.returns-clause-after
 returns-clause-after g c = after_call g.D.Disk.state_at g.D.Disk.clock g.D.Disk.faithful c.openings_begin.ensures c.crashes_leave_prefixes.ensures.safe _ c.args.self.now c.self.view_is c.self.invariant.kept c.self.invariant.on_disk c.repair.new.disk c.repair.new.self c.repair.ensures.faithful c.repair.ensures.rest c.repair.ensures.kept c.repair.ensures.on_disk
+
+pub returns-clause-fewer : goal.returns-clause-fewer
+returns-clause-fewer g c = λ not.
+    let hives = c.self.inside.found.hives.items in
+    let first = c.in-Some.ensures.some c.in-Some.place refl in
+    let at = at_slot hives c.in-Some.place first.0 in
+    fewer_shown _ c.args.self.now c.self.view_is _ (told c.repair.result c.in_default-repair.not-Err c.repair.ensures.fewer at.0 at.1 (first.1 at.0 at.1))

@@ -1,0 +1,5 @@
+//! Tests of a disk over the files of a folder.
+#![tactic(auto)]
+
+#[cfg(test)]
+mod folders;
