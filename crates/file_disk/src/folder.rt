@@ -7,14 +7,15 @@ use std::io::{self, ErrorKind};
 use std::os::unix::fs::FileExt;
 use std::rt::Files;
 
-/// How many files the folder of a store may have: a journal, and two files for each of 16 hives.
+/// How many files the folder of a store may have: a journal, and two files for each of 16 hives. Others read as empty, and a write
+/// of one fails.
 pub const MOST_FILES: u32 = 33;
 
 // the longest name of a file, with the slash before it, in bytes
 const LONGEST_NAME: usize = 11;
 
 /// Why a folder can't be held.
-#[derive(Drop)]
+#[derive(Debug, Drop)]
 pub enum Unheld {
     /// Memory was not given.
     NoMemory,
@@ -173,8 +174,11 @@ impl<R: Files<File = File> + Drop> Folder<R> {
         }
     }
 
-    // opens a file to read and to write, where it is there or is made
+    // opens a file to read and to write, where it is there or is made; there is none behind the last one
     fn open(&mut self, number: u32, how: OpenOptions) -> io::Result<()> {
+        if number >= MOST_FILES {
+            return Ok(());
+        }
         let mut how = how;
         how.read(true).write(true);
         self.name(number)?;

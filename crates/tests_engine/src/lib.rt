@@ -4,8 +4,12 @@
 #[cfg(test)]
 mod crashes;
 #[cfg(test)]
+mod creations;
+#[cfg(test)]
 mod limits;
 #[cfg(test)]
 mod openings;
+#[cfg(test)]
+mod prepared;
 #[cfg(test)]
 mod stores;

@@ -1,12 +1,13 @@
 //! Files of a folder, each test in a folder of its own that goes with it.
 use disk_model::{Disk, Failed};
 use file_disk::{FileDisk, Unheld, Unknown};
-use std::fs;
-use std::io;
 use std::test::Fail;
+use std::{fs, io};
 
 const JOURNAL: u32 = 0;
+
 const PRIMARY: u32 = 1;
+
 const LAST_LOG: u32 = 32;
 
 type Held<'a> = FileDisk<&'a HostRuntime, Unknown>;
@@ -42,7 +43,10 @@ fn what_is_written_is_there_by_its_name(rt: HostRuntime) -> Result<(), Fail> {
     disk.sync(JOURNAL)?;
     disk.sync(LAST_LOG)?;
     assert_eq!(&rt; disk.len(JOURNAL), Ok(4));
-    assert_eq!(&rt; bytes(&mut disk, JOURNAL), Ok(([0, 0, 7, 8, 0, 0, 0, 0], 4)));
+    assert_eq!(&rt;
+        bytes(&mut disk, JOURNAL),
+        Ok(([0, 0, 7, 8, 0, 0, 0, 0], 4))
+    );
     let journal = fs::read(&rt, "/tmp/regtx_tests_files_written/journal")?;
     let log = fs::read(&rt, "/tmp/regtx_tests_files_written/hive15.log")?;
     assert_eq!(&rt; (&journal[..], &log[..]), (&[0, 0, 7, 8][..], &[9][..]));
@@ -55,13 +59,32 @@ fn a_file_that_is_not_there_reads_as_empty(rt: HostRuntime) -> Result<(), Fail> 
     let folder = "/tmp/regtx_tests_files_missing";
     fresh(&rt, folder)?;
     let mut disk = held(&rt, folder)?;
-    assert_eq!(&rt; (disk.len(PRIMARY), disk.cut(PRIMARY, 0), disk.sync(PRIMARY)), (Ok(0), Ok(()), Ok(())));
+    assert_eq!(&rt;
+        (disk.len(PRIMARY), disk.cut(PRIMARY, 0), disk.sync(PRIMARY)),
+        (Ok(0), Ok(()), Ok(()))
+    );
     assert_eq!(&rt; bytes(&mut disk, PRIMARY), Ok(([0; 8], 0)));
     disk.write_at(PRIMARY, 0, &[])?;
-    let names = ["/tmp/regtx_tests_files_missing/hive00.dat", "/tmp/regtx_tests_files_missing/journal"];
+    let names = [
+        "/tmp/regtx_tests_files_missing/hive00.dat",
+        "/tmp/regtx_tests_files_missing/journal",
+    ];
     for name in names {
         assert!(&rt; fs::metadata(&rt, name).is_err());
     }
+    fs::remove_dir_all(&rt, folder)?;
+    Ok(())
+}
+
+#[test]
+fn a_file_behind_the_last_one_is_never_made(rt: HostRuntime) -> Result<(), Fail> {
+    let folder = "/tmp/regtx_tests_files_behind";
+    fresh(&rt, folder)?;
+    let mut disk = held(&rt, folder)?;
+    assert_eq!(&rt; disk.write_at(LAST_LOG + 1, 0, &[1]), Err(Failed));
+    assert_eq!(&rt; disk.cut(LAST_LOG + 1, 1), Err(Failed));
+    assert_eq!(&rt; disk.len(LAST_LOG + 1), Ok(0));
+    assert!(&rt; fs::metadata(&rt, "/tmp/regtx_tests_files_behind/hive16.dat").is_err());
     fs::remove_dir_all(&rt, folder)?;
     Ok(())
 }
@@ -75,7 +98,10 @@ fn a_cut_makes_a_file_so_long(rt: HostRuntime) -> Result<(), Fail> {
     assert_eq!(&rt; bytes(&mut disk, PRIMARY), Ok(([0; 8], 3)));
     disk.write_at(PRIMARY, 0, &[1, 2, 3])?;
     disk.cut(PRIMARY, 1)?;
-    assert_eq!(&rt; bytes(&mut disk, PRIMARY), Ok(([1, 0, 0, 0, 0, 0, 0, 0], 1)));
+    assert_eq!(&rt;
+        bytes(&mut disk, PRIMARY),
+        Ok(([1, 0, 0, 0, 0, 0, 0, 0], 1))
+    );
     fs::remove_dir_all(&rt, folder)?;
     Ok(())
 }
@@ -90,7 +116,10 @@ fn a_folder_is_held_by_one_and_found_again_as_it_was_left(rt: HostRuntime) -> Re
     assert!(&rt; matches!(held(&rt, folder), Err(Unheld::InUse)));
     drop(disk);
     let mut disk = held(&rt, folder)?;
-    assert_eq!(&rt; bytes(&mut disk, PRIMARY), Ok(([5, 0, 0, 0, 0, 0, 0, 0], 1)));
+    assert_eq!(&rt;
+        bytes(&mut disk, PRIMARY),
+        Ok(([5, 0, 0, 0, 0, 0, 0, 0], 1))
+    );
     fs::remove_dir_all(&rt, folder)?;
     Ok(())
 }
@@ -100,6 +129,5 @@ fn a_folder_that_is_not_there_is_empty_and_stays_so(rt: HostRuntime) -> Result<(
     let mut disk = held(&rt, "/tmp/regtx_tests_files_nowhere")?;
     assert_eq!(&rt; disk.len(JOURNAL), Ok(0));
     assert_eq!(&rt; disk.write_at(JOURNAL, 0, &[1]), Err(Failed));
-    assert_eq!(&rt; disk.len(LAST_LOG + 1), Err(Failed));
     Ok(())
 }
