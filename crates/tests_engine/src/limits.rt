@@ -45,20 +45,14 @@ fn commit(store: &mut Engine<MemDisk>, tx: Tx) -> Reply {
 
 fn begun(store: &mut Engine<MemDisk>) -> Option<Tx> {
     let id = Uuid::nil();
-    match store.event(Event::Begin {
-        session: SESSION,
-        id,
-    }) {
+    match store.event(Event::Begin { session: SESSION, id }) {
         Reply::Begun { tx } => Some(tx),
         _ => None,
     }
 }
 
 fn is_active(store: &mut Engine<MemDisk>, tx: Tx) -> bool {
-    match store.event(Event::Outcome {
-        session: SESSION,
-        tx,
-    }) {
+    match store.event(Event::Outcome { session: SESSION, tx }) {
         Reply::Stands { outcome } => outcome == Outcome::Active,
         _ => false,
     }
