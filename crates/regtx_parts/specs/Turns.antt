@@ -15,7 +15,7 @@ TakesLine known rest line = IfSome known (λ bytes. (left : List ℕ) × (rest �
 
 -- a line was answered, or the run is over
 abbrev pub Turns : Script → ℕ → Option (List ℕ) → Option (List ℕ) → Turn → Script → Option (List ℕ) → Option (List ℕ) → Type 0
-Turns old number known before (Over status) new rest after = IsPlayedOn old number known before after status new
+Turns old number known before (Over status) new rest after = IsPlayedOn old number known before after status
 Turns old number known before (Replied refused) new rest after =
     (line : List ℕ) × (asked : Line) × (told : ReplyLine) × TakesLine known rest line × (line_asked line ≡ Some asked) × Answers old asked told new
     × Appends before after (reply_line told) × (refused ≡ is_refusal told)

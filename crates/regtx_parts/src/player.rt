@@ -1,50 +1,63 @@
-//! A script over a store, asked line by line.
-ghost use Rattle.std.specs.Prelude.{◌≡◌, ℕ, Some, None, MatchOption, IfOk, IfSome, IfNone, IfErr, OnErr};
-ghost use Rattle.machine.specs.Steps.{Step};
+//! A script's store, asked line by line.
+ghost use Rattle.std.specs.Prelude.{◌≡◌, ◌≤◌, ℕ, Some, None, MatchOption, IfOk, IfSome, IfNone, IfErr};
+ghost use Rattle.refusals.specs.declared.limits.TheConstants.{MOST_TREES};
 ghost use Rattle.reg_script.specs.declared.line.Line.{Line as AnyLine};
 ghost use Rattle.reg_script.specs.declared.reply.ReplyLine.{ReplyLine as AnyReplyLine};
-ghost use Rattle.regtx_parts.specs.Scripts.{Asks, Answers, AsksAndWaits, event_alone, event_inside, later_line, line_asked, script_at};
+ghost use Rattle.regtx_parts.specs.Scripts.{Asks, Answers, AsksAndWaits, event_alone, event_inside, later_line, line_asked, hives_asked, fresh_script};
 ghost use Rattle.regtx_parts.specs.Players.{script_of, reply_by};
 
 use crate::demand::{Demand, demand_of};
 use crate::labels::Labels;
 use crate::replies::reply_of;
 use crate::waiting::wait;
-use disk_model::Disk;
-use engine::Engine;
 use machine::{Event, Reply, Tx};
 use refusals::Refusal;
 use reg_script::{Label, Line, ReplyLine, Request, Unread, read_line};
 use std::alloc::{AllocError, Global};
+use transactions::PlainStore;
 use uuid::Uuid;
 
-/// A script between two lines: its store, the moment and the session of what follows, and the transaction that each label names.
+/// The store of a script, the moment and the session of what follows, and the transaction that each label names.
 #[derive(Drop)]
-pub(crate) struct Player<D: Disk> {
-    engine: Engine<D>,
+pub(crate) struct Player {
+    store: PlainStore,
     moment: u64,
     session: u32,
     labels: Labels,
 }
 
-impl<D: Disk> Player<D> {
-    /// A script before its first line, over a store: no label names anything, and session 0 is the current one.
-    pub(crate) fn new(alloc: Global, engine: Engine<D>) -> Player<D>
-        ensures { script_of result ≡ script_at engine.machine }
+impl Player {
+    /// The store that a script's first line asks for, with session 0 open, or nothing where the bytes are no such line.
+    pub(crate) fn begin(alloc: Global, bytes: &[u8]) -> Result<Option<Player>, AllocError>
+        ensures none { IfOk result (λ made. IfNone made (hives_asked bytes.now ≡ None)) }
+        ensures some { IfOk result (λ made. IfSome made
+            (λ player. (hives : ℕ) × (hives_asked bytes.now ≡ Some hives)
+            × (script_of player ≡ fresh_script hives))) }
     {
-        Player {
-            engine,
-            moment: 0,
-            session: 0,
-            labels: Labels::new(alloc),
+        reg_script::grammar::reads_what_is_spelled();
+        match read_line(alloc, bytes) {
+            Ok(Line::Hives { count }) => Ok(Some(Player::new(alloc, count)?)),
+            Ok(_) | Err(Unread::NotUnderstood) => Ok(None),
+            Err(Unread::NoMemory) => Err(AllocError),
         }
     }
 
-    /// The store, without the script.
-    pub(crate) fn into_engine(self) -> Engine<D>
-        ensures { result ≡ self.engine }
+    // a store of this many new hives, in which session 0 is open; it is refused for want of memory alone
+    fn new(alloc: Global, hives: u8) -> Result<Player, AllocError>
+        requires some { 1 ≤ hives }
+        requires few { hives ≤ MOST_TREES }
+        ensures { IfOk result (λ player. script_of player ≡ fresh_script hives) }
     {
-        self.engine
+        let mut store = PlainStore::new(alloc, usize::from(hives))?;
+        let Reply::Done = store.event(Event::StartSession { session: 0 }) else {
+            return Err(AllocError);
+        };
+        Ok(Player {
+            store,
+            moment: 0,
+            session: 0,
+            labels: Labels::new(alloc),
+        })
     }
 
     /// Answers a further line of the script, or nothing where the bytes are no such line. Memory is refused only for
@@ -54,9 +67,7 @@ impl<D: Disk> Player<D> {
         alloc: Global,
         bytes: &[u8],
     ) -> Result<Option<ReplyLine>, AllocError>
-        ensures none { IfOk result (λ made. IfNone made
-            ((line_asked bytes.now ≡ None) × (self.new ≡ self.old))) }
-        ensures err { OnErr result (self.new ≡ self.old) }
+        ensures none { IfOk result (λ made. IfNone made (line_asked bytes.now ≡ None)) }
         ensures some { IfOk result (λ made. IfSome made
             (λ told. (asked : AnyLine) × (line_asked bytes.now ≡ Some asked)
             × Answers (script_of self.old) asked told (script_of self.new))) }
@@ -70,7 +81,7 @@ impl<D: Disk> Player<D> {
 
     // answers the line, or nothing where it is a script's first
     fn answer(&mut self, alloc: Global, line: Line) -> Option<ReplyLine>
-        ensures { MatchOption result ((later_line (Some line) ≡ None) × (self.new ≡ self.old))
+        ensures { MatchOption result (later_line (Some line) ≡ None)
             (λ told. (later_line (Some line) ≡ Some line)
             × Answers (script_of self.old) line told (script_of self.new)) }
     {
@@ -101,7 +112,7 @@ impl<D: Disk> Player<D> {
     fn enter(&mut self, number: u32) -> ReplyLine
         ensures { Answers (script_of self.old) (Line.Session number) result (script_of self.new) }
     {
-        match self.event(Event::StartSession { session: number }) {
+        match self.store.event(Event::StartSession { session: number }) {
             Reply::Done => {
                 self.session = number;
                 ReplyLine::Done
@@ -199,7 +210,7 @@ impl<D: Disk> Player<D> {
     {
         self.labels.make_room(label)?;
         let session = self.session;
-        match self.event(Event::Begin { session, id }) {
+        match self.store.event(Event::Begin { session, id }) {
             Reply::Begun { tx } => {
                 self.labels.name(label, tx);
                 Ok(ReplyLine::Done)
@@ -286,19 +297,11 @@ impl<D: Disk> Player<D> {
         }
     }
 
-    // asks the store one event; nothing else of the script changes
-    fn event(&mut self, event: Event) -> Reply
-        ensures step { Step self.old.engine.machine event result self.new.engine.machine }
-        ensures rest { self.new ≡ record self.old { engine = self.new.engine } }
-    {
-        self.engine.event(event)
-    }
-
     // asks one event, whose answer is the reply
     fn ask(&mut self, event: Event) -> ReplyLine
         ensures { Asks (script_of self.old) event result (script_of self.new) }
     {
-        reply_of(self.event(event))
+        reply_of(self.store.event(event))
     }
 
     // asks an event, and waits for the change whose number it answers; `Err` is the reply where it answers no number, or
@@ -307,8 +310,8 @@ impl<D: Disk> Player<D> {
         ensures { (tell : ℕ → AnyReplyLine) → AsksAndWaits (script_of self.old) event tell
             (reply_by tell result) (script_of self.new) }
     {
-        match self.event(event) {
-            Reply::Awaits { number } => match wait(&mut self.engine, number) {
+        match self.store.event(event) {
+            Reply::Awaits { number } => match wait(&mut self.store, number) {
                 Ok(()) => Ok(number),
                 Err(refusal) => Err(ReplyLine::Refused { refusal }),
             },

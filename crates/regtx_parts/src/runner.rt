@@ -1,16 +1,13 @@
-//! Runs a script: over a store of its own in memory, or over any store that is given.
+//! Runs a script over a store in memory.
 ghost use Rattle.std.specs.Prelude.{◌≡◌, ℕ, List, [], ◌++◌, ◌∷◌, Some, OnOk, IfOk, IfErr, codes};
 ghost use Rattle.std.specs.Io.KnownBytes.{Appends};
 ghost use Rattle.std.specs.Io.BufRead.{strip_last};
-ghost use Rattle.regtx_parts.specs.Plays.{Ends, WereRead, IsPlayed, IsPlayedFrom, IsPlayedOn, is_refusal, wrong_text};
+ghost use Rattle.regtx_parts.specs.Plays.{Ends, WereRead, IsPlayed, IsPlayedOn, is_refusal, wrong_text};
 ghost use Rattle.regtx_parts.specs.Players.{script_of};
 ghost use Rattle.regtx_parts.specs.Turns.{TakesLine, Turns};
 
 use crate::ending::Ending;
-use crate::making::begin;
 use crate::player::Player;
-use disk_model::Disk;
-use engine::Engine;
 use refusals::Refusal;
 use reg_script::{ReplyLine, Status};
 use std::alloc::{AllocError, Global};
@@ -51,24 +48,6 @@ pub fn play<R: BufRead, W: Write>(
     Ok(status)
 }
 
-/// Runs a script over a store: any of its lines may stand first, and none of them makes a store. Session 0 is the current one
-/// at first, and is to be open. The replies are written as [`play`] writes them.
-///
-/// The store is handed back in any case, with what was accepted. `Err` says that a write failed, which ends the run.
-pub fn play_on<D: Disk, R: BufRead, W: Write>(
-    alloc: Global,
-    engine: Engine<D>,
-    reader: &mut R,
-    writer: &mut W,
-) -> (Engine<D>, io::Result<Status>)
-    ensures { IfOk result.1 (λ status. IsPlayedFrom engine.machine (R.remaining reader.old)
-        (W.contents writer.old) (W.contents writer.new) status result.0.machine) }
-{
-    let mut player = Player::new(alloc, engine);
-    let played = play_lines(alloc, &mut player, reader, writer);
-    (player.into_engine(), played)
-}
-
 /// Writes that a script can't be read at all. `Err` says that the write failed.
 pub fn refuse_script<W: Write>(writer: &mut W) -> io::Result<Status>
     ensures { IfOk result (λ status. (status ≡ Status.Refused)
@@ -89,47 +68,29 @@ fn run<R: BufRead, W: Write>(alloc: Global, reader: &mut R, writer: &mut W) -> i
         Err(Ending::Ended) => return wrong(writer, 1),
         Err(ending) => return end(writer, ending),
     }
-    match begin(alloc, &line) {
-        Ok(Some(engine)) => {
-            let mut player = Player::new(alloc, engine);
+    match Player::begin(alloc, &line) {
+        Ok(Some(mut player)) => {
             ReplyLine::Done.write(writer)?;
-            go_on(alloc, &mut player, 2, reader, &mut line, writer)
+            go_on(alloc, &mut player, reader, &mut line, writer)
         }
         Ok(None) => wrong(writer, 1),
         Err(AllocError) => end(writer, Ending::OutOfMemory),
     }
 }
 
-// runs the script from its first line on, over the player's store
-fn play_lines<D: Disk, R: BufRead, W: Write>(
+// runs the script from its second line on
+fn go_on<R: BufRead, W: Write>(
     alloc: Global,
-    player: &mut Player<D>,
-    reader: &mut R,
-    writer: &mut W,
-) -> io::Result<Status>
-    ensures { IfOk result (λ status. IsPlayedOn (script_of player.old) 1 (R.remaining reader.old)
-        (W.contents writer.old) (W.contents writer.new) status (script_of player.new)) }
-{
-    let mut line = Vec::new(alloc);
-    let status = go_on(alloc, player, 1, reader, &mut line, writer)?;
-    writer.flush()?;
-    Ok(status)
-}
-
-// runs the script from the line of this number on
-fn go_on<D: Disk, R: BufRead, W: Write>(
-    alloc: Global,
-    player: &mut Player<D>,
-    first: u64,
+    player: &mut Player,
     reader: &mut R,
     line: &mut Vec<u8>,
     writer: &mut W,
 ) -> io::Result<Status>
-    ensures { IfOk result (λ status. IsPlayedOn (script_of player.old) first (R.remaining reader.old)
-        (W.contents writer.old) (W.contents writer.new) status (script_of player.new)) }
+    ensures { IfOk result (λ status. IsPlayedOn (script_of player.old) 2 (R.remaining reader.old)
+        (W.contents writer.old) (W.contents writer.new) status) }
 {
     let mut has_refusal = false;
-    for number in first..u64::MAX {
+    for number in 2..u64::MAX {
         match take_turn(alloc, player, reader, line, writer, number)? {
             Turn::Replied { is_refusal } => has_refusal |= is_refusal,
             Turn::Over { status } => return Ok(status.after(has_refusal)),
@@ -141,9 +102,9 @@ fn go_on<D: Disk, R: BufRead, W: Write>(
 }
 
 // reads the line of this number, answers it, and writes the reply
-fn take_turn<D: Disk, R: BufRead, W: Write>(
+fn take_turn<R: BufRead, W: Write>(
     alloc: Global,
-    player: &mut Player<D>,
+    player: &mut Player,
     reader: &mut R,
     line: &mut Vec<u8>,
     writer: &mut W,

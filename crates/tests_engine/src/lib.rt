@@ -4,12 +4,6 @@
 #[cfg(test)]
 mod crashes;
 #[cfg(test)]
-mod creations;
-#[cfg(test)]
-mod limits;
-#[cfg(test)]
 mod openings;
-#[cfg(test)]
-mod prepared;
 #[cfg(test)]
 mod stores;

@@ -1,14 +1,16 @@
 //! Stores on a disk in memory, and an engine over them.
 ghost use Rattle.std.specs.Prelude.{◌≤◌, length};
 
+use commit_journal::Journal;
 use disk_model::{MemDisk, Plan, Tear};
 use engine::Engine;
 use engine_words::Progress;
+use hive_flush::HiveFile;
 use machine::{Event, Reply};
 use recovery::{Opened, open};
 use refusals::Refusal;
 use reg_names::Path;
-use reg_tree::{Op, Trees};
+use reg_tree::{Op, Tree};
 use std::alloc::{AllocError, Global};
 use std::sync::Arc;
 use std::test::Fail;
@@ -26,8 +28,11 @@ pub const MANY: u32 = 64;
 /// A disk with a store of two hives, each with a new tree at number 0.
 pub fn created(alloc: Global) -> Result<MemDisk, Fail> {
     let mut disk = MemDisk::new(alloc, Arc::new(alloc, Plan::new())?);
-    let trees = Trees::new(alloc, 2)?;
-    recovery::create(alloc, &mut disk, Uuid::nil(), &trees)?;
+    let tree = Tree::fresh(alloc)?;
+    for hive in 0..2u8 {
+        HiveFile::create(alloc, &mut disk, hive, Uuid::nil(), &tree)?;
+    }
+    Journal::create(alloc, &mut disk, Uuid::nil(), 2)?;
     Ok(disk)
 }
 

@@ -1,13 +1,11 @@
-//! The room of a journal, asked of the engine directly: a script that fills it would be too long.
-use crate::stores::{MANY, SESSION, created, engine, flush, is_acknowledged, journal, trim};
-use disk_model::MemDisk;
-use engine::Engine;
+//! The room of a journal, asked of the store directly: a script that fills it would be too long.
 use machine::{Event, Outcome, Reply, Tx};
 use refusals::Refusal;
 use reg_names::{Name, Path};
 use reg_tree::{Data, Op};
 use std::alloc::Global;
 use std::test::Fail;
+use transactions::PlainStore;
 use uuid::Uuid;
 
 const MEBIBYTE: usize = 1_048_576;
@@ -18,42 +16,49 @@ const K: u16 = 0x4b;
 // a value
 const V: u16 = 0x61;
 
-fn write(store: &mut Engine<MemDisk>, op: Op) -> Reply {
+fn write(store: &mut PlainStore, op: Op) -> Reply {
     store.event(Event::Write {
-        session: SESSION,
+        session: 0,
         moment: 1,
         op,
     })
 }
 
-fn write_in(store: &mut Engine<MemDisk>, tx: Tx, op: Op) -> Reply {
+fn write_in(store: &mut PlainStore, tx: Tx, op: Op) -> Reply {
     store.event(Event::TxWrite {
-        session: SESSION,
+        session: 0,
         tx,
         moment: 1,
         op,
     })
 }
 
-fn commit(store: &mut Engine<MemDisk>, tx: Tx) -> Reply {
+fn commit(store: &mut PlainStore, tx: Tx) -> Reply {
     store.event(Event::CommitAccept {
-        session: SESSION,
+        session: 0,
         tx,
         moment: 2,
     })
 }
 
-fn begun(store: &mut Engine<MemDisk>) -> Option<Tx> {
+fn begun(store: &mut PlainStore) -> Option<Tx> {
     let id = Uuid::nil();
-    match store.event(Event::Begin { session: SESSION, id }) {
+    match store.event(Event::Begin { session: 0, id }) {
         Reply::Begun { tx } => Some(tx),
         _ => None,
     }
 }
 
-fn is_active(store: &mut Engine<MemDisk>, tx: Tx) -> bool {
-    match store.event(Event::Outcome { session: SESSION, tx }) {
+fn is_active(store: &mut PlainStore, tx: Tx) -> bool {
+    match store.event(Event::Outcome { session: 0, tx }) {
         Reply::Stands { outcome } => outcome == Outcome::Active,
+        _ => false,
+    }
+}
+
+fn is_durable(store: &mut PlainStore, number: u64) -> bool {
+    match store.event(Event::Acked { number }) {
+        Reply::Receipt { .. } => true,
         _ => false,
     }
 }
@@ -103,14 +108,15 @@ fn is_refused(reply: &Reply, why: Refusal) -> bool {
 }
 
 // a write of so many bytes
-fn written(alloc: Global, store: &mut Engine<MemDisk>, count: usize) -> Result<Reply, Refusal> {
+fn written(alloc: Global, store: &mut PlainStore, count: usize) -> Result<Reply, Refusal> {
     let data = bytes(alloc, count)?;
     Ok(write(store, set(alloc, &data)?))
 }
 
 // a store whose journal has room for 1,045,272 bytes more, and the number of its last change
-fn nearly_full(alloc: Global) -> Result<(Engine<MemDisk>, Option<u64>), Fail> {
-    let mut store = engine(alloc, created(alloc)?)?;
+fn nearly_full(alloc: Global) -> Result<(PlainStore, Option<u64>), Refusal> {
+    let mut store = PlainStore::new(alloc, 1)?;
+    store.event(Event::StartSession { session: 0 });
     let path = Path::parse(alloc, &[K])?;
     write(&mut store, Op::CreateKey { hive: 0, path });
     let mut last = None;
@@ -134,20 +140,17 @@ fn a_change_that_the_journal_has_no_room_for_is_refused(rt: HostRuntime) -> Resu
     Ok(())
 }
 
-// steps of the journal make the changes durable, and free no room; a trim behind the flush of what they name frees it
+// steps make the changes durable, and free no room
 #[test]
-fn a_trim_alone_frees_room(rt: HostRuntime) -> Result<(), Fail> {
+fn steps_free_no_room(rt: HostRuntime) -> Result<(), Fail> {
     let alloc = rt.alloc();
     let (mut store, _) = nearly_full(alloc)?;
-    journal(&mut store, MANY);
-    assert!(&rt; is_acknowledged(&mut store, 64));
-    trim(&mut store);
+    for event in [Event::JournalStep, Event::TrimStep, Event::JournalStep] {
+        store.event(event);
+    }
+    assert!(&rt; is_durable(&mut store, 64));
     let over = written(alloc, &mut store, 1_045_273)?;
     assert!(&rt; is_refused(&over, Refusal::JournalFull));
-    flush(&mut store, 0);
-    trim(&mut store);
-    let over = written(alloc, &mut store, 1_045_273)?;
-    assert!(&rt; number(&over) == Some(65));
     Ok(())
 }
 
