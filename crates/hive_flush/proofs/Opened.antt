@@ -233,13 +233,13 @@ few_left writer hive block is_clean total pages w not = elim (cases_Bool is_clea
 pub repairs_few : (primary log : List ℕ) (found : Found) (hive : ℕ) (writer : HiveWriter) → IsWriterFor writer hive found.block found.is_clean → IsFound primary log found → repairs_at found.pages writer.stage ≤ most_repairs primary log
 repairs_few primary log found hive writer w f = elim (cases_Bool found.is_clean) [
   | inl e ↦
-    subst (λ (b : Bool). repairs_at found.pages writer.stage ≤ (if b then 0 else marked_pages log + 3)) (sym e ∙ f.clean)
-    (subst (λ (x : HiveWriter). repairs_at found.pages x.stage ≤ 0) (sym (w.clean e)) (omega arith))
+      subst (λ (b : Bool). repairs_at found.pages writer.stage ≤ (if b then 0 else marked_pages log + 3)) (sym e ∙ f.clean)
+      (subst (λ (x : HiveWriter). repairs_at found.pages x.stage ≤ 0) (sym (w.clean e)) (omega arith))
   | inr e ↦
-    let unclean : IsFoundUnclean primary log found = MatchBool-at_false _ _ e f.parts in
-    subst (λ (b : Bool). repairs_at found.pages writer.stage ≤ (if b then 0 else marked_pages log + 3)) (sym e ∙ f.clean)
-    (subst (λ (x : HiveWriter). repairs_at found.pages x.stage ≤ marked_pages log + 3) (sym (w.unclean e))
-    (subst (λ (v : Pages). dirty_from found.pages 0 + 3 ≤ dirty_count v + 3) unclean.by_log.pages (omega arith)))
+      let unclean : IsFoundUnclean primary log found = MatchBool-at_false _ _ e f.parts in
+      subst (λ (b : Bool). repairs_at found.pages writer.stage ≤ (if b then 0 else marked_pages log + 3)) (sym e ∙ f.clean)
+      (subst (λ (x : HiveWriter). repairs_at found.pages x.stage ≤ marked_pages log + 3) (sym (w.unclean e))
+      (subst (λ (v : Pages). dirty_from found.pages 0 + 3 ≤ dirty_count v + 3) unclean.by_log.pages (omega arith)))
 ]
 
 pub clean_ready : (writer : HiveWriter) (hive : ℕ) (block : BaseBlock) (image bins : List ℕ) (pages : Pages) (tree : TreeMap) (stands : Standing TreeMap) → writer ≡ clean_writer hive block → image ≡ bins
