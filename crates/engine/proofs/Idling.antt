@@ -146,14 +146,14 @@ module _ (m : Machine) (base : ℕ) (opened : List Element) (numbers : List ℕ)
       let le = (has_all i number hive named).0 has in
       absurd (omega (arith, lt, le, is, ap (λ (h : HiveFile). (files_of h).now.1) (same_hive hives i found hive at there)))
 
-  pub flush_idles : (hives : List HiveFile) (i : ℕ) (hive : HiveFile) (come : Result Progress Refusal) → slice_get hives i ≡ Some hive → (files_of hive).next ≡ None → (come ≡ Ok progress.Idle) ↔ HasAll m base opened i (view_of hive)
-      → (come ≡ Ok progress.Idle) ↔ IsFlushed m base opened (map view_of hives) i
-  flush_idles hives i hive come there rests exact = (
+  pub flush_idles : {Rests : Type 0} (hives : List HiveFile) (i : ℕ) (hive : HiveFile) → slice_get hives i ≡ Some hive → (files_of hive).next ≡ None → Rests ↔ HasAll m base opened i (view_of hive)
+      → Rests ↔ IsFlushed m base opened (map view_of hives) i
+  flush_idles hives i hive there rests exact = (
     λ e. record { hive = view_of hive; there = view_at hives i hive there; rests = rests; has = exact.0 e },
     λ flushed. exact.1 (subst (λ (v : HiveView). HasAll m base opened i v) (same_Some flushed.hive (view_of hive) (sym flushed.there ∙ view_at hives i hive there)) flushed.has),
   )
 
 -- where something is on its way to a hive's files there is something to do
-pub flush_goes_on : (m : Machine) (base : ℕ) (opened : List Element) (hives : List HiveFile) (i : ℕ) (hive : HiveFile) (come : Result Progress Refusal) → slice_get hives i ≡ Some hive → ((files_of hive).next ≡ None → ⊥) → (come ≡ Ok progress.Idle → ⊥)
-    → (come ≡ Ok progress.Idle) ↔ IsFlushed m base opened (map view_of hives) i
-flush_goes_on m base opened hives i hive come there busy not = (λ e. absurd (not e), λ flushed. absurd (busy (ap (λ (v : HiveView). v.files.next) (same_Some (view_of hive) flushed.hive (sym (view_at hives i hive there) ∙ flushed.there)) ∙ flushed.rests)))
+pub flush_goes_on : {Rests : Type 0} (m : Machine) (base : ℕ) (opened : List Element) (hives : List HiveFile) (i : ℕ) (hive : HiveFile) → slice_get hives i ≡ Some hive → ((files_of hive).next ≡ None → ⊥) → (Rests → ⊥)
+    → Rests ↔ IsFlushed m base opened (map view_of hives) i
+flush_goes_on m base opened hives i hive there busy not = (λ e. absurd (not e), λ flushed. absurd (busy (ap (λ (v : HiveView). v.files.next) (same_Some (view_of hive) flushed.hive (sym (view_at hives i hive there) ∙ flushed.there)) ∙ flushed.rests)))

@@ -2,6 +2,7 @@ mod Sound
 mod Namings
 mod AtHand
 mod Idling
+mod Around
 mod Frames
 mod Calm
 mod OnDisk

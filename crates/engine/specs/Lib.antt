@@ -1,5 +1,6 @@
 pub mod Naming
 pub mod AtHand
+pub mod Work
 pub mod Parts
 pub mod Events
 pub mod Shown

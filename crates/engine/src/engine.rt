@@ -1,5 +1,5 @@
 //! The engine as its callers see it: what it keeps is in its type, so that no call asks for it.
-ghost use Rattle.std.specs.Prelude.{◌≡◌, ◌⊎◌, ◌+◌, ◌<◌, ◌≤◌, ◌^◌, [], ℕ, false, true, IfErr, IfOk, IfSome, OnErr, OnOk, None, Some, is_some, length, map, replicate, slice_get};
+ghost use Rattle.std.specs.Prelude.{◌≡◌, ◌⊎◌, ◌↔◌, ◌+◌, ◌<◌, ◌≤◌, ◌^◌, [], ℕ, false, true, IfErr, IfNone, IfOk, IfSome, OnErr, OnOk, None, Some, is_some, length, map, replicate, slice_get};
 ghost use Rattle.refusals.specs.declared.refusal.Refusal.TheVariants.{DiskFault, NoMemory};
 ghost use Rattle.disk_model.specs.Call.{OneCall};
 ghost use Rattle.machine.specs.Machine.{opened_machine, trees_now};
@@ -7,7 +7,7 @@ ghost use Rattle.commit_journal.specs.Store.{room_of};
 ghost use Rattle.commit_journal.specs.Journals.{choice_of};
 ghost use Rattle.commit_journal.specs.Journals as journals;
 ghost use Rattle.recovery.specs.Shown.{IsWhole, store_of};
-ghost use Rattle.engine_law.specs.Idle.{IdlesExactly};
+ghost use Rattle.engine_law.specs.Idle.{IdlesExactly, IsTrimmed};
 ghost use Rattle.engine_law.specs.States.{HiveView};
 ghost use Rattle.engine_law.specs.Progress.{FlushView, FlushesOn, HasPending, HasTrimmed, IsMade, IsTrimming, NearsDurable};
 ghost use Rattle.prefix_law.specs.Promises.{BeginsTrim};
@@ -18,6 +18,7 @@ ghost use Rattle.engine_law.specs.Prefixes.{AnyFile, IsSafeAt, view_of};
 ghost use Rattle.engine_law.specs.Runs.{IsHeld, RunsSafely};
 ghost use Rattle.std.specs.List.{AllByRecursion};
 ghost use Rattle.engine.specs.Naming.{HasCounted};
+ghost use Rattle.engine.specs.Work.{AreFlushed, IsNextAround};
 ghost use Rattle.transactions.specs.Prepared.{Shows, may_accept};
 
 use crate::naming::Naming;
@@ -240,6 +241,46 @@ impl<D: Disk> Engine<D> {
         ensures { result.now ≡ trees_now self.now.machine }
     {
         self.parts.store.trees()
+    }
+
+    /// Whether some accepted change isn't durable yet: a step of the journal isn't idle then.
+    pub fn has_pending(&self) -> bool
+        ensures { (result ≡ true) ↔ HasPending self.now.machine }
+    {
+        self.parts.has_pending()
+    }
+
+    /// The next hive of whose flush a step has something to do, going round all hives from behind a place on; none where there is
+    /// none.
+    pub fn hive_with_work(&self, after: u8) -> Option<u8>
+        ensures some { IfSome result (λ hive. IsNextAround self.now.machine self.now.base
+            self.now.opened self.now.hives after hive) }
+        ensures none { IfNone result (AreFlushed self.now.machine self.now.base self.now.opened
+            self.now.hives 0 (length self.now.hives)) }
+    {
+        self.parts.hive_with_work(after)
+    }
+
+    /// Whether a step of a trim has something to do. On a faulted store, whose steps are refused, it is false.
+    pub fn may_trim(&self) -> bool
+        ensures yes { result ≡ true → ¬ (IsTrimmed self.now.machine self.now.base
+            self.now.opened self.now.journal self.now.hives) }
+        ensures no { result ≡ false → self.now.machine.faulted ≡ false →
+            IsTrimmed self.now.machine self.now.base self.now.opened self.now.journal
+            self.now.hives }
+        ensures faulted { self.now.machine.faulted ≡ true → result ≡ false }
+    {
+        match self.parts.working() {
+            Ok(()) => self.parts.may_trim(),
+            Err(_) => false,
+        }
+    }
+
+    /// How many bytes of the journal's room are used: by what it spells, and by what is still to be written.
+    pub fn room(&self) -> u64
+        ensures { result ≡ self.now.machine.room }
+    {
+        self.parts.store.room()
     }
 
     /// The disk.

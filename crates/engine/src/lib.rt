@@ -12,5 +12,6 @@ mod naming;
 mod parts;
 mod running;
 mod steps;
+mod work;
 
 pub use engine::Engine;

@@ -152,8 +152,8 @@ impl<D: Disk> Parts<D> {
         come
     }
 
-    // whether a step of a trim may be made
-    fn may_trim(&self) -> bool
+    /// Whether a step of a trim may be made.
+    pub fn may_trim(&self) -> bool
         requires sound { IsSound self.now }
         requires works { self.now.store.machine.faulted ≡ false }
         ensures yes { result ≡ true → MayTrim self.now.store.machine self.now.base

@@ -146,6 +146,7 @@ impl<D: Disk> Opened<D> {
         ensures refused { IfErr result (λ why. (why ≡ DiskFault) ⊎ (why ≡ Faulted)) }
         ensures faulted { (result ≡ Err Faulted) ↔ (self.old.failed ≡ true) }
         ensures still { (result ≡ Err Faulted) → self.new ≡ self.old }
+        ensures works { OnOk result (self.new.failed ≡ self.old.failed) }
         ensures before { D.faithful self.new.disk → (files : ℕ → List ℕ) →
             LeavesHonest IsPrimary (D.state_at self.new.disk (D.clock self.old.disk)) files →
             IsRecovered files (store_of self.old) self.old.found.number self.old.found.trees }

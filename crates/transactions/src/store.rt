@@ -192,6 +192,13 @@ impl Store {
         self.durable
     }
 
+    /// How many bytes of the journal's room are used: by what it spells, and by what is still to be written.
+    pub fn room(&self) -> u64
+        ensures { result ≡ self.now.machine.room }
+    {
+        self.room
+    }
+
     /// Whether the device has failed.
     pub fn is_faulted(&self) -> bool
         ensures { result ≡ self.now.machine.faulted }

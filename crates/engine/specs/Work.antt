@@ -1,0 +1,20 @@
+-- Which hives of an engine have something to flush.
+use Rattle.std.specs.Prelude.{◌⊎◌, ℕ, ◌<◌, ◌≤◌, List, length}
+use Rattle.reg_tree.specs.declared.element.Element.{Element}
+use Rattle.machine.specs.Machine.{Machine}
+use Rattle.engine_law.specs.Idle.{IsFlushed}
+use Rattle.engine_law.specs.States.{HiveView}
+
+-- none of the hives in these places has
+abbrev pub AreFlushed : Machine → ℕ → List Element → List HiveView → ℕ → ℕ → Type 0
+AreFlushed machine base opened hives from to = (i : ℕ) → from ≤ i → i < to → IsFlushed machine base opened hives i
+
+-- Going round all places from behind `after` on, j comes before i.
+abbrev pub ComesBefore : ℕ → ℕ → ℕ → Type 0
+ComesBefore after j i = ((after < j) × (j < i)) ⊎ ((i ≤ after) × ((after < j) ⊎ (j < i)))
+
+-- Hive i has, and is the first of those that one meets going round from behind `after` on.
+pub record IsNextAround (machine : Machine) (base : ℕ) (opened : List Element) (hives : List HiveView) (after i : ℕ) : Type 0 where
+  pub there : i < length hives
+  pub works : ¬ (IsFlushed machine base opened hives i)
+  pub first : (j : ℕ) → j < length hives → ComesBefore after j i → IsFlushed machine base opened hives j

@@ -1,0 +1,78 @@
+//! What an engine has to do: which of its steps aren't idle. No question takes memory.
+ghost use Rattle.std.specs.Prelude.{◌≡◌, ◌↔◌, ℕ, ◌<◌, ◌≤◌, false, true, length, map, IfNone, IfSome};
+ghost use Rattle.engine_law.specs.Idle.{IsFlushed};
+ghost use Rattle.engine_law.specs.Prefixes.{view_of};
+ghost use Rattle.engine_law.specs.Progress.{HasPending};
+ghost use Rattle.engine.specs.Parts.{IsSound};
+ghost use Rattle.engine.specs.Work.{AreFlushed, IsNextAround};
+
+use crate::parts::Parts;
+
+impl<D> Parts<D> {
+    /// Whether some accepted change isn't durable yet.
+    pub fn has_pending(&self) -> bool
+        ensures { (result ≡ true) ↔ HasPending self.now.store.machine }
+    {
+        self.store.durable() < self.store.last_number()
+    }
+
+    /// The next hive that has something to flush, behind a place and around.
+    pub fn hive_with_work(&self, after: u8) -> Option<u8>
+        requires sound { IsSound self.now }
+        ensures some { IfSome result (λ hive. IsNextAround self.now.store.machine self.now.base
+            self.now.spelled.value.items (map view_of self.now.hives.items) after hive) }
+        ensures none { IfNone result (AreFlushed self.now.store.machine self.now.base
+            self.now.spelled.value.items (map view_of self.now.hives.items)
+            0 (length (map view_of self.now.hives.items))) }
+    {
+        let count = self.journal.hives();
+        let next = place_behind(after, count);
+        match self.first_with_work(next, count) {
+            Some(hive) => Some(hive),
+            None => self.first_with_work(0, next),
+        }
+    }
+
+    // the first hive in these places that has something to flush
+    fn first_with_work(&self, from: u8, to: u8) -> Option<u8>
+        requires sound { IsSound self.now }
+        requires there { to ≤ length self.now.hives.items }
+        ensures some { IfSome result (λ hive. (from ≤ hive) × (hive < to)
+            × ¬ (IsFlushed self.now.store.machine self.now.base
+            self.now.spelled.value.items (map view_of self.now.hives.items) hive)
+            × AreFlushed self.now.store.machine self.now.base self.now.spelled.value.items
+            (map view_of self.now.hives.items) from hive) }
+        ensures none { IfNone result (AreFlushed self.now.store.machine self.now.base
+            self.now.spelled.value.items (map view_of self.now.hives.items) from to) }
+    {
+        for hive in from..to {
+            if self.has_work(usize::from(hive)) {
+                return Some(hive);
+            }
+        }
+        None
+    }
+
+    // whether a step of a hive's flush has something to do
+    fn has_work(&self, place: usize) -> bool
+        requires sound { IsSound self.now }
+        requires there { place < length self.now.hives.items }
+        ensures { (result ≡ false) ↔ IsFlushed self.now.store.machine self.now.base
+            self.now.spelled.value.items (map view_of self.now.hives.items) place }
+    {
+        if !self.hives[place].is_at_rest() {
+            return true;
+        }
+        self.hives[place].applied() < self.naming.last[place]
+    }
+}
+
+// the place behind another, of so many, or their end
+fn place_behind(after: u8, count: u8) -> u8
+    ensures within { result ≤ count }
+    ensures behind { (j : ℕ) → j < count → after < j → result ≤ j }
+    ensures before { (j : ℕ) → j < result → j ≤ after }
+    ensures from { (j : ℕ) → j < count → result ≤ j → after < j }
+{
+    if after < count { after + 1 } else { count }
+}
