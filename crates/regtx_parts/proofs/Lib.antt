@@ -1,5 +1,9 @@
+mod Answered
 mod Begun
 mod Naming
+mod Fresh
 mod LineEnds
 mod Runs
 mod Waited
+mod Worked
+mod Ran

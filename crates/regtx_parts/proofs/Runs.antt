@@ -9,6 +9,10 @@ use Rattle.reg_script.specs.Statuses.{with_refusal}
 use Rattle.regtx_parts.specs.Scripts.{Script, fresh_script, hives_asked, line_asked}
 use Rattle.regtx_parts.specs.Plays.{lines_of, AreFirst, AreReadOf, WereRead, wrong_text, Ends, PlaysOn, IsPlayed, IsPlayedOn}
 use Rattle.regtx_parts.specs.Turns.{TakesLine, Turns}
+use Rattle.regtx_parts.specs.Work.{Between}
+use Rattle.machine.specs.Machine.{Machine}
+use Rattle.regtx_parts.specs.declared.working.Pace.{Pace}
+use Rattle.regtx_parts.specs.declared.working.Pace.TheVariants.{AsAsked}
 use Rattle.regtx_parts.specs.declared.ending.Ending.{Ending}
 use Rattle.regtx_parts.specs.declared.ending.Ending.TheVariants.{Ended, Broken, OutOfMemory}
 use Rattle.reg_script.specs.declared.status.Status.{Status}
@@ -53,24 +57,26 @@ none_read (Some bytes) Broken h = (lines_of bytes, refl)
 none_read (Some bytes) OutOfMemory h = (lines_of bytes, refl)
 
 -- a line that is none ends the run
-pub stops_wrong : (old : Script) (number : ℕ) (known rest before after : Option (List ℕ)) (line : List ℕ) (status : Status) → TakesLine known rest line → line_asked line ≡ None → status ≡ Wrong → Appends before after (wrong_text number) → IsPlayedOn old number known before after status
-stops_wrong old number known rest before after line status taken none wrong written =
-    (line ∷ [], None, wrong_text number, one_read known rest line taken, inl (none, record { last = refl; stopped = refl; printed = refl; wrong = wrong }), written)
+pub stops_wrong : (pace : Pace) (old new : Script) (number : ℕ) (known rest before after : Option (List ℕ)) (line : List ℕ) (status : Status) → TakesLine known rest line → line_asked line ≡ None → status ≡ Wrong → Appends before after (wrong_text number) → new ≡ old → IsPlayedOn pace old number known before after status new
+stops_wrong pace old new number known rest before after line status taken none wrong written same =
+    (line ∷ [], None, wrong_text number, one_read known rest line taken, inl (none, record { last = refl; stopped = refl; printed = refl; wrong = wrong }, same), written)
 
 -- there is no further line
-pub ends_here : (old : Script) (number : ℕ) (known before after : Option (List ℕ)) (ending : Ending) (text : List ℕ) (status : Status) → WereRead known [] (Some ending) → Ends ending text status → Appends before after text → IsPlayedOn old number known before after status
-ends_here old number known before after ending text status read how written = ([], Some ending, text, read, how, written)
+pub ends_here : (pace : Pace) (old new : Script) (number : ℕ) (known before after : Option (List ℕ)) (ending : Ending) (text : List ℕ) (status : Status) → WereRead known [] (Some ending) → Ends ending text status → Appends before after text → new ≡ old → IsPlayedOn pace old number known before after status new
+ends_here pace old new number known before after ending text status read how written same = ([], Some ending, text, read, (how, same), written)
 
--- a line was answered, and the run goes on
-pub goes_on : (old new : Script) (number : ℕ) (known rest before mid after : Option (List ℕ)) (refused : Bool) (status : Status) → Turns old number known before (Replied refused) new rest mid → IsPlayedOn new (number + 1) rest mid after status → IsPlayedOn old number known before after (with_refusal refused status)
-goes_on old new number known rest before mid after refused status turn on =
+-- a line was answered, the store worked, and the run goes on
+pub goes_on : (pace : Pace) (old new : Script) (next : Machine) (end : Script) (number : ℕ) (known rest before mid after : Option (List ℕ)) (refused : Bool) (status : Status)
+    → Turns pace old number known before (Replied refused) new rest mid → Between pace new.machine next → IsPlayedOn pace (record new { machine = next }) (number + 1) rest mid after status end
+    → IsPlayedOn pace old number known before after (with_refusal refused status) end
+goes_on pace old new next end number known rest before mid after refused status turn worked on =
     let line = turn.0 in
     let told = turn.2 in (
       line ∷ on.0,
       on.1,
       reply_line told ++ on.2,
       more_read known rest line on.0 on.1 turn.3 on.3,
-      inr (turn.1, told, new, on.2, status, turn.4, turn.5, on.4, refl, ap (λ b. with_refusal b status) turn.7),
+      inr (turn.1, told, new, next, on.2, status, turn.4, turn.5, worked, on.4, refl, ap (λ b. with_refusal b status) turn.7),
       appends_more before mid after (reply_line told) on.2 turn.6 on.5,
     )
 
@@ -86,21 +92,17 @@ refusals_join true true Wrong = refl
 pub is_end : OutOfMemory ≡ Ended → ⊥
 is_end e = cc
 
--- the run from its second line on is the run from where it stands
-pub begins_here : (old : Script) (number : ℕ) (known before : Option (List ℕ)) (status : Status) (after : Option (List ℕ)) → IsPlayedOn old number known before after status → IsPlayedOn old number known before after (with_refusal false status)
-begins_here old number known before status after on = on
-
 pub broken_is_no_end : Broken ≡ Ended → ⊥
 broken_is_no_end e = cc
 
 -- a first line that says how many hives there are
-pub begins : (known rest before mid after : Option (List ℕ)) (line : List ℕ) (hives : ℕ) (old : Script) (status : Status) → TakesLine known rest line → hives_asked line ≡ Some hives → old ≡ fresh_script hives → Appends before mid (reply_line reply.Done) → IsPlayedOn old 2 rest mid after status → IsPlayed known before after status
-begins known rest before mid after line hives old status taken asked fresh written on = (
+pub begins : (known rest before mid after : Option (List ℕ)) (line : List ℕ) (hives : ℕ) (old end : Script) (status : Status) → TakesLine known rest line → hives_asked line ≡ Some hives → old ≡ fresh_script hives → Appends before mid (reply_line reply.Done) → IsPlayedOn AsAsked old 2 rest mid after status end → IsPlayed known before after status
+begins known rest before mid after line hives old end status taken asked fresh written on = (
   line ∷ on.0,
   on.1,
   reply_line reply.Done ++ on.2,
   more_read known rest line on.0 on.1 taken on.3,
-  inr (hives, on.2, asked, subst (λ script. PlaysOn script 2 on.0 on.1 on.2 status) fresh on.4, refl),
+  inr (hives, on.2, end, asked, subst (λ script. PlaysOn AsAsked script 2 on.0 on.1 on.2 status end) fresh on.4, refl),
   appends_more before mid after (reply_line reply.Done) on.2 written on.5,
 )
 

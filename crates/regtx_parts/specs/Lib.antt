@@ -1,7 +1,9 @@
 pub mod Requests
 pub mod Waits
+pub mod Work
 pub mod Scripts
 pub mod Labels
 pub mod Players
 pub mod Plays
 pub mod Turns
+pub mod Running

@@ -5,8 +5,8 @@ use Rattle.regtx_parts.specs.Scripts.{Script}
 use Rattle.regtx_parts.specs.Labels.{named_by}
 use Rattle.regtx_parts.specs.declared.player.Player.{Player}
 
-abbrev pub script_of : Player → Script
-script_of player = record { machine = player.store; moment = player.moment; session = player.session; labels = named_by player.labels }
+abbrev pub script_of : {D : Type 0} → Player D → Script
+script_of player = record { machine = player.engine.machine; moment = player.moment; session = player.session; labels = named_by player.labels }
 
 -- the reply of a line that has waited for a change: what is told of the change's number, or the reply that came in its place
 abbrev pub reply_by : (ℕ → ReplyLine) → Result ℕ ReplyLine → ReplyLine

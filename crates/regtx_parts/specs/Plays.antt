@@ -8,7 +8,11 @@ use Rattle.reg_script.specs.Replies.{reply_line}
 use Rattle.reg_script.specs.declared.line.Line.{Line}
 use Rattle.reg_script.specs.declared.reply.ReplyLine.{ReplyLine}
 use Rattle.reg_script.specs.declared.reply.ReplyLine.TheVariants as reply
+use Rattle.machine.specs.Machine.{Machine}
 use Rattle.regtx_parts.specs.Scripts.{Script, Answers, fresh_script, hives_asked, line_asked}
+use Rattle.regtx_parts.specs.Work.{Between}
+use Rattle.regtx_parts.specs.declared.working.Pace.{Pace}
+use Rattle.regtx_parts.specs.declared.working.Pace.TheVariants.{AsAsked}
 use Rattle.reg_script.specs.Statuses.{with_refusal}
 use Rattle.regtx_parts.specs.declared.ending.Ending.{Ending}
 use Rattle.regtx_parts.specs.declared.ending.Ending.TheVariants.{Ended, Broken, OutOfMemory}
@@ -65,14 +69,16 @@ abbrev pub EndsAs : Option Ending → List ℕ → Status → Type 0
 EndsAs None text status = ⊥
 EndsAs (Some ending) text status = Ends ending text status
 
--- From old, at the line of this number, the lines and the way that reading ended print this text and end with this
--- status: each line is answered in turn, up to one that is not understood.
-abbrev pub PlaysOn : Script → ℕ → List (List ℕ) → Option Ending → List ℕ → Status → Type 0
-PlaysOn old number [] ending text status = EndsAs ending text status
-PlaysOn old number (line ∷ lines) ending text status =
-    ((line_asked line ≡ None) × IsWrong number lines ending text status)
-    ⊎ ((asked : Line) × (told : ReplyLine) × (new : Script) × (rest : List ℕ) × (later : Status) × (line_asked line ≡ Some asked) × Answers old asked told new
-    × PlaysOn new (number + 1) lines ending rest later × (text ≡ reply_line told ++ rest) × (status ≡ with_refusal (is_refusal told) later))
+-- From old, at the line of this number, the lines and the way that reading ended print this text, end with this status and
+-- leave the script so: each line is answered in turn, up to one that is not understood; and between the lines the store works at
+-- this pace.
+abbrev pub PlaysOn : Pace → Script → ℕ → List (List ℕ) → Option Ending → List ℕ → Status → Script → Type 0
+PlaysOn pace old number [] ending text status end = EndsAs ending text status × (end ≡ old)
+PlaysOn pace old number (line ∷ lines) ending text status end =
+    ((line_asked line ≡ None) × IsWrong number lines ending text status × (end ≡ old))
+    ⊎ ((asked : Line) × (told : ReplyLine) × (new : Script) × (next : Machine) × (rest : List ℕ) × (later : Status) × (line_asked line ≡ Some asked) × Answers old asked told new
+    × Between pace new.machine next × PlaysOn pace (record new { machine = next }) (number + 1) lines ending rest later end × (text ≡ reply_line told ++ rest)
+    × (status ≡ with_refusal (is_refusal told) later))
 
 -- the first line says how many hives there are; a script without a line is wrong at line 1
 abbrev pub Plays : List (List ℕ) → Option Ending → List ℕ → Status → Type 0
@@ -82,14 +88,15 @@ Plays [] (Some OutOfMemory) text status = Ends OutOfMemory text status
 Plays [] None text status = ⊥
 Plays (line ∷ lines) ending text status =
     ((hives_asked line ≡ None) × IsWrong 1 lines ending text status)
-    ⊎ ((hives : ℕ) × (rest : List ℕ) × (hives_asked line ≡ Some hives) × PlaysOn (fresh_script hives) 2 lines ending rest status × (text ≡ reply_line reply.Done ++ rest))
+    ⊎ ((hives : ℕ) × (rest : List ℕ) × (end : Script) × (hives_asked line ≡ Some hives) × PlaysOn AsAsked (fresh_script hives) 2 lines ending rest status end
+    × (text ≡ reply_line reply.Done ++ rest))
 
 -- some lines were read, and what was written is what they print
 abbrev pub IsPlayed : Option (List ℕ) → Option (List ℕ) → Option (List ℕ) → Status → Type 0
 IsPlayed known before after status =
     (lines : List (List ℕ)) × (ending : Option Ending) × (text : List ℕ) × WereRead known lines ending × Plays lines ending text status × Appends before after text
 
--- the same from a script's later line on
-abbrev pub IsPlayedOn : Script → ℕ → Option (List ℕ) → Option (List ℕ) → Option (List ℕ) → Status → Type 0
-IsPlayedOn old number known before after status =
-    (lines : List (List ℕ)) × (ending : Option Ending) × (text : List ℕ) × WereRead known lines ending × PlaysOn old number lines ending text status × Appends before after text
+-- the same from a script's later line on, over a store that works at this pace; it leaves the script so
+abbrev pub IsPlayedOn : Pace → Script → ℕ → Option (List ℕ) → Option (List ℕ) → Option (List ℕ) → Status → Script → Type 0
+IsPlayedOn pace old number known before after status end =
+    (lines : List (List ℕ)) × (ending : Option Ending) × (text : List ℕ) × WereRead known lines ending × PlaysOn pace old number lines ending text status end × Appends before after text

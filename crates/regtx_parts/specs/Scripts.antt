@@ -31,9 +31,13 @@ pub record Script : Type 0 where
   pub session : ℕ
   pub labels : List ℕ → Option Tx
 
--- a script after its first line: session 0 is open and the current one, and no label names anything
+-- a script before its first line over a machine: the moment is 0, session 0 is the current one, and no label names anything
+abbrev pub script_at : Machine → Script
+script_at machine = record { machine = machine; moment = 0; session = 0; labels = λ label. None }
+
+-- a script that has made its store, of so many new hives: session 0 is open
 abbrev pub fresh_script : ℕ → Script
-fresh_script hives = record { machine = with_session (fresh_machine hives) 0; moment = 0; session = 0; labels = λ label. None }
+fresh_script hives = script_at (with_session (fresh_machine hives) 0)
 
 -- what was read as a reply
 abbrev pub found_reply : Found → ReplyLine

@@ -7,6 +7,7 @@ use Rattle.reg_script.specs.declared.reply.ReplyLine.{ReplyLine}
 use Rattle.regtx_parts.specs.Scripts.{Script, Answers, line_asked}
 use Rattle.regtx_parts.specs.Plays.{lines_of, is_refusal, IsPlayedOn}
 use Rattle.regtx_parts.specs.declared.runner.Turn.{Turn}
+use Rattle.regtx_parts.specs.declared.working.Pace.{Pace}
 use Rattle.regtx_parts.specs.declared.runner.Turn.TheVariants.{Replied, Over}
 
 -- where the bytes are known, the first line was taken of them
@@ -14,8 +15,8 @@ abbrev pub TakesLine : Option (List ℕ) → Option (List ℕ) → List ℕ → 
 TakesLine known rest line = IfSome known (λ bytes. (left : List ℕ) × (rest ≡ Some left) × (lines_of bytes ≡ line ∷ lines_of left))
 
 -- a line was answered, or the run is over
-abbrev pub Turns : Script → ℕ → Option (List ℕ) → Option (List ℕ) → Turn → Script → Option (List ℕ) → Option (List ℕ) → Type 0
-Turns old number known before (Over status) new rest after = IsPlayedOn old number known before after status
-Turns old number known before (Replied refused) new rest after =
+abbrev pub Turns : Pace → Script → ℕ → Option (List ℕ) → Option (List ℕ) → Turn → Script → Option (List ℕ) → Option (List ℕ) → Type 0
+Turns pace old number known before (Over status) new rest after = IsPlayedOn pace old number known before after status new
+Turns pace old number known before (Replied refused) new rest after =
     (line : List ℕ) × (asked : Line) × (told : ReplyLine) × TakesLine known rest line × (line_asked line ≡ Some asked) × Answers old asked told new
     × Appends before after (reply_line told) × (refused ≡ is_refusal told)

@@ -1,63 +1,64 @@
-//! A script's store, asked line by line.
-ghost use Rattle.std.specs.Prelude.{◌≡◌, ◌≤◌, ℕ, Some, None, MatchOption, IfOk, IfSome, IfNone, IfErr};
-ghost use Rattle.refusals.specs.declared.limits.TheConstants.{MOST_TREES};
+//! A script over a store, asked line by line.
+ghost use Rattle.std.specs.Prelude.{◌≡◌, ℕ, Some, None, MatchOption, IfOk, IfSome, IfNone, IfErr, OnErr};
+ghost use Rattle.machine.specs.Steps.{Step};
 ghost use Rattle.reg_script.specs.declared.line.Line.{Line as AnyLine};
 ghost use Rattle.reg_script.specs.declared.reply.ReplyLine.{ReplyLine as AnyReplyLine};
-ghost use Rattle.regtx_parts.specs.Scripts.{Asks, Answers, AsksAndWaits, event_alone, event_inside, later_line, line_asked, hives_asked, fresh_script};
+ghost use Rattle.regtx_parts.specs.Scripts.{Asks, Answers, AsksAndWaits, event_alone, event_inside, later_line, line_asked, script_at};
 ghost use Rattle.regtx_parts.specs.Players.{script_of, reply_by};
+ghost use Rattle.regtx_parts.specs.Work.{Between};
 
+use crate::asking::ask;
 use crate::demand::{Demand, demand_of};
 use crate::labels::Labels;
 use crate::replies::reply_of;
 use crate::waiting::wait;
+use crate::working::{Pace, keep_up};
+use disk_model::Disk;
+use engine::Engine;
 use machine::{Event, Reply, Tx};
 use refusals::Refusal;
 use reg_script::{Label, Line, ReplyLine, Request, Unread, read_line};
 use std::alloc::{AllocError, Global};
-use transactions::PlainStore;
 use uuid::Uuid;
 
-/// The store of a script, the moment and the session of what follows, and the transaction that each label names.
+/// A script between two lines: its store, the moment and the session of what follows, and the transaction that each label names.
 #[derive(Drop)]
-pub(crate) struct Player {
-    store: PlainStore,
+pub(crate) struct Player<D: Disk> {
+    engine: Engine<D>,
     moment: u64,
     session: u32,
     labels: Labels,
 }
 
-impl Player {
-    /// The store that a script's first line asks for, with session 0 open, or nothing where the bytes are no such line.
-    pub(crate) fn begin(alloc: Global, bytes: &[u8]) -> Result<Option<Player>, AllocError>
-        ensures none { IfOk result (λ made. IfNone made (hives_asked bytes.now ≡ None)) }
-        ensures some { IfOk result (λ made. IfSome made
-            (λ player. (hives : ℕ) × (hives_asked bytes.now ≡ Some hives)
-            × (script_of player ≡ fresh_script hives))) }
+impl<D: Disk> Player<D> {
+    /// A script before its first line, over a store: no label names anything, and session 0 is the current one.
+    pub(crate) fn new(alloc: Global, engine: Engine<D>) -> Player<D>
+        ensures script { script_of result ≡ script_at engine.machine }
+        ensures engine { result.engine ≡ engine }
     {
-        reg_script::grammar::reads_what_is_spelled();
-        match read_line(alloc, bytes) {
-            Ok(Line::Hives { count }) => Ok(Some(Player::new(alloc, count)?)),
-            Ok(_) | Err(Unread::NotUnderstood) => Ok(None),
-            Err(Unread::NoMemory) => Err(AllocError),
-        }
-    }
-
-    // a store of this many new hives, in which session 0 is open; it is refused for want of memory alone
-    fn new(alloc: Global, hives: u8) -> Result<Player, AllocError>
-        requires some { 1 ≤ hives }
-        requires few { hives ≤ MOST_TREES }
-        ensures { IfOk result (λ player. script_of player ≡ fresh_script hives) }
-    {
-        let mut store = PlainStore::new(alloc, usize::from(hives))?;
-        let Reply::Done = store.event(Event::StartSession { session: 0 }) else {
-            return Err(AllocError);
-        };
-        Ok(Player {
-            store,
+        Player {
+            engine,
             moment: 0,
             session: 0,
             labels: Labels::new(alloc),
-        })
+        }
+    }
+
+    /// What the store does between two lines, at this pace.
+    pub(crate) fn keep_up(&mut self, pace: Pace)
+        ensures works { Between pace (script_of self.old).machine (script_of self.new).machine }
+        ensures rest { script_of self.new
+            ≡ record (script_of self.old) { machine = (script_of self.new).machine } }
+        ensures faithful { D.faithful self.new.engine.disk → D.faithful self.old.engine.disk }
+    {
+        keep_up(&mut self.engine, pace);
+    }
+
+    /// The store, without the script.
+    pub(crate) fn into_engine(self) -> Engine<D>
+        ensures { result ≡ self.engine }
+    {
+        self.engine
     }
 
     /// Answers a further line of the script, or nothing where the bytes are no such line. Memory is refused only for
@@ -67,10 +68,13 @@ impl Player {
         alloc: Global,
         bytes: &[u8],
     ) -> Result<Option<ReplyLine>, AllocError>
-        ensures none { IfOk result (λ made. IfNone made (line_asked bytes.now ≡ None)) }
+        ensures none { IfOk result (λ made. IfNone made
+            ((line_asked bytes.now ≡ None) × (self.new ≡ self.old))) }
+        ensures err { OnErr result (self.new ≡ self.old) }
         ensures some { IfOk result (λ made. IfSome made
             (λ told. (asked : AnyLine) × (line_asked bytes.now ≡ Some asked)
             × Answers (script_of self.old) asked told (script_of self.new))) }
+        ensures faithful { D.faithful self.new.engine.disk → D.faithful self.old.engine.disk }
     {
         match read_line(alloc, bytes) {
             Ok(line) => Ok(self.answer(alloc, line)),
@@ -81,9 +85,10 @@ impl Player {
 
     // answers the line, or nothing where it is a script's first
     fn answer(&mut self, alloc: Global, line: Line) -> Option<ReplyLine>
-        ensures { MatchOption result (later_line (Some line) ≡ None)
+        ensures told { MatchOption result ((later_line (Some line) ≡ None) × (self.new ≡ self.old))
             (λ told. (later_line (Some line) ≡ Some line)
             × Answers (script_of self.old) line told (script_of self.new)) }
+        ensures faithful { D.faithful self.new.engine.disk → D.faithful self.old.engine.disk }
     {
         let told = match line {
             Line::Hives { .. } => return None,
@@ -110,9 +115,10 @@ impl Player {
 
     // opens the session, and makes it the current one
     fn enter(&mut self, number: u32) -> ReplyLine
-        ensures { Answers (script_of self.old) (Line.Session number) result (script_of self.new) }
+        ensures told { Answers (script_of self.old) (Line.Session number) result (script_of self.new) }
+        ensures faithful { D.faithful self.new.engine.disk → D.faithful self.old.engine.disk }
     {
-        match self.store.event(Event::StartSession { session: number }) {
+        match self.event(Event::StartSession { session: number }) {
             Reply::Done => {
                 self.session = number;
                 ReplyLine::Done
@@ -127,6 +133,7 @@ impl Player {
         ensures refused { IfErr result (λ refusal.
             Answers (script_of self.old) (Line.Plain request) (ReplyLine.Refused refusal)
             (script_of self.new)) }
+        ensures faithful { D.faithful self.new.engine.disk → D.faithful self.old.engine.disk }
     {
         let event = self.event_alone(demand_of(alloc, request)?);
         Ok(self.ask(event))
@@ -143,6 +150,7 @@ impl Player {
         ensures refused { IfErr result (λ refusal.
             Answers (script_of self.old) (Line.Inside label request) (ReplyLine.Refused refusal)
             (script_of self.new)) }
+        ensures faithful { D.faithful self.new.engine.disk → D.faithful self.old.engine.disk }
     {
         let asked = demand_of(alloc, request)?;
         let event = self.event_inside(self.tx(label)?, asked);
@@ -207,10 +215,11 @@ impl Player {
         ensures refused { IfErr result (λ refusal.
             Answers (script_of self.old) (Line.Begin label id) (ReplyLine.Refused refusal)
             (script_of self.new)) }
+        ensures faithful { D.faithful self.new.engine.disk → D.faithful self.old.engine.disk }
     {
         self.labels.make_room(label)?;
         let session = self.session;
-        match self.store.event(Event::Begin { session, id }) {
+        match self.event(Event::Begin { session, id }) {
             Reply::Begun { tx } => {
                 self.labels.name(label, tx);
                 Ok(ReplyLine::Done)
@@ -225,6 +234,7 @@ impl Player {
         ensures refused { IfErr result (λ refusal.
             Answers (script_of self.old) (Line.Commit label) (ReplyLine.Refused refusal)
             (script_of self.new)) }
+        ensures faithful { D.faithful self.new.engine.disk → D.faithful self.old.engine.disk }
     {
         let session = self.session;
         let moment = self.moment;
@@ -246,6 +256,7 @@ impl Player {
         ensures refused { IfErr result (λ refusal.
             Answers (script_of self.old) (Line.Rollback label) (ReplyLine.Refused refusal)
             (script_of self.new)) }
+        ensures faithful { D.faithful self.new.engine.disk → D.faithful self.old.engine.disk }
     {
         let session = self.session;
         let tx = self.tx(label)?;
@@ -258,6 +269,7 @@ impl Player {
         ensures refused { IfErr result (λ refusal.
             Answers (script_of self.old) (Line.Close label) (ReplyLine.Refused refusal)
             (script_of self.new)) }
+        ensures faithful { D.faithful self.new.engine.disk → D.faithful self.old.engine.disk }
     {
         let session = self.session;
         let tx = self.tx(label)?;
@@ -270,14 +282,17 @@ impl Player {
         ensures refused { IfErr result (λ refusal.
             Answers (script_of self.old) (Line.Outcome label) (ReplyLine.Refused refusal)
             (script_of self.new)) }
+        ensures faithful { D.faithful self.new.engine.disk → D.faithful self.old.engine.disk }
     {
         let session = self.session;
         let tx = self.tx(label)?;
         Ok(self.ask(Event::Outcome { session, tx }))
     }
 
-    fn flush(&mut self) -> ReplyLine
-        ensures { Answers (script_of self.old) Line.Flush result (script_of self.new) }
+    /// Makes all accepted changes durable, as the line `flush` does.
+    pub(crate) fn flush(&mut self) -> ReplyLine
+        ensures told { Answers (script_of self.old) Line.Flush result (script_of self.new) }
+        ensures faithful { D.faithful self.new.engine.disk → D.faithful self.old.engine.disk }
     {
         match self.ask_and_wait(Event::FlushAsk) {
             Ok(number) => ReplyLine::Flushed { number },
@@ -297,21 +312,32 @@ impl Player {
         }
     }
 
+    // asks the store one event; nothing else of the script changes
+    fn event(&mut self, event: Event) -> Reply
+        ensures step { Step self.old.engine.machine event result self.new.engine.machine }
+        ensures rest { self.new ≡ record self.old { engine = self.new.engine } }
+        ensures faithful { D.faithful self.new.engine.disk → D.faithful self.old.engine.disk }
+    {
+        ask(&mut self.engine, event)
+    }
+
     // asks one event, whose answer is the reply
     fn ask(&mut self, event: Event) -> ReplyLine
-        ensures { Asks (script_of self.old) event result (script_of self.new) }
+        ensures told { Asks (script_of self.old) event result (script_of self.new) }
+        ensures faithful { D.faithful self.new.engine.disk → D.faithful self.old.engine.disk }
     {
-        reply_of(self.store.event(event))
+        reply_of(self.event(event))
     }
 
     // asks an event, and waits for the change whose number it answers; `Err` is the reply where it answers no number, or
     // the wait is refused
     fn ask_and_wait(&mut self, event: Event) -> Result<u64, ReplyLine>
-        ensures { (tell : ℕ → AnyReplyLine) → AsksAndWaits (script_of self.old) event tell
+        ensures told { (tell : ℕ → AnyReplyLine) → AsksAndWaits (script_of self.old) event tell
             (reply_by tell result) (script_of self.new) }
+        ensures faithful { D.faithful self.new.engine.disk → D.faithful self.old.engine.disk }
     {
-        match self.store.event(event) {
-            Reply::Awaits { number } => match wait(&mut self.store, number) {
+        match self.event(event) {
+            Reply::Awaits { number } => match wait(&mut self.engine, number) {
                 Ok(()) => Ok(number),
                 Err(refusal) => Err(ReplyLine::Refused { refusal }),
             },

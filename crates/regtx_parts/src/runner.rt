@@ -1,13 +1,17 @@
-//! Runs a script over a store in memory.
+//! Runs a script over a store of its own in memory, or over a store that is there.
 ghost use Rattle.std.specs.Prelude.{◌≡◌, ℕ, List, [], ◌++◌, ◌∷◌, Some, OnOk, IfOk, IfErr, codes};
 ghost use Rattle.std.specs.Io.KnownBytes.{Appends};
 ghost use Rattle.std.specs.Io.BufRead.{strip_last};
 ghost use Rattle.regtx_parts.specs.Plays.{Ends, WereRead, IsPlayed, IsPlayedOn, is_refusal, wrong_text};
 ghost use Rattle.regtx_parts.specs.Players.{script_of};
 ghost use Rattle.regtx_parts.specs.Turns.{TakesLine, Turns};
+ghost use Rattle.regtx_parts.specs.declared.working.Pace.{Pace as AnyPace};
 
 use crate::ending::Ending;
+use crate::making::begin;
 use crate::player::Player;
+use crate::working::Pace;
+use disk_model::Disk;
 use refusals::Refusal;
 use reg_script::{ReplyLine, Status};
 use std::alloc::{AllocError, Global};
@@ -68,33 +72,56 @@ fn run<R: BufRead, W: Write>(alloc: Global, reader: &mut R, writer: &mut W) -> i
         Err(Ending::Ended) => return wrong(writer, 1),
         Err(ending) => return end(writer, ending),
     }
-    match Player::begin(alloc, &line) {
-        Ok(Some(mut player)) => {
+    match begin(alloc, &line) {
+        Ok(Some(engine)) => {
+            let mut player = Player::new(alloc, engine);
             ReplyLine::Done.write(writer)?;
-            go_on(alloc, &mut player, reader, &mut line, writer)
+            go_on(alloc, &mut player, Pace::AsAsked, 2, reader, &mut line, writer)
         }
         Ok(None) => wrong(writer, 1),
         Err(AllocError) => end(writer, Ending::OutOfMemory),
     }
 }
 
-// runs the script from its second line on
-fn go_on<R: BufRead, W: Write>(
+/// Runs a script from its first line on, over the player's store, which works between the lines at this pace.
+pub(crate) fn play_lines<D: Disk, R: BufRead, W: Write>(
     alloc: Global,
-    player: &mut Player,
+    player: &mut Player<D>,
+    pace: Pace,
+    reader: &mut R,
+    writer: &mut W,
+) -> io::Result<Status>
+    ensures played { IfOk result (λ status. IsPlayedOn pace (script_of player.old) 1
+        (R.remaining reader.old) (W.contents writer.old) (W.contents writer.new) status
+        (script_of player.new)) }
+    ensures faithful { D.faithful player.new.engine.disk → D.faithful player.old.engine.disk }
+{
+    let mut line = Vec::new(alloc);
+    go_on(alloc, player, pace, 1, reader, &mut line, writer)
+}
+
+// runs the script from the line of this number on
+fn go_on<D: Disk, R: BufRead, W: Write>(
+    alloc: Global,
+    player: &mut Player<D>,
+    pace: Pace,
+    first: u64,
     reader: &mut R,
     line: &mut Vec<u8>,
     writer: &mut W,
 ) -> io::Result<Status>
-    ensures { IfOk result (λ status. IsPlayedOn (script_of player.old) 2 (R.remaining reader.old)
-        (W.contents writer.old) (W.contents writer.new) status) }
+    ensures played { IfOk result (λ status. IsPlayedOn pace (script_of player.old) first
+        (R.remaining reader.old) (W.contents writer.old) (W.contents writer.new) status
+        (script_of player.new)) }
+    ensures faithful { D.faithful player.new.engine.disk → D.faithful player.old.engine.disk }
 {
     let mut has_refusal = false;
-    for number in 2..u64::MAX {
+    for number in first..u64::MAX {
         match take_turn(alloc, player, reader, line, writer, number)? {
             Turn::Replied { is_refusal } => has_refusal |= is_refusal,
             Turn::Over { status } => return Ok(status.after(has_refusal)),
         }
+        player.keep_up(pace);
     }
     // a script of so many lines isn't read on
     let status = end(writer, Ending::Broken)?;
@@ -102,17 +129,18 @@ fn go_on<R: BufRead, W: Write>(
 }
 
 // reads the line of this number, answers it, and writes the reply
-fn take_turn<R: BufRead, W: Write>(
+fn take_turn<D: Disk, R: BufRead, W: Write>(
     alloc: Global,
-    player: &mut Player,
+    player: &mut Player<D>,
     reader: &mut R,
     line: &mut Vec<u8>,
     writer: &mut W,
     number: u64,
 ) -> io::Result<Turn>
-    ensures { IfOk result (λ told. Turns (script_of player.old) number (R.remaining reader.old)
-        (W.contents writer.old) told (script_of player.new) (R.remaining reader.new)
-        (W.contents writer.new)) }
+    ensures told { (pace : AnyPace) → IfOk result (λ told. Turns pace (script_of player.old) number
+        (R.remaining reader.old) (W.contents writer.old) told (script_of player.new)
+        (R.remaining reader.new) (W.contents writer.new)) }
+    ensures faithful { D.faithful player.new.engine.disk → D.faithful player.old.engine.disk }
 {
     if let Err(ending) = next_line(reader, line) {
         let status = end(writer, ending)?;
@@ -135,7 +163,8 @@ fn take_turn<R: BufRead, W: Write>(
     }
 }
 
-fn is_refusal(told: &ReplyLine) -> bool
+/// Whether a reply is a refusal.
+pub(crate) fn is_refusal(told: &ReplyLine) -> bool
     ensures { result ≡ is_refusal told.now }
 {
     match told {
@@ -172,8 +201,8 @@ fn strip_end(line: &mut Vec<u8>)
     }
 }
 
-// writes why there is no further line
-fn end<W: Write>(writer: &mut W, ending: Ending) -> io::Result<Status>
+/// Writes why there is no further line.
+pub(crate) fn end<W: Write>(writer: &mut W, ending: Ending) -> io::Result<Status>
     ensures { IfOk result (λ status. (text : List ℕ) × Ends ending text status
         × Appends (W.contents writer.old) (W.contents writer.new) text) }
 {

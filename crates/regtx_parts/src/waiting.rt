@@ -1,32 +1,39 @@
 //! Waits until a change is durable.
-ghost use Rattle.std.specs.Prelude.{◌≡◌, ◌≤◌, MatchResult, Some, None};
+ghost use Rattle.std.specs.Prelude.{◌≡◌, ◌<◌, ◌≤◌, MatchResult, OnOk, Some, None};
+ghost use Rattle.engine_law.specs.Progress.{steps_to_all};
 ghost use Rattle.machine.specs.Machine.{last_number};
 ghost use Rattle.machine.specs.Steps.{Step};
 ghost use Rattle.regtx_parts.specs.Waits.{IsWaited, IsAsked, IsStepped};
 
+use crate::asking::ask;
+use disk_model::Disk;
+use engine::Engine;
 use machine::{Event, Reply};
 use refusals::Refusal;
-use transactions::PlainStore;
 
 /// Makes steps of the journal until there is a receipt of the change of this number, which was accepted. Refused as
 /// the first question or step that is refused.
-pub(crate) fn wait(store: &mut PlainStore, number: u64) -> Result<(), Refusal>
-    requires { number ≤ last_number store.old }
-    ensures { MatchResult result (λ _. IsWaited store.old number None store.new)
-        (λ refusal. IsWaited store.old number (Some refusal) store.new) }
+pub(crate) fn wait<D: Disk>(engine: &mut Engine<D>, number: u64) -> Result<(), Refusal>
+    requires { number ≤ last_number engine.old.machine }
+    ensures faithful { D.faithful engine.new.disk → D.faithful engine.old.disk }
+    ensures waited { MatchResult result (λ _. IsWaited engine.old.machine number None engine.new.machine)
+        (λ refusal. IsWaited engine.old.machine number (Some refusal) engine.new.machine) }
 {
-    while !has_receipt(store, number)? {
-        step(store)?;
+    while !has_receipt(engine, number)? {
+        step(engine)?;
     }
     Ok(())
 }
 
 // whether there is a receipt of the change
-fn has_receipt(store: &mut PlainStore, number: u64) -> Result<bool, Refusal>
-    ensures { MatchResult result (λ has. IsAsked store.old number has store.new)
-        (λ refusal. Step store.old (Event.Acked number) (Reply.Refused refusal) store.new) }
+fn has_receipt<D: Disk>(engine: &mut Engine<D>, number: u64) -> Result<bool, Refusal>
+    ensures left { engine.new.left ≡ engine.old.left }
+    ensures faithful { D.faithful engine.new.disk → D.faithful engine.old.disk }
+    ensures asked { MatchResult result (λ has. IsAsked engine.old.machine number has engine.new.machine)
+        (λ refusal. Step engine.old.machine (Event.Acked number) (Reply.Refused refusal)
+        engine.new.machine) }
 {
-    match store.event(Event::Acked { number }) {
+    match ask(engine, Event::Acked { number }) {
         Reply::Receipt { .. } => Ok(true),
         Reply::Refused { refusal } => Err(refusal),
         _ => Ok(false),
@@ -34,12 +41,16 @@ fn has_receipt(store: &mut PlainStore, number: u64) -> Result<bool, Refusal>
 }
 
 // one step of the journal
-fn step(store: &mut PlainStore) -> Result<(), Refusal>
-    ensures made { MatchResult result (λ _. IsStepped store.old store.new)
-        (λ refusal. Step store.old Event.JournalStep (Reply.Refused refusal) store.new) }
-    ensures durable { store.new.durable ≡ last_number store.new }
+fn step<D: Disk>(engine: &mut Engine<D>) -> Result<(), Refusal>
+    ensures faithful { D.faithful engine.new.disk → D.faithful engine.old.disk }
+    ensures made { MatchResult result (λ _. IsStepped engine.old.machine engine.new.machine)
+        (λ refusal. Step engine.old.machine Event.JournalStep (Reply.Refused refusal)
+        engine.new.machine) }
+    ensures nears { OnOk result (engine.old.machine.durable < last_number engine.old.machine →
+        steps_to_all engine.new.machine engine.new.left
+        < steps_to_all engine.old.machine engine.old.left) }
 {
-    match store.event(Event::JournalStep) {
+    match ask(engine, Event::JournalStep) {
         Reply::Refused { refusal } => Err(refusal),
         _ => Ok(()),
     }

@@ -1,41 +1,50 @@
-use Rattle.std.proofs.Common.{sym, subst}
+use Rattle.std.proofs.Common.{◌+◌, refl, sym, subst}
 use Rattle.reg_script.specs.Statuses.{with_refusal}
 use Rattle.regtx_parts.specs.Players.{script_of}
 use Rattle.regtx_parts.specs.Plays.{IsPlayedOn}
+use Rattle.regtx_parts.specs.Scripts.{Script}
 use Rattle.regtx_parts.specs.Turns.{Turns}
 use Rattle.regtx_parts.specs.declared.ending.Ending.TheVariants.{Broken}
 use Rattle.regtx_parts.proofs.Runs.{goes_on, ends_here, none_read, broken_is_no_end, refusals_join}
 use Rattle.regtx_parts.proofs.runner.go_on.Goals as goal
 
 pub loop-number-preserved : goal.loop-number-preserved
-loop-number-preserved g c status after on =
+loop-number-preserved g c =
     let remaining = g.R.Read.remaining in
     let contents = g.W.Write.contents in
     let old = script_of c.loop-number.player in
     let new = script_of c.take_turn.new.player in
+    let kept = script_of c.keep_up.new.self in
     let known = remaining c.loop-number.reader in
     let rest = remaining c.take_turn.new.reader in
     let before = contents c.loop-number.writer in
     let mid = contents c.take_turn.new.writer in
     let now = c.in-Replied.is_refusal in
-    let turn = subst (λ told. Turns old c.loop-number.number known before told new rest mid) c.in-Replied.is c.in_ok-is_refusal.ensures in
-    subst (IsPlayedOn (script_of c.args.player.now) 2 (remaining c.args.reader.now) (contents c.args.writer.now) after) (refusals_join c.loop-number.has_refusal now status)
-    (c.loop-number.invariant (with_refusal now status) after (goes_on old new c.loop-number.number known rest before mid after now status turn on))
+    let number = c.loop-number.number in
+    let turn = subst (λ told. Turns c.args.pace old number known before told new rest mid) c.in-Replied.is (c.in_ok-is_refusal.ensures.told c.args.pace) in (
+      λ faithful. c.loop-number.invariant.0 (c.take_turn.ensures.faithful (c.keep_up.ensures.faithful faithful)),
+      λ status after end on.
+      subst (λ s. IsPlayedOn c.args.pace (script_of c.args.player.now) c.args.first (remaining c.args.reader.now) (contents c.args.writer.now) after s end) (refusals_join c.loop-number.has_refusal now status)
+      (c.loop-number.invariant.1 (with_refusal now status) after end (goes_on c.args.pace old new kept.machine end number known rest before mid after now status turn c.keep_up.ensures.works
+      (subst (λ (s : Script). IsPlayedOn c.args.pace s (number + 1) rest mid after status end) c.keep_up.ensures.rest on))),
+    )
 
-pub returns-in-Over : goal.returns-in-Over
-returns-in-Over g c =
+pub returns-in-Over-clause-played : goal.returns-in-Over-clause-played
+returns-in-Over-clause-played g c =
     let contents = g.W.Write.contents in
     let after = contents c.take_turn.new.writer in
-    let on = subst (λ told. Turns (script_of c.loop-number.player) c.loop-number.number (g.R.Read.remaining c.loop-number.reader) (contents c.loop-number.writer) told (script_of c.take_turn.new.player) (g.R.Read.remaining c.take_turn.new.reader) after) c.in-Over.is c.in_ok-is_refusal.ensures in
-    subst (IsPlayedOn (script_of c.args.player.now) 2 (g.R.Read.remaining c.args.reader.now) (contents c.args.writer.now) after) (sym c.after.ensures)
-    (c.loop-number.invariant c.in-Over.status after on)
+    let end = script_of c.take_turn.new.player in
+    let on = subst (λ told. Turns c.args.pace (script_of c.loop-number.player) c.loop-number.number (g.R.Read.remaining c.loop-number.reader) (contents c.loop-number.writer) told end (g.R.Read.remaining c.take_turn.new.reader) after) c.in-Over.is (c.in_ok-is_refusal.ensures.told c.args.pace) in
+    subst (λ s. IsPlayedOn c.args.pace (script_of c.args.player.now) c.args.first (g.R.Read.remaining c.args.reader.now) (contents c.args.writer.now) after s end) (sym c.after.ensures)
+    (c.loop-number.invariant.1 c.in-Over.status after end on)
 
-pub returns : goal.returns
-returns g c =
+pub returns-clause-played : goal.returns-clause-played
+returns-clause-played g c =
     let contents = g.W.Write.contents in
     let after = contents c.end.new.writer in
     let known = g.R.Read.remaining c.loop-number.reader in
     let said = c.in_ok-status.ensures in
-    subst (IsPlayedOn (script_of c.args.player.now) 2 (g.R.Read.remaining c.args.reader.now) (contents c.args.writer.now) after) (sym c.after-2.ensures)
-    (c.loop-number.invariant c.in_ok-status.status after
-    (ends_here (script_of c.loop-number.player) c.loop-number.number known (contents c.loop-number.writer) after Broken said.0 c.in_ok-status.status (none_read known Broken broken_is_no_end) said.1 said.2))
+    let end = script_of c.loop-number.player in
+    subst (λ s. IsPlayedOn c.args.pace (script_of c.args.player.now) c.args.first (g.R.Read.remaining c.args.reader.now) (contents c.args.writer.now) after s end) (sym c.after-2.ensures)
+    (c.loop-number.invariant.1 c.in_ok-status.status after end
+    (ends_here c.args.pace end end c.loop-number.number known (contents c.loop-number.writer) after Broken said.0 c.in_ok-status.status (none_read known Broken broken_is_no_end) said.1 said.2 refl))

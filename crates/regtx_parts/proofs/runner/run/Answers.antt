@@ -1,11 +1,14 @@
 use Rattle.std.proofs.Common.{◌∙◌, ◌≡◌, ℕ, List, Some, None, ap, sym, subst}
 use Rattle.std.specs.Prelude.{IfSome, IfNone}
 use Rattle.std.specs.Io.KnownBytes.{Appends}
-use Rattle.regtx_parts.specs.Scripts.{hives_asked, fresh_script}
+use Rattle.regtx_parts.specs.Scripts.{hives_asked, script_at}
+use Rattle.machine.specs.Machine.{fresh_machine}
+use Rattle.machine.specs.Steps.{with_session}
 use Rattle.regtx_parts.specs.Players.{script_of}
 use Rattle.regtx_parts.specs.Plays.{Ends, IsPlayed, IsPlayedOn, wrong_text}
 use Rattle.regtx_parts.specs.declared.ending.Ending.TheVariants.{OutOfMemory}
 use Rattle.reg_script.specs.declared.status.Status.TheVariants.{Wrong}
+use Rattle.regtx_parts.specs.declared.working.Pace.TheVariants.{AsAsked}
 use Rattle.regtx_parts.proofs.Runs.{begins, begins_wrong, begins_without_memory, if_ok}
 use Rattle.regtx_parts.proofs.runner.run.Goals as goal
 
@@ -16,10 +19,12 @@ returns-in-Ok-Some g c =
     let before = g.W.Write.contents c.args.writer.now in
     let mid = g.W.Write.contents c.write.new.writer in
     let after = g.W.Write.contents c.go_on.new.writer in
-    let some = subst (λ made. IfSome made (λ player. (hives : ℕ) × (hives_asked c.deref.result.now ≡ Some hives) × (script_of player ≡ fresh_script hives))) c.in-Ok-Some.field-0-is c.in-Ok-Some.ensures.some in
-    if_ok (IsPlayedOn (script_of c.in-Ok-Some.player) 2 rest mid after) (IsPlayed known before after) c.go_on.result
-    (λ status on. begins known rest before mid after c.next_line.new.line.items some.0 (script_of c.in-Ok-Some.player) status c.in-Ok.ensures.line (ap hives_asked (sym c.deref.ensures.value) ∙ some.1) some.2 c.in_ok-write-in-Ok-Some.ensures on)
-    c.go_on.ensures
+    let some = subst (λ made. IfSome made (λ engine. (hives : ℕ) × (hives_asked c.deref.result.now ≡ Some hives) × (engine.machine ≡ with_session (fresh_machine hives) 0))) c.in-Ok-Some.field-0-is c.in-Ok-Some.ensures.some in
+    let old = script_of c.new-player.result in
+    let end = script_of c.go_on.new.player in
+    if_ok (λ status. IsPlayedOn AsAsked old 2 rest mid after status end) (IsPlayed known before after) c.go_on.result
+    (λ status on. begins known rest before mid after c.next_line.new.line.items some.0 old end status c.in-Ok.ensures.line (ap hives_asked (sym c.deref.ensures.value) ∙ some.1) (c.new-player.ensures.script ∙ ap script_at some.2) c.in_ok-write-in-Ok-Some.ensures on)
+    c.go_on.ensures.played
 
 pub returns-in-Ok-None : goal.returns-in-Ok-None
 returns-in-Ok-None g c =

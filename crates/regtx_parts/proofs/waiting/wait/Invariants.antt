@@ -1,13 +1,14 @@
-use Rattle.std.proofs.Common.{◌≤◌, ◌-◌, Option}
+use Rattle.std.proofs.Common.{◌≤◌, Option}
 use Rattle.refusals.specs.declared.refusal.Refusal.{Refusal}
 use Rattle.machine.specs.Machine.{Machine, last_number}
+use Rattle.engine_law.specs.Progress.{steps_to_all}
 use Rattle.regtx_parts.specs.Waits.{IsWaited}
 use Rattle.regtx_parts.proofs.waiting.wait.Given as goal
 
--- however the wait goes on from here, it is the whole wait
-abbrev pub invariant-loop-store : goal.invariant-loop-store
-invariant-loop-store l = (l.number ≤ last_number l.store) × ((ended : Option Refusal) (new : Machine) → IsWaited l.store l.number ended new → IsWaited l.fn.store l.number ended new)
+-- however the wait goes on from here, it is the whole wait; and a disk that is faithful then was so before
+abbrev pub invariant-loop-engine : goal.invariant-loop-engine
+invariant-loop-engine g l = (l.number ≤ last_number l.engine.machine) × (g.D.Disk.faithful l.engine.disk → g.D.Disk.faithful l.fn.engine.disk) × ((ended : Option Refusal) (new : Machine) → IsWaited l.engine.machine l.number ended new → IsWaited l.fn.engine.machine l.number ended new)
 
--- how many changes have to become durable before it
-abbrev pub decreases-loop-store : goal.decreases-loop-store
-decreases-loop-store l = l.number - l.store.durable
+-- how many steps of the journal are left at most
+abbrev pub decreases-loop-engine : goal.decreases-loop-engine
+decreases-loop-engine g l = steps_to_all l.engine.machine l.engine.left

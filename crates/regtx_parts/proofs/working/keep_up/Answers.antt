@@ -1,0 +1,7 @@
+use Rattle.std.proofs.Common.{sym, subst}
+use Rattle.regtx_parts.specs.Work.{Between}
+use Rattle.regtx_parts.proofs.Worked.{none_made}
+use Rattle.regtx_parts.proofs.working.keep_up.Goals as goal
+
+pub returns-else-room-ge-BUSY_ROOM-clause-works : goal.returns-else-room-ge-BUSY_ROOM-clause-works
+returns-else-room-ge-BUSY_ROOM-clause-works g c = subst (λ pace. Between pace c.args.engine.now.machine c.args.engine.now.machine) (sym c.in-FreesRoom.is) (none_made c.args.engine.now.machine)

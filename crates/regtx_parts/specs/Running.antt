@@ -1,0 +1,87 @@
+-- The run of a script over the store that is on a disk: what is written, and with which status.
+use Rattle.std.specs.Prelude.{◌≡◌, ◌⊎◌, ℕ, List, [], ◌++◌, ◌∷◌, Bool, if◌then◌else◌, Option, codes}
+use Rattle.std.specs.Fmt.{decimal}
+use Rattle.std.specs.Io.KnownBytes.{Appends}
+use Rattle.refusals.specs.Refusals.{refusal_text}
+use Rattle.refusals.specs.declared.refusal.Refusal.{Refusal}
+use Rattle.refusals.specs.declared.refusal.Refusal.TheVariants.{NoMemory, DiskFault}
+use Rattle.reg_tree.specs.Maps.{TreeMap}
+use Rattle.reg_script.specs.Replies.{reply_line}
+use Rattle.reg_script.specs.Statuses.{with_refusal}
+use Rattle.reg_script.specs.declared.line.Line.TheVariants.{Flush}
+use Rattle.reg_script.specs.declared.reply.ReplyLine.{ReplyLine}
+use Rattle.reg_script.specs.declared.status.Status.{Status}
+use Rattle.reg_script.specs.declared.status.Status.TheVariants.{Refused}
+use Rattle.commit_journal.specs.Store.{Store}
+use Rattle.machine.specs.Machine.{Machine, opened_machine}
+use Rattle.machine.specs.Steps.{with_session}
+use Rattle.recovery.specs.Recovered.{IsNoStore, IsRecovered}
+use Rattle.regtx_parts.specs.Scripts.{Script, Answers, script_at}
+use Rattle.regtx_parts.specs.Plays.{PlaysOn, is_refusal}
+use Rattle.regtx_parts.specs.declared.ending.Ending.{Ending}
+use Rattle.regtx_parts.specs.declared.working.Pace.TheVariants.{FreesRoom}
+
+-- the machine of a store that was opened at a number and trees, with session 0 open
+abbrev pub BeginsAt : ℕ → List TreeMap → Machine → Type 0
+BeginsAt number trees machine = (room : ℕ) × (machine ≡ with_session (record (opened_machine trees number [] 0) { room = room }) 0)
+
+-- A store was opened on these files: the machine begins at the number and the trees that they recover, where the device has
+-- answered as it should.
+pub record IsOpenedOn (faithful : Type 0) (files : ℕ → List ℕ) (number : ℕ) (machine : Machine) : Type 0 where
+  pub store : Store
+  pub trees : List TreeMap
+  pub begins : BeginsAt number trees machine
+  pub recovered : faithful → IsRecovered files store number trees
+
+-- Why no store was opened on these files: memory was wanting, the device failed, or they recover nothing.
+abbrev pub MayNotOpen : Type 0 → (ℕ → List ℕ) → Refusal → Type 0
+MayNotOpen faithful files why = (why ≡ NoMemory) ⊎ ((why ≡ DiskFault) ⊎ IsNoStore faithful files why)
+
+-- what is printed before the first line's reply
+abbrev pub opened_text : ℕ → List ℕ
+opened_text number = codes "opened " ++ decimal number ++ codes "\n"
+
+-- a flush that nobody asked for is told of where it is refused
+abbrev pub flushed_text : ReplyLine → List ℕ
+flushed_text told = if is_refusal told then reply_line told else []
+
+-- A store was opened, and its number told: the script begins on it.
+pub record HasBegun (faithful : Type 0) (files : ℕ → List ℕ) (before after : Option (List ℕ)) (script : Script) : Type 0 where
+  pub number : ℕ
+  pub machine : Machine
+  pub opened : IsOpenedOn faithful files number machine
+  pub script_is : script ≡ script_at machine
+  pub told : Appends before after (opened_text number)
+
+-- No store was opened: why is told.
+pub record IsUnopened (faithful : Type 0) (files : ℕ → List ℕ) (before after : Option (List ℕ)) (status : Status) : Type 0 where
+  pub why : Refusal
+  pub may : MayNotOpen faithful files why
+  pub told : Appends before after (refusal_text why ++ 10 ∷ [])
+  pub status_is : status ≡ Refused
+
+-- A script that came to this status ends: all is flushed.
+pub record HasEnded (script : Script) (came_to : Status) (before after : Option (List ℕ)) (status : Status) : Type 0 where
+  pub told : ReplyLine
+  pub last : Script
+  pub flushed : Answers script Flush told last
+  pub wrote : Appends before after (flushed_text told)
+  pub status_is : status ≡ with_refusal (is_refusal told) came_to
+
+-- A store was opened; these lines were played over it, up to this ending, while it freed its room; and at the end all was
+-- flushed.
+pub record RunsOver (faithful : Type 0) (files : ℕ → List ℕ) (lines : List (List ℕ)) (ending : Option Ending) (before after : Option (List ℕ)) (status : Status) : Type 0 where
+  pub script : Script
+  pub opened : Option (List ℕ)
+  pub begins : HasBegun faithful files before opened script
+  pub text : List ℕ
+  pub came_to : Status
+  pub end : Script
+  pub plays : PlaysOn FreesRoom script 1 lines ending text came_to end
+  pub played : Option (List ℕ)
+  pub wrote : Appends opened played text
+  pub ends : HasEnded end came_to played after status
+
+-- A run: no store was opened, or the lines were played over one.
+abbrev pub IsRun : Type 0 → (ℕ → List ℕ) → List (List ℕ) → Option Ending → Option (List ℕ) → Option (List ℕ) → Status → Type 0
+IsRun faithful files lines ending before after status = IsUnopened faithful files before after status ⊎ RunsOver faithful files lines ending before after status

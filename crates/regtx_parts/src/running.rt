@@ -1,0 +1,139 @@
+//! Runs a script over the store that is on a disk.
+ghost use Rattle.std.specs.Prelude.{◌≡◌, ◌++◌, ◌∷◌, [], ℕ, List, Option, Some, IfErr, IfOk, IsOk};
+ghost use Rattle.std.specs.Io.KnownBytes.{Appends};
+ghost use Rattle.refusals.specs.Refusals.{refusal_text};
+ghost use Rattle.recovery.specs.Recovered.{seen_in};
+ghost use Rattle.reg_script.specs.Statuses.{with_refusal};
+ghost use Rattle.regtx_parts.specs.Plays.{WereRead, is_refusal};
+ghost use Rattle.regtx_parts.specs.Players.{script_of};
+ghost use Rattle.regtx_parts.specs.Running.{HasBegun, HasEnded, IsRun, IsUnopened, flushed_text};
+ghost use Rattle.regtx_parts.specs.declared.ending.Ending.{Ending as AnyEnding};
+ghost use Rattle.regtx_parts.specs.declared.ending.Ending.TheVariants.{Broken};
+
+use crate::ending::Ending;
+use crate::opening::open_store;
+use crate::player::Player;
+use crate::runner::{end, is_refusal, play_lines};
+use crate::working::{Pace, settle};
+use disk_model::Disk;
+use refusals::Refusal;
+use reg_script::{ReplyLine, Status};
+use std::alloc::Global;
+use std::io;
+use std::io::{BufRead, Write};
+
+/// Runs a script over the store that is on a disk: opens and repairs the store, prints `opened N` with the number of its last
+/// change, and writes the replies to the script's lines as [`play`](crate::play) does; but that none of them makes a store. At the end,
+/// also behind a line that is not understood, and where the script can't be read on or a write fails, all accepted changes are made
+/// durable, which is told of only where it is refused; and then they are moved into the hives.
+///
+/// Where no store is opened, why is told, and no line is read. The disk is handed back in any case. `Err` says that a write
+/// failed, which ends the run.
+pub fn run<D: Disk, R: BufRead, W: Write>(
+    alloc: Global,
+    disk: D,
+    reader: &mut R,
+    writer: &mut W,
+) -> (D, io::Result<Status>)
+    ensures { IfOk result.1 (λ status. (lines : List (List ℕ)) × (ending : Option AnyEnding)
+        × WereRead (R.remaining reader.old) lines ending × IsRun (D.faithful result.0)
+        (seen_in (D.state_at disk (D.clock disk))) lines ending
+        (W.contents writer.old) (W.contents writer.new) status) }
+{
+    match begin_run(alloc, disk, writer) {
+        Ok(mut player) => {
+            let played = play_lines(alloc, &mut player, Pace::FreesRoom, reader, writer);
+            end_run(player, played, writer)
+        }
+        Err(unopened) => unopened,
+    }
+}
+
+/// The same where the script can't be read at all: the store is opened, and then it is told that the script can't be read.
+pub fn run_unread<D: Disk, W: Write>(
+    alloc: Global,
+    disk: D,
+    writer: &mut W,
+) -> (D, io::Result<Status>)
+    ensures { IfOk result.1 (λ status. IsRun (D.faithful result.0)
+        (seen_in (D.state_at disk (D.clock disk))) [] (Some Broken)
+        (W.contents writer.old) (W.contents writer.new) status) }
+{
+    match begin_run(alloc, disk, writer) {
+        Ok(player) => {
+            let told = end(writer, Ending::Broken);
+            end_run(player, told, writer)
+        }
+        Err(unopened) => unopened,
+    }
+}
+
+// opens the store, and tells its number; or why none is opened
+fn begin_run<D: Disk, W: Write>(
+    alloc: Global,
+    disk: D,
+    writer: &mut W,
+) -> Result<Player<D>, (D, io::Result<Status>)>
+    ensures begun { IfOk result (λ player. HasBegun (D.faithful player.engine.disk)
+        (seen_in (D.state_at disk (D.clock disk))) (W.contents writer.old)
+        (W.contents writer.new) (script_of player)) }
+    ensures unopened { IfErr result (λ back. IfOk back.1 (λ status.
+        IsUnopened (D.faithful back.0) (seen_in (D.state_at disk (D.clock disk)))
+        (W.contents writer.old) (W.contents writer.new) status)) }
+{
+    match open_store(alloc, disk) {
+        Ok((engine, number)) => match writeln!(writer, "opened {number}") {
+            Ok(()) => Ok(Player::new(alloc, engine)),
+            Err(error) => Err((engine.into_disk(), Err(error))),
+        },
+        Err((why, disk)) => Err((disk, tell_refusal(writer, why))),
+    }
+}
+
+// makes all that was accepted durable, and tells of it where that is refused; the store ends
+fn end_run<D: Disk, W: Write>(
+    player: Player<D>,
+    played: io::Result<Status>,
+    writer: &mut W,
+) -> (D, io::Result<Status>)
+    ensures ended { IfOk result.1 (λ status. IfOk played (λ came_to.
+        HasEnded (script_of player) came_to (W.contents writer.old) (W.contents writer.new) status)) }
+    ensures played { IsOk result.1 → IsOk played }
+    ensures faithful { D.faithful result.0 → D.faithful player.engine.disk }
+{
+    let mut player = player;
+    let told = player.flush();
+    let mut engine = player.into_engine();
+    settle(&mut engine);
+    (engine.into_disk(), tell_flush(writer, told, played))
+}
+
+// writes the reply of the last flush where it is a refusal, and answers the run's status
+fn tell_flush<W: Write>(
+    writer: &mut W,
+    told: ReplyLine,
+    played: io::Result<Status>,
+) -> io::Result<Status>
+    ensures told { IfOk result (λ status. IfOk played (λ came_to.
+        (status ≡ with_refusal (is_refusal told) came_to)
+        × Appends (W.contents writer.old) (W.contents writer.new) (flushed_text told))) }
+    ensures played { IsOk result → IsOk played }
+{
+    let came_to = played?;
+    let is_refusal = is_refusal(&told);
+    if is_refusal {
+        told.write(writer)?;
+    }
+    writer.flush()?;
+    Ok(came_to.after(is_refusal))
+}
+
+// writes the line of a refusal
+fn tell_refusal<W: Write>(writer: &mut W, why: Refusal) -> io::Result<Status>
+    ensures { IfOk result (λ status. (status ≡ Status.Refused)
+        × Appends (W.contents writer.old) (W.contents writer.new) (refusal_text why ++ 10 ∷ [])) }
+{
+    writeln!(writer, "{why}")?;
+    writer.flush()?;
+    Ok(Status::Refused)
+}
