@@ -1,5 +1,6 @@
 -- The run of a script over the store that is on a disk: its beginning, its lines and its end.
-use Rattle.std.proofs.Common.{ℕ, List, [], Option, Some, None, Result, Ok, Err, inr, refl}
+use Rattle.std.proofs.Common.{ℕ, List, [], Option, Some, None, Result, Ok, Err, inr, refl, sym}
+use Rattle.std.proofs.lemmas.Bool.{true≢false}
 use Rattle.std.specs.Prelude.{IfOk, IsOk}
 use Rattle.std.specs.Io.KnownBytes.{Appends}
 use Rattle.reg_script.specs.declared.status.Status.{Status}
@@ -17,7 +18,7 @@ none_were_read (Some bytes) = (_, refl)
 -- what is said of an answer that is one only where an earlier one is, with what is said of that
 pub both_ok : {A B E F : Type 0} (H : A → B → Type 0) (G : B → Type 0) (r : Result A E) (p : Result B F) → (IsOk r → IsOk p) → IfOk r (λ a. IfOk p (H a)) → IfOk p G → IfOk r (λ a. (b : B) × H a b × G b)
 both_ok H G (Ok a) (Ok b) also h g = (b, h, g)
-both_ok H G (Ok a) (Err f) also h g = absurd (also refl)
+both_ok H G (Ok a) (Err f) also h g = absurd (true≢false (sym (also refl)))
 both_ok H G (Err e) p also h g = tt
 
 -- a store that was opened, lines that were played over it, and its end

@@ -76,7 +76,15 @@ fn run<R: BufRead, W: Write>(alloc: Global, reader: &mut R, writer: &mut W) -> i
         Ok(Some(engine)) => {
             let mut player = Player::new(alloc, engine);
             ReplyLine::Done.write(writer)?;
-            go_on(alloc, &mut player, Pace::AsAsked, 2, reader, &mut line, writer)
+            go_on(
+                alloc,
+                &mut player,
+                Pace::AsAsked,
+                2,
+                reader,
+                &mut line,
+                writer,
+            )
         }
         Ok(None) => wrong(writer, 1),
         Err(AllocError) => end(writer, Ending::OutOfMemory),

@@ -15,6 +15,6 @@ returns-clause-ok g c =
       trees = whole.found.trees;
       begins = subst (λ n. BeginsAt n whole.found.trees c.in_ok-engine.engine.machine) (sym c.number-number.ensures) c.in_ok-engine.ensures.begins;
       recovered = λ f.
-        subst (λ n. IsRecovered files (store_of first) n whole.found.trees) (sym same.0 ∙ sym c.number-number.ensures)
-        (subst (λ trees. IsRecovered files (store_of first) first.found.number trees) (sym same.1) (c.in_ok-found.ensures.recovered (c.in_ok-opened.ensures.faithful (c.in_ok-engine.ensures.faithful f))));
+          subst (λ n. IsRecovered files (store_of first) n whole.found.trees) (sym same.0 ∙ sym c.number-number.ensures)
+          (subst (λ trees. IsRecovered files (store_of first) first.found.number trees) (sym same.1) (c.in_ok-found.ensures.recovered (c.in_ok-opened.ensures.faithful (c.in_ok-engine.ensures.faithful f))));
     }

@@ -24,9 +24,9 @@ loop-number-preserved g c =
     let turn = subst (λ told. Turns c.args.pace old number known before told new rest mid) c.in-Replied.is (c.in_ok-is_refusal.ensures.told c.args.pace) in (
       λ faithful. c.loop-number.invariant.0 (c.take_turn.ensures.faithful (c.keep_up.ensures.faithful faithful)),
       λ status after end on.
-      subst (λ s. IsPlayedOn c.args.pace (script_of c.args.player.now) c.args.first (remaining c.args.reader.now) (contents c.args.writer.now) after s end) (refusals_join c.loop-number.has_refusal now status)
-      (c.loop-number.invariant.1 (with_refusal now status) after end (goes_on c.args.pace old new kept.machine end number known rest before mid after now status turn c.keep_up.ensures.works
-      (subst (λ (s : Script). IsPlayedOn c.args.pace s (number + 1) rest mid after status end) c.keep_up.ensures.rest on))),
+          subst (λ s. IsPlayedOn c.args.pace (script_of c.args.player.now) c.args.first (remaining c.args.reader.now) (contents c.args.writer.now) after s end) (refusals_join c.loop-number.has_refusal now status)
+          (c.loop-number.invariant.1 (with_refusal now status) after end (goes_on c.args.pace old new kept.machine end number known rest before mid after now status turn c.keep_up.ensures.works
+          (subst (λ (s : Script). IsPlayedOn c.args.pace s (number + 1) rest mid after status end) c.keep_up.ensures.rest on))),
     )
 
 pub returns-in-Over-clause-played : goal.returns-in-Over-clause-played

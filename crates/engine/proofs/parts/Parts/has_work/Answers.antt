@@ -23,7 +23,7 @@ returns g c =
       λ e. rests_on s.store.machine s.base s.spelled.value.items s.naming.last.items naming s.hives.items c.args.place c.index-3.result.now c.applied.result c.index-2.result.now c.index.result.now (at_place s.hives.items c.args.place c.index-2.result.now c.requires.there c.index-2.ensures) there
           last c.applied.ensures (ltb-false c.applied.result c.index-3.result.now e),
       λ has.
-        let le = (has_all s.store.machine s.base s.spelled.value.items s.naming.last.items naming c.args.place c.index-3.result.now c.index.result.now last).0 has in
-        let same = same_hive s.hives.items c.args.place c.index-2.result.now c.index.result.now (at_place s.hives.items c.args.place c.index-2.result.now c.requires.there c.index-2.ensures) there in
-        le-ltb c.applied.result c.index-3.result.now (omega (arith, le, c.applied.ensures, ap (λ (h : HiveFile). (files_of h).now.1) same)),
+          let le = (has_all s.store.machine s.base s.spelled.value.items s.naming.last.items naming c.args.place c.index-3.result.now c.index.result.now last).0 has in
+          let same = same_hive s.hives.items c.args.place c.index-2.result.now c.index.result.now (at_place s.hives.items c.args.place c.index-2.result.now c.requires.there c.index-2.ensures) there in
+          le-ltb c.applied.result c.index-3.result.now (omega (arith, le, c.applied.ensures, ap (λ (h : HiveFile). (files_of h).now.1) same)),
     )
