@@ -7,7 +7,7 @@ use Rattle.std.specs.BTreeMap.{is_at}
 use Rattle.std.specs.Map.{lookup}
 use Rattle.machine.specs.Machine.{Machine}
 use Rattle.regtx_parts.specs.Labels.{NamesNothing, named_by}
-use Rattle.regtx_parts.specs.Scripts.{Script, script_at}
+use Rattle.regtx_parts.specs.Scripts.{script_at}
 use Rattle.regtx_parts.specs.declared.labels.Labels.{Labels}
 
 -- no label names anything
