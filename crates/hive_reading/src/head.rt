@@ -1,8 +1,8 @@
-//! The base block of a file that is to be dumped.
+//! The base block of a file that is read as a hive.
 ghost use Rattle.std.specs.Prelude.{◌≡◌, ◌≤◌, ◌<◌, length, List, ℕ, MatchResult};
 ghost use Rattle.base_block.specs.Judgements.{IsPrimary};
 ghost use Rattle.dirt_log.specs.WholeLog.{block_of};
-ghost use Rattle.hive_dump.specs.Hives.{IsFront, HasBlock, NoHive};
+ghost use Rattle.hive_reading.specs.Hives.{IsFront, HasBlock, NoHive};
 
 use base_block::BaseBlock;
 use refusals::{Cause, Refusal};

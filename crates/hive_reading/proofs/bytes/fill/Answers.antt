@@ -4,8 +4,8 @@ use Rattle.std.specs.Io.KnownBytes.{Consumes}
 use Rattle.std.proofs.KnownBytes.{Consumes-trans, Consumes-kept}
 use borrow.Rule.Slice.PartMut.{put_mid, post_of}
 use lib.Seq.{take-add, take-append-le}
-use Rattle.hive_dump.proofs.bytes.fill.Goals as goal
-use Rattle.hive_dump.proofs.bytes.fill.Goals.{in-Ok, in-Err+else-ne}
+use Rattle.hive_reading.proofs.bytes.fill.Goals as goal
+use Rattle.hive_reading.proofs.bytes.fill.Goals.{in-Ok, in-Err+else-ne}
 
 take_split : (a b : ℕ) (old new : List ℕ) → a ≤ b → take a new ≡ take a old → take a old ++ slice_range new a b ≡ take b new
 take_split a b old new h front =

@@ -15,8 +15,8 @@ use Rattle.dirt_log.specs.WholeLog.{block_of}
 use Rattle.reg_tree.specs.Maps.{TreeMap}
 use Rattle.dirt_log.specs.Held.{is_clean_file, IsOwn}
 use Rattle.hive_load.specs.Limits.{StandsWithin, BinsRefused}
-use Rattle.hive_dump.specs.Hives.{HasBlock, HoldsHive, NoHive, IsFront, no_sector, not_clean, not_usable, not_whole, not_loaded}
-use Rattle.hive_dump.specs.Dumps.{FileRefused}
+use Rattle.hive_reading.specs.Hives.{HasBlock, HoldsHive, NoHive, IsFront, no_sector, not_clean, not_usable, not_whole, not_loaded}
+use Rattle.hive_reading.specs.Readings.{IsRefused, IsRefusedAs, of_hive}
 
 -- what holds of a known value for another reason
 pub some_as : {A : Type 0} {P Q : A → Type 0} (known : Option A) → ((x : A) → P x → Q x) → IfSome known P → IfSome known Q
@@ -63,7 +63,7 @@ read_own (Some file) (Some rest) (Some tail) head bins block a b long size has =
 
 -- bins data that end early
 pub read_short : (known mid now : Option (List ℕ)) (head bins : List ℕ) (block : BaseBlock) → Consumes known mid head → Consumes mid now bins → length head ≡ 4096 → length bins < block.bins_size → IsAtEnd now → IfSome known (λ file. HasBlock file block)
-    → IfSome known (λ file. FileRefused file (refusal.HiveDamaged 0 cause.Truncated))
+    → IfSome known (λ file. IsRefused file (refusal.HiveDamaged 0 cause.Truncated))
 read_short None mid now head bins block a b long size end has = tt
 read_short (Some file) None now head bins block a b long size end has = absurd a
 read_short (Some file) (Some rest) None head bins block a b long size end has = absurd b
@@ -168,3 +168,9 @@ none_held law file why (not_loaded _ block bins has own refused) some tree holds
     let same : bins ≡ holds.bins = same_bins file bins holds.bins block holds.block own holds.own in
     law holds.bins holds.block.root holds.block.minor why
     (subst (λ (b : BaseBlock). BinsRefused holds.bins b.root b.minor why) blocks (subst (λ (l : List ℕ). BinsRefused l block.root block.minor why) same refused)) some tree holds.tree_is
+
+-- so of one that is refused as a hive of some number
+pub none_held_as : ((bytes : List ℕ) (root minor : ℕ) (why : Refusal) → BinsRefused bytes root minor why → why ≢ refusal.NoMemory → (tree : TreeMap) → StandsWithin bytes root minor tree → ⊥)
+    → (hive : ℕ) (file : List ℕ) (why : Refusal) → IsRefusedAs hive file why → why ≢ refusal.NoMemory → (tree : TreeMap) → HoldsHive file tree → ⊥
+none_held_as law hive file why (plain, inl memory, told) some tree holds = some (told ∙ ap (of_hive hive) memory)
+none_held_as law hive file why (plain, inr stands, told) some tree holds = none_held law file plain stands (λ memory. some (told ∙ ap (of_hive hive) memory)) tree holds

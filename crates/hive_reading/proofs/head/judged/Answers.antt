@@ -1,7 +1,7 @@
 use Rattle.std.proofs.Common.{refl, sym, subst}
-use Rattle.hive_dump.specs.Hives.{NoHive}
-use Rattle.hive_dump.proofs.Files.{told_no_sector, told_not_clean, told_not_usable, told_block, told_cut}
-use Rattle.hive_dump.proofs.head.judged.Goals as goal
+use Rattle.hive_reading.specs.Hives.{NoHive}
+use Rattle.hive_reading.proofs.Files.{told_no_sector, told_not_clean, told_not_usable, told_block, told_cut}
+use Rattle.hive_reading.proofs.head.judged.Goals as goal
 
 pub returns-in_default : goal.returns-in_default
 returns-in_default c = λ file is. subst (NoHive file) (sym c.from.ensures) (told_no_sector file c.args.head.now is c.in_default.ensures.none)

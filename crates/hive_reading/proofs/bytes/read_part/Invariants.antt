@@ -1,6 +1,6 @@
 use Rattle.std.proofs.Common.{◌≤◌, ◌-◌, length}
 use Rattle.std.specs.Io.KnownBytes.{Consumes}
-use Rattle.hive_dump.proofs.bytes.read_part.Given as goal
+use Rattle.hive_reading.proofs.bytes.read_part.Given as goal
 
 -- the part so far was read
 abbrev pub invariant-pieces : goal.invariant-pieces

@@ -1,6 +1,6 @@
 use Rattle.std.proofs.Common.{◌≡◌, ◌≤◌, length, take}
 use Rattle.std.specs.Io.KnownBytes.{Consumes}
-use Rattle.hive_dump.proofs.bytes.fill.Given as goal
+use Rattle.hive_reading.proofs.bytes.fill.Given as goal
 
 -- what the buffer begins with was read
 abbrev pub invariant-reads : goal.invariant-reads
