@@ -1,25 +1,19 @@
 -- What a dump prints, and with which status.
-use Rattle.std.specs.Prelude.{◌≡◌, ◌⊎◌, ℕ, List, [], ◌∷◌, ◌++◌, Option, IfSome, Result, Ok, Err}
+use Rattle.std.specs.Prelude.{◌≡◌, ℕ, List, [], ◌∷◌, ◌++◌, Option, IfSome, Result, Ok, Err}
 use Rattle.std.specs.Io.KnownBytes.{Appends}
 use Rattle.refusals.specs.Refusals.{refusal_text}
 use Rattle.refusals.specs.declared.refusal.Refusal.{Refusal}
-use Rattle.refusals.specs.declared.refusal.Refusal.TheVariants.{NoMemory}
 use Rattle.reg_script.specs.declared.status.Status.{Status}
 use Rattle.reg_script.specs.declared.status.Status.TheVariants.{Clean, Refused}
 use Rattle.reg_tree.specs.Maps.{TreeMap}
 use Rattle.tree_text.specs.TreeTexts.{tree_text}
-use Rattle.hive_dump.specs.Hives.{HoldsHive, NoHive}
-use Rattle.hive_dump.specs.declared.hive.Untold.{Untold}
-use Rattle.hive_dump.specs.declared.hive.Untold.TheVariants as untold
+use Rattle.hive_reading.specs.Hives.{HoldsHive}
+use Rattle.hive_reading.specs.Readings.{IsRefusedAs}
 
--- why a file is refused: memory was not given, or it holds no hive
-abbrev pub FileRefused : List ℕ → Refusal → Type 0
-FileRefused file why = (why ≡ NoMemory) ⊎ NoHive file why
-
--- what is told of a file: the tree that it holds, or why it is refused
+-- what is told of a file: the tree that it holds, or why it is refused as hive 0
 abbrev pub IsTold : List ℕ → Result TreeMap Refusal → Type 0
 IsTold file (Ok tree) = HoldsHive file tree
-IsTold file (Err why) = FileRefused file why
+IsTold file (Err why) = IsRefusedAs 0 file why
 
 -- its text: that of the tree as hive 0, or the refusal's line
 abbrev pub told_text : Result TreeMap Refusal → List ℕ
@@ -35,13 +29,3 @@ told_status (Err why) = Refused
 abbrev pub IsDumped : Option (List ℕ) → Option (List ℕ) → Option (List ℕ) → Status → Type 0
 IsDumped known before after status =
     (told : Result TreeMap Refusal) × IfSome known (λ file. IsTold file told) × Appends before after (told_text told) × (status ≡ told_status told)
-
--- a refusal is one of the file's, where its bytes are known
-abbrev pub TellsWhy : Option (List ℕ) → Untold → Type 0
-TellsWhy known (untold.Refused why) = IfSome known (λ file. FileRefused file why)
-TellsWhy known untold.Unreadable = Unit {0}
-
--- a reader's error is want of memory, or says that the file can't be read
-abbrev pub IsUnread : Untold → Type 0
-IsUnread (untold.Refused why) = why ≡ NoMemory
-IsUnread untold.Unreadable = Unit {0}

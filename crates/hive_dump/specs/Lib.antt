@@ -1,2 +1,1 @@
-pub mod Hives
 pub mod Dumps

@@ -6,7 +6,7 @@ ghost use Rattle.tree_text.specs.TreeTexts.{tree_text};
 ghost use Rattle.hive_dump.specs.declared.dumping.DumpFault.TheVariants.{CannotWrite};
 ghost use Rattle.hive_dump.specs.Dumps.{IsDumped};
 
-use crate::hive::{Untold, read_hive};
+use hive_reading::{Unread, read_hive};
 use refusals::Refusal;
 use reg_script::Status;
 use reg_tree::Tree;
@@ -55,10 +55,10 @@ pub fn dump<R: Read, W: Write>(
     ensures unread { result ≡ Err DumpFault.CannotRead →
         Keeps (W.contents writer.old) (W.contents writer.new) }
 {
-    match read_hive(alloc, reader) {
+    match read_hive(alloc, reader, HIVE) {
         Ok(tree) => Ok(tell_tree(writer, &tree)?),
-        Err(Untold::Refused(why)) => Ok(tell_refusal(writer, why)?),
-        Err(Untold::Unreadable) => Err(DumpFault::CannotRead),
+        Err(Unread::Refused(why)) => Ok(tell_refusal(writer, why)?),
+        Err(Unread::Unreadable) => Err(DumpFault::CannotRead),
     }
 }
 

@@ -1,8 +1,10 @@
 //! What the program says where it can't begin its work.
+use file_disk::Unheld;
 use refusals::Refusal;
 use reg_script::Status;
 use std::alloc::{AllocError, AllocFailed};
 use std::io;
+use store_making::Unreadable;
 use thiserror::Error;
 
 /// Why the program can't begin its work. Its text is what the program prints.
@@ -14,6 +16,9 @@ pub enum Fault {
     /// A file that the command line names can't be read.
     #[error("cannot read file")]
     CannotReadFile,
+    /// No store can be made in the folder that the command line names: it can't be made or held, or it has a store.
+    #[error("cannot make store")]
+    CannotMakeStore,
     /// Memory was asked for and not given.
     #[error("{0}")]
     Refused(Refusal),
@@ -24,7 +29,7 @@ impl Fault {
     pub fn status(&self) -> Status {
         match self {
             Fault::WrongWords => Status::Wrong,
-            Fault::CannotReadFile | Fault::Refused(_) => Status::Refused,
+            Fault::CannotReadFile | Fault::CannotMakeStore | Fault::Refused(_) => Status::Refused,
         }
     }
 }
@@ -46,6 +51,21 @@ impl From<io::Error> for Fault {
         match error.kind() {
             io::ErrorKind::OutOfMemory => Fault::Refused(Refusal::NoMemory),
             _ => Fault::WrongWords,
+        }
+    }
+}
+
+impl From<Unreadable> for Fault {
+    fn from(_error: Unreadable) -> Fault {
+        Fault::CannotReadFile
+    }
+}
+
+impl From<Unheld> for Fault {
+    fn from(error: Unheld) -> Fault {
+        match error {
+            Unheld::NoMemory => Fault::Refused(Refusal::NoMemory),
+            Unheld::InUse | Unheld::Denied(_) => Fault::CannotMakeStore,
         }
     }
 }

@@ -1,17 +1,21 @@
-//! The program `regtx`: reads the words of its command line, and leaves the work to `regtx_parts` and `hive_dump`.
+//! The program `regtx`: reads the words of its command line, and leaves the work to `regtx_parts`, `hive_dump` and
+//! `store_making`.
 //!
 //! Everything is printed to standard output, each reply at once where a script comes from a pipe or a keyboard. The status
-//! is 0 where no refusal was printed, 1 where one was, a script or a file can't be read or a write fails, and 2 at a line that
-//! is none or at wrong words.
+//! is 0 where no refusal was printed, 1 where one was, a script or a file can't be read, a store can't be made or a write fails, and 2
+//! at a line that is none or at wrong words.
 #![tactic(auto)]
 
 mod fault;
+mod files;
+mod making;
 mod words;
 
 use crate::fault::Fault;
+use crate::files::opened;
+use crate::making::{import_store, new_store};
 use crate::words::{Task, task_asked};
 use hive_dump::{DumpFault, dump};
-use refusals::Refusal;
 use reg_script::Status;
 use regtx_parts::{play, refuse_script};
 use std::alloc::Global;
@@ -33,11 +37,17 @@ fn main(rt: HostRuntime) -> ExitCode {
 }
 
 // does what the words ask for; a write that fails ends it with the status of a refusal
-fn run<R: Files + Print + Env + AllocGlobal>(rt: &R) -> Result<Status, Fault> {
+fn run<R: Files<File = File> + Print + Env + AllocGlobal>(rt: &R) -> Result<Status, Fault> {
     let words = words_given(rt, rt.alloc())?;
     match task_asked(rt.alloc(), &words)? {
         Task::Play { script } => play_script(rt, script),
         Task::Dump { file } => dump_file(rt, file),
+        Task::New { folder, id, count } => new_store(rt, folder, id, count),
+        Task::Import {
+            folder,
+            id,
+            sources,
+        } => import_store(rt, folder, id, &sources),
     }
 }
 
@@ -59,13 +69,7 @@ fn play_script<R: Files + Print + AllocGlobal>(rt: &R, script: &str) -> Result<S
 fn dump_file<R: Files + Print + AllocGlobal>(rt: &R, path: &str) -> Result<Status, Fault> {
     let alloc = rt.alloc();
     let mut writer = BufWriter::new(alloc, io::writer(rt))?;
-    let mut file = match File::open(rt, path) {
-        Ok(file) => file,
-        Err(error) if error.kind() == io::ErrorKind::OutOfMemory => {
-            return Err(Fault::Refused(Refusal::NoMemory));
-        }
-        Err(_) => return Err(Fault::CannotReadFile),
-    };
+    let mut file = opened(rt, path)?;
     match dump(alloc, &mut file, &mut writer) {
         Ok(status) => Ok(status),
         Err(DumpFault::CannotRead) => Err(Fault::CannotReadFile),

@@ -1,10 +1,15 @@
 //! The words of the command line: one level of sub-commands, with positional arguments alone.
+ghost use Rattle.std.specs.Prelude.{◌≤◌, length};
+ghost use Rattle.refusals.specs.declared.limits.TheConstants.{MOST_HIVES};
+
 use crate::fault::Fault;
-use clap::{Arg, ArgAction, Command};
-use std::alloc::Global;
+use clap::{Arg, ArgAction, ArgMatches, Command};
+use refusals::limits::MOST_HIVES;
+use std::alloc::{AllocError, Global};
+use uuid::Uuid;
 
 /// What the words of the command line ask for.
-#[derive(Clone, Copy)]
+#[derive(Drop)]
 pub enum Task<'a> {
     /// `play SCRIPT`: a script is to be played.
     Play {
@@ -16,32 +21,126 @@ pub enum Task<'a> {
         /// Where the hive is.
         file: &'a str,
     },
+    /// `new DIR ID COUNT`: a store of empty hives is to be made.
+    New {
+        /// The folder of the store.
+        folder: &'a str,
+        /// The store's id.
+        id: Uuid,
+        /// How many hives it is to have.
+        count: HiveCount,
+    },
+    /// `import DIR ID FILE..`: a store of the hives in files is to be made.
+    Import {
+        /// The folder of the store.
+        folder: &'a str,
+        /// The store's id.
+        id: Uuid,
+        /// Where the hives are.
+        sources: Sources<'a>,
+    },
+}
+
+/// How many hives a store is to have, 1 to 16.
+#[derive(Clone, Copy)]
+pub struct HiveCount {
+    /// The number.
+    pub number: usize,
+    ghost some: { 1 ≤ number },
+    ghost few: { number ≤ MOST_HIVES },
+}
+
+/// Where the hives of a store are that is to be made, 1 to 16, in the order of their numbers.
+#[derive(Drop)]
+pub struct Sources<'a> {
+    /// The paths of their files.
+    pub paths: Vec<&'a str>,
+    ghost some: { 1 ≤ length paths.items },
+    ghost few: { length paths.items ≤ MOST_HIVES },
 }
 
 /// What the words ask for. Any other words are wrong.
 pub fn task_asked<'a>(alloc: Global, words: &'a [String]) -> Result<Task<'a>, Fault> {
-    let script = Arg::new(alloc, "SCRIPT")
-        .required(true)
-        .action(ArgAction::Set);
-    let file = Arg::new(alloc, "FILE")
-        .required(true)
-        .action(ArgAction::Set);
-    let play = Command::new(alloc, "play").arg(script)?;
-    let dump = Command::new(alloc, "dump").arg(file)?;
-    let command = Command::new(alloc, "regtx")
-        .subcommand_required(true)
-        .subcommand(play)?
-        .subcommand(dump)?;
-    let matches = command.try_get_matches_from(words)?;
+    let matches = command(alloc)?.try_get_matches_from(words)?;
     match matches.subcommand() {
-        Some(("play", given)) => match given.get_str("SCRIPT") {
-            Some(script) => Ok(Task::Play { script }),
-            None => Err(Fault::WrongWords),
-        },
-        Some(("dump", given)) => match given.get_str("FILE") {
-            Some(file) => Ok(Task::Dump { file }),
-            None => Err(Fault::WrongWords),
-        },
+        Some(("play", given)) => Ok(Task::Play {
+            script: text(given, "SCRIPT")?,
+        }),
+        Some(("dump", given)) => Ok(Task::Dump {
+            file: text(given, "FILE")?,
+        }),
+        Some(("new", given)) => Ok(Task::New {
+            folder: text(given, "DIR")?,
+            id: id(given)?,
+            count: hive_count(text(given, "COUNT")?)?,
+        }),
+        Some(("import", given)) => Ok(Task::Import {
+            folder: text(given, "DIR")?,
+            id: id(given)?,
+            sources: sources_named(alloc, given)?,
+        }),
         _ => Err(Fault::WrongWords),
     }
+}
+
+// the words that are understood
+fn command<'a>(alloc: Global) -> Result<Command<'a>, AllocError> {
+    let play = Command::new(alloc, "play").arg(one(alloc, "SCRIPT"))?;
+    let dump = Command::new(alloc, "dump").arg(one(alloc, "FILE"))?;
+    let new = Command::new(alloc, "new")
+        .arg(one(alloc, "DIR"))?
+        .arg(one(alloc, "ID"))?
+        .arg(one(alloc, "COUNT"))?;
+    let files = one(alloc, "FILE").num_args(1..=MOST_HIVES);
+    let import = Command::new(alloc, "import")
+        .arg(one(alloc, "DIR"))?
+        .arg(one(alloc, "ID"))?
+        .arg(files)?;
+    Command::new(alloc, "regtx")
+        .subcommand_required(true)
+        .subcommand(play)?
+        .subcommand(dump)?
+        .subcommand(new)?
+        .subcommand(import)
+}
+
+// one word that has to be there
+fn one<'a>(alloc: Global, name: &'a str) -> Arg<'a> {
+    Arg::new(alloc, name).required(true).action(ArgAction::Set)
+}
+
+// the word of this name
+fn text<'a>(given: &ArgMatches<'a>, name: &str) -> Result<&'a str, Fault> {
+    given.get_str(name).ok_or(Fault::WrongWords)
+}
+
+// the id, in any text form that a UUID has
+fn id(given: &ArgMatches<'_>) -> Result<Uuid, Fault> {
+    match Uuid::parse_str(text(given, "ID")?) {
+        Ok(id) => Ok(id),
+        Err(_) => Err(Fault::WrongWords),
+    }
+}
+
+// a number of hives, in decimal digits; a sign is none
+fn hive_count(word: &str) -> Result<HiveCount, Fault> {
+    if !word.as_bytes().iter().all(|byte| byte.is_ascii_digit()) {
+        return Err(Fault::WrongWords);
+    }
+    match word.parse::<usize>() {
+        Ok(number) if number >= 1 && number <= MOST_HIVES => Ok(HiveCount { number }),
+        _ => Err(Fault::WrongWords),
+    }
+}
+
+// the files of an import
+fn sources_named<'a>(alloc: Global, given: &ArgMatches<'a>) -> Result<Sources<'a>, Fault> {
+    let Some(words) = given.get_strs("FILE") else {
+        return Err(Fault::WrongWords);
+    };
+    let paths = words.to_vec(alloc)?;
+    if paths.is_empty() || paths.len() > MOST_HIVES {
+        return Err(Fault::WrongWords);
+    }
+    Ok(Sources { paths })
 }

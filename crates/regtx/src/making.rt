@@ -1,0 +1,115 @@
+//! What the words `new` and `import` do with files: the folder of a store that is to be made, and the files of an import.
+//!
+//! What is made and told is left to `store_making`, over the folder as a disk. Of real files it is trusted that they are what they
+//! answer, and that the system keeps what it has synced, a folder's entries too; nothing is supposed of what they first hold, for
+//! all of a store's files are made anew.
+ghost use Rattle.std.specs.Prelude.{◌≤◌, IfOk};
+
+use crate::fault::Fault;
+use crate::files::opened;
+use crate::words::{HiveCount, Sources};
+use file_disk::{FileDisk, Unknown};
+use refusals::Refusal;
+use reg_script::Status;
+use std::fs::{self, File};
+use std::io::{self, BufWriter, ErrorKind};
+use std::path::Path;
+use std::rt::Files;
+use store_making::{Import, make_new};
+use uuid::Uuid;
+
+/// Makes a store of so many empty hives in a folder, and prints whether it is made.
+pub fn new_store<R: Files<File = File> + Print + AllocGlobal>(
+    rt: &R,
+    folder: &str,
+    id: Uuid,
+    count: HiveCount,
+) -> Result<Status, Fault> {
+    let alloc = rt.alloc();
+    let mut writer = BufWriter::new(alloc, io::writer(rt))?;
+    let mut disk = held_folder(rt, folder)?;
+    let made = make_new(alloc, &mut disk, id, count.number, &mut writer);
+    Ok(made.unwrap_or(Status::Refused))
+}
+
+/// Makes a store of the hives of some files in a folder, and prints whether it is made. All files are read first, then the folder
+/// is looked at, and last comes what the files hold.
+pub fn import_store<R: Files<File = File> + Print + AllocGlobal>(
+    rt: &R,
+    folder: &str,
+    id: Uuid,
+    sources: &Sources<'_>,
+) -> Result<Status, Fault> {
+    let alloc = rt.alloc();
+    let mut writer = BufWriter::new(alloc, io::writer(rt))?;
+    let import = import_of(rt, sources)?;
+    let mut disk = held_folder(rt, folder)?;
+    let made = import.make(alloc, &mut disk, id, &mut writer);
+    Ok(made.unwrap_or(Status::Refused))
+}
+
+// the import of files, each read as the hive of its place
+fn import_of<R: Files + AllocGlobal>(rt: &R, sources: &Sources<'_>) -> Result<Import, Fault>
+    ensures some { IfOk result (λ import. 1 ≤ import.count) }
+{
+    let mut import = Import::new(rt.alloc());
+    for path in &sources.paths {
+        let mut file = opened(rt, path)?;
+        import.take(rt.alloc(), &mut file)?;
+    }
+    Ok(import)
+}
+
+// the folder of a store that is to be made, as a disk: it is made where it is missing, and held; a journal is looked for once
+// nobody else can make a store there
+fn held_folder<'a, R: Files<File = File> + AllocGlobal>(
+    rt: &'a R,
+    folder: &str,
+) -> Result<FileDisk<&'a R, Unknown>, Fault> {
+    make_folder(rt, folder)?;
+    let disk = FileDisk::hold(rt, rt.alloc(), folder)?;
+    if has_journal(rt, folder)? {
+        return Err(Fault::CannotMakeStore);
+    }
+    Ok(disk)
+}
+
+// makes a folder where it is missing, so that a power cut leaves it
+fn make_folder<R: Files<File = File>>(rt: &R, folder: &str) -> Result<(), Fault> {
+    match fs::create_dir(rt, folder) {
+        Ok(()) => sync_parent(rt, folder),
+        Err(error) if error.kind() == ErrorKind::AlreadyExists => Ok(()),
+        Err(error) => Err(unmade(error)),
+    }
+}
+
+// syncs the folder in which a folder is
+fn sync_parent<R: Files<File = File>>(rt: &R, folder: &str) -> Result<(), Fault> {
+    let parent = match Path::new(folder).parent() {
+        Some(parent) if !parent.as_os_str().is_empty() => parent,
+        _ => Path::new("."),
+    };
+    let synced = match File::open(rt, parent) {
+        Ok(handle) => handle.sync_all(),
+        Err(error) => Err(error),
+    };
+    synced.map_err(unmade)
+}
+
+// whether a folder has an entry of a journal's name, whatever it is
+fn has_journal<R: Files + AllocGlobal>(rt: &R, folder: &str) -> Result<bool, Fault> {
+    let journal = Path::new(folder).join(rt.alloc(), "journal")?;
+    match fs::symlink_metadata(rt, journal.as_path()) {
+        Ok(_) => Ok(true),
+        Err(error) if error.kind() == ErrorKind::NotFound => Ok(false),
+        Err(error) => Err(unmade(error)),
+    }
+}
+
+// why the folder of a store can't be had
+fn unmade(error: io::Error) -> Fault {
+    match error.kind() {
+        ErrorKind::OutOfMemory => Fault::Refused(Refusal::NoMemory),
+        _ => Fault::CannotMakeStore,
+    }
+}

@@ -1,0 +1,3 @@
+pub mod Fresh
+pub mod Takings
+pub mod Makings

@@ -1,0 +1,4 @@
+pub mod Makings
+pub mod Imports
+pub mod Codes
+pub mod Inside
