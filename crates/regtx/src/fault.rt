@@ -19,6 +19,9 @@ pub enum Fault {
     /// No store can be made in the folder that the command line names: it can't be made or held, or it has a store.
     #[error("cannot make store")]
     CannotMakeStore,
+    /// The folder that the command line names can't be held: another program has it, or the system refuses it.
+    #[error("cannot open store")]
+    CannotOpenStore,
     /// Memory was asked for and not given.
     #[error("{0}")]
     Refused(Refusal),
@@ -29,7 +32,10 @@ impl Fault {
     pub fn status(&self) -> Status {
         match self {
             Fault::WrongWords => Status::Wrong,
-            Fault::CannotReadFile | Fault::CannotMakeStore | Fault::Refused(_) => Status::Refused,
+            Fault::CannotReadFile
+            | Fault::CannotMakeStore
+            | Fault::CannotOpenStore
+            | Fault::Refused(_) => Status::Refused,
         }
     }
 }

@@ -2,28 +2,29 @@
 //! `store_making`.
 //!
 //! Everything is printed to standard output, each reply at once where a script comes from a pipe or a keyboard. The status
-//! is 0 where no refusal was printed, 1 where one was, a script or a file can't be read, a store can't be made or a write fails, and 2
+//! is 0 where no refusal was printed, 1 where one was, a script or a file can't be read, a store can't be made or opened, or a write fails, and 2
 //! at a line that is none or at wrong words.
 #![tactic(auto)]
 
 mod fault;
 mod files;
 mod making;
+mod running;
 mod words;
 
 use crate::fault::Fault;
 use crate::files::opened;
 use crate::making::{import_store, new_store};
+use crate::running::{play_script, run_script};
 use crate::words::{Task, task_asked};
 use hive_dump::{DumpFault, dump};
 use reg_script::Status;
-use regtx_parts::{play, refuse_script};
 use std::alloc::Global;
 use std::fs::File;
-use std::io::{BufReader, BufWriter, LineWriter, Write};
+use std::io::BufWriter;
 use std::process::ExitCode;
 use std::rt::{Env, Files};
-use std::{env, fs, io};
+use std::{env, io};
 
 fn main(rt: HostRuntime) -> ExitCode {
     let code = match run(&rt) {
@@ -48,21 +49,8 @@ fn run<R: Files<File = File> + Print + Env + AllocGlobal>(rt: &R) -> Result<Stat
             id,
             sources,
         } => import_store(rt, folder, id, &sources),
+        Task::Run { folder, script } => run_script(rt, folder, script),
     }
-}
-
-// plays the script of this path
-fn play_script<R: Files + Print + AllocGlobal>(rt: &R, script: &str) -> Result<Status, Fault> {
-    let alloc = rt.alloc();
-    let played = if is_at_hand(rt, script) {
-        let mut writer = BufWriter::new(alloc, io::writer(rt))?;
-        play_file(rt, script, &mut writer)?
-    } else {
-        // whoever sends the script may wait for a reply before the next line: each leaves as soon as it is made
-        let mut writer = LineWriter::new(alloc, io::writer(rt))?;
-        play_file(rt, script, &mut writer)?
-    };
-    Ok(played.unwrap_or(Status::Refused))
 }
 
 // prints the hive in the file of this path
@@ -75,30 +63,6 @@ fn dump_file<R: Files + Print + AllocGlobal>(rt: &R, path: &str) -> Result<Statu
         Err(DumpFault::CannotRead) => Err(Fault::CannotReadFile),
         Err(DumpFault::CannotWrite) => Ok(Status::Refused),
     }
-}
-
-// whether reading the script waits for nobody, as that of a plain file
-fn is_at_hand<R: Files>(rt: &R, script: &str) -> bool {
-    match fs::metadata(rt, script) {
-        Ok(metadata) => metadata.is_file(),
-        Err(_) => false,
-    }
-}
-
-// plays the script; the answer within tells of writes that failed
-fn play_file<R: Files + AllocGlobal, W: Write>(
-    rt: &R,
-    script: &str,
-    writer: &mut W,
-) -> Result<io::Result<Status>, Fault> {
-    let alloc = rt.alloc();
-    Ok(match File::open(rt, script) {
-        Ok(file) => {
-            let mut reader = BufReader::new(alloc, file)?;
-            play(alloc, &mut reader, writer)
-        }
-        Err(_) => refuse_script(writer),
-    })
 }
 
 // the words of the command line

@@ -16,6 +16,13 @@ pub enum Task<'a> {
         /// Where the script is.
         script: &'a str,
     },
+    /// `run DIR SCRIPT`: a script is to be run over a store.
+    Run {
+        /// The folder of the store.
+        folder: &'a str,
+        /// Where the script is.
+        script: &'a str,
+    },
     /// `dump FILE`: a hive is to be printed.
     Dump {
         /// Where the hive is.
@@ -66,6 +73,10 @@ pub fn task_asked<'a>(alloc: Global, words: &'a [String]) -> Result<Task<'a>, Fa
         Some(("play", given)) => Ok(Task::Play {
             script: text(given, "SCRIPT")?,
         }),
+        Some(("run", given)) => Ok(Task::Run {
+            folder: text(given, "DIR")?,
+            script: text(given, "SCRIPT")?,
+        }),
         Some(("dump", given)) => Ok(Task::Dump {
             file: text(given, "FILE")?,
         }),
@@ -86,6 +97,9 @@ pub fn task_asked<'a>(alloc: Global, words: &'a [String]) -> Result<Task<'a>, Fa
 // the words that are understood
 fn command<'a>(alloc: Global) -> Result<Command<'a>, AllocError> {
     let play = Command::new(alloc, "play").arg(one(alloc, "SCRIPT"))?;
+    let run = Command::new(alloc, "run")
+        .arg(one(alloc, "DIR"))?
+        .arg(one(alloc, "SCRIPT"))?;
     let dump = Command::new(alloc, "dump").arg(one(alloc, "FILE"))?;
     let new = Command::new(alloc, "new")
         .arg(one(alloc, "DIR"))?
@@ -99,6 +113,7 @@ fn command<'a>(alloc: Global) -> Result<Command<'a>, AllocError> {
     Command::new(alloc, "regtx")
         .subcommand_required(true)
         .subcommand(play)?
+        .subcommand(run)?
         .subcommand(dump)?
         .subcommand(new)?
         .subcommand(import)
