@@ -103,18 +103,21 @@ impl<D: Disk> Engine<D> {
             return Err((Refusal::NoMemory, Opened::from_parts(disk, found)));
         };
         let spelled = Snapshot::of(&found.opened);
+        let mut parts = Parts {
+            alloc,
+            disk,
+            journal: found.journal,
+            hives: found.hives,
+            store,
+            spelled,
+            base: found.base,
+            opened: found.opened,
+            naming,
+        };
+        // what all hives hold isn't kept in memory
+        parts.let_go();
         Ok(Engine {
-            parts: Parts {
-                alloc,
-                disk,
-                journal: found.journal,
-                hives: found.hives,
-                store,
-                spelled,
-                base: found.base,
-                opened: found.opened,
-                naming,
-            },
+            parts,
             prepared: None,
         })
     }

@@ -141,8 +141,8 @@ impl<D: Disk> Parts<D> {
         come
     }
 
-    // lets go of the durable changes that no hive lacks
-    fn let_go(&mut self)
+    /// Lets go of the durable changes that no hive lacks.
+    pub fn let_go(&mut self)
         requires sound { IsSound self.old }
         ensures sound { IsSound self.new }
         ensures machine { self.new.store.machine ≡ self.old.store.machine }

@@ -78,7 +78,16 @@ fn held_folder<'a, R: Files<File = File> + AllocGlobal>(
 fn make_folder<R: Files<File = File>>(rt: &R, folder: &str) -> Result<(), Fault> {
     match fs::create_dir(rt, folder) {
         Ok(()) => sync_parent(rt, folder),
-        Err(error) if error.kind() == ErrorKind::AlreadyExists => Ok(()),
+        Err(error) if error.kind() == ErrorKind::AlreadyExists => find_folder(rt, folder),
+        Err(error) => Err(unmade(error)),
+    }
+}
+
+// looks that what is there is a folder, and not a file or a link that leads nowhere
+fn find_folder<R: Files>(rt: &R, folder: &str) -> Result<(), Fault> {
+    match fs::metadata(rt, folder) {
+        Ok(metadata) if metadata.is_dir() => Ok(()),
+        Ok(_) => Err(Fault::CannotMakeStore),
         Err(error) => Err(unmade(error)),
     }
 }

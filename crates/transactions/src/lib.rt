@@ -6,13 +6,11 @@
 
 mod entry;
 mod history;
-mod plain;
 mod prepared;
 mod short;
 mod store;
 mod table;
 
-pub use plain::PlainStore;
 pub use prepared::Prepared;
 pub use store::Store;
 pub use table::{Holders, Pending, TxTable, Written};

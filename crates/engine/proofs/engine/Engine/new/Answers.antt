@@ -4,12 +4,13 @@ use Rattle.reg_tree.specs.declared.element.Element.{Element}
 use Rattle.commit_journal.specs.Journals.{choice_of, store_of}
 use Rattle.machine.specs.Machine.{Machine}
 use Rattle.engine_law.specs.States.{IsConsistent}
-use Rattle.engine_law.specs.Prefixes.{view_of}
+use Rattle.engine_law.specs.Prefixes.{AreOnDisk, view_of}
 use Rattle.recovery.specs.Kept.{AreWhole}
 use Rattle.recovery.specs.declared.found.Found.{Found}
 use Rattle.engine.specs.AtHand.{AreAtHand}
 use Rattle.engine.specs.Naming.{AreLastNaming}
 use Rattle.engine.specs.Parts.{AreSound}
+use Rattle.engine.specs.declared.parts.Parts.{Parts}
 use Rattle.engine.proofs.AtHand.{hand_opens}
 use Rattle.engine.proofs.Namings.{naming_opens, none_named}
 use Rattle.engine.proofs.engine.Engine.new.Goals as goal
@@ -21,8 +22,8 @@ begun-requires g c =
     let kept = c.openings_begin.ensures f.trees f.number 0 f.base f.opened.items (choice_of f.journal) (map view_of f.hives.items) k.recovers in
     record { numbers = omega (arith, kept.begun, k.recovers.recovers.limit) }
 
-pub invariant_of-result : goal.invariant_of-result
-invariant_of-result g c =
+pub let_go-requires : goal.let_go-requires
+let_go-requires g c =
     let f = c.into_parts-disk.result.1 in
     let e = c.into_parts-disk.ensures in
     let told = c.in-Ok.ensures.machine in
@@ -48,6 +49,11 @@ invariant_of-result g c =
         at_hand = subst (λ (l : List Element). AreAtHand store f.base l f.opened.items f.hives.items) (sym spelled) (hand_opens store f.base f.opened.items f.hives.items kept.begun durable
             (omega (arith, c.in-Ok.ensures.at_hand, ap (λ (m : Machine). m.before) told)));
       };
-      on_disk = e.on_disk;
-      prepared = tt;
     }
+
+pub invariant_of-result : goal.invariant_of-result
+invariant_of-result g c = record {
+  sound = c.let_go.ensures.sound;
+  on_disk = subst (λ (p : Parts _). g.D.Disk.faithful p.disk → AreOnDisk p.journal p.hives.items (g.D.Disk.state_at p.disk (g.D.Disk.clock p.disk))) (sym c.let_go.ensures.rest) c.into_parts-disk.ensures.on_disk;
+  prepared = tt;
+}
