@@ -23,10 +23,10 @@ both_ok H G (Ok a) (Err f) also h g = absurd (true≢false (sym (also refl)))
 both_ok H G (Err e) p also h g = tt
 
 -- a store that was opened, lines that were played over it, and its end
-pub ran : (faithful first : Type 0) (IsLeft : Machine → Type 0) (files : ℕ → List ℕ) (before opened played after : Option (List ℕ)) (script end : Script) (lines : List (List ℕ)) (ending : Option Ending) (text : List ℕ) (came_to status : Status)
+pub ran : (failures : ℕ) (faithful first : Type 0) (IsLeft : Machine → Type 0) (files : ℕ → List ℕ) (before opened played after : Option (List ℕ)) (script end : Script) (lines : List (List ℕ)) (ending : Option Ending) (text : List ℕ) (came_to status : Status)
     → (faithful → first) → HasBegun first files before opened script → PlaysOn FreesRoom script 1 lines ending text came_to end → Appends opened played text → HasEnded IsLeft end came_to played after status
-    → IsRun faithful IsLeft files lines ending before after status
-ran faithful first IsLeft files before opened played after script end lines ending text came_to status was begun plays wrote ends = inr (record {
+    → IsRun failures faithful IsLeft files lines ending before after status
+ran failures faithful first IsLeft files before opened played after script end lines ending text came_to status was begun plays wrote ends = inr (record {
   script = script;
   opened = opened;
   begins = record {

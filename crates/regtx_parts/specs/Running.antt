@@ -1,5 +1,5 @@
 -- The run of a script over the store that is on a disk: what is written, and with which status.
-use Rattle.std.specs.Prelude.{◌≡◌, ◌⊎◌, ℕ, List, [], ◌++◌, ◌∷◌, if◌then◌else◌, Option, codes}
+use Rattle.std.specs.Prelude.{◌≡◌, ◌⊎◌, ℕ, ◌<◌, List, [], ◌++◌, ◌∷◌, if◌then◌else◌, Option, codes}
 use Rattle.std.specs.Fmt.{decimal}
 use Rattle.std.specs.Io.KnownBytes.{Appends}
 use Rattle.refusals.specs.Refusals.{refusal_text}
@@ -36,9 +36,10 @@ pub record IsOpenedOn (faithful : Type 0) (files : ℕ → List ℕ) (number : �
   pub begins : BeginsAt number trees machine
   pub recovered : faithful → IsRecovered files store number trees
 
--- Why no store was opened on these files: memory was wanting, the device failed, or they recover nothing.
-abbrev pub MayNotOpen : Type 0 → (ℕ → List ℕ) → Refusal → Type 0
-MayNotOpen faithful files why = (why ≡ NoMemory) ⊎ ((why ≡ DiskFault) ⊎ IsNoStore faithful files why)
+-- Why no store was opened on these files of a disk that has failed in so many calls: memory was wanting, the device has failed, or
+-- they recover nothing.
+abbrev pub MayNotOpen : ℕ → Type 0 → (ℕ → List ℕ) → Refusal → Type 0
+MayNotOpen failures faithful files why = (why ≡ NoMemory) ⊎ (((why ≡ DiskFault) × (0 < failures)) ⊎ IsNoStore faithful files why)
 
 -- what is printed before the first line's reply
 abbrev pub opened_text : ℕ → List ℕ
@@ -57,9 +58,9 @@ pub record HasBegun (faithful : Type 0) (files : ℕ → List ℕ) (before after
   pub told : Appends before after (opened_text number)
 
 -- No store was opened: why is told.
-pub record IsUnopened (faithful : Type 0) (files : ℕ → List ℕ) (before after : Option (List ℕ)) (status : Status) : Type 0 where
+pub record IsUnopened (failures : ℕ) (faithful : Type 0) (files : ℕ → List ℕ) (before after : Option (List ℕ)) (status : Status) : Type 0 where
   pub why : Refusal
-  pub may : MayNotOpen faithful files why
+  pub may : MayNotOpen failures faithful files why
   pub told : Appends before after (refusal_text why ++ 10 ∷ [])
   pub status_is : status ≡ Refused
 
@@ -89,9 +90,9 @@ pub record RunsOver (faithful : Type 0) (IsLeft : Machine → Type 0) (files : �
   pub ends : HasEnded IsLeft end came_to played after status
 
 -- A run: no store was opened, or the lines were played over one, of which this is left.
-abbrev pub IsRun : Type 0 → (Machine → Type 0) → (ℕ → List ℕ) → List (List ℕ) → Option Ending → Option (List ℕ) → Option (List ℕ) → Status → Type 0
-IsRun faithful IsLeft files lines ending before after status =
-    IsUnopened faithful files before after status ⊎ RunsOver faithful IsLeft files lines ending before after status
+abbrev pub IsRun : ℕ → Type 0 → (Machine → Type 0) → (ℕ → List ℕ) → List (List ℕ) → Option Ending → Option (List ℕ) → Option (List ℕ) → Status → Type 0
+IsRun failures faithful IsLeft files lines ending before after status =
+    IsUnopened failures faithful files before after status ⊎ RunsOver faithful IsLeft files lines ending before after status
 
 -- Where a disk that has these states is faithful, whatever a crash leaves of it at its last moment recovers one number, not below the
 -- machine's durable one, and the trees after the accepted changes up to it.

@@ -22,7 +22,7 @@ use std::alloc::Global;
 pub(crate) fn open_store<D: Disk>(alloc: Global, disk: D) -> Result<(Engine<D>, u64), (Refusal, D)>
     ensures ok { IfOk result (λ it. IsOpenedOn (D.faithful it.0.disk)
         (seen_in (D.state_at disk (D.clock disk))) it.1 it.0.machine) }
-    ensures err { IfErr result (λ back. MayNotOpen (D.faithful back.1)
+    ensures err { IfErr result (λ back. MayNotOpen (D.failures back.1) (D.faithful back.1)
         (seen_in (D.state_at disk (D.clock disk))) back.0) }
 {
     let opened = repaired(found(alloc, disk)?)?;
@@ -37,7 +37,7 @@ fn found<D: Disk>(alloc: Global, disk: D) -> Result<Opened<D>, (Refusal, D)>
     ensures recovered { IfOk result (λ opened. D.faithful opened.disk →
         IsRecovered (seen_in (D.state_at disk (D.clock disk)))
         (store_of opened) opened.found.number opened.found.trees) }
-    ensures err { IfErr result (λ back. MayNotOpen (D.faithful back.1)
+    ensures err { IfErr result (λ back. MayNotOpen (D.failures back.1) (D.faithful back.1)
         (seen_in (D.state_at disk (D.clock disk))) back.0) }
 {
     open(alloc, disk)
@@ -50,7 +50,7 @@ fn repaired<D: Disk>(opened: Opened<D>) -> Result<Opened<D>, (Refusal, D)>
     ensures same { IfOk result (λ whole. (whole.found.number ≡ opened.found.number)
         × (whole.found.trees ≡ opened.found.trees) × (store_of whole ≡ store_of opened)) }
     ensures faithful { IfOk result (λ whole. D.faithful whole.disk → D.faithful opened.disk) }
-    ensures err { IfErr result (λ back. back.0 ≡ DiskFault) }
+    ensures err { IfErr result (λ back. (back.0 ≡ DiskFault) × (0 < D.failures back.1)) }
 {
     let mut opened = opened;
     while !opened.is_whole() {
@@ -72,7 +72,7 @@ fn repair<D: Disk>(opened: &mut Opened<D>) -> Result<(), Refusal>
         × (opened.new.found.trees ≡ opened.old.found.trees)
         × (store_of opened.new ≡ store_of opened.old) }
     ensures faithful { D.faithful opened.new.disk → D.faithful opened.old.disk }
-    ensures err { IfErr result (λ why. why ≡ DiskFault) }
+    ensures err { IfErr result (λ why. (why ≡ DiskFault) × (0 < D.failures opened.new.disk)) }
 {
     opened.repair_step()?;
     Ok(())

@@ -37,7 +37,7 @@ pub fn run<D: Disk, R: BufRead, W: Write>(
     writer: &mut W,
 ) -> (D, io::Result<Status>)
     ensures { IfOk result.1 (λ status. (lines : List (List ℕ)) × (ending : Option AnyEnding)
-        × WereRead (R.remaining reader.old) lines ending × IsRun (D.faithful result.0)
+        × WereRead (R.remaining reader.old) lines ending × IsRun (D.failures result.0) (D.faithful result.0)
         (LeavesPrefix (D.faithful result.0) (D.state_at result.0) (D.clock result.0))
         (seen_in (D.state_at disk (D.clock disk))) lines ending
         (W.contents writer.old) (W.contents writer.new) status) }
@@ -57,7 +57,7 @@ pub fn run_unread<D: Disk, W: Write>(
     disk: D,
     writer: &mut W,
 ) -> (D, io::Result<Status>)
-    ensures { IfOk result.1 (λ status. IsRun (D.faithful result.0)
+    ensures { IfOk result.1 (λ status. IsRun (D.failures result.0) (D.faithful result.0)
         (LeavesPrefix (D.faithful result.0) (D.state_at result.0) (D.clock result.0))
         (seen_in (D.state_at disk (D.clock disk))) [] (Some Broken)
         (W.contents writer.old) (W.contents writer.new) status) }
@@ -81,7 +81,7 @@ fn begin_run<D: Disk, W: Write>(
         (seen_in (D.state_at disk (D.clock disk))) (W.contents writer.old)
         (W.contents writer.new) (script_of player)) }
     ensures unopened { IfErr result (λ back. IfOk back.1 (λ status.
-        IsUnopened (D.faithful back.0) (seen_in (D.state_at disk (D.clock disk)))
+        IsUnopened (D.failures back.0) (D.faithful back.0) (seen_in (D.state_at disk (D.clock disk)))
         (W.contents writer.old) (W.contents writer.new) status)) }
 {
     match open_store(alloc, disk) {
