@@ -8,11 +8,17 @@ mod crashes;
 #[cfg(test)]
 mod creations;
 #[cfg(test)]
+mod faults;
+#[cfg(test)]
 mod limits;
+#[cfg(test)]
+mod numbers;
 #[cfg(test)]
 mod openings;
 #[cfg(test)]
 mod prepared;
 #[cfg(test)]
 mod runs;
+#[cfg(test)]
+mod sixteen;
 pub mod stores;
