@@ -1,9 +1,24 @@
-//! Tests of a store over the disk in memory, from its making to its opening after a crash: what no clause says.
+//! Tests of a store over the disk in memory, from its making to its opening after a crash: what no clause says. Programs that run
+//! an engine take its calls from here.
 #![tactic(auto)]
 
+pub mod calls;
 #[cfg(test)]
 mod crashes;
 #[cfg(test)]
+mod creations;
+#[cfg(test)]
+mod faults;
+#[cfg(test)]
+mod limits;
+#[cfg(test)]
+mod numbers;
+#[cfg(test)]
 mod openings;
 #[cfg(test)]
-mod stores;
+mod prepared;
+#[cfg(test)]
+mod runs;
+#[cfg(test)]
+mod sixteen;
+pub mod stores;

@@ -1,8 +1,13 @@
 //! Stores that are opened, and files that are refused.
-use crate::stores::{MANY, create, created, engine, journal, keys, left, opened};
+ghost use Rattle.std.specs.Prelude.{◌≤◌};
+
+use crate::calls::{left, open, planned};
+use crate::runs::{Found, found, found_behind_crashes};
+use crate::stores::{MANY, create, create_all, created, flush, fresh, journal, opened, repair_all};
 use disk_model::{MemDisk, Plan, Tear};
+use engine::Engine;
 use hive_flush::HiveFile;
-use recovery::open;
+use recovery::Opened;
 use refusals::{Cause, Refusal};
 use reg_tree::Tree;
 use std::alloc::Global;
@@ -19,16 +24,6 @@ fn refusal(alloc: Global, disk: MemDisk) -> Option<Refusal> {
 }
 
 #[test]
-fn a_new_store_is_at_number_0(rt: HostRuntime) -> Result<(), Fail> {
-    let alloc = rt.alloc();
-    let store = opened(alloc, created(alloc)?)?;
-    assert_eq!(&rt; store.number(), 0);
-    assert_eq!(&rt; store.id(), Uuid::nil());
-    assert_eq!(&rt; store.trees().len(), 2);
-    Ok(())
-}
-
-#[test]
 fn an_empty_disk_is_no_store(rt: HostRuntime) -> Result<(), Fail> {
     let alloc = rt.alloc();
     let disk = MemDisk::new(alloc, Arc::new(alloc, Plan::new())?);
@@ -36,71 +31,169 @@ fn an_empty_disk_is_no_store(rt: HostRuntime) -> Result<(), Fail> {
     Ok(())
 }
 
+// makes a hive's files anew, for a store
+fn make_hive(
+    alloc: Global,
+    disk: &mut MemDisk,
+    hive: u8,
+    store: Uuid,
+    tree: &Tree,
+) -> Result<(), Refusal> {
+    HiveFile::create(alloc, disk, hive, store, tree)
+}
+
+// a disk with two hives, of which the second is of another store
+fn with_a_stranger(alloc: Global) -> Result<MemDisk, Refusal> {
+    let mut disk = created(alloc, 2)?;
+    let tree = Tree::fresh(alloc)?;
+    make_hive(alloc, &mut disk, 1, Uuid::from_bytes([1; 16]), &tree)?;
+    Ok(disk)
+}
+
 #[test]
 fn a_hive_of_another_store_is_refused(rt: HostRuntime) -> Result<(), Fail> {
     let alloc = rt.alloc();
-    let mut disk = created(alloc)?;
-    let tree = Tree::fresh(alloc)?;
-    HiveFile::create(alloc, &mut disk, 1, Uuid::from_bytes([1; 16]), &tree)?;
     let wanted = Refusal::HiveDamaged {
         hive: 1,
         cause: Cause::BadStore,
     };
-    assert_eq!(&rt; refusal(alloc, disk), Some(wanted));
+    assert_eq!(&rt; refusal(alloc, with_a_stranger(alloc)?), Some(wanted));
     Ok(())
 }
 
-// a disk whose journal has the creation of a key in hive 0
-fn journaled(alloc: Global) -> Result<MemDisk, Fail> {
-    let mut store = engine(alloc, created(alloc)?)?;
+// a disk whose journal has the creation of the key A in hive 0
+fn journaled(alloc: Global) -> Result<MemDisk, Refusal> {
+    let mut store = fresh(alloc, 2)?;
     create(&mut store, alloc, 0, b'A')?;
     journal(&mut store, MANY);
     Ok(left(alloc, store.disk(), Tear::Old)?)
 }
 
+// what is opened of it
+const JOURNALED: Found = (1, *b"A----", *b"-----");
+
 #[test]
 fn what_a_hive_lacks_is_replayed(rt: HostRuntime) -> Result<(), Fail> {
     let alloc = rt.alloc();
-    let store = opened(alloc, journaled(alloc)?)?;
-    assert_eq!(&rt; store.number(), 1);
-    assert_eq!(&rt; &keys(alloc, &store, 0, b"AB")?[..], b"A".as_slice());
+    assert_eq!(&rt; found(alloc, journaled(alloc)?)?, JOURNALED);
     Ok(())
+}
+
+// the tree of hive 0 of a store
+fn first_tree(store: &Opened<MemDisk>) -> Result<Tree, Refusal> {
+    match store.trees().tree(0) {
+        Some(tree) => Ok(tree.clone()?),
+        None => Err(Refusal::NotFound),
+    }
+}
+
+// the same disk, where hive 0 is made anew at number 0, with the key that the journal's change creates
+fn created_twice(alloc: Global) -> Result<MemDisk, Refusal> {
+    let tree = first_tree(&opened(alloc, journaled(alloc)?)?)?;
+    let mut disk = journaled(alloc)?;
+    make_hive(alloc, &mut disk, 0, Uuid::nil(), &tree)?;
+    Ok(disk)
 }
 
 #[test]
 fn a_change_that_is_not_legal_on_what_a_hive_holds_is_refused(rt: HostRuntime) -> Result<(), Fail> {
     let alloc = rt.alloc();
-    // hive 0 is made anew at number 0, with the key that the journal's change creates
-    let tree = {
-        let store = opened(alloc, journaled(alloc)?)?;
-        match store.trees().tree(0) {
-            Some(tree) => tree.clone()?,
-            None => Tree::fresh(alloc)?,
-        }
-    };
-    let mut disk = journaled(alloc)?;
-    HiveFile::create(alloc, &mut disk, 0, Uuid::nil(), &tree)?;
-    assert_eq!(&rt; refusal(alloc, disk), Some(Refusal::JournalDamaged));
+    let why = refusal(alloc, created_twice(alloc)?);
+    assert_eq!(&rt; why, Some(Refusal::JournalDamaged));
     Ok(())
+}
+
+// why an opening is refused whose device fails at a call, and what is opened then of the disk that it hands back; nothing where it
+// makes no such call
+fn failing(alloc: Global, call: u64) -> Result<Option<(Refusal, Found)>, Refusal>
+    requires { 1 ≤ call }
+{
+    let (disk, plan) = planned(alloc, &journaled(alloc)?, Tear::Old)?;
+    plan.fail_at(call);
+    match open(alloc, disk) {
+        Ok(_) => Ok(None),
+        Err((why, back)) => Ok(Some((why, found(alloc, back)?))),
+    }
 }
 
 #[test]
 fn an_opening_whose_device_fails_hands_the_disk_back(rt: HostRuntime) -> Result<(), Fail> {
     let alloc = rt.alloc();
-    let disk = journaled(alloc)?;
     let mut failed = 0u32;
     for call in 1..40u64 {
-        let plan = Arc::new(alloc, Plan::new())?;
-        let disk = disk.crashed(Tear::Old, Arc::try_clone(&plan)?)?;
-        plan.fail_at(call);
-        if let Err((why, back)) = open(alloc, disk) {
-            assert_eq!(&rt; why, Refusal::DiskFault);
+        if let Some(told) = failing(alloc, call)? {
+            assert_eq!(&rt; told, (Refusal::DiskFault, JOURNALED), "call {call}");
             failed = failed.saturating_add(1);
-            let store = opened(alloc, back)?;
-            assert_eq!(&rt; store.number(), 1);
         }
     }
     // the journal is synced, measured and read; and so is each primary file
     assert!(&rt; failed >= 9);
+    Ok(())
+}
+
+// a commit over both hives, which are being flushed: hive 0's raised sector is synced, and hive 1's is written
+fn flush_halfway(alloc: Global, store: &mut Engine<MemDisk>) -> Result<(), Refusal> {
+    create_all(store, alloc, b"AB")?;
+    journal(store, MANY);
+    flush(store, 0, 4);
+    flush(store, 1, 3);
+    Ok(())
+}
+
+// what a crash with this tear leaves of it; all of that is synced
+fn unclean(alloc: Global, tear: Tear) -> Result<MemDisk, Refusal> {
+    let mut store = fresh(alloc, 2)?;
+    flush_halfway(alloc, &mut store)?;
+    Ok(left(alloc, store.disk(), tear)?)
+}
+
+// what is opened of it
+const FLUSHED: Found = (1, *b"A----", *b"-B---");
+
+// opens and repairs a store as far as the device goes: the disk, and whether that was to the end
+fn tried(alloc: Global, disk: MemDisk) -> (MemDisk, bool) {
+    match open(alloc, disk) {
+        Ok(mut store) => {
+            let is_whole = repair_all(&mut store).is_ok();
+            (store.into_disk(), is_whole)
+        }
+        Err((_, disk)) => (disk, false),
+    }
+}
+
+// what is opened behind an opening of it that was stopped at a call, and a crash with each tear; nothing where it wasn't stopped
+fn stopped(alloc: Global, before: Tear, call: u64) -> Result<Option<[Found; 3]>, Refusal>
+    requires { 1 ≤ call }
+{
+    let (disk, plan) = planned(alloc, &unclean(alloc, before)?, Tear::New)?;
+    plan.stop_at(call);
+    let (end, is_whole) = tried(alloc, disk);
+    if is_whole {
+        return Ok(None);
+    }
+    Ok(Some(found_behind_crashes(alloc, &end)?))
+}
+
+// at how many calls such an opening is stopped, and whether each leaves what was there
+fn stops(alloc: Global, before: Tear) -> Result<(u32, bool), Refusal> {
+    let (mut stops, mut is_kept) = (0u32, true);
+    for call in 1..40u64 {
+        if let Some(all) = stopped(alloc, before, call)? {
+            stops = stops.saturating_add(1);
+            is_kept = is_kept && all == [FLUSHED; 3];
+        }
+    }
+    Ok((stops, is_kept))
+}
+
+#[test]
+fn an_opening_that_is_stopped_loses_nothing(rt: HostRuntime) -> Result<(), Fail> {
+    let alloc = rt.alloc();
+    for before in [Tear::Old, Tear::New, Tear::Torn] {
+        let (stops, is_kept) = stops(alloc, before)?;
+        assert!(&rt; is_kept, "{before:?}");
+        // the syncs of the journal, of two primary files and of a log, and a repair: pages, the last sector and their syncs
+        assert!(&rt; stops >= 8, "{stops} stops, {before:?}");
+    }
     Ok(())
 }

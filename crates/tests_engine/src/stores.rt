@@ -1,72 +1,76 @@
-//! Stores on a disk in memory, and an engine over them.
+//! Stores on a disk in memory, and changes of them.
 ghost use Rattle.std.specs.Prelude.{◌≤◌, length};
 
-use commit_journal::Journal;
+use crate::calls::{MOMENT, SESSION, ask, begin, make, open, repair};
 use disk_model::{MemDisk, Plan, Tear};
 use engine::Engine;
 use engine_words::Progress;
-use hive_flush::HiveFile;
-use machine::{Event, Reply};
-use recovery::{Opened, open};
+use machine::{Event, Reply, Tx};
+use recovery::Opened;
 use refusals::Refusal;
 use reg_names::Path;
-use reg_tree::{Op, Tree};
-use std::alloc::{AllocError, Global};
+use reg_tree::{Op, Tree, Trees};
+use std::alloc::Global;
 use std::sync::Arc;
-use std::test::Fail;
 use uuid::Uuid;
 
-/// The session of every event.
-pub const SESSION: u32 = 1;
+/// Every tear.
+pub const TEARS: [Tear; 3] = [Tear::Old, Tear::New, Tear::Torn];
 
-/// The moment of every change.
-const MOMENT: u64 = 1;
-
-/// More steps than any of these repairs takes.
+/// More steps than any of these repairs, flushes and journals takes.
 pub const MANY: u32 = 64;
 
-/// A disk with a store of two hives, each with a new tree at number 0.
-pub fn created(alloc: Global) -> Result<MemDisk, Fail> {
+/// A disk with a store of so many hives, each with a new tree at number 0.
+pub fn created(alloc: Global, hives: usize) -> Result<MemDisk, Refusal>
+    requires some { 1 ≤ hives }
+    requires few { hives ≤ 16 }
+{
     let mut disk = MemDisk::new(alloc, Arc::new(alloc, Plan::new())?);
-    let tree = Tree::fresh(alloc)?;
-    for hive in 0..2u8 {
-        HiveFile::create(alloc, &mut disk, hive, Uuid::nil(), &tree)?;
-    }
-    Journal::create(alloc, &mut disk, Uuid::nil(), 2)?;
+    let trees = Trees::new(alloc, hives)?;
+    make(alloc, &mut disk, Uuid::nil(), &trees)?;
     Ok(disk)
 }
 
-/// What a crash leaves of a disk, with a plan of its own.
-pub fn left(alloc: Global, disk: &MemDisk, tear: Tear) -> Result<MemDisk, AllocError> {
-    disk.crashed(tear, Arc::new(alloc, Plan::new())?)
+/// The store that is on a disk, repaired.
+pub fn opened(alloc: Global, disk: MemDisk) -> Result<Opened<MemDisk>, Refusal> {
+    match open(alloc, disk) {
+        Ok(mut store) => match repair_all(&mut store) {
+            Ok(()) => Ok(store),
+            Err(why) => Err(why),
+        },
+        Err((why, _)) => Err(why),
+    }
 }
 
-/// The store that is on a disk, repaired.
-pub fn opened(alloc: Global, disk: MemDisk) -> Result<Opened<MemDisk>, Fail> {
-    let mut opened = match open(alloc, disk) {
-        Ok(opened) => opened,
-        Err((why, _)) => return Err(Fail::from(why)),
-    };
+/// Repairs a store as far as the device goes.
+pub fn repair_all(store: &mut Opened<MemDisk>) -> Result<(), Refusal> {
     for _step in 0..MANY {
-        if opened.repair_step()? == Progress::Idle {
-            return Ok(opened);
+        if repair(store)? == Progress::Idle {
+            return Ok(());
         }
     }
-    Err(Fail::from(Refusal::Faulted))
+    Err(Refusal::Faulted)
 }
 
 /// An engine over the store that is on a disk, with a session.
-pub fn engine(alloc: Global, disk: MemDisk) -> Result<Engine<MemDisk>, Fail> {
-    let store = opened(alloc, disk)?;
-    if !store.is_whole() {
-        return Err(Fail::from(Refusal::Faulted));
-    }
-    match Engine::new(alloc, store) {
+pub fn engine(alloc: Global, disk: MemDisk) -> Result<Engine<MemDisk>, Refusal> {
+    match begin(alloc, opened(alloc, disk)?) {
         Ok(mut engine) => {
-            engine.event(Event::StartSession { session: SESSION });
+            ask(&mut engine, Event::StartSession { session: SESSION });
             Ok(engine)
         }
-        Err((why, _)) => Err(Fail::from(why)),
+        Err((why, _)) => Err(why),
+    }
+}
+
+/// An engine over a new store of so many hives, with a session.
+pub fn fresh(alloc: Global, hives: usize) -> Result<Engine<MemDisk>, Refusal>
+    requires some { 1 ≤ hives }
+    requires few { hives ≤ 16 }
+{
+    match created(alloc, hives) {
+        Ok(disk) => engine(alloc, disk),
+        Err(why) => Err(why),
     }
 }
 
@@ -77,78 +81,114 @@ pub fn path(alloc: Global, letter: u8) -> Result<Path, Refusal> {
 
 /// The creation of a key below the root of a hive, of one letter.
 pub fn creation(alloc: Global, hive: u8, letter: u8) -> Result<Op, Refusal> {
-    Ok(Op::CreateKey {
-        hive,
-        path: path(alloc, letter)?,
-    })
+    let path = path(alloc, letter)?;
+    Ok(Op::CreateKey { hive, path })
 }
 
-/// Creates a key, by itself: the change's number, or 0 where it is refused.
+/// Carries out an operation by itself: the change's number, or 0 where none was needed.
+pub fn write(engine: &mut Engine<MemDisk>, op: Op) -> Result<u64, Refusal> {
+    let reply = ask(
+        engine,
+        Event::Write {
+            session: SESSION,
+            moment: MOMENT,
+            op,
+        },
+    );
+    accepted(&reply)
+}
+
+/// The number that an event was answered which may accept a change, or why it was refused.
+pub fn accepted(reply: &Reply) -> Result<u64, Refusal> {
+    match reply {
+        Reply::Accepted { number, .. } => Ok(*number),
+        Reply::Awaits { number } => Ok(*number),
+        Reply::Refused { refusal } => Err(*refusal),
+        _ => Ok(0),
+    }
+}
+
+/// Creates a key, by itself: the change's number.
 pub fn create(
     engine: &mut Engine<MemDisk>,
     alloc: Global,
     hive: u8,
     letter: u8,
 ) -> Result<u64, Refusal> {
-    let op = creation(alloc, hive, letter)?;
-    let event = Event::Write {
-        session: SESSION,
-        moment: MOMENT,
-        op,
-    };
-    match engine.event(event) {
-        Reply::Accepted { number, .. } => Ok(number),
-        _ => Ok(0),
-    }
+    write(engine, creation(alloc, hive, letter)?)
 }
 
-/// Makes one change of the creation of two keys, one in each hive: its number, or 0 where it is refused.
-pub fn commit(
-    engine: &mut Engine<MemDisk>,
-    alloc: Global,
-    first: u8,
-    second: u8,
-) -> Result<u64, Refusal> {
+/// Begins a transaction.
+pub fn begun(engine: &mut Engine<MemDisk>) -> Result<Tx, Refusal> {
     let begin = Event::Begin {
         session: SESSION,
         id: Uuid::nil(),
     };
-    let Reply::Begun { tx } = engine.event(begin) else {
-        return Ok(0);
-    };
-    for (hive, letter) in [(0u8, first), (1, second)] {
-        let op = creation(alloc, hive, letter)?;
-        engine.event(Event::TxWrite {
+    match ask(engine, begin) {
+        Reply::Begun { tx } => Ok(tx),
+        Reply::Refused { refusal } => Err(refusal),
+        _ => Err(Refusal::NoSeat),
+    }
+}
+
+/// Adds an operation to a transaction.
+pub fn write_in(engine: &mut Engine<MemDisk>, tx: Tx, op: Op) -> Result<(), Refusal> {
+    let reply = ask(
+        engine,
+        Event::TxWrite {
             session: SESSION,
             tx,
             moment: MOMENT,
             op,
-        });
+        },
+    );
+    match accepted(&reply) {
+        Ok(_) => Ok(()),
+        Err(why) => Err(why),
     }
-    let commit = Event::CommitAccept {
-        session: SESSION,
-        tx,
-        moment: MOMENT,
-    };
-    match engine.event(commit) {
-        Reply::Awaits { number } => Ok(number),
-        _ => Ok(0),
+}
+
+/// Commits a transaction: the change's number, or 0 where there is none.
+pub fn commit(engine: &mut Engine<MemDisk>, tx: Tx) -> Result<u64, Refusal> {
+    let reply = ask(
+        engine,
+        Event::CommitAccept {
+            session: SESSION,
+            tx,
+            moment: MOMENT,
+        },
+    );
+    accepted(&reply)
+}
+
+/// Makes one change of the creation of keys, of a letter in each hive from 0 on: its number.
+pub fn create_all(
+    engine: &mut Engine<MemDisk>,
+    alloc: Global,
+    letters: &[u8],
+) -> Result<u64, Refusal>
+    requires { length letters.now ≤ 16 }
+{
+    let tx = begun(engine)?;
+    for (hive, letter) in letters.iter().enumerate() {
+        write_in(engine, tx, creation(alloc, hive as u8, *letter)?)?;
     }
+    commit(engine, tx)
 }
 
 /// Makes steps of the journal, at most so many, until one is idle or refused.
 pub fn journal(engine: &mut Engine<MemDisk>, most: u32) {
     for _step in 0..most {
-        if is_over(&engine.event(Event::JournalStep)) {
+        if is_over(&ask(engine, Event::JournalStep)) {
             return;
         }
     }
 }
 
-/// Makes steps of a hive's flush until one is idle or refused.
-pub fn flush(engine: &mut Engine<MemDisk>, hive: u8) {
-    for _step in 0..MANY {
-        if is_over(&engine.event(Event::FlusherStep { hive })) {
+/// Makes steps of a hive's flush, at most so many, until one is idle or refused.
+pub fn flush(engine: &mut Engine<MemDisk>, hive: u8, most: u32) {
+    for _step in 0..most {
+        if is_over(&ask(engine, Event::FlusherStep { hive })) {
             return;
         }
     }
@@ -157,7 +197,7 @@ pub fn flush(engine: &mut Engine<MemDisk>, hive: u8) {
 /// Makes steps of a trim until one is idle or refused.
 pub fn trim(engine: &mut Engine<MemDisk>) {
     for _step in 0..MANY {
-        if is_over(&engine.event(Event::TrimStep)) {
+        if is_over(&ask(engine, Event::TrimStep)) {
             return;
         }
     }
@@ -175,25 +215,24 @@ fn is_over(reply: &Reply) -> bool {
 
 /// Whether a change is acknowledged.
 pub fn is_acknowledged(engine: &mut Engine<MemDisk>, number: u64) -> bool {
-    matches!(engine.event(Event::Acked { number }), Reply::Receipt { .. })
+    matches!(ask(engine, Event::Acked { number }), Reply::Receipt { .. })
 }
 
-/// Which of some letters are keys below the root of a hive.
-pub fn keys(
-    alloc: Global,
-    store: &Opened<MemDisk>,
-    hive: u8,
-    letters: &[u8],
-) -> Result<Vec<u8>, Fail> {
-    let mut found = Vec::new(alloc);
-    let Some(tree) = store.trees().tree(hive) else {
-        return Ok(found);
-    };
-    for letter in letters {
-        let path = path(alloc, *letter)?;
-        if tree.query_info(&path).is_ok() {
-            found.push(*letter)?;
+/// Which of the letters A to E are keys below the root of a hive: `-` stands for each that isn't.
+pub fn keys(alloc: Global, trees: &Trees, hive: u8) -> Result<[u8; 5], Refusal> {
+    let mut letters = *b"ABCDE";
+    if let Some(tree) = trees.tree(hive) {
+        for letter in &mut letters {
+            if !has(alloc, tree, *letter)? {
+                *letter = b'-';
+            }
         }
     }
-    Ok(found)
+    Ok(letters)
+}
+
+// whether a letter is a key below the root of a tree
+fn has(alloc: Global, tree: &Tree, letter: u8) -> Result<bool, Refusal> {
+    let path = path(alloc, letter)?;
+    Ok(tree.query_info(&path).is_ok())
 }

@@ -1,0 +1,79 @@
+//! One run over two hives, and what is opened of it.
+use crate::calls::left;
+use crate::stores::{
+    MANY, TEARS, create, create_all, flush, is_acknowledged, journal, keys, opened, trim,
+};
+use disk_model::MemDisk;
+use engine::Engine;
+use recovery::Opened;
+use refusals::Refusal;
+use std::alloc::Global;
+
+/// A number, and the keys of both hives.
+pub type Found = (u64, [u8; 5], [u8; 5]);
+
+/// What is opened of a disk.
+pub fn found(alloc: Global, disk: MemDisk) -> Result<Found, Refusal> {
+    match opened(alloc, disk) {
+        Ok(store) => seen(alloc, &store),
+        Err(why) => Err(why),
+    }
+}
+
+/// What an opened store has.
+pub fn seen(alloc: Global, store: &Opened<MemDisk>) -> Result<Found, Refusal> {
+    let first = keys(alloc, store.trees(), 0)?;
+    let second = keys(alloc, store.trees(), 1)?;
+    Ok((store.number(), first, second))
+}
+
+/// What is opened of a disk behind a crash with each tear.
+pub fn found_behind_crashes(alloc: Global, disk: &MemDisk) -> Result<[Found; 3], Refusal> {
+    let mut all = [(0, *b"?????", *b"?????"); 3];
+    for (tear, place) in TEARS.iter().zip(&mut all) {
+        *place = found(alloc, left(alloc, disk, *tear)?)?;
+    }
+    Ok(all)
+}
+
+/// Five changes, of which the third is a commit over both hives, with flushes and a trim between them: the number of the last one
+/// that was acknowledged. Whatever is refused, the rest goes on.
+pub fn run(alloc: Global, store: &mut Engine<MemDisk>) -> u64 {
+    let _ = create(store, alloc, 0, b'A');
+    let _ = create(store, alloc, 0, b'B');
+    journal(store, MANY);
+    flush(store, 0, MANY);
+    let _ = create_all(store, alloc, b"CC");
+    journal(store, MANY);
+    flush(store, 1, MANY);
+    flush(store, 0, MANY);
+    trim(store);
+    let _ = create(store, alloc, 1, b'D');
+    journal(store, MANY);
+    let acknowledged = last_acknowledged(store);
+    let _ = create(store, alloc, 0, b'E');
+    acknowledged
+}
+
+// the last of the first four changes that is acknowledged, or 0
+fn last_acknowledged(store: &mut Engine<MemDisk>) -> u64 {
+    let mut acknowledged = 0;
+    for number in 1..5u64 {
+        if is_acknowledged(store, number) {
+            acknowledged = number;
+        }
+    }
+    acknowledged
+}
+
+/// The keys of both hives after so many of the changes.
+pub fn prefix(number: u64) -> ([u8; 5], [u8; 5]) {
+    match number {
+        0 => (*b"-----", *b"-----"),
+        1 => (*b"A----", *b"-----"),
+        2 => (*b"AB---", *b"-----"),
+        3 => (*b"ABC--", *b"--C--"),
+        4 => (*b"ABC--", *b"--CD-"),
+        _ => (*b"ABC-E", *b"--CD-"),
+    }
+}
