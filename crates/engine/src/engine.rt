@@ -95,6 +95,10 @@ impl<D: Disk> Engine<D> {
         ensures disk { IfOk result (λ engine. engine.disk ≡ opened.disk) }
         ensures store { IfOk result (λ engine. engine.store ≡ store_of opened) }
         ensures prepared { IfOk result (λ engine. engine.prepared ≡ None) }
+        ensures goes_on { IfOk result (λ engine. (engine.base ≡ opened.found.base)
+            × (engine.opened ≡ opened.found.opened.items)
+            × (engine.journal ≡ choice_of opened.found.journal)
+            × (engine.hives ≡ map view_of opened.found.hives.items)) }
         ensures refused { IfErr result (λ back. (back.0 ≡ NoMemory) × (back.1 ≡ opened)) }
     {
         openings_begin();

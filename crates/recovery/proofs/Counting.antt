@@ -7,6 +7,8 @@ use Rattle.disk_model.specs.FileState.{FileState}
 use Rattle.disk_model.specs.StoreFiles.{IsJournal, primary_file, log_file}
 use Rattle.hive_flush.specs.HiveStates as hive
 use Rattle.hive_flush.specs.declared.hive.HiveFile.{HiveFile}
+use Rattle.engine_law.proofs.HiveLists.{at_slot}
+use Rattle.recovery.specs.Kept.{AreWhole}
 use Rattle.recovery.specs.Recovered.{seen_in}
 use Rattle.recovery.specs.Repairs.{most_repairs, repairs_left}
 use Rattle.recovery.specs.Shown.{Shown}
@@ -49,3 +51,9 @@ told (Err why) not p = absurd (not why refl)
 -- a store as it is shown has as many left
 pub fewer_shown : {D : Type 0} (inside it : Shown D) → inside ≡ it → (n : ℕ) → n < repairs_left inside.found.hives.items → n < repairs_left it.found.hives.items
 fewer_shown {D = D} inside it is n less = subst (λ (x : Shown D). n < repairs_left x.found.hives.items) is less
+
+-- where a hive of a place is not whole, not all are
+pub some_left : (hives : List HiveFile) (place : ℕ) → place < length hives → ((h : HiveFile) → slice_get hives place ≡ Some h → hive.IsWhole h → ⊥) → AreWhole hives → ⊥
+some_left hives place lt not whole =
+    let at = at_slot hives place lt in
+    not at.0 at.1 (whole place at.0 at.1)

@@ -140,7 +140,9 @@ impl<D: Disk> Opened<D> {
         ensures same { self.new.found ≡ record self.old.found { hives = self.new.found.hives } }
         ensures store { store_of self.new ≡ store_of self.old }
         ensures idle { (result ≡ Ok Progress.Idle) → IsWhole self.old × (self.new ≡ self.old) }
+        ensures at_rest { IsWhole self.old → result ≡ Ok Progress.Idle }
         ensures done { (result ≡ Ok Progress.Done) → IsWhole self.new }
+        ensures more { (result ≡ Ok Progress.More) → ¬ (IsWhole self.new) }
         ensures fewer { OnOk result (¬ (IsWhole self.old) →
             repairs_left self.new.found.hives.items < repairs_left self.old.found.hives.items) }
         ensures refused { IfErr result (λ why. (why ≡ DiskFault) ⊎ (why ≡ Faulted)) }

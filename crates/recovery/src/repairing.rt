@@ -28,6 +28,7 @@ impl Found {
     pub(crate) fn repaired(&self) -> Progress
         ensures done { result ≡ Progress.Done → AreWhole self.now.hives.items }
         ensures more { ¬ (result ≡ Progress.Idle) }
+        ensures follows { result ≡ Progress.More → ¬ (AreWhole self.now.hives.items) }
     {
         match self.unrepaired() {
             Some(_) => Progress::More,
