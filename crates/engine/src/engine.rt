@@ -239,6 +239,17 @@ impl<D: Disk> Engine<D> {
         Ok(replies)
     }
 
+    /// A law: whatever a crash leaves of the files as they are recovers one number, not below the durable one, and the trees after
+    /// the accepted changes up to it.
+    pub fn keeps_a_prefix(&self)
+        ensures { D.faithful self.now.disk → IsSafeAt self.now.store
+            (D.state_at self.now.disk) (D.clock self.now.disk) self.now.machine }
+    {
+        crashes_leave_prefixes();
+        // what the type keeps is known where a field is looked at
+        let _ = self.parts.store.durable();
+    }
+
     /// The trees after all accepted changes.
     pub fn trees(&self) -> &Trees
         ensures { result.now ≡ trees_now self.now.machine }

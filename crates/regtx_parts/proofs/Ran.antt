@@ -3,6 +3,7 @@ use Rattle.std.proofs.Common.{ℕ, List, [], Option, Some, None, Result, Ok, Err
 use Rattle.std.proofs.lemmas.Bool.{true≢false}
 use Rattle.std.specs.Prelude.{IfOk, IsOk}
 use Rattle.std.specs.Io.KnownBytes.{Appends}
+use Rattle.machine.specs.Machine.{Machine}
 use Rattle.reg_script.specs.declared.status.Status.{Status}
 use Rattle.regtx_parts.specs.Scripts.{Script}
 use Rattle.regtx_parts.specs.Plays.{PlaysOn, WereRead}
@@ -22,10 +23,10 @@ both_ok H G (Ok a) (Err f) also h g = absurd (true≢false (sym (also refl)))
 both_ok H G (Err e) p also h g = tt
 
 -- a store that was opened, lines that were played over it, and its end
-pub ran : (faithful first : Type 0) (files : ℕ → List ℕ) (before opened played after : Option (List ℕ)) (script end : Script) (lines : List (List ℕ)) (ending : Option Ending) (text : List ℕ) (came_to status : Status)
-    → (faithful → first) → HasBegun first files before opened script → PlaysOn FreesRoom script 1 lines ending text came_to end → Appends opened played text → HasEnded end came_to played after status
-    → IsRun faithful files lines ending before after status
-ran faithful first files before opened played after script end lines ending text came_to status was begun plays wrote ends = inr (record {
+pub ran : (faithful first : Type 0) (IsLeft : Machine → Type 0) (files : ℕ → List ℕ) (before opened played after : Option (List ℕ)) (script end : Script) (lines : List (List ℕ)) (ending : Option Ending) (text : List ℕ) (came_to status : Status)
+    → (faithful → first) → HasBegun first files before opened script → PlaysOn FreesRoom script 1 lines ending text came_to end → Appends opened played text → HasEnded IsLeft end came_to played after status
+    → IsRun faithful IsLeft files lines ending before after status
+ran faithful first IsLeft files before opened played after script end lines ending text came_to status was begun plays wrote ends = inr (record {
   script = script;
   opened = opened;
   begins = record {

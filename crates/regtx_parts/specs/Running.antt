@@ -18,6 +18,9 @@ use Rattle.machine.specs.Steps.{with_session}
 use Rattle.recovery.specs.Recovered.{IsNoStore, IsRecovered}
 use Rattle.regtx_parts.specs.Scripts.{Script, Answers, script_at}
 use Rattle.regtx_parts.specs.Plays.{PlaysOn, is_refusal}
+use Rattle.regtx_parts.specs.Work.{Works}
+use Rattle.disk_model.specs.FileState.{FileState}
+use Rattle.engine_law.specs.Prefixes.{IsSafeAt}
 use Rattle.regtx_parts.specs.declared.ending.Ending.{Ending}
 use Rattle.regtx_parts.specs.declared.working.Pace.TheVariants.{FreesRoom}
 
@@ -60,17 +63,20 @@ pub record IsUnopened (faithful : Type 0) (files : ℕ → List ℕ) (before aft
   pub told : Appends before after (refusal_text why ++ 10 ∷ [])
   pub status_is : status ≡ Refused
 
--- A script that came to this status ends: all is flushed.
-pub record HasEnded (script : Script) (came_to : Status) (before after : Option (List ℕ)) (status : Status) : Type 0 where
+-- A script that came to this status ends: all is flushed, and then the store works on. What is left of it holds of its machine then.
+pub record HasEnded (IsLeft : Machine → Type 0) (script : Script) (came_to : Status) (before after : Option (List ℕ)) (status : Status) : Type 0 where
   pub told : ReplyLine
   pub last : Script
   pub flushed : Answers script Flush told last
+  pub machine : Machine
+  pub worked : Works last.machine machine
+  pub left : IsLeft machine
   pub wrote : Appends before after (flushed_text told)
   pub status_is : status ≡ with_refusal (is_refusal told) came_to
 
 -- A store was opened; these lines were played over it, up to this ending, while it freed its room; and at the end all was
 -- flushed.
-pub record RunsOver (faithful : Type 0) (files : ℕ → List ℕ) (lines : List (List ℕ)) (ending : Option Ending) (before after : Option (List ℕ)) (status : Status) : Type 0 where
+pub record RunsOver (faithful : Type 0) (IsLeft : Machine → Type 0) (files : ℕ → List ℕ) (lines : List (List ℕ)) (ending : Option Ending) (before after : Option (List ℕ)) (status : Status) : Type 0 where
   pub script : Script
   pub opened : Option (List ℕ)
   pub begins : HasBegun faithful files before opened script
@@ -80,8 +86,14 @@ pub record RunsOver (faithful : Type 0) (files : ℕ → List ℕ) (lines : List
   pub plays : PlaysOn FreesRoom script 1 lines ending text came_to end
   pub played : Option (List ℕ)
   pub wrote : Appends opened played text
-  pub ends : HasEnded end came_to played after status
+  pub ends : HasEnded IsLeft end came_to played after status
 
--- A run: no store was opened, or the lines were played over one.
-abbrev pub IsRun : Type 0 → (ℕ → List ℕ) → List (List ℕ) → Option Ending → Option (List ℕ) → Option (List ℕ) → Status → Type 0
-IsRun faithful files lines ending before after status = IsUnopened faithful files before after status ⊎ RunsOver faithful files lines ending before after status
+-- A run: no store was opened, or the lines were played over one, of which this is left.
+abbrev pub IsRun : Type 0 → (Machine → Type 0) → (ℕ → List ℕ) → List (List ℕ) → Option Ending → Option (List ℕ) → Option (List ℕ) → Status → Type 0
+IsRun faithful IsLeft files lines ending before after status =
+    IsUnopened faithful files before after status ⊎ RunsOver faithful IsLeft files lines ending before after status
+
+-- Where a disk that has these states is faithful, whatever a crash leaves of it at its last moment recovers one number, not below the
+-- machine's durable one, and the trees after the accepted changes up to it.
+abbrev pub LeavesPrefix : Type 0 → (ℕ → ℕ → FileState) → ℕ → Machine → Type 0
+LeavesPrefix faithful states clock machine = faithful → (store : Store) × IsSafeAt store states clock machine

@@ -6,7 +6,7 @@ ghost use Rattle.recovery.specs.Recovered.{seen_in};
 ghost use Rattle.reg_script.specs.Statuses.{with_refusal};
 ghost use Rattle.regtx_parts.specs.Plays.{WereRead, is_refusal};
 ghost use Rattle.regtx_parts.specs.Players.{script_of};
-ghost use Rattle.regtx_parts.specs.Running.{HasBegun, HasEnded, IsRun, IsUnopened, flushed_text};
+ghost use Rattle.regtx_parts.specs.Running.{HasBegun, HasEnded, IsRun, IsUnopened, LeavesPrefix, flushed_text};
 ghost use Rattle.regtx_parts.specs.declared.ending.Ending.{Ending as AnyEnding};
 ghost use Rattle.regtx_parts.specs.declared.ending.Ending.TheVariants.{Broken};
 
@@ -27,7 +27,8 @@ use std::io::{BufRead, Write};
 /// also behind a line that is not understood, and where the script can't be read on or a write fails, all accepted changes are made
 /// durable, which is told of only where it is refused; and then they are moved into the hives.
 ///
-/// Where no store is opened, why is told, and no line is read. The disk is handed back in any case. `Err` says that a write
+/// Where no store is opened, why is told, and no line is read. The disk is handed back in any case: whatever a crash leaves of it from
+/// then on recovers what was durable at the end. `Err` says that a write
 /// failed, which ends the run.
 pub fn run<D: Disk, R: BufRead, W: Write>(
     alloc: Global,
@@ -37,6 +38,7 @@ pub fn run<D: Disk, R: BufRead, W: Write>(
 ) -> (D, io::Result<Status>)
     ensures { IfOk result.1 (λ status. (lines : List (List ℕ)) × (ending : Option AnyEnding)
         × WereRead (R.remaining reader.old) lines ending × IsRun (D.faithful result.0)
+        (LeavesPrefix (D.faithful result.0) (D.state_at result.0) (D.clock result.0))
         (seen_in (D.state_at disk (D.clock disk))) lines ending
         (W.contents writer.old) (W.contents writer.new) status) }
 {
@@ -56,6 +58,7 @@ pub fn run_unread<D: Disk, W: Write>(
     writer: &mut W,
 ) -> (D, io::Result<Status>)
     ensures { IfOk result.1 (λ status. IsRun (D.faithful result.0)
+        (LeavesPrefix (D.faithful result.0) (D.state_at result.0) (D.clock result.0))
         (seen_in (D.state_at disk (D.clock disk))) [] (Some Broken)
         (W.contents writer.old) (W.contents writer.new) status) }
 {
@@ -97,7 +100,8 @@ fn end_run<D: Disk, W: Write>(
     writer: &mut W,
 ) -> (D, io::Result<Status>)
     ensures ended { IfOk result.1 (λ status. IfOk played (λ came_to.
-        HasEnded (script_of player) came_to (W.contents writer.old) (W.contents writer.new) status)) }
+        HasEnded (LeavesPrefix (D.faithful result.0) (D.state_at result.0) (D.clock result.0))
+        (script_of player) came_to (W.contents writer.old) (W.contents writer.new) status)) }
     ensures played { IsOk result.1 → IsOk played }
     ensures faithful { D.faithful result.0 → D.faithful player.engine.disk }
 {
@@ -105,6 +109,7 @@ fn end_run<D: Disk, W: Write>(
     let told = player.flush();
     let mut engine = player.into_engine();
     settle(&mut engine);
+    engine.keeps_a_prefix();
     (engine.into_disk(), tell_flush(writer, told, played))
 }
 

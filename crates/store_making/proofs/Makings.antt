@@ -33,8 +33,8 @@ not_made_as (Err why) failed same reason other f (inl fault) = inl fault
 not_made_as (Err why) failed same reason other f (inr refused) = inr (f why refused.0, refused.1)
 
 -- what is told of a creation of trees
-pub told_of : (made : Result (Unit {0}) Refusal) (trees : List TreeMap) (before after : Option (List ℕ)) (status : Status) (stands : List TreeMap → Type 0) (not : Refusal → Type 0)
-    → MatchResult made (λ _. (any : List TreeMap) → IsTold before after (Ok any) status) (λ why. IsTold before after (Err why) status) → OnOk made (stands trees) → IfErr made not
-    → (told : Result (List TreeMap) Refusal) × IsTold before after told status × MatchResult told stands not
-told_of (Ok x) trees before after status stands not told made refused = (Ok trees, told trees, made)
-told_of (Err why) trees before after status stands not told made refused = (Err why, told, refused)
+pub told_of : {E : Type 0} (result : Result Status E) (made : Result (Unit {0}) Refusal) (trees : List TreeMap) (before after : Option (List ℕ)) (stands : List TreeMap → Type 0) (not : Refusal → Type 0)
+    → IfOk result (λ status. MatchResult made (λ _. (any : List TreeMap) → IsTold before after (Ok any) status) (λ why. IsTold before after (Err why) status)) → OnOk made (stands trees) → IfErr made not
+    → (told : Result (List TreeMap) Refusal) × IfOk result (IsTold before after told) × MatchResult told stands not
+told_of result (Ok x) trees before after stands not told made refused = (Ok trees, if_ok_as result (λ status t. t trees) told, made)
+told_of result (Err why) trees before after stands not told made refused = (Err why, told, refused)

@@ -36,6 +36,6 @@ abbrev pub making_status : Result (List TreeMap) Refusal → Status
 making_status (Ok trees) = status.Clean
 making_status (Err why) = status.Refused
 
--- what was written is the line of what is told, and the status is its status
+-- what was written is the line of what is told, and this status is its status
 abbrev pub IsTold : Option (List ℕ) → Option (List ℕ) → Result (List TreeMap) Refusal → Status → Type 0
 IsTold before after told status = Appends before after (reply_line (making_reply told)) × (status ≡ making_status told)

@@ -119,7 +119,7 @@ impl Import {
     ///
     /// Refused, in the text, as the first file that was refused: with `HiveDamaged` of the hive that it was to be, `Unsupported` or
     /// `TooLarge`; and with `NoMemory`; nothing has changed on the disk then. And with `DiskFault` where the device failed: nothing
-    /// is said of the store's files then. `Err` says that a write to the writer failed: then too the store may be made.
+    /// is said of the store's files then. `Err` says that a write to the writer failed; of the disk the same holds then.
     pub fn make<D: Disk, W: Write>(
         self,
         alloc: Global,
@@ -128,14 +128,14 @@ impl Import {
         writer: &mut W,
     ) -> io::Result<Status>
         requires some { 1 ≤ self.count }
-        ensures made { IfOk result (λ status. (files : List (Option (List ℕ))) → HasTaken files self →
+        ensures made { (files : List (Option (List ℕ))) → HasTaken files self →
             (told : Result (List TreeMap) Refusal)
-            × IsTold (W.contents writer.old) (W.contents writer.new) told status
+            × IfOk result (IsTold (W.contents writer.old) (W.contents writer.new) told)
             × MatchResult told
             (λ trees. AreHeldBy files trees × (D.faithful disk.new →
             IsNewStore id trees (D.state_at disk.new (D.clock disk.new))))
             (IsNotMade (D.failures disk.old < D.failures disk.new) (disk.new ≡ disk.old)
-            (IsRefusedImport files))) }
+            (IsRefusedImport files)) }
         ensures stays { StaysOff (IsOfStore self.count) (D.state_at disk.old) (D.state_at disk.new)
             (D.clock disk.old) (D.clock disk.new) }
         ensures faithful { D.faithful disk.new → D.faithful disk.old }

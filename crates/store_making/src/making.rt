@@ -23,7 +23,7 @@ use uuid::Uuid;
 /// the status. Each hive has a root without a name, values and subkeys. Whatever the store's files held is gone.
 ///
 /// Refused, in the text, with `NoMemory`: nothing has changed on the disk then; and with `DiskFault` where the device failed:
-/// nothing is said of the store's files then. `Err` says that a write to the writer failed: then too the store may be made.
+/// nothing is said of the store's files then. `Err` says that a write to the writer failed; of the disk the same holds then.
 pub fn make_new<D: Disk, W: Write>(
     alloc: Global,
     disk: &mut D,
@@ -33,13 +33,13 @@ pub fn make_new<D: Disk, W: Write>(
 ) -> io::Result<Status>
     requires some { 1 ≤ hives }
     requires few { hives ≤ MOST_HIVES }
-    ensures made { IfOk result (λ status. (told : Result (List TreeMap) Refusal)
-        × IsTold (W.contents writer.old) (W.contents writer.new) told status
+    ensures made { (told : Result (List TreeMap) Refusal)
+        × IfOk result (IsTold (W.contents writer.old) (W.contents writer.new) told)
         × MatchResult told
         (λ trees. (trees ≡ replicate hives fresh_tree) × (D.faithful disk.new →
         IsNewStore id trees (D.state_at disk.new (D.clock disk.new))))
         (IsNotMade (D.failures disk.old < D.failures disk.new) (disk.new ≡ disk.old)
-        (λ why. why ≡ NoMemory))) }
+        (λ why. why ≡ NoMemory)) }
     ensures stays { StaysOff (IsOfStore hives) (D.state_at disk.old) (D.state_at disk.new)
         (D.clock disk.old) (D.clock disk.new) }
     ensures faithful { D.faithful disk.new → D.faithful disk.old }

@@ -2,7 +2,7 @@ use Rattle.std.proofs.Common.{◌≡◌, ◌<◌, replicate, refl}
 use Rattle.refusals.specs.declared.refusal.Refusal.TheVariants.{NoMemory}
 use Rattle.reg_tree.specs.Fresh.{fresh_tree}
 use Rattle.store_making.specs.Makings.{IsNewStore, IsNotMade}
-use Rattle.store_making.proofs.Makings.{if_ok_as, on_ok_as, told_of}
+use Rattle.store_making.proofs.Makings.{on_ok_as, told_of}
 use Rattle.store_making.proofs.making.make_new.Goals as goal
 
 pub returns-clause-made : goal.returns-clause-made
@@ -10,9 +10,7 @@ returns-clause-made g c =
     let D = g.D.Disk in
     let made = c.make_fresh-made in
     let trees = replicate c.args.hives fresh_tree in
-    if_ok_as c.tell.result
-    (λ status told. told_of made.result trees (g.W.Write.contents c.args.writer.now) (g.W.Write.contents c.tell.new.writer) status
+    told_of c.tell.result made.result trees (g.W.Write.contents c.args.writer.now) (g.W.Write.contents c.tell.new.writer)
     (λ any. (any ≡ trees) × (D.faithful made.new.disk → IsNewStore c.args.id any (D.state_at made.new.disk (D.clock made.new.disk))))
     (IsNotMade (D.failures c.args.disk.now < D.failures made.new.disk) (made.new.disk ≡ c.args.disk.now) (λ why. why ≡ NoMemory))
-    told (on_ok_as made.result (λ stands. (refl, stands)) made.ensures.made) made.ensures.refused)
-    c.tell.ensures.told
+    c.tell.ensures.told (on_ok_as made.result (λ stands. (refl, stands)) made.ensures.made) made.ensures.refused

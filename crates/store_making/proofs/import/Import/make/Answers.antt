@@ -3,31 +3,24 @@ use Rattle.std.specs.Result.{result_map_both}
 use Rattle.recovery.specs.Created.{IsRefusedFor}
 use Rattle.store_making.specs.Imports.{AreHeldBy, HasTaken, IsRefusedImport, TellsOf}
 use Rattle.store_making.specs.Makings.{IsNewStore, IsNotMade}
-use Rattle.store_making.proofs.Makings.{if_ok_as, on_ok_as, not_made_as, told_of}
+use Rattle.store_making.proofs.Makings.{on_ok_as, not_made_as, told_of}
 use Rattle.store_making.proofs.import.Import.make.Goals as goal
 
 pub returns-in-Ok-clause-made : goal.returns-in-Ok-clause-made
-returns-in-Ok-clause-made g c =
+returns-in-Ok-clause-made g c = λ files has.
     let D = g.D.Disk in
     let made = c.make_store-made in
-    let trees = c.in-Ok.trees.items in
-    if_ok_as c.tell.result
-    (λ status told files has.
     let inside : HasTaken files (record { count = c.self.inside.count; told = result_map_both (λ ts. ts.items) (λ why. why) c.self.inside.told }) = subst (HasTaken files) (sym c.self.view_is) has in
-    let held : AreHeldBy files trees = subst (λ told. TellsOf files (result_map_both (λ ts. ts.items) (λ why. why) told)) c.in-Ok.is inside.tells in
+    let held : AreHeldBy files c.in-Ok.trees.items = subst (λ told. TellsOf files (result_map_both (λ ts. ts.items) (λ why. why) told)) c.in-Ok.is inside.tells in
     let own : AreHeldBy files c.from_vec.result = subst (AreHeldBy files) (sym c.from_vec.ensures) held in
-    told_of made.result c.from_vec.result (g.W.Write.contents c.args.writer.now) (g.W.Write.contents c.tell.new.writer) status
+    told_of c.tell.result made.result c.from_vec.result (g.W.Write.contents c.args.writer.now) (g.W.Write.contents c.tell.new.writer)
     (λ any. AreHeldBy files any × (D.faithful made.new.disk → IsNewStore c.args.id any (D.state_at made.new.disk (D.clock made.new.disk))))
     (IsNotMade (D.failures c.args.disk.now < D.failures made.new.disk) (made.new.disk ≡ c.args.disk.now) (IsRefusedImport files))
-    told (on_ok_as made.result (λ stands. (own, stands)) made.ensures.made)
+    c.tell.ensures.told (on_ok_as made.result (λ stands. (own, stands)) made.ensures.made)
     (not_made_as made.result (D.failures c.args.disk.now < D.failures made.new.disk) (made.new.disk ≡ c.args.disk.now) (IsRefusedFor c.from_vec.result) (IsRefusedImport files)
-    (λ why refused. inr (c.from_vec.result, own, refused)) made.ensures.refused))
-    c.tell.ensures.told
+    (λ why refused. inr (c.from_vec.result, own, refused)) made.ensures.refused)
 
 pub returns-in-Err-clause-made : goal.returns-in-Err-clause-made
-returns-in-Err-clause-made g c =
-    if_ok_as c.tell-in-Err.result
-    (λ status told files has.
+returns-in-Err-clause-made g c = λ files has.
     let inside : HasTaken files (record { count = c.self.inside.count; told = result_map_both (λ ts. ts.items) (λ why. why) c.self.inside.told }) = subst (HasTaken files) (sym c.self.view_is) has in
-    (Err c.in-Err.why, told, inr (inl (subst (λ told. TellsOf files (result_map_both (λ ts. ts.items) (λ why. why) told)) c.in-Err.is inside.tells), refl)))
-    c.tell-in-Err.ensures.told
+    (Err c.in-Err.why, c.tell-in-Err.ensures.told, inr (inl (subst (λ told. TellsOf files (result_map_both (λ ts. ts.items) (λ why. why) told)) c.in-Err.is inside.tells), refl))
