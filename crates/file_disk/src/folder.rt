@@ -4,7 +4,6 @@ ghost use Rattle.std.specs.Prelude.{◌≤◌, length, IfOk};
 use std::alloc::{AllocError, AllocFailed, Global};
 use std::fs::{File, OpenOptions, TryLockError};
 use std::io::{self, ErrorKind};
-use std::os::fd::AsRawFd;
 use std::os::unix::fs::FileExt;
 use std::rt::Files;
 
@@ -49,7 +48,7 @@ impl From<io::Error> for Unheld {
 }
 
 /// A folder whose files are opened as they are first asked for and stay open. A file that isn't there reads as empty, and is made
-/// by the first write. What the system keeps in memory of a file is dropped as it is opened, so that reads tell what the device has.
+/// by the first write.
 ///
 /// No other program that holds folders so has it until this is dropped.
 #[derive(Drop)]
@@ -185,7 +184,6 @@ impl<R: Files<File = File> + Drop> Folder<R> {
         self.name(number)?;
         match how.open(&self.rt, self.path.as_str()) {
             Ok(file) => {
-                forget_pages(&file)?;
                 if let Some(slot) = self.files.get_mut(number as usize) {
                     *slot = Some(file);
                 }
@@ -208,15 +206,6 @@ impl<R: Files<File = File> + Drop> Folder<R> {
         let ending = if number % 2 == 1 { "dat" } else { "log" };
         write!(self.path, "/hive{hive:02}.{ending}")?;
         Ok(())
-    }
-}
-
-// Has the system read a file anew from its device. Where an earlier program's sync has failed, the system may show bytes that the
-// device hasn't got, and holds them for written.
-fn forget_pages(file: &File) -> io::Result<()> {
-    match libc::posix_fadvise(file.as_raw_fd(), 0, 0, libc::POSIX_FADV_DONTNEED) {
-        0 => Ok(()),
-        error => Err(io::Error::from_raw_os_error(error)),
     }
 }
 
