@@ -72,9 +72,9 @@ def mounted(program, size):
 
 
 @contextmanager
-def program_at(path, prefix, place=None):
-    """The program of this path, copied into a folder that goes with the run, in a place where one is named."""
-    with tempfile.TemporaryDirectory(prefix=prefix, dir=place) as home:
+def program_at(path, prefix):
+    """The program of this path, copied into a folder that goes with the run."""
+    with tempfile.TemporaryDirectory(prefix=prefix) as home:
         os.chmod(home, 0o755)
         program = Program(shutil.copy(os.path.realpath(path), os.path.join(home, "regtx")), home)
         os.chmod(program.path, 0o755)
