@@ -1,0 +1,97 @@
+"""Runs a built program in scratch folders, and tells what passed: what the scripts that try it on files share."""
+import os
+import resource
+import shutil
+import subprocess
+import sys
+import tempfile
+from contextlib import contextmanager
+
+TOP = os.path.dirname(os.path.dirname(os.path.abspath(__file__)))
+SECONDS = 60
+NOBODY = 65_534
+
+
+class Program:
+    """The program, run in a folder of its own."""
+
+    def __init__(self, path, home):
+        self.path, self.home = path, home
+
+    def run(self, *words, **given):
+        """What is printed, and the status; or what goes to standard error."""
+        environment = dict(os.environ, **given.pop("environment", {}))
+        ended = subprocess.run([self.path, *words], cwd=self.home, stdin=subprocess.DEVNULL, capture_output=True,
+                               timeout=SECONDS, env=environment, **given)
+        return (ended.stdout, ended.returncode) if not ended.stderr else (ended.stderr, ended.returncode)
+
+    def status_to(self, device, *words):
+        """The status of a run whose replies go to a device."""
+        with open(device, "wb") as file:
+            return subprocess.run([self.path, *words], cwd=self.home, stdin=subprocess.DEVNULL, stdout=file,
+                                  timeout=SECONDS).returncode
+
+    def at(self, *names):
+        return os.path.join(self.home, *names)
+
+    def put(self, name, content):
+        with open(self.at(name), "wb") as file:
+            file.write(content)
+        return name
+
+
+def expect(title, found, wanted):
+    return None if found == wanted else f"{title}: wanted {shown(wanted)}, found {shown(found)}"
+
+
+def shown(thing):
+    text = repr(thing)
+    return text if len(text) <= 160 else f"{text[:160]}.. ({len(text)})"
+
+
+def as_other():
+    """What makes a run one of a user who isn't root; nothing where this isn't root either."""
+    return {"user": NOBODY} if os.geteuid() == 0 else {}
+
+
+def limited(kind, most):
+    """What bounds a run; a file over its size is an error then and ends nothing."""
+    return {"preexec_fn": lambda: resource.setrlimit(kind, (most, most)), "restore_signals": False}
+
+
+@contextmanager
+def mounted(program, size):
+    """A folder that has so many bytes; or None where none can be mounted."""
+    os.mkdir(program.at("full"))
+    made = subprocess.run(["mount", "-t", "tmpfs", "-o", f"size={size}", "tmpfs", program.at("full")], capture_output=True)
+    try:
+        yield "full" if made.returncode == 0 else None
+    finally:
+        if made.returncode == 0:
+            subprocess.run(["umount", program.at("full")], check=True)
+
+
+@contextmanager
+def program_at(path, prefix):
+    """The program of this path, copied into a folder that goes with the run."""
+    with tempfile.TemporaryDirectory(prefix=prefix) as home:
+        os.chmod(home, 0o755)
+        program = Program(shutil.copy(os.path.realpath(path), os.path.join(home, "regtx")), home)
+        os.chmod(program.path, 0o755)
+        yield program
+
+
+def tell(part, results):
+    """Prints how a part went; answers how many passed and how many failed."""
+    wrong = [why for why in results if why]
+    for why in wrong[:10]:
+        print(f"{part}: {why}")
+    print(f"{part}: {len(results) - len(wrong)} passed, {len(wrong)} failed")
+    return len(results) - len(wrong), len(wrong)
+
+
+def finish(counts):
+    """Prints how all parts went, and ends this."""
+    passed, failed = (sum(count) for count in zip(*counts))
+    print(f"{passed} passed, {failed} failed")
+    sys.exit(1 if failed or not passed else 0)
