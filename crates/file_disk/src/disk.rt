@@ -29,7 +29,7 @@ pub struct FileDisk<R: Files<File = File> + Drop, W: World> {
 impl<R: Files<File = File> + Drop, W: World> FileDisk<R, W> {
     /// Takes hold of a folder, which may be missing: its files read as empty then, and none can be made.
     ///
-    /// Refused where another program has it, where the system refuses it, and for want of memory.
+    /// Refused where another program has it, where it is no folder, where the system refuses it, and for want of memory.
     pub fn hold(rt: R, alloc: Global, folder: &str) -> Result<FileDisk<R, W>, Unheld> {
         Ok(FileDisk {
             folder: Folder::hold(rt, alloc, folder)?,

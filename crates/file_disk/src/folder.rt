@@ -65,7 +65,7 @@ pub(crate) struct Folder<R: Files<File = File> + Drop> {
 }
 
 impl<R: Files<File = File> + Drop> Folder<R> {
-    /// Takes hold of a folder. One that isn't there has no files, and none can be made in it.
+    /// Takes hold of a folder. One that isn't there has no files, and none can be made in it; what isn't a folder is refused.
     pub(crate) fn hold(rt: R, alloc: Global, folder: &str) -> Result<Folder<R>, Unheld> {
         let path = String::with_capacity(alloc, folder.len().saturating_add(LONGEST_NAME))?;
         let handle = match File::open(&rt, folder) {
@@ -74,6 +74,9 @@ impl<R: Files<File = File> + Drop> Folder<R> {
             Err(error) => return Err(error.into()),
         };
         if let Some(handle) = &handle {
+            if !handle.metadata()?.is_dir() {
+                return Err(Unheld::Denied(ErrorKind::NotADirectory.into()));
+            }
             lock(handle)?;
         }
         let mut files = Vec::with_capacity(alloc, MOST_FILES as usize)?;
