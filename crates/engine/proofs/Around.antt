@@ -6,7 +6,7 @@ use Rattle.reg_tree.specs.declared.element.Element.{Element}
 use Rattle.machine.specs.Machine.{Machine}
 use Rattle.engine_law.specs.Idle.{IsFlushed}
 use Rattle.engine_law.specs.States.{HiveView}
-use Rattle.engine.specs.Work.{AreFlushed, ComesBefore, IsNextAround}
+use Rattle.engine.specs.Work.{AreFlushed, IsNextAround}
 
 module _ (m : Machine) (base : ℕ) (opened : List Element) (hives : List HiveView) (after next : ℕ)
     (behind : (j : ℕ) → j < length hives → after < j → next ≤ j) (before : (j : ℕ) → j < next → j ≤ after) (from : (j : ℕ) → j < length hives → next ≤ j → after < j) where

@@ -11,7 +11,7 @@ use Rattle.prefix_law.specs.Promises.{Choice, JournalOn, Spelled, nothing, settl
 use Rattle.prefix_law.specs.Promises as promises
 use Rattle.prefix_law.specs.Recovery.{Recovers}
 use Rattle.prefix_law.proofs.OfFiles.{files_recover}
-use Rattle.disk_model.specs.FileState.{FileState, IsSound, Leaves, at_rest}
+use Rattle.disk_model.specs.FileState.{FileState, Leaves}
 use Rattle.disk_model.specs.Call.{Extends}
 use Rattle.disk_model.specs.StoreFiles.{IsJournal, IsOfHive, primary_file, log_file, journal_file}
 use Rattle.disk_model.proofs.Leaves.{left_at_rest}
@@ -26,7 +26,7 @@ use Rattle.hive_files.proofs.Frames.{extends_on}
 use Rattle.hive_flush.specs.Created.{AreCreated, IsImageOf}
 use Rattle.hive_flush.specs.Standing.{HoldsUnder}
 use Rattle.hive_flush.specs.declared.image.HiveImage.{HiveImage}
-use Rattle.engine_law.specs.Prefixes.{Holds, Recover, Spells}
+use Rattle.engine_law.specs.Prefixes.{Holds, Spells}
 use Rattle.engine_law.specs.States.{tree_of}
 use Rattle.engine_law.proofs.HiveLists.{at_slot, each_pushed}
 use Rattle.recovery.specs.Created.{AreImagesOf, AreWritten, HivesAreMade, IsOfHives, IsOfStore, IsWritten, new_store}

@@ -1,6 +1,5 @@
 use Rattle.std.proofs.Common.{arith}
 use Rattle.std.proofs.lemmas.Option.{slice_get_within}
-use Rattle.recovery.proofs.Creations.{one_more_light}
 use Rattle.recovery.proofs.creating.some_is_heavy.Goals as goal
 
 pub returns-then-weight-gt-MOST_WEIGHT-clause-heavy : goal.returns-then-weight-gt-MOST_WEIGHT-clause-heavy

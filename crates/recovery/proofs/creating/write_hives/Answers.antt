@@ -1,8 +1,7 @@
-use Rattle.std.proofs.Common.{◌≡◌, ◌∙◌, ◌<◌, List, get_or, length, refl, sym, ap, subst, arith, slice_get, Some}
+use Rattle.std.proofs.Common.{◌≡◌, ◌∙◌, ◌<◌, get_or, length, refl, ap, arith, slice_get, Some}
 use Rattle.std.proofs.lemmas.Option.{slice_get_read, slice_get_within}
 use Rattle.disk_model.specs.StoreFiles.{IsOfHive}
 use Rattle.hive_files.proofs.Anew.{stays_on, stays_wider}
-use Rattle.hive_flush.specs.declared.image.HiveImage.{HiveImage}
 use Rattle.recovery.specs.Created.{IsOfHives}
 use Rattle.recovery.proofs.Creations.{one_more_written}
 use Rattle.recovery.proofs.creating.write_hives.Goals as goal

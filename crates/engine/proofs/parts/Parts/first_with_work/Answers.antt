@@ -1,4 +1,4 @@
-use Rattle.std.proofs.Common.{◌≡◌, ◌∙◌, inl, inr, sym, subst, arith, refl, map}
+use Rattle.std.proofs.Common.{◌∙◌, inl, inr, sym, subst, arith, refl, map}
 use Rattle.std.proofs.lemmas.Bool.{cases_eq}
 use Rattle.engine_law.specs.Idle.{IsFlushed}
 use Rattle.engine_law.specs.Prefixes.{view_of}

@@ -1,4 +1,4 @@
-use Rattle.std.proofs.Common.{ℕ, map}
+use Rattle.std.proofs.Common.{map}
 use Rattle.engine_law.specs.Prefixes.{view_of}
 use Rattle.engine.specs.Work.{AreFlushed}
 use Rattle.engine.proofs.parts.Parts.first_with_work.Given as goal
