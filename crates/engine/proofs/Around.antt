@@ -1,46 +1,51 @@
 -- Going round all hives for one that has something to flush.
-use Rattle.std.proofs.Common.{inl, inr, ℕ, ◌<◌, ◌≤◌, List, Option, Some, None, length, arith}
+use Rattle.std.proofs.Common.{◌≡◌, inl, inr, ℕ, ◌<◌, ◌≤◌, ◌∙◌, List, Option, Some, None, length, map, sym, arith}
 use Rattle.std.specs.Prelude.{IfNone}
 use Rattle.std.proofs.lemmas.Bool.{cases_lt}
+use Rattle.std.proofs.lemmas.List.{length-map}
 use Rattle.reg_tree.specs.declared.element.Element.{Element}
 use Rattle.machine.specs.Machine.{Machine}
 use Rattle.engine_law.specs.Idle.{IsFlushed}
 use Rattle.engine_law.specs.States.{HiveView}
 use Rattle.engine.specs.Work.{AreFlushed, IsNextAround}
 
-module _ (m : Machine) (base : ℕ) (opened : List Element) (hives : List HiveView) (after next : ℕ)
-    (behind : (j : ℕ) → j < length hives → after < j → next ≤ j) (before : (j : ℕ) → j < next → j ≤ after) (from : (j : ℕ) → j < length hives → next ≤ j → after < j) where
-  -- one behind
-  pub found_behind : (i : ℕ) → (next ≤ i) × (i < length hives) × (IsFlushed m base opened hives i → ⊥) × AreFlushed m base opened hives next i → IsNextAround m base opened hives after i
-  found_behind i (low, high, works, flushed) = record {
-    there = high;
-    works = works;
-    first = λ j lt comes. elim (comes) [
-      | inl both ↦ flushed j (behind j lt both.0) both.1
-      | inr around ↦ let over = from i high low in absurd (omega (arith, over, around.0))
-    ];
-  }
+-- a list's rows are as many as what is seen of each
+pub as_many : {A B : Type 0} (f : A → B) (rows : List A) (count number : ℕ) → count ≡ number → length rows ≡ number → count ≡ length (map f rows)
+as_many f rows count number is are = is ∙ sym are ∙ sym (length-map rows f)
 
-  -- one up to there, where there is none behind
-  pub found_around : next ≤ length hives → AreFlushed m base opened hives next (length hives) → (i : ℕ) → (i < next) × (IsFlushed m base opened hives i → ⊥) × AreFlushed m base opened hives 0 i → IsNextAround m base opened hives after i
-  found_around within rest i (low, works, flushed) = record {
-    there = omega (arith, low, within);
-    works = works;
-    first = λ j lt comes. elim (comes) [
-      | inl both ↦ let under = before i low in absurd (omega (arith, under, both.0, both.1))
-      | inr around ↦ elim (around.1) [
-        | inl over ↦ rest j (behind j lt over) lt
-        | inr less ↦ flushed j (omega (arith)) less
-      ]
-    ];
-  }
+module _ (m : Machine) (base : ℕ) (opened : List Element) (hives : List HiveView) (after next count : ℕ) (many : count ≡ length hives) where
+  -- none behind, and none up to there
+  pub none_around : AreFlushed m base opened hives next count → AreFlushed m base opened hives 0 next → AreFlushed m base opened hives 0 (length hives)
+  none_around rest first i low high = elim (cases_lt i next) [
+    | inl less ↦ first i low less
+    | inr over ↦ rest i over (omega (arith, many, high))
+  ]
 
--- none behind, and none up to there
-pub none_around : (m : Machine) (base : ℕ) (opened : List Element) (hives : List HiveView) (next : ℕ) → AreFlushed m base opened hives next (length hives) → AreFlushed m base opened hives 0 next → AreFlushed m base opened hives 0 (length hives)
-none_around m base opened hives next rest first i low high = elim (cases_lt i next) [
-  | inl less ↦ first i low less
-  | inr over ↦ rest i over high
-]
+  module _ (behind : (j : ℕ) → j < count → after < j → next ≤ j) (before : (j : ℕ) → j < next → j ≤ after) (from : (j : ℕ) → j < count → next ≤ j → after < j) where
+    -- one behind
+    pub found_behind : (i : ℕ) → (next ≤ i) × (i < count) × (IsFlushed m base opened hives i → ⊥) × AreFlushed m base opened hives next i → IsNextAround m base opened hives after i
+    found_behind i (low, high, works, flushed) = record {
+      there = omega (arith, many, high);
+      works = works;
+      first = λ j lt comes. elim (comes) [
+        | inl both ↦ flushed j (behind j (omega (arith, many, lt)) both.0) both.1
+        | inr around ↦ let over = from i high low in absurd (omega (arith, over, around.0))
+      ];
+    }
+
+    -- one up to there, where there is none behind
+    pub found_around : next ≤ count → AreFlushed m base opened hives next count → (i : ℕ) → (i < next) × (IsFlushed m base opened hives i → ⊥) × AreFlushed m base opened hives 0 i → IsNextAround m base opened hives after i
+    found_around within rest i (low, works, flushed) = record {
+      there = omega (arith, many, low, within);
+      works = works;
+      first = λ j lt comes. elim (comes) [
+        | inl both ↦ let under = before i low in absurd (omega (arith, under, both.0, both.1))
+        | inr around ↦ elim (around.1) [
+          | inl over ↦ rest j (behind j (omega (arith, many, lt)) over) (omega (arith, many, lt))
+          | inr less ↦ flushed j (omega (arith)) less
+        ]
+      ];
+    }
 
 -- what follows from what a clause says where there is nothing
 pub none_then : {A P Q : Type 0} (r : Option A) → IfNone r P → (P → Q) → IfNone r Q
