@@ -74,7 +74,5 @@ fn percent_of(done: u64, whole: u64) -> u64
     if done >= whole {
         return 100;
     }
-    // a hundredth first, so that no product is past the greatest number
-    let hundredth = (whole / 100).max(1);
-    (done / hundredth).min(100)
+    (done.saturating_mul(100) / whole).min(100)
 }
