@@ -10,24 +10,28 @@ mod fault;
 mod files;
 mod making;
 mod running;
+mod terminal;
 mod words;
 
 use crate::fault::Fault;
 use crate::files::opened;
 use crate::making::{import_store, new_store};
 use crate::running::{play_script, run_script};
+use crate::terminal::Telling;
 use crate::words::{Task, task_asked};
 use hive_dump::{DumpFault, dump};
 use reg_script::Status;
 use std::alloc::Global;
 use std::fs::File;
-use std::io::BufWriter;
+use std::io::{BufWriter, Eprint};
 use std::process::ExitCode;
 use std::rt::{Env, Files};
+use std::time::Clock;
 use std::{env, io};
 
 fn main(rt: HostRuntime) -> ExitCode {
-    let code = match run(&rt) {
+    let telling = Telling::to(&rt.stderr(), &rt.stdout());
+    let code = match run(&rt, telling) {
         Ok(status) => status.code(),
         Err(fault) => match println!(rt; "{fault}") {
             Ok(()) => fault.status().code(),
@@ -38,10 +42,13 @@ fn main(rt: HostRuntime) -> ExitCode {
 }
 
 // does what the words ask for; a write that fails ends it with the status of a refusal
-fn run<R: Files<File = File> + Print + Env + AllocGlobal>(rt: &R) -> Result<Status, Fault> {
+fn run<R: Files<File = File> + Print + Eprint + Clock + Env + AllocGlobal>(
+    rt: &R,
+    telling: Telling,
+) -> Result<Status, Fault> {
     let words = words_given(rt, rt.alloc())?;
     match task_asked(rt.alloc(), &words)? {
-        Task::Play { script } => play_script(rt, script),
+        Task::Play { script } => play_script(rt, telling, script),
         Task::Dump { file } => dump_file(rt, file),
         Task::New { folder, id, count } => new_store(rt, folder, id, count),
         Task::Import {
@@ -49,7 +56,7 @@ fn run<R: Files<File = File> + Print + Env + AllocGlobal>(rt: &R) -> Result<Stat
             id,
             sources,
         } => import_store(rt, folder, id, &sources),
-        Task::Run { folder, script } => run_script(rt, folder, script),
+        Task::Run { folder, script } => run_script(rt, telling, folder, script),
     }
 }
 
