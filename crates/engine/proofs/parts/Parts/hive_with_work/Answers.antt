@@ -1,4 +1,4 @@
-use Rattle.std.proofs.Common.{length, map}
+use Rattle.std.proofs.Common.{map}
 use Rattle.std.proofs.lemmas.Option.{IfSome_then}
 use Rattle.engine_law.specs.Prefixes.{view_of}
 use Rattle.engine.proofs.Around.{as_many, found_behind, found_around, none_around, none_then}
