@@ -1,5 +1,5 @@
 //! The line itself.
-ghost use Rattle.std.specs.Prelude.{◌≤◌};
+ghost use Rattle.std.specs.Prelude.{◌≡◌, ◌<◌, ◌≤◌, ◌*◌, ◌/◌};
 
 use std::io::Eprint;
 use std::time::{Clock, Duration};
@@ -69,10 +69,11 @@ fn later<R: Clock>(clock: &R, milliseconds: u64) -> Duration {
 
 /// How many whole hundredths of the whole are done; all where there is nothing to do.
 fn percent_of(done: u64, whole: u64) -> u64
-    ensures { result ≤ 100 }
+    ensures all { whole ≤ done → result ≡ 100 }
+    ensures part { done < whole → result ≡ done * 100 / whole }
 {
     if done >= whole {
         return 100;
     }
-    (done.saturating_mul(100) / whole).min(100)
+    (u128::from(done) * 100 / u128::from(whole)) as u64
 }

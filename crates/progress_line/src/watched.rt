@@ -14,9 +14,11 @@ pub struct Watched<'a, T, R> {
     line: Option<ProgressLine<'a, R>>,
 }
 
-impl<'a, T: Drop, R: Eprint + Clock> Watched<'a, T, R> {
-    /// Tells of what is read from here on, where there is a line.
-    pub fn new(reader: T, line: Option<ProgressLine<'a, R>>) -> Watched<'a, T, R> {
+impl<'a, T: Read + Drop, R: Eprint + Clock> Watched<'a, T, R> {
+    /// Tells of what is read from here on, where there is a line: it gives what the reader would give.
+    pub fn new(reader: T, line: Option<ProgressLine<'a, R>>) -> Watched<'a, T, R>
+        ensures { ⟦<Watched<'a, T, R> as Read>⟧.remaining result ≡ T.remaining reader }
+    {
         Watched {
             reader,
             done: 0,
