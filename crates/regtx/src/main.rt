@@ -1,9 +1,10 @@
 //! The program `regtx`: reads the words of its command line, and leaves the work to `regtx_parts`, `hive_dump` and
 //! `store_making`.
 //!
-//! Everything is printed to standard output, each reply at once where a script comes from a pipe or a keyboard. The status
-//! is 0 where no refusal was printed, 1 where one was, a script or a file can't be read, a store can't be made or opened, or a write fails, and 2
-//! at a line that is none or at wrong words.
+//! Everything is printed to standard output, each reply at once where a script comes from a pipe or a keyboard; but how far a
+//! long script is read is told on standard error, where that alone is a terminal. The status is 0 where no refusal was printed, 1
+//! where one was, a script or a file can't be read, a store can't be made or opened, or a write fails, and 2 at a line that is none
+//! or at wrong words.
 #![tactic(auto)]
 
 mod fault;
