@@ -10,7 +10,7 @@ use Rattle.reg_tree.specs.Operations.{depth_there}
 use Rattle.reg_tree.proofs.Depths.{beginning_there, levels_missing}
 
 module _ (tree : TreeMap) (is : IsTree tree) where
-  abbrev Deepest : List (List ℕ) → Type 0
+  abbrev pub Deepest : List (List ℕ) → Type 0
   Deepest path = (d : ℕ) × (d ≤ length path) × IsSome (row tree (take d path)) × (d < length path → (rest : List (List ℕ)) → row tree (take (d + 1) path ++ rest) ≡ None)
 
   -- the last key on the way along a path that is there
@@ -29,13 +29,13 @@ module _ (tree : TreeMap) (is : IsTree tree) where
               let same : k + 1 ≡ suc k = omega arith in
               absurd (false≢true (sym (ap is_some (ap (λ n. row tree (take n path)) same ∙ e)) ∙ near))
 
-  deepest : (path : List (List ℕ)) → Deepest path
+  pub deepest : (path : List (List ℕ)) → Deepest path
   deepest path = deepest_from path (length path) (omega arith) (λ lt. absurd (omega arith))
 
-  levels : (path : List (List ℕ)) → length (missing tree path) ≡ length path - (deepest path).0
+  pub levels : (path : List (List ℕ)) → length (missing tree path) ≡ length path - (deepest path).0
   levels path = let found = deepest path in levels_missing tree is path found.0 found.1 found.2 found.3
 
-  depth_is : (path : List (List ℕ)) → (deepest path).0 ≡ depth_there tree path
+  pub depth_is : (path : List (List ℕ)) → (deepest path).0 ≡ depth_there tree path
   depth_is path = let found : Deepest path = deepest path in let e : length (missing tree path) ≡ length path - found.0 = levels path in let w : found.0 ≤ length path = found.1 in omega (arith, e, w)
 
   -- past the last key on the way nothing is there

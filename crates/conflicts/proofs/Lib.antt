@@ -11,3 +11,6 @@ pub mod SpotRanges
 pub mod PathSpots
 pub mod Looks
 pub mod Filing
+pub mod Effects
+pub mod Commutes
+pub mod EitherOrder

@@ -63,7 +63,7 @@ found trees op e = by_case (slice_get trees (hive_of op)) refl e
     by_case None t e = cc
     by_case (Some tree) t e = record { tree = tree; at = t; legal = e }
 
-set_here : {A : Type 0} (xs : List A) (i : ℕ) (x y : A) → slice_get xs i ≡ Some y → slice_get (slice_set xs i x) i ≡ Some x
+pub set_here : {A : Type 0} (xs : List A) (i : ℕ) (x y : A) → slice_get xs i ≡ Some y → slice_get (slice_set xs i x) i ≡ Some x
 set_here [] i x y e = cc
 set_here (z ∷ xs) zero x y e = refl
 set_here (z ∷ xs) (suc i) x y e = set_here xs i x y e
@@ -94,7 +94,7 @@ module _ (trees : List TreeMap) (op : Op) (m : ℕ) (on : Found trees op) where
   kept k f here = lifted k f false false here (λ ne. (refl, refl))
 
 -- what a value written or deleted needs: its key
-key_of_there : (F : Row → Result Legality Refusal) (o : Option Row) → judged_there o F ≡ Ok Legal → (key : Row) × (o ≡ Some key)
+pub key_of_there : (F : Row → Result Legality Refusal) (o : Option Row) → judged_there o F ≡ Ok Legal → (key : Row) × (o ≡ Some key)
 key_of_there F None e = cc
 key_of_there F (Some key) e = (key, refl)
 

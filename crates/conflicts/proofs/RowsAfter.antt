@@ -35,10 +35,10 @@ touched_value m name (Some key) = refl
 module _ (tree : TreeMap) (is : IsTree tree) where
   -- what a created key has none of, as a missing one, stays
   module _ (spelled : List (List ℕ)) (m : ℕ) (q : List (List ℕ)) where
-    at_home : eq_by_cmp path_order q (take (depth_there tree (folded_path spelled)) (folded_path spelled)) ≡ true → IsSome (row tree q)
+    pub at_home : eq_by_cmp path_order q (take (depth_there tree (folded_path spelled)) (folded_path spelled)) ≡ true → IsSome (row tree q)
     at_home e = subst (λ x. IsSome (row tree x)) (sym (eq_is q (take (depth_there tree (folded_path spelled)) (folded_path spelled)) e)) (home_is_there tree is (folded_path spelled))
 
-    fresh : begins_path q (folded_path spelled) ≡ true → nat_lt (depth_there tree (folded_path spelled)) (length q) ≡ true → row tree q ≡ None
+    pub fresh : begins_path q (folded_path spelled) ≡ true → nat_lt (depth_there tree (folded_path spelled)) (length q) ≡ true → row tree q ≡ None
     fresh on lt =
         let rest = split_begins q (folded_path spelled) on in
         let past : depth_there tree (folded_path spelled) < length q = grind (arith, nat_tests) in

@@ -57,7 +57,7 @@ set_itself [] i x e = refl
 set_itself (z ∷ xs) zero x e = cc
 set_itself (z ∷ xs) (suc i) x e = ap (λ ys. z ∷ ys) (set_itself xs i x e)
 
-unchanged : (trees : List TreeMap) (op : Op) (m : ℕ) → (judged_in trees op ≡ Ok Legal → ⊥) → applied_one trees op m ≡ trees
+pub unchanged : (trees : List TreeMap) (op : Op) (m : ℕ) → (judged_in trees op ≡ Ok Legal → ⊥) → applied_one trees op m ≡ trees
 unchanged trees op m not_legal = by_hive (slice_get trees (hive_of op)) refl not_legal
   where
     by_hive : (o : Option TreeMap) → slice_get trees (hive_of op) ≡ o → (judged_if o op ≡ Ok Legal → ⊥) → applied_if trees o op m ≡ trees
@@ -77,7 +77,7 @@ legal_or_not (Err refusal) = inr (λ e. cc)
 -- The law, of trees
 
 module _ (the_law : LawOfClaims) where
-  past_one : (trees : List TreeMap) (op : Op) (ops : List Op) (m n : ℕ) → AreTrees trees → AllByRecursion (λ b. law.Conflict (claim_of op) (claim_of b) → ⊥) ops → AreCarriedOut trees ops m → AreCarriedOut (applied_one trees op n) ops m
+  pub past_one : (trees : List TreeMap) (op : Op) (ops : List Op) (m n : ℕ) → AreTrees trees → AllByRecursion (λ b. law.Conflict (claim_of op) (claim_of b) → ⊥) ops → AreCarriedOut trees ops m → AreCarriedOut (applied_one trees op n) ops m
   past_one trees op ops m n are apart c = elim (legal_or_not (judged_in trees op)) [
     | inl e ↦
         let known = on_law trees are ops m c in
@@ -94,7 +94,7 @@ module _ (the_law : LawOfClaims) where
 pub any_moment : (trees : List TreeMap) → AreTrees trees → (ops : List Op) (m k : ℕ) → AreCarriedOut trees ops m → AreCarriedOut trees ops k
 any_moment trees are ops m k c = let known = on_law trees are ops m c in from_law trees are ops k known.0 known.1
 
-trees_stay : (trees : List TreeMap) (ops : List Op) (m : ℕ) → AreTrees trees → AreTrees (applied trees ops m)
+pub trees_stay : (trees : List TreeMap) (ops : List Op) (m : ℕ) → AreTrees trees → AreTrees (applied trees ops m)
 trees_stay trees [] m are = are
 trees_stay trees (op ∷ ops) m are = trees_stay (applied_one trees op m) ops m (trees_stay_one trees op m are)
 
@@ -102,7 +102,7 @@ pub stay_legal : LawOfClaims → (trees : List TreeMap) (first ops : List Op) (m
 stay_legal the_law trees first ops m n k are apart c = any_moment (applied trees first n) (trees_stay trees first n are) ops m k (past_all the_law trees first ops m n are apart c)
 
 -- one operation more, judged on the trees after those before it
-more : (trees : List TreeMap) (ops : List Op) (op : Op) (m : ℕ) → AreCarriedOut trees ops m → judged_in (applied trees ops m) op ≡ Ok Legal → AreCarriedOut trees (ops ++ op ∷ []) m
+pub more : (trees : List TreeMap) (ops : List Op) (op : Op) (m : ℕ) → AreCarriedOut trees ops m → judged_in (applied trees ops m) op ≡ Ok Legal → AreCarriedOut trees (ops ++ op ∷ []) m
 more trees [] op m c j = (j, tt)
 more trees (o ∷ ops) op m c j = (c.0, more (applied_one trees o m) ops op m c.1 j)
 

@@ -2,7 +2,7 @@
 use Rattle.std.specs.Prelude.{◌≡◌, ℕ, ◌==◌, not, Bool, false, is_some, List, [], ◌∷◌, length, nat_lt, Option, Some, None, Result, Ok, Err, slice_get, bit_and, ⊤}
 use Rattle.std.specs.List.{AllByRecursion}
 use Rattle.std.specs.FinMap as finite
-use Rattle.reg_names.specs.Names.{folded}
+use Rattle.reg_names.specs.Names.{folded, folded_path}
 use Rattle.refusals.specs.declared.refusal.Refusal.{Refusal}
 use Rattle.refusals.specs.declared.refusal.Refusal.TheVariants.{NotFound}
 use Rattle.refusals.specs.declared.limits.TheConstants.{MOST_VALUE_BYTES}
@@ -10,6 +10,7 @@ use Rattle.reg_tree_parts.specs.Rows.{Row}
 use Rattle.reg_tree.specs.Maps.{TreeMap, row}
 use Rattle.reg_tree.specs.Operations.{hive_of}
 use Rattle.reg_tree.specs.Judgement.{judged, applied_one}
+use Rattle.reg_tree.specs.TreeLists.{levels_in}
 use Rattle.reg_tree.specs.declared.op.Op.{Op}
 use Rattle.reg_tree.specs.declared.op.Op.TheVariants.{CreateKey, DeleteKey, SetValue, DeleteValue}
 use Rattle.reg_tree.specs.declared.op.Legality.{Legality}
@@ -73,3 +74,10 @@ AreCarriedOut trees (op ∷ ops) moment = (judged_in trees op ≡ Ok Legal) × A
 -- no claim of the first operations conflicts with one of the others
 abbrev pub AreApart : List Op → List Op → Type 0
 AreApart first others = AllByRecursion (λ a. AllByRecursion (λ b. law.Conflict (claim_of a) (claim_of b) → ⊥) others) first
+
+-- a creation makes as many keys in these trees as in others; no other operation makes keys
+abbrev pub MakesAlike : Op → List TreeMap → List TreeMap → Type 0
+MakesAlike (CreateKey hive path) trees others = levels_in trees hive (folded_path path) ≡ levels_in others hive (folded_path path)
+MakesAlike (DeleteKey hive path) trees others = ⊤
+MakesAlike (SetValue hive path name kind bytes) trees others = ⊤
+MakesAlike (DeleteValue hive path name) trees others = ⊤

@@ -9,11 +9,12 @@ ghost use Rattle.refusals.specs.declared.refusal.Refusal.TheVariants.{TooLarge};
 ghost use Rattle.reg_tree.specs.Maps.{TreeMap};
 ghost use Rattle.reg_tree.specs.Judgement.{legal, applied, applied_one};
 ghost use Rattle.reg_tree.specs.Sequences.{AreTrees};
+ghost use Rattle.reg_tree.specs.Times.{SameButTimes};
 ghost use Rattle.reg_tree.specs.declared.op.Op.{Op};
 ghost use Rattle.reg_tree.specs.declared.op.Legality.TheVariants.{Legal};
 ghost use Rattle.claims_law.specs.Skeleton.{apply, Claim};
 ghost use Rattle.claims_law.specs.Legal as law;
-ghost use Rattle.conflicts.specs.Skeletons.{skeleton, outline, judged_in, FitsData, AreCarriedOut, AreApart};
+ghost use Rattle.conflicts.specs.Skeletons.{skeleton, outline, judged_in, FitsData, AreCarriedOut, AreApart, MakesAlike};
 ghost use Rattle.conflicts.specs.Holders.{Held, with_claim, without_owner, holders_of, IsHolder};
 
 /// Operations that may be carried out one after another may be so after any others none of whose claims conflicts
@@ -38,6 +39,29 @@ pub fn but_for_weight()
     ensures { (trees : List TreeMap) (op : Op) → judged_in trees op ≡ Ok Legal →
         (legal trees op ≡ Ok Legal) ⊎ (legal trees op ≡ Err TooLarge) }
 {}
+
+/// A change may be carried out before operations or after them, where none of their claims conflicts with its own and it
+/// makes as many keys after them as before them.
+///
+/// - `exact`: all at one moment, what the two orders make is the same.
+/// - `but_for_times`: at whatever moments, it is the same but for times; so it is of trees that are those after the
+///   operations but for times.
+pub fn either_order()
+    ensures exact { (trees : List TreeMap) (ops : List Op) (change : Op) (m : ℕ) → AreTrees trees →
+        AreApart ops (change ∷ []) →
+        AreCarriedOut trees ops m → judged_in trees change ≡ Ok Legal →
+        MakesAlike change (applied trees ops m) trees →
+        applied_one (applied trees ops m) change m ≡ applied (applied_one trees change m) ops m }
+    ensures but_for_times { (trees seen : List TreeMap) (ops : List Op) (change : Op)
+        (m n k l : ℕ) → AreTrees trees →
+        AreApart ops (change ∷ []) →
+        AreCarriedOut trees ops m → judged_in trees change ≡ Ok Legal →
+        SameButTimes seen (applied trees ops m) →
+        MakesAlike change seen trees →
+        SameButTimes (applied_one seen change n) (applied (applied_one trees change k) ops l) }
+{
+    claims_law::stays_legal();
+}
 
 /// Trees and operations are to the law of claims what their outlines are.
 ///
