@@ -5,7 +5,6 @@ use Rattle.std.proofs.lemmas.Bool.{ltb-false}
 use Rattle.std.proofs.lemmas.List.Sums.{sum_by-append}
 use Rattle.refusals.specs.declared.limits.TheConstants.{MOST_ELEMENT_BYTES}
 use Rattle.reg_tree.specs.Texts.{op_text_len, ops_text_len}
-use Rattle.reg_tree.specs.Judgement.{applied}
 use Rattle.machine.specs.Machine.{too_long}
 use Rattle.std.proofs.Math.Seq.{map-set_same}
 use Rattle.std.specs.Option.{option_map}
@@ -17,7 +16,7 @@ use Rattle.conflicts.specs.Claims.{claim_of}
 use Rattle.conflicts.specs.Holders.{Held, with_claim, without_owner}
 use Rattle.conflicts.proofs.Members.{none_empty}
 use Rattle.machine.specs.Transactions.{Transaction, Puts, at, is_active, with_op}
-use Rattle.transactions.specs.Entries.{transaction_of, places_of, IsEntry, IsSameEntry, IsViewed, AreKept}
+use Rattle.transactions.specs.Entries.{transaction_of, places_of, IsEntry, IsSameEntry, IsViewed, IsViewNow, AreKept}
 use Rattle.transactions.specs.declared.entry.Entry.{Entry}
 use Rattle.transactions.specs.declared.entry.View.{View}
 use Rattle.transactions.proofs.Slots.{slot, at_of, puts, entries_put, entries_moved, entries_begun}
@@ -101,12 +100,12 @@ reserved_entry trees number begun e after i s = subst (IsEntry trees number begu
 
 -- an entry after one more operation, which is not too long and whose view is that after it
 pub added_entry : (trees : List TreeMap) (number begun : ℕ) (e after : Entry) (op : Op) (moment : ℕ) (made : View) → IsEntry trees number begun e → transaction_of after ≡ with_op (transaction_of e) op moment → after.length ≡ e.length + op_text_len op →
-    after.view ≡ Some made → too_long (transaction_of e) op ≡ false → made.number ≡ number → made.trees ≡ applied trees (e.ops.items ++ op ∷ []) made.moment → IsEntry trees number begun after
+    after.view ≡ Some made → too_long (transaction_of e) op ≡ false → made.number ≡ number → IsViewNow trees (e.ops.items ++ op ∷ []) made → IsEntry trees number begun after
 added_entry trees number begun e after op moment made i kept length view short numbered seen = record {
   known = omega (arith, i.known, ap (λ (t : Transaction). t.generation) kept);
   counted = whole;
   short = omega (arith, whole, ap (λ (items : List Op). ops_text_len items) items, ltb-false MOST_ELEMENT_BYTES (16 + ops_text_len (e.ops.items ++ op ∷ [])) short);
-  viewed = subst (IsViewed trees number after.ops.items) (sym view) record { known = omega (arith, numbered); made = λ same. seen ∙ ap (λ ops. applied trees ops made.moment) (sym items) };
+  viewed = subst (IsViewed trees number after.ops.items) (sym view) record { known = omega (arith, numbered); made = λ same. subst (λ ops. IsViewNow trees ops made) (sym items) seen };
 }
   where
     items : after.ops.items ≡ e.ops.items ++ op ∷ []

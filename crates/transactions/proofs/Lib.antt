@@ -6,3 +6,6 @@ mod Holding
 mod PlacesInTurn
 mod Stored
 mod ShortOnes
+mod TimesTold
+mod Looks
+mod Views

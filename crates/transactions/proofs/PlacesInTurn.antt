@@ -91,11 +91,21 @@ any_last p (x ∷ xs) y = ap (λ b. p x || b) (any_last p xs y) ∙ assoc (p x) 
     assoc true b c = refl
     assoc false b c = refl
 
-listed_more : (owners : List Owner) (index place : ℕ) (d : Owner) → index < length owners →
+pub listed_more : (owners : List Owner) (index place : ℕ) (d : Owner) → index < length owners →
     is_listed (numbers (take (index + 1) owners)) place ≡ (is_listed (numbers (take index owners)) place || (slice_index_or owners index d).0 == place)
 listed_more owners index place d below =
     ap (λ os. is_listed (numbers os) place) (take_more owners index d below) ∙ ap (λ ns. is_listed ns place) (map-append (λ (o : Owner). o.0) (take index owners) (slice_index_or owners index d ∷ []))
     ∙ any_last (λ p. p == place) (numbers (take index owners)) (slice_index_or owners index d).0
+
+-- one of them is listed
+pub listed_at : (owners : List Owner) (index place : ℕ) (d : Owner) → index < length owners → (slice_index_or owners index d).0 ≡ place → is_listed (numbers owners) place ≡ true
+listed_at [] index place d below e = absurd (omega (arith, below))
+listed_at (owner ∷ owners) zero place d below e = ap (λ b. b || is_listed (numbers owners) place) (eq-eqb owner.0 place e)
+listed_at (owner ∷ owners) (suc index) place d below e = ap (λ b. owner.0 == place || b) (listed_at owners index place d (omega (arith, below)) e) ∙ or_true (owner.0 == place)
+  where
+    or_true : (b : Bool) → (b || true) ≡ true
+    or_true true = refl
+    or_true false = refl
 
 twice : (one : Transaction) (b : Bool) → is_active one ≡ b → rolled_back (rolled_back one) ≡ rolled_back one
 twice one true e = ap rolled_back now ∙ sym now

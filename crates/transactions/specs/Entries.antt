@@ -1,12 +1,17 @@
 -- How a table keeps a transaction.
-use Rattle.std.specs.Prelude.{◌≡◌, ℕ, ◌+◌, ◌<◌, ◌≤◌, ◌++◌, ◌∷◌, [], List, map, length, vec_capacity, Contains, Option, IfSome, IsSome, false, Ok, Some, None, ⊤, true, ◌↔◌, slice_index_or}
+use Rattle.std.specs.Prelude.{◌≡◌, ◌⊎◌, ℕ, ◌+◌, ◌<◌, ◌≤◌, ◌++◌, ◌∷◌, [], List, map, length, vec_capacity, Contains, Option, IfSome, IsSome, false, Ok, Some, None, ⊤, true, ◌↔◌, slice_index_or}
 use Rattle.std.specs.Option.{option_map}
 use Rattle.refusals.specs.declared.limits.TheConstants.{MOST_ELEMENT_BYTES}
 use Rattle.refusals.specs.declared.refusal.Refusal.{Refusal}
 use Rattle.refusals.specs.declared.refusal.Refusal.TheVariants.{NoSuchHandle}
 use Rattle.reg_tree.specs.Maps.{TreeMap}
 use Rattle.reg_tree.specs.Texts.{ops_text_len}
-use Rattle.reg_tree.specs.Judgement.{applied, legal}
+use Rattle.reg_tree.specs.Judgement.{applied, applied_one, legal}
+use Rattle.reg_tree.specs.Sequences.{AreTrees}
+use Rattle.reg_tree.specs.Times.{SameButTimes}
+use Rattle.conflicts.specs.Skeletons.{AreCarriedOut}
+use Rattle.reg_tree.specs.TreeLists.{info_in}
+use Rattle.reg_tree.specs.declared.tree.Info.{Info}
 use Rattle.reg_tree.specs.declared.op.Op.{Op}
 use Rattle.reg_tree.specs.declared.op.Legality.TheVariants.{Legal, Opened}
 use Rattle.claims_law.specs.Skeleton.{Claim}
@@ -14,8 +19,6 @@ use Rattle.conflicts.specs.Claims.{claim_of}
 use Rattle.conflicts.specs.Holders.{Held}
 use Rattle.machine.specs.Transactions.{Transaction, Places, Puts, at, own, with_op, is_active, inactive_refusal, view}
 use Rattle.machine.specs.Machine.{levels_made, refusal_by, first_of, too_long}
-use Rattle.machine.specs.declared.event.Question.{Question}
-use Rattle.machine.specs.declared.event.Question.TheVariants.{ValueOf, KeysOf, ValuesOf, InfoOf}
 use Rattle.machine.specs.declared.handle.Tx.{Tx}
 use Rattle.transactions.specs.Tables.{Table}
 use Rattle.transactions.specs.declared.entry.Entry.{Entry}
@@ -29,10 +32,31 @@ transaction_of e = record { session = e.session; id = e.id; generation = e.gener
 abbrev pub places_of : List (Option Entry) → Places
 places_of slots = map (option_map transaction_of) slots
 
--- a view that was made of the trees of now has the operations applied; any other is never used
+-- The trees of a view are those of now with the operations applied at its moment; without a moment they are so but for times.
+abbrev pub IsMade : List TreeMap → List Op → Option ℕ → List TreeMap → Type 0
+IsMade now ops (Some moment) trees = trees ≡ applied now ops moment
+IsMade now ops None trees = SameButTimes trees (applied now ops 0)
+
+-- operations that can be carried out one after another, on trees that have their roots and parents
+pub record AreCarried (now : List TreeMap) (ops : List Op) : Type 0 where
+  pub are : AreTrees now
+  pub carried : AreCarriedOut now ops 0
+
+-- a view of the trees of now
+pub record IsViewNow (now : List TreeMap) (ops : List Op) (view : View) : Type 0 where
+  pub made : IsMade now ops view.moment view.trees
+  pub carried : view.carried ≡ true → AreCarried now ops
+
+-- a view that was just made
+pub record IsFresh (now : List TreeMap) (ops : List Op) (moment number : ℕ) (view : View) : Type 0 where
+  pub is : IsViewNow now ops view
+  pub numbered : view.number ≡ number
+  pub trees : view.trees ≡ applied now ops moment
+
+-- a view of the number of now is of the trees of now; any other is never used
 pub record IsViewOf (now : List TreeMap) (number : ℕ) (ops : List Op) (view : View) : Type 0 where
   pub known : view.number ≤ number
-  pub made : view.number ≡ number → view.trees ≡ applied now ops view.moment
+  pub made : view.number ≡ number → IsViewNow now ops view
 
 abbrev pub IsViewed : List TreeMap → ℕ → List Op → Option View → Type 0
 IsViewed now number ops None = ⊤
@@ -41,19 +65,40 @@ IsViewed now number ops (Some view) = IsViewOf now number ops view
 -- there is a view of now
 abbrev pub HasView : List TreeMap → ℕ → List Op → Option View → Type 0
 HasView now number ops None = ⊥
-HasView now number ops (Some view) = (view.number ≡ number) × (view.trees ≡ applied now ops view.moment)
+HasView now number ops (Some view) = (view.number ≡ number) × IsViewNow now ops view
 
 -- there is one at this moment
 abbrev pub HasViewAt : List TreeMap → ℕ → List Op → ℕ → Option View → Type 0
 HasViewAt now number ops moment None = ⊥
 HasViewAt now number ops moment (Some view) = (view.number ≡ number) × (view.trees ≡ applied now ops moment)
 
--- there is one that tells what a question asks
-abbrev pub HasViewFor : List TreeMap → ℕ → List Op → ℕ → Question → Option View → Type 0
-HasViewFor now number ops moment (ValueOf name) view = HasView now number ops view
-HasViewFor now number ops moment KeysOf view = HasView now number ops view
-HasViewFor now number ops moment ValuesOf view = HasView now number ops view
-HasViewFor now number ops moment InfoOf view = HasViewAt now number ops moment view
+-- the moment at which a view's next operation is carried out: where its times are nobody's, any will do
+abbrev pub moment_of : Option ℕ → ℕ
+moment_of None = 0
+moment_of (Some moment) = moment
+
+-- an operation is carried out on a view's trees at its moment, or opens a key
+abbrev pub WritesView : View → Op → Option View → Type 0
+WritesView view op None = legal view.trees op ≡ Ok Opened
+WritesView view op (Some made) = (legal view.trees op ≡ Ok Legal) × (made ≡ record view { trees = applied_one view.trees op (moment_of view.moment); unasked = made.unasked })
+
+-- a change is carried out on a view's trees, where it makes as many keys as on the trees of now
+pub record MovesView (view : View) (now : List TreeMap) (op : Op) (number : ℕ) (after : View) : Type 0 where
+  pub carried : view.carried ≡ true
+  pub alike : levels_made view.trees op ≡ levels_made now op
+  pub trees : after.trees ≡ applied_one view.trees op 0
+  pub moment : after.moment ≡ None
+  pub numbered : after.number ≡ number
+
+-- A view tells this of a key for another moment: it is so of the trees of now with the operations applied at that moment, whichever operations made the view.
+abbrev pub Tells : View → List TreeMap → ℕ → List (List ℕ) → ℕ → Option Info → Type 0
+Tells view now hive path moment told = (ops : List Op) → IsMade now ops view.moment view.trees → info_in (applied now ops moment) hive path ≡ told
+
+-- what a view tells of a key that it has; it can tell nothing only where it has no moment, or the trees of now have the key with the
+-- view's moment as its time
+abbrev pub TellsInfo : View → List TreeMap → ℕ → List (List ℕ) → ℕ → Option Info → Type 0
+TellsInfo view now hive path moment None = (view.moment ≡ None) ⊎ (option_map (λ (info : Info). info.time) (info_in now hive path) ≡ view.moment)
+TellsInfo view now hive path moment (Some info) = Tells view now hive path moment (Some info)
 
 -- what holds of an entry: its number was given, its length is that of its change and within the limit, and so is its view
 pub record IsEntry (now : List TreeMap) (number begun : ℕ) (e : Entry) : Type 0 where
@@ -79,7 +124,7 @@ pub record IsLegalIn (now : List TreeMap) (number : ℕ) (one : Transaction) (op
   pub is_legal : legal (view now one) op ≡ Ok Legal
   pub made : judged.levels ≡ levels_made (view now one) op
   pub numbered : judged.made.number ≡ number
-  pub seen : judged.made.trees ≡ applied now (one.ops ++ op ∷ []) judged.made.moment
+  pub seen : IsViewNow now (one.ops ++ op ∷ []) judged.made
 
 abbrev pub IsJudged : List TreeMap → ℕ → Transaction → Op → Option Judged → Type 0
 IsJudged now number one op None = legal (view now one) op ≡ Ok Opened
@@ -116,7 +161,7 @@ pub record MayAdd (table : Table) (place : ℕ) (op : Op) (made : View) : Type 0
   pub active : is_active one ≡ true
   pub short : too_long one op ≡ false
   pub numbered : made.number ≡ table.number
-  pub seen : made.trees ≡ applied table.trees (one.ops ++ op ∷ []) made.moment
+  pub seen : IsViewNow table.trees (one.ops ++ op ∷ []) made
 
 -- it was added
 abbrev pub with_op_if : Op → ℕ → Option Transaction → Option Transaction
@@ -125,3 +170,11 @@ with_op_if op moment (Some one) = Some (with_op one op moment)
 
 abbrev pub IsAdded : Places → ℕ → Op → ℕ → Places → Type 0
 IsAdded old place op moment new = Puts old new place (with_op_if op moment (at old place))
+
+-- the views after a change, by the places of their transactions; nothing where one is to be made again
+abbrev pub IsMovedTo : List TreeMap → ℕ → Option Transaction → Option View → Type 0
+IsMovedTo now number None moved = ⊤
+IsMovedTo now number (Some one) moved = IsViewed now number one.ops moved
+
+abbrev pub AreMoved : List TreeMap → ℕ → Places → List (Option View) → Type 0
+AreMoved now number places moved = (place : ℕ) → IsMovedTo now number (at places place) (slice_index_or moved place None)

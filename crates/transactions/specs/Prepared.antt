@@ -1,5 +1,5 @@
 -- What an event that may accept a change is going to do, all that it grows being made.
-use Rattle.std.specs.Prelude.{◌≡◌, ℕ, ◌+◌, ◌<◌, ◌≤◌, ◌==◌, Bool, true, false, List, [], ◌∷◌, length, Option, Some, None, Ok, Err, Result}
+use Rattle.std.specs.Prelude.{◌≡◌, ℕ, ◌+◌, ◌<◌, ◌≤◌, ◌==◌, Bool, true, false, List, length, Option, Some, None, Ok, Err, Result}
 use Rattle.refusals.specs.declared.refusal.Refusal.{Refusal}
 use Rattle.refusals.specs.declared.refusal.Refusal.TheVariants.{NoMemory}
 use Rattle.refusals.specs.declared.limits.TheConstants.{MOST_ELEMENT_BYTES}
@@ -10,14 +10,14 @@ use Rattle.reg_tree.specs.declared.op.Op.{Op}
 use Rattle.reg_tree.specs.declared.op.Legality.TheVariants.{Legal}
 use Rattle.conflicts.specs.Claims.{claim_of}
 use Rattle.machine.specs.Transactions.{at, own}
-use Rattle.machine.specs.Machine.{Machine, change, fault, is_open, levels_made, room_refusal, trees_now}
+use Rattle.machine.specs.Machine.{Machine, change, fault, is_open, levels_made, room_refusal, trees_now, last_number}
 use Rattle.machine.specs.Steps.{Step}
 use Rattle.machine.specs.declared.event.Event.{Event}
 use Rattle.machine.specs.declared.event.Event.TheVariants as event
-use Rattle.machine.specs.declared.event.Reply.{Reply}
 use Rattle.machine.specs.declared.event.Reply.TheVariants as reply
 use Rattle.machine.specs.declared.handle.Tx.{Tx}
 use Rattle.transactions.specs.Tables.{IsPending, holds_if, is_listed}
+use Rattle.transactions.specs.Entries.{AreMoved}
 use Rattle.transactions.specs.Histories.{IsShort}
 use Rattle.transactions.specs.Stores.{StoreView}
 use Rattle.transactions.specs.declared.prepared.ReadyWrite.{ReadyWrite}
@@ -32,7 +32,7 @@ may_accept (event.Write session moment op) = true
 may_accept (event.CommitAccept session tx moment) = true
 may_accept _ = false
 
--- An operation may be accepted by itself, and all that it leads to is made: the change, the trees then, who is rolled back, the room.
+-- An operation may be accepted by itself, and all that it leads to is made: the change, the trees then, who is rolled back, what the others see, the room.
 pub record IsReadyWrite (machine : Machine) (session moment : ℕ) (op : Op) (made : ReadyWrite) : Type 0 where
   pub free : fault machine ≡ None
   pub there : is_open machine session ≡ true
@@ -43,6 +43,7 @@ pub record IsReadyWrite (machine : Machine) (session moment : ℕ) (op : Op) (ma
   pub short : IsShort made.element
   pub trees : made.trees ≡ applied_one (trees_now machine) op moment
   pub holders : (place : ℕ) → is_listed made.holders place ≡ holds_if (claim_of op) (at machine.places place)
+  pub moved : AreMoved made.trees (last_number machine + 1) machine.places made.moved.items
   pub room : made.room ≡ machine.room + (17 + element_text_len (change moment op))
 
 -- A transaction's operations, which are some, may be accepted as one change, and what they lead to is made.

@@ -1,10 +1,17 @@
 //! One transaction as a table keeps it: its operations, and the trees that it sees.
-ghost use Rattle.std.specs.Prelude.{◌≡◌, ◌⊎◌, ◌+◌, ◌≤◌, ◌==◌, ◌&&◌, IfOk, OnErr, OnOk, Some, None, Err, IfErr};
+ghost use Rattle.std.specs.Prelude.{◌≡◌, ◌⊎◌, ◌+◌, ◌≤◌, ◌==◌, ◌&&◌, ◌<◌, ◌-◌, ◌^◌, ◌∷◌, [], ℕ, IfOk, IfSome, OnErr, OnOk, Some, None, Ok, Err, IfErr, slice_get};
 ghost use Rattle.refusals.specs.declared.limits.TheConstants.{MOST_ELEMENT_BYTES};
-ghost use Rattle.refusals.specs.declared.refusal.Refusal.TheVariants.{NoMemory};
+ghost use Rattle.refusals.specs.declared.refusal.Refusal.TheVariants.{NoMemory, NotFound};
 ghost use Rattle.reg_tree.specs.Texts.{op_text_len, ops_text_len};
-ghost use Rattle.reg_tree.specs.Judgement.{legal};
-ghost use Rattle.transactions.specs.Entries.{transaction_of, IsViewed, HasView, HasViewAt, HasViewFor, IsJudged, IsSameEntry, HasRoom};
+ghost use Rattle.reg_names.specs.Names.{folded_path};
+ghost use Rattle.reg_tree.specs.Judgement.{legal, applied, applied_one};
+ghost use Rattle.reg_tree.specs.Maps.{TreeMap, IsTree};
+ghost use Rattle.reg_tree.specs.Sequences.{AreTrees};
+ghost use Rattle.reg_tree.specs.declared.op.Legality.TheVariants.{Legal};
+ghost use Rattle.conflicts.specs.Skeletons.{AreCarriedOut, AreApart};
+ghost use Rattle.reg_tree.specs.Reads.{IsMissingOrNoMemory};
+ghost use Rattle.reg_tree.specs.TreeLists.{info_in};
+ghost use Rattle.transactions.specs.Entries.{transaction_of, IsViewed, IsFresh, HasView, HasViewAt, Tells, TellsInfo, WritesView, MovesView, IsJudged, IsSameEntry, HasRoom};
 ghost use Rattle.machine.specs.Machine.{looked_up, read_refusal, too_long};
 ghost use Rattle.machine.specs.Transactions.{view, with_op, ended, is_active, fresh_transaction};
 
@@ -12,22 +19,32 @@ use machine::{Found, Outcome, Question, levels_made, look_up};
 use refusals::Refusal;
 use refusals::limits::MOST_ELEMENT_BYTES;
 use reg_names::Path;
-use reg_tree::{CHANGE_BYTES, Op, Trees};
+use reg_tree::{CHANGE_BYTES, Info, Op, Trees};
 use std::alloc::{AllocError, Global};
 use std::mem;
 use uuid::Uuid;
 
-/// The trees with a transaction's operations applied at a moment, made when the last accepted change had a number.
+/// The trees that a transaction sees, but for the times of keys, when the last accepted change had a number.
 #[derive(Drop)]
 pub(crate) struct View {
+    /// The trees.
     pub(crate) trees: Trees,
-    pub(crate) moment: u64,
+    /// The moment at which the operations were applied to the trees of then; nothing where a later change was applied
+    /// after them, so that times are nobody's.
+    pub(crate) moment: Option<u64>,
+    /// The number of the last accepted change.
     pub(crate) number: u64,
+    /// Whether each operation is known to be one that could be carried out where it was applied: then a change that
+    /// meets no claim of theirs may be applied after them.
+    pub(crate) carried: bool,
+    /// How many changes were applied since the view was last asked.
+    pub(crate) unasked: usize,
 }
 
 /// A transaction, how long it is as journal text, and its view, where one was made. The view's moment may be an
 /// earlier one than the transaction's: what a write or a read asks of it depends on no moment, but for the time that a
-/// key tells. So a write costs one operation, whatever moments the writes have.
+/// key tells. So a write costs one operation, whatever moments the writes have. A change accepted by itself that meets
+/// no claim of the transaction is applied to its view too.
 #[derive(Drop)]
 pub(crate) struct Entry {
     pub(crate) session: u32,
@@ -47,6 +64,157 @@ pub(crate) struct Judged {
     pub(crate) made: View,
     /// How many keys it makes, where it creates one.
     pub(crate) levels: Option<usize>,
+}
+
+impl View {
+    /// The view of trees with operations applied at a moment.
+    fn make(
+        alloc: Global,
+        now: &Trees,
+        ops: &[Op],
+        moment: u64,
+        number: u64,
+    ) -> Result<View, AllocError>
+        ensures { IfOk result (IsFresh now.now ops.now moment number) }
+    {
+        know_trees(now);
+        if let Some(trees) = carry_out(alloc, now, ops, moment)? {
+            return Ok(View {
+                trees,
+                moment: Some(moment),
+                number,
+                carried: true,
+                unasked: 0,
+            });
+        }
+        Ok(View {
+            trees: now.apply_ops(alloc, ops, moment)?,
+            moment: Some(moment),
+            number,
+            carried: false,
+            unasked: 0,
+        })
+    }
+
+    /// What is told of a key, with the time that it would have if the view had been made at another moment: a key that the
+    /// operations write has the moment as its time, every other one the time that it has in the trees of now. Nothing
+    /// where the two can't be told apart, since the trees of now have the key with the view's own moment as its time.
+    /// Refused with `NotFound` exactly where the view has no such hive or key.
+    fn info_at(
+        &self,
+        now: &Trees,
+        hive: u8,
+        path: &Path,
+        moment: u64,
+    ) -> Result<Option<Info>, Refusal>
+        ensures told { IfOk result
+            (TellsInfo self.now now.now hive (folded_path path.now) moment) }
+        ensures refused { IfErr result (λ refusal.
+            (refusal ≡ NotFound)
+            × Tells self.now now.now hive (folded_path path.now) moment None) }
+    {
+        let info = self.trees.query_info(hive, path)?;
+        let Some(made_at) = self.moment else {
+            return Ok(None);
+        };
+        if made_at == moment || info.time != made_at {
+            return Ok(Some(info));
+        }
+        match now.query_info(hive, path) {
+            Ok(was) if was.time == made_at => Ok(None),
+            _ => Ok(Some(Info {
+                time: moment,
+                ..info
+            })),
+        }
+    }
+
+    /// The view after one operation more, or nothing where it opens a key; judged and carried out at the view's moment.
+    fn write(&self, alloc: Global, op: &Op) -> Result<Option<View>, Refusal>
+        ensures ok { IfOk result (WritesView self.now op.now) }
+        ensures refused { IfErr result (λ refusal.
+            (legal self.now.trees op.now ≡ Err refusal) ⊎ (refusal ≡ NoMemory)) }
+    {
+        match self.trees.write(alloc, op, self.moment.unwrap_or(0)) {
+            Ok(Some(trees)) => Ok(Some(View {
+                trees,
+                moment: self.moment,
+                number: self.number,
+                carried: self.carried,
+                unasked: 0,
+            })),
+            Ok(None) => Ok(None),
+            Err(refusal) => Err(refusal),
+        }
+    }
+
+    /// The view after the change of this number, which meets no claim of the operations: the change is applied to it too.
+    /// Nothing where that is not known to be the same: where it makes fewer keys here than on the trees of now, since the
+    /// operations made the others, and then spelled them.
+    fn moved(
+        &self,
+        alloc: Global,
+        now: &Trees,
+        op: &Op,
+        number: u64,
+    ) -> Result<Option<View>, AllocError>
+        ensures { IfOk result (λ moved. IfSome moved (MovesView self.now now.now op.now number)) }
+    {
+        if !self.carried || levels_made(&self.trees, op) != levels_made(now, op) {
+            return Ok(None);
+        }
+        match self.trees.write(alloc, op, 0) {
+            Ok(Some(trees)) => Ok(Some(View {
+                trees,
+                moment: None,
+                number,
+                carried: true,
+                unasked: self.unasked.saturating_add(1),
+            })),
+            Err(Refusal::NoMemory) => Err(AllocError),
+            _ => Ok(None),
+        }
+    }
+}
+
+// the trees after operations, where each can be carried out on those after the ones before it
+fn carry_out(
+    alloc: Global,
+    now: &Trees,
+    ops: &[Op],
+    moment: u64,
+) -> Result<Option<Trees>, AllocError>
+    ensures { IfOk result (λ made. IfSome made (λ trees.
+        (trees ≡ applied now.now ops.now moment)
+        × AreCarriedOut now.now ops.now moment)) }
+{
+    let mut trees = now.try_clone(alloc)?;
+    for op in ops {
+        match trees.write(alloc, op, moment) {
+            Ok(Some(made)) => trees = made,
+            Err(Refusal::NoMemory) => return Err(AllocError),
+            _ => return Ok(None),
+        }
+    }
+    Ok(Some(trees))
+}
+
+// trees have their roots, and with a key its parent; no others are ever made
+fn know_trees(trees: &Trees)
+    ensures { AreTrees trees.now }
+{
+    for hive in 0..trees.len() {
+        know_tree(trees, hive as u8);
+    }
+}
+
+// so it is of a hive's tree
+fn know_tree(trees: &Trees, hive: u8)
+    ensures { (tree : TreeMap) → slice_get trees.now hive ≡ Some tree → IsTree tree }
+{
+    if let Some(tree) = trees.tree(hive) {
+        let _ = tree.root();
+    }
 }
 
 impl Entry {
@@ -88,47 +256,16 @@ impl Entry {
         ensures kept { IsViewed now.now number self.new.ops.items self.new.view }
         ensures seen { OnOk result (HasView now.now number self.new.ops.items self.new.view) }
     {
-        match &self.view {
-            Some(view) if view.number == number => Ok(()),
+        match &mut self.view {
+            Some(view) if view.number == number => {
+                view.unasked = 0;
+                Ok(())
+            }
             _ => self.see_anew(alloc, now, number),
         }
     }
 
-    /// Makes the view at the transaction's own moment, where there is none of these trees.
-    fn see_exactly(&mut self, alloc: Global, now: &Trees, number: u64) -> Result<(), AllocError>
-        requires { IsViewed now.now number self.old.ops.items self.old.view }
-        ensures rest { self.new ≡ record self.old { view = self.new.view } }
-        ensures kept { IsViewed now.now number self.new.ops.items self.new.view }
-        ensures seen { OnOk result (HasViewAt now.now number self.new.ops.items self.new.moment
-            self.new.view) }
-    {
-        match &self.view {
-            Some(view) if view.number == number && view.moment == self.moment => Ok(()),
-            _ => self.see_anew(alloc, now, number),
-        }
-    }
-
-    /// Makes a view that tells what the question asks: that of the transaction's own moment, where it asks for the time
-    /// of a key.
-    fn see_for(
-        &mut self,
-        alloc: Global,
-        now: &Trees,
-        number: u64,
-        question: &Question,
-    ) -> Result<(), AllocError>
-        requires { IsViewed now.now number self.old.ops.items self.old.view }
-        ensures rest { self.new ≡ record self.old { view = self.new.view } }
-        ensures kept { IsViewed now.now number self.new.ops.items self.new.view }
-        ensures seen { OnOk result (HasViewFor now.now number self.new.ops.items self.new.moment
-            question.now self.new.view) }
-    {
-        match question {
-            Question::InfoOf => self.see_exactly(alloc, now, number),
-            _ => self.see(alloc, now, number),
-        }
-    }
-
+    /// Makes the view at the transaction's own moment.
     fn see_anew(&mut self, alloc: Global, now: &Trees, number: u64) -> Result<(), AllocError>
         ensures rest { self.new ≡ record self.old { view = self.new.view } }
         ensures same { OnErr result (self.new ≡ self.old) }
@@ -137,12 +274,7 @@ impl Entry {
             self.new.view) }
         ensures some { OnOk result (HasView now.now number self.new.ops.items self.new.view) }
     {
-        let trees = now.apply_ops(alloc, &self.ops, self.moment)?;
-        self.view = Some(View {
-            trees,
-            moment: self.moment,
-            number,
-        });
+        self.view = Some(View::make(alloc, now, &self.ops, self.moment, number)?);
         Ok(())
     }
 
@@ -166,18 +298,9 @@ impl Entry {
         let Some(view) = &self.view else {
             unreachable!();
         };
-        reg_tree::laws::moments_set_times_alone();
-        reg_tree::laws::one_by_one();
         let levels = levels_made(&view.trees, op);
-        match view.trees.write(alloc, op, view.moment) {
-            Ok(Some(trees)) => {
-                let made = View {
-                    trees,
-                    moment: view.moment,
-                    number,
-                };
-                Ok(Some(Judged { made, levels }))
-            }
+        match view.write(alloc, op) {
+            Ok(Some(made)) => Ok(Some(Judged { made, levels })),
             Ok(None) => Ok(None),
             Err(refusal) => Err(refusal),
         }
@@ -203,12 +326,78 @@ impl Entry {
             ≡ Some refusal)
             ⊎ (refusal ≡ NoMemory)) }
     {
-        self.see_for(alloc, now, number, &question)?;
+        match question {
+            Question::InfoOf => Ok(Found::Counts {
+                info: self.info(alloc, now, number, hive, path)?,
+            }),
+            untimed => {
+                self.see(alloc, now, number)?;
+                let Some(view) = &self.view else {
+                    unreachable!();
+                };
+                look_up(alloc, &view.trees, hive, path, untimed)
+            }
+        }
+    }
+
+    /// What is told of a key, with the time that the transaction sees. The view is made again only where it was made at
+    /// another moment, which is the very time that the key has in the trees of now.
+    fn info(
+        &mut self,
+        alloc: Global,
+        now: &Trees,
+        number: u64,
+        hive: u8,
+        path: &Path,
+    ) -> Result<Info, Refusal>
+        requires { IsViewed now.now number self.old.ops.items self.old.view }
+        ensures rest { self.new ≡ record self.old { view = self.new.view } }
+        ensures kept { IsViewed now.now number self.new.ops.items self.new.view }
+        ensures ok { IfOk result (λ info.
+            info_in (view now.now (transaction_of self.new)) hive (folded_path path.now) ≡ Some info) }
+        ensures refused { IfErr result
+            (IsMissingOrNoMemory
+            (info_in (view now.now (transaction_of self.new)) hive (folded_path path.now))) }
+    {
+        self.see(alloc, now, number)?;
         let Some(view) = &self.view else {
             unreachable!();
         };
-        reg_tree::laws::moments_set_times_alone();
-        look_up(alloc, &view.trees, hive, path, question)
+        if let Some(info) = view.info_at(now, hive, path, self.moment)? {
+            return Ok(info);
+        }
+        self.see_anew(alloc, now, number)?;
+        let Some(view) = &self.view else {
+            unreachable!();
+        };
+        view.trees.query_info(hive, path)
+    }
+
+    /// The view after the change of this number, which meets no claim of the transaction; nothing where none of now is at
+    /// hand, or it is to be made again. One that was not asked for as many changes as there are operations is not
+    /// worth more: to make it again costs no more than they did.
+    pub(crate) fn moved(
+        &self,
+        alloc: Global,
+        now: &Trees,
+        op: &Op,
+        number: u64,
+    ) -> Result<Option<View>, AllocError>
+        requires viewed { IsViewed now.now number self.now.ops.items self.now.view }
+        requires legal { legal now.now op.now ≡ Ok Legal }
+        requires apart { AreApart self.now.ops.items (op.now ∷ []) }
+        requires below { number < 2 ^ 64 - 1 }
+        ensures { IfOk result (λ moved. (moment : ℕ) →
+            IsViewed (applied_one now.now op.now moment) (number + 1) self.now.ops.items moved) }
+    {
+        conflicts::laws::either_order();
+        conflicts::laws::stay_legal();
+        match &self.view {
+            Some(view) if view.number == number && view.unasked < self.ops.len() => {
+                view.moved(alloc, now, op, number + 1)
+            }
+            _ => Ok(None),
+        }
     }
 
     /// Whether its change would be too long with this operation.
@@ -240,6 +429,14 @@ impl Entry {
         self.ops.push_reserved(op);
         self.moment = moment;
         self.view = Some(made);
+    }
+
+    /// Takes a view, or loses the one that it has.
+    pub(crate) fn take_view(&mut self, view: Option<View>)
+        ensures rest { self.new ≡ record self.old { view = self.new.view } }
+        ensures taken { self.new.view ≡ view }
+    {
+        self.view = view;
     }
 
     /// Ends it, and hands out its operations.

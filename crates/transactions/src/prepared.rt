@@ -2,6 +2,7 @@
 ghost use Rattle.std.specs.Prelude.{◌≡◌, IfOk};
 ghost use Rattle.transactions.specs.Prepared.{will_show};
 
+use crate::entry::View;
 use crate::table::Holders;
 use machine::{Event, Reply, Tx};
 use reg_tree::{Element, Trees};
@@ -40,6 +41,8 @@ pub(crate) struct ReadyWrite {
     pub levels: Option<usize>,
     /// The transactions that are rolled back by it.
     pub holders: Holders,
+    /// What the others see then, by their places; nothing where it is to be made again.
+    pub moved: Vec<Option<View>>,
     /// The room that the journal has used then.
     pub room: u64,
 }

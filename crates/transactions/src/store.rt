@@ -381,6 +381,7 @@ impl Store {
         let levels = levels_made(self.table.trees(), &op);
         change_is_short(&op);
         let holders = self.table.holders(&op)?;
+        let moved = self.table.move_views(&op, &holders)?;
         let ops = Ops::one(self.alloc, op)?;
         self.history.reserve()?;
         Ok(Some(ReadyWrite {
@@ -388,6 +389,7 @@ impl Store {
             trees: made,
             levels,
             holders,
+            moved,
             room,
         }))
     }
@@ -409,10 +411,12 @@ impl Store {
             trees,
             levels,
             holders,
+            moved,
             room,
         } = write;
         self.history.push_reserved(element);
         self.table.accept(trees);
+        self.table.take_views(moved);
         self.table.roll_back_all(&holders);
         self.room = room;
         Reply::Accepted {

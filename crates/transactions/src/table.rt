@@ -1,12 +1,14 @@
 //! The transactions of a store.
-ghost use Rattle.std.specs.Prelude.{◌≡◌, ◌⊎◌, ◌+◌, ◌<◌, ◌≤◌, ◌^◌, ◌-◌, ◌||◌, ◌==◌, [], ℕ, nat_le, IfOk, IfSome, OnOk, OnErr, Some, None, true, false, IfErr};
+ghost use Rattle.std.specs.Prelude.{◌≡◌, ◌⊎◌, ◌+◌, ◌<◌, ◌≤◌, ◌^◌, ◌-◌, ◌||◌, ◌==◌, [], ℕ, nat_le, IfOk, IfSome, OnOk, OnErr, Some, None, Ok, true, false, IfErr};
 ghost use Rattle.std.specs.Option.{option_map, option_copied};
 ghost use Rattle.refusals.specs.declared.limits.TheConstants.{MOST_ELEMENT_BYTES, MOST_TRANSACTIONS};
 ghost use Rattle.refusals.specs.declared.refusal.Refusal.TheVariants.{NoMemory, NoSeat};
 ghost use Rattle.reg_tree.specs.Texts.{ops_text_len};
+ghost use Rattle.reg_tree.specs.Judgement.{legal, applied_one};
+ghost use Rattle.reg_tree.specs.declared.op.Legality.TheVariants.{Legal};
 ghost use Rattle.conflicts.specs.Claims.{claim_of};
 ghost use Rattle.machine.specs.Ends.{refusal_of};
-ghost use Rattle.transactions.specs.Entries.{transaction_of, MayAdd, IsAdded, IsJudgedOf, judge_refusal};
+ghost use Rattle.transactions.specs.Entries.{transaction_of, MayAdd, IsAdded, IsJudgedOf, judge_refusal, IsMovedTo, AreMoved};
 ghost use Rattle.machine.specs.Acts.{Finishes, Closes};
 ghost use Rattle.machine.specs.Machine.{refused_if, first_of, read_refusal, seen, seat_refusal, added_refusal_if, too_long};
 ghost use Rattle.transactions.specs.Tables.{Denies, Begins, ChangesPlaces, Writes, EndsWith, IsNotEnded, IsPending, is_of, holds_if, is_listed, rolled_back_if};
@@ -93,6 +95,20 @@ impl Model for Holders {
     ghost Value = { List ℕ };
 
     ghost view = { λ inside. map (λ o. o.0) inside.owners.items };
+}
+
+impl Holders {
+    /// Whether the transaction at a place is one of them.
+    fn has(&self, place: usize) -> bool
+        ensures { result ≡ is_listed self.now place }
+    {
+        for owner in &self.owners {
+            if owner.0 == place as u64 {
+                return true;
+            }
+        }
+        false
+    }
 }
 
 impl TxTable {
@@ -434,6 +450,69 @@ impl TxTable {
             }
             _ => {}
         }
+    }
+
+    /// The views after a change by itself, by their places: it is applied to that of each active transaction whose
+    /// claims it does not meet. Nothing where there is none, or it is to be made again when it is asked for.
+    pub(crate) fn move_views(
+        &self,
+        op: &Op,
+        holders: &Holders,
+    ) -> Result<Vec<Option<View>>, AllocError>
+        requires legal { legal self.now.trees op.now ≡ Ok Legal }
+        requires below { self.now.number < 2 ^ 64 - 1 }
+        requires holders { (place : ℕ) → is_listed holders.now place
+            ≡ holds_if (claim_of op.now) (at self.now.places place) }
+        ensures { IfOk result (λ moved. (moment : ℕ) →
+            AreMoved (applied_one self.now.trees op.now moment) (self.now.number + 1) self.now.places
+            moved.items) }
+    {
+        let mut moved = Vec::new(self.alloc);
+        for place in 0..self.places.capacity() {
+            moved.push(self.moved_at(place, op, holders)?)?;
+        }
+        Ok(moved)
+    }
+
+    // the view after a change by itself of the transaction at a place
+    fn moved_at(&self, place: usize, op: &Op, holders: &Holders) -> Result<Option<View>, AllocError>
+        requires legal { legal self.now.trees op.now ≡ Ok Legal }
+        requires below { self.now.number < 2 ^ 64 - 1 }
+        requires holders { is_listed holders.now place
+            ≡ holds_if (claim_of op.now) (at self.now.places place) }
+        ensures { IfOk result (λ moved. (moment : ℕ) →
+            IsMovedTo (applied_one self.now.trees op.now moment) (self.now.number + 1) (at
+            self.now.places place)
+            moved) }
+    {
+        match self.places.get(place) {
+            Some(entry) if entry.is_active() && !holders.has(place) => {
+                entry.moved(self.alloc, &self.trees, op, self.number)
+            }
+            _ => Ok(None),
+        }
+    }
+
+    /// Takes the views after the change that was just accepted. Takes no memory.
+    pub(crate) fn take_views(&mut self, moved: Vec<Option<View>>)
+        requires { AreMoved self.old.trees self.old.number self.old.places moved.items }
+        ensures { self.new ≡ self.old }
+    {
+        let mut moved = moved;
+        while let Some(view) = moved.pop() {
+            self.take_view(moved.len(), view);
+        }
+    }
+
+    // takes the view of the transaction at a place
+    fn take_view(&mut self, place: usize, view: Option<View>)
+        requires { IsMovedTo self.old.trees self.old.number (at self.old.places place) view }
+        ensures { self.new ≡ self.old }
+    {
+        let Some(entry) = self.places.get_mut(place) else {
+            return;
+        };
+        entry.take_view(view);
     }
 
     /// The next change was accepted, and left these trees.

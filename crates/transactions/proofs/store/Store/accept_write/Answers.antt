@@ -1,10 +1,11 @@
-use Rattle.std.proofs.Common.{◌≡◌, ◌+◌, ℕ, List, [], ◌∷◌, ◌++◌, ◌∙◌, ap, sym, subst}
+use Rattle.std.proofs.Common.{◌≡◌, ◌+◌, ℕ, [], ◌∷◌, ◌++◌, ◌∙◌, ap, sym, subst}
 use Rattle.reg_tree.specs.Judgement.{legal, applied_one}
 use Rattle.reg_tree.specs.declared.element.Element.{Element}
 use Rattle.reg_tree.specs.declared.op.Op.{Op}
 use Rattle.reg_tree.specs.Texts.{element_text_len}
 use Rattle.machine.specs.Machine.{Machine, change, levels_made}
 use Rattle.machine.specs.Steps.{Accepts}
+use Rattle.transactions.specs.Entries.{AreMoved}
 use Rattle.transactions.specs.Prepared.{IsReadyWrite}
 use Rattle.transactions.specs.Stores.{IsTied, StoreView, store_of}
 use Rattle.transactions.specs.Tables.{Table}
@@ -28,8 +29,8 @@ tied c =
     let ready = seen c session moment op c.requires.ready.3 in
     tied_more c.self.inside.opened.value c.self.inside.before c.self.inside.history.changes c.push_reserved.new.self.changes c.self.inside.sessions c.self.inside.table c.roll_back_all.new.self c.self.inside.durable c.self.inside.room c.args.write.room c.self.inside.faulted
     (change moment op) c.self.invariant (below_most (old_store c) (element_text_len (change moment op)) ready.roomy) (added c session moment op ready)
-    (ap (λ (t : Table). t.trees) c.roll_back_all.ensures.rest ∙ ap (λ (t : Table). t.trees) c.accept.ensures ∙ ready.trees ∙ ap (λ x. applied_one x op moment) (sym c.self.invariant.trees))
-    (ap (λ (t : Table). t.number) c.roll_back_all.ensures.rest ∙ ap (λ (t : Table). t.number) c.accept.ensures)
+    (ap (λ (t : Table). t.trees) c.roll_back_all.ensures.rest ∙ ap (λ (t : Table). t.trees) (c.take_views.ensures ∙ c.accept.ensures) ∙ ready.trees ∙ ap (λ x. applied_one x op moment) (sym c.self.invariant.trees))
+    (ap (λ (t : Table). t.number) c.roll_back_all.ensures.rest ∙ ap (λ (t : Table). t.number) (c.take_views.ensures ∙ c.accept.ensures))
 
 pub invariant_of-self : goal.invariant_of-self
 invariant_of-self c = tied c
@@ -39,10 +40,16 @@ returns-clause-step c = λ session moment op told.
     let ready = seen c session moment op told in
     subst (λ (v : StoreView). Accepts v.machine session moment op c.args.write.levels c.number.result
     (store_of c.self.inside.opened.value c.self.inside.before c.push_reserved.new.self.changes c.self.inside.sessions c.roll_back_all.new.self c.self.inside.durable c.args.write.room c.self.inside.faulted)) c.self.view_is
-    (accepts c.self.inside.opened.value c.self.inside.before c.self.inside.history.changes c.push_reserved.new.self.changes c.self.inside.sessions c.self.inside.table c.accept.new.self c.roll_back_all.new.self c.self.inside.durable c.self.inside.room c.args.write.room c.self.inside.faulted
+    (accepts c.self.inside.opened.value c.self.inside.before c.self.inside.history.changes c.push_reserved.new.self.changes c.self.inside.sessions c.self.inside.table c.take_views.new.self c.roll_back_all.new.self c.self.inside.durable c.self.inside.room c.args.write.room c.self.inside.faulted
     ready.free session moment c.number.result op c.args.write.levels c.args.write.trees c.args.write.holders c.self.invariant ready.there
     (ap (λ x. legal x op) c.self.invariant.trees ∙ ready.is_legal) ready.roomy (ready.levels ∙ ap (λ x. levels_made x op) (sym c.self.invariant.trees)) c.number.ensures (added c session moment op ready) ready.room
-    c.accept.ensures c.roll_back_all.ensures.rest c.roll_back_all.ensures.rolled_back ready.holders)
+    (c.take_views.ensures ∙ c.accept.ensures) c.roll_back_all.ensures.rest c.roll_back_all.ensures.rolled_back ready.holders)
 
 pub returns-clause-trees : goal.returns-clause-trees
-returns-clause-trees c = sym (tied c).trees ∙ ap (λ (t : Table). t.trees) c.roll_back_all.ensures.rest ∙ ap (λ (t : Table). t.trees) c.accept.ensures
+returns-clause-trees c = sym (tied c).trees ∙ ap (λ (t : Table). t.trees) c.roll_back_all.ensures.rest ∙ ap (λ (t : Table). t.trees) (c.take_views.ensures ∙ c.accept.ensures)
+
+pub take_views-requires : goal.take_views-requires
+take_views-requires c =
+    let ready = subst (λ (v : StoreView). IsReadyWrite v.machine c.requires.ready.0 c.requires.ready.1 c.requires.ready.2 c.args.write) (sym c.self.view_is) c.requires.ready.3 in
+    subst (λ (t : Table). AreMoved t.trees t.number t.places c.args.write.moved.items) (sym c.accept.ensures)
+    (subst (λ n. AreMoved c.args.write.trees (n + 1) c.self.inside.table.places c.args.write.moved.items) (sym c.self.invariant.number) ready.moved)

@@ -9,7 +9,8 @@ use Rattle.machine.specs.Transactions.{at}
 use Rattle.transactions.specs.Histories.{IsShort}
 use Rattle.transactions.specs.Tables.{holds_if}
 use Rattle.reg_tree.specs.Judgement.{legal, applied_one, IsWritten}
-use Rattle.machine.specs.Machine.{change, is_open, levels_made, room_refusal, trees_now}
+use Rattle.machine.specs.Machine.{change, is_open, levels_made, room_refusal, trees_now, last_number}
+use Rattle.transactions.specs.Entries.{AreMoved}
 use Rattle.transactions.specs.Stores.{StoreView}
 use Rattle.transactions.proofs.Stored.{closed_write, illegal_write, crowded_write, cut_change, uncut, unready_write}
 use Rattle.transactions.proofs.store.Store.make_write.Goals as goal
@@ -60,5 +61,8 @@ returns-clause-made c =
       short = subst (λ (x : List Op). let y : Element = record { moment = moment; ops = x } in IsShort y) (sym c.in_ok-ops.ensures) (c.change_is_short.ensures c.trees.result.now moment written.0);
       trees = written.1 ∙ ap (λ (t : List TreeMap). applied_one t op moment) now;
       holders = λ place. c.in_ok-holders.ensures place ∙ ap (λ (v : StoreView). holds_if (claim_of op) (at v.machine.places place)) c.self.view_is;
+      moved = subst (λ (v : StoreView). AreMoved c.in-Some.made (last_number v.machine + 1) v.machine.places c.in_ok-moved.moved.items) c.self.view_is
+          (subst (λ n. AreMoved c.in-Some.made (n + 1) c.self.inside.table.places c.in_ok-moved.moved.items) c.self.invariant.number
+          (subst (λ ts. AreMoved ts (c.self.inside.table.number + 1) c.self.inside.table.places c.in_ok-moved.moved.items) (sym (written.1 ∙ ap (λ (t : List TreeMap). applied_one t op moment) c.trees.ensures)) (c.in_ok-moved.ensures moment)));
       room = c.in_ok-room.ensures.ok.1 ∙ ap (λ n. m.room + (17 + n)) exact;
     }

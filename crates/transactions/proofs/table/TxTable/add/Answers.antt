@@ -1,13 +1,12 @@
 use Rattle.std.proofs.Common.{◌≡◌, ◌+◌, ◌++◌, ◌∷◌, [], true, false, Some, refl, sym, ◌∙◌, ap, subst}
 use Rattle.reg_tree.specs.Texts.{op_text_len}
-use Rattle.reg_tree.specs.Judgement.{applied}
 use Rattle.std.specs.Prelude.{IsSome}
 use Rattle.slab.specs.Slab.{with_value}
 use Rattle.slab.proofs.SlabLemmas.{Updates-with_value}
 use Rattle.conflicts.specs.Holders.{with_claim}
 use Rattle.machine.specs.Transactions.{Transaction, Puts, at, is_active, with_op}
 use Rattle.machine.specs.Machine.{too_long}
-use Rattle.transactions.specs.Entries.{transaction_of, places_of, IsEntry, AreKept, with_op_if}
+use Rattle.transactions.specs.Entries.{transaction_of, places_of, IsEntry, IsViewNow, AreKept, with_op_if}
 use Rattle.transactions.specs.Tables.{Table}
 use Rattle.transactions.specs.declared.entry.Entry.{Entry}
 use Rattle.transactions.proofs.Claimed.{some_same}
@@ -69,8 +68,8 @@ entry c =
     (c.self.invariant.entries c.args.place c.in-Some.entry.now (was c)) (kept c)
     (c.add-2.ensures.length ∙ ap (λ (e : Entry). e.length + op_text_len c.args.op) c.reserve.ensures.same.0) c.add-2.ensures.seen
     (subst (λ one. too_long one c.args.op ≡ false) (one c) c.requires.short) (c.requires.numbered ∙ sym (ap (λ (t : Table). t.number) c.self.view_is))
-    (c.requires.seen ∙ ap (λ (t : Table). applied t.trees (c.requires.one.ops ++ c.args.op ∷ []) c.args.made.moment) (sym c.self.view_is)
-    ∙ ap (λ (one : Transaction). applied c.self.inside.trees (one.ops ++ c.args.op ∷ []) c.args.made.moment) (one c))
+    (subst (λ (one : Transaction). IsViewNow c.self.inside.trees (one.ops ++ c.args.op ∷ []) c.args.made) (one c)
+    (subst (λ (t : Table). IsViewNow t.trees (c.requires.one.ops ++ c.args.op ∷ []) c.args.made) (sym c.self.view_is) c.requires.seen))
 
 pub invariant_of-self-2 : goal.invariant_of-self-2
 invariant_of-self-2 c =

@@ -1,0 +1,225 @@
+-- What a transaction sees: its view after one operation more, and after a change of others.
+use Rattle.std.proofs.Common.{◌≡◌, ◌⊎◌, inl, inr, ℕ, zero, suc, ◌+◌, Bool, true, false, ◌||◌, ◌&&◌, length, arith, IfOk, IfSome, List, [], ◌∷◌, ◌++◌, map, Option, Some, None, Result, Ok, Err, refl, sym, ◌∙◌, ap, subst}
+use Rattle.std.specs.Prelude.{slice_get, slice_index_or}
+use Rattle.std.specs.List.{AllByRecursion, list_any}
+use Rattle.std.proofs.lemmas.Bool.{true≢false}
+use Rattle.reg_names.specs.Names.{folded_path}
+use Rattle.refusals.specs.declared.refusal.Refusal.{Refusal}
+use Rattle.std.specs.Option.{option_map, option_and_then}
+use Rattle.std.specs.FinMap as finite
+use Rattle.reg_tree_parts.specs.Rows.{Row}
+use Rattle.reg_tree_parts.specs.declared.value.Value.{Value}
+use Rattle.reg_tree.specs.Maps.{TreeMap, row, subkeys, weight}
+use Rattle.reg_tree.specs.Reads.{info_of}
+use Rattle.reg_tree.specs.TreeLists.{info_in, value_names_in, value_names_at}
+use Rattle.reg_tree.specs.declared.tree.Info.{Info}
+use Rattle.reg_tree.specs.Judgement.{judged, legal, legal_if, legal_after, changed, applied, applied_one}
+use Rattle.reg_tree.specs.Operations.{hive_of}
+use Rattle.reg_tree.specs.Sequences.{AreTrees}
+use Rattle.reg_tree.specs.Times.{untimed, SameButTimes}
+use Rattle.reg_tree.specs.declared.op.Op.{Op}
+use Rattle.reg_tree.specs.declared.op.Op.TheVariants.{CreateKey, DeleteKey, SetValue, DeleteValue}
+use Rattle.reg_tree.specs.declared.op.Legality.{Legality}
+use Rattle.reg_tree.specs.declared.op.Legality.TheVariants.{Legal, Opened}
+use Rattle.reg_tree.proofs.Times.{moments_alike, legal_alike, levels_alike, value_names_alike, applied_same}
+use Rattle.reg_tree.proofs.OthersStay.{one_by_one, trees_stay_one}
+use Rattle.claims_law.specs.Skeleton as law
+use Rattle.claims_law.proofs.Tests.{conflict_sym}
+use Rattle.conflicts.specs.Claims.{claim_of, meets}
+use Rattle.conflicts.specs.Skeletons.{judged_in, judged_if, AreCarriedOut, AreApart, MakesAlike}
+use Rattle.conflicts.proofs.StaysLegal.{more, one_more, any_moment}
+use Rattle.conflicts.proofs.Meets.{conflict_meets}
+use Rattle.machine.specs.Machine.{levels_made}
+use Rattle.machine.specs.Transactions.{Transaction, Places, at, is_active, holds, view}
+use Rattle.transactions.specs.Entries.{IsMade, AreCarried, IsViewNow, IsViewed, WritesView, MovesView, IsLegalIn, IsMovedTo, AreMoved, moment_of}
+use Rattle.transactions.specs.declared.entry.View.{View}
+
+-- whatever its moment, a view differs from the operations applied at another in times alone
+pub seen_at : (now : List TreeMap) (ops : List Op) (moment : Option ℕ) (trees : List TreeMap) (n : ℕ) → IsMade now ops moment trees → SameButTimes trees (applied now ops n)
+seen_at now ops None trees n made = made ∙ moments_alike now ops 0 n
+seen_at now ops (Some m) trees n made = ap (map untimed) made ∙ moments_alike now ops m n
+
+-- what is legal may be carried out
+pub judged_of_legal : (trees : List TreeMap) (op : Op) → legal trees op ≡ Ok Legal → judged_in trees op ≡ Ok Legal
+judged_of_legal trees op e = by_hive (slice_get trees (hive_of op)) e
+  where
+    by_judgement : (op : Op) (j : Result Legality Refusal) (total : ℕ) → legal_after op j total ≡ Ok Legal → j ≡ Ok Legal
+    by_judgement op (Err refusal) total e = cc
+    by_judgement op (Ok Opened) total e = cc
+    by_judgement op (Ok Legal) total e = refl
+
+    by_hive : (o : Option TreeMap) → legal_if o op ≡ Ok Legal → judged_if o op ≡ Ok Legal
+    by_hive None e = cc
+    by_hive (Some tree) e = by_judgement op (judged tree op) (weight (changed tree op 0)) e
+
+-- the view after one operation more
+pub written_view : (now : List TreeMap) (ops : List Op) (view made : View) (op : Op) → IsViewNow now ops view → legal view.trees op ≡ Ok Legal → made ≡ record view { trees = applied_one view.trees op (moment_of view.moment); unasked = made.unasked } →
+    IsViewNow now (ops ++ op ∷ []) made
+written_view now ops view made op is allowed written = subst (IsViewNow now (ops ++ op ∷ [])) (sym written) record {
+  made = by_moment view.moment view.trees is.made;
+  carried = λ c.
+      let before : AreCarried now ops = is.carried c in
+      record {
+        are = before.are;
+        carried = one_more now ops op 0 0 before.are before.carried (judged_of_legal (applied now ops 0) op (sym (legal_alike view.trees (applied now ops 0) (seen_at now ops view.moment view.trees 0 is.made) op) ∙ allowed));
+      };
+}
+  where
+    by_moment : (moment : Option ℕ) (trees : List TreeMap) → IsMade now ops moment trees → IsMade now (ops ++ op ∷ []) moment (applied_one trees op (moment_of moment))
+    by_moment None trees h = applied_same trees (applied now ops 0) h (op ∷ []) 0 0 ∙ ap (map untimed) (sym (one_by_one now ops (op ∷ []) 0))
+    by_moment (Some m) trees h = ap (λ ts. applied_one ts op m) h ∙ sym (one_by_one now ops (op ∷ []) m)
+
+-- the laws of claims, as they are handed in
+abbrev pub EitherOrder : Type 0
+EitherOrder = (trees seen : List TreeMap) (ops : List Op) (change : Op) (m n k l : ℕ) → AreTrees trees → AreApart ops (change ∷ []) → AreCarriedOut trees ops m → judged_in trees change ≡ Ok Legal → SameButTimes seen (applied trees ops m) → MakesAlike change seen trees →
+    SameButTimes (applied_one seen change n) (applied (applied_one trees change k) ops l)
+
+abbrev pub StaysLegal : Type 0
+StaysLegal = (trees : List TreeMap) (first ops : List Op) (m n k : ℕ) → AreTrees trees → AreApart first ops → AreCarriedOut trees ops m → AreCarriedOut (applied trees first n) ops k
+
+alike_made : (change : Op) (trees others : List TreeMap) → levels_made trees change ≡ levels_made others change → MakesAlike change trees others
+alike_made (CreateKey hive path) trees others e = e
+alike_made (DeleteKey hive path) trees others e = tt
+alike_made (SetValue hive path name kind bytes) trees others e = tt
+alike_made (DeleteValue hive path name) trees others e = tt
+
+apart_back : (ops : List Op) (change : Op) → AreApart ops (change ∷ []) → AllByRecursion (λ b. law.Conflict (claim_of change) (claim_of b) → ⊥) ops
+apart_back [] change apart = tt
+apart_back (op ∷ ops) change apart = (λ c. apart.0.0 (conflict_sym (claim_of change) (claim_of op) c), apart_back ops change apart.1)
+
+-- the view after a change that meets no claim of the operations
+pub moved_view : EitherOrder → StaysLegal → (now : List TreeMap) (ops : List Op) (view after : View) (op : Op) (number moment : ℕ) → IsViewNow now ops view → AreApart ops (op ∷ []) → legal now op ≡ Ok Legal → MovesView view now op number after →
+    IsViewNow (applied_one now op moment) ops after
+moved_view either stays now ops view after op number moment is apart allowed moves =
+    let before : AreCarried now ops = is.carried moves.carried in
+    record {
+      made = subst (λ m. IsMade (applied_one now op moment) ops m after.trees) (sym moves.moment)
+          (subst (λ ts. SameButTimes ts (applied (applied_one now op moment) ops 0)) (sym moves.trees)
+          (either now view.trees ops op 0 0 moment 0 before.are apart before.carried (judged_of_legal now op allowed) (seen_at now ops view.moment view.trees 0 is.made) (alike_made op view.trees now moves.alike)));
+      carried = λ c. record {
+        are = trees_stay_one now op moment before.are;
+        carried = stays now (op ∷ []) ops 0 moment 0 before.are (apart_back ops op apart, tt) before.carried;
+      };
+    }
+
+-- a view that was made anew, whose operations were carried out
+pub fresh_carried : (now : List TreeMap) (ops : List Op) (m : ℕ) → AreTrees now → AreCarriedOut now ops m → AreCarried now ops
+fresh_carried now ops m are carried = record { are = are; carried = any_moment now are ops m 0 carried }
+
+-- operations that were carried out, and one more
+pub carried_more : (now : List TreeMap) (front done : List Op) (op : Op) (m : ℕ) (trees made : List TreeMap) → (trees ≡ applied now front m) × AreCarriedOut now front m → legal trees op ≡ Ok Legal → made ≡ applied_one trees op m → done ≡ front ++ op ∷ [] →
+    (made ≡ applied now done m) × AreCarriedOut now done m
+carried_more now front done op m trees made before allowed is all = subst (λ (ops : List Op). (made ≡ applied now ops m) × AreCarriedOut now ops m) (sym all) (
+  is ∙ ap (λ ts. applied_one ts op m) before.0 ∙ sym (one_by_one now front (op ∷ []) m),
+  more now front op m before.1 (judged_of_legal (applied now front m) op (ap (λ ts. legal ts op) (sym before.0) ∙ allowed)),
+)
+
+levels_same : (trees others : List TreeMap) → SameButTimes trees others → (op : Op) → levels_made trees op ≡ levels_made others op
+levels_same trees others same (CreateKey hive path) = levels_alike trees others same hive (folded_path path)
+levels_same trees others same (DeleteKey hive path) = refl
+levels_same trees others same (SetValue hive path name kind bytes) = refl
+levels_same trees others same (DeleteValue hive path name) = refl
+
+-- what a view tells of an operation is so of what the transaction sees
+pub legal_seen : (now : List TreeMap) (one : Transaction) (v : View) (op : Op) → IsViewNow now one.ops v → legal v.trees op ≡ legal (view now one) op
+legal_seen now one v op is = legal_alike v.trees (view now one) (seen_at now one.ops v.moment v.trees one.moment is.made) op
+
+pub judged_seen : (now : List TreeMap) (number : ℕ) (one : Transaction) (v made : View) (op : Op) (levels : Option ℕ) → (v.number ≡ number) × IsViewNow now one.ops v → WritesView v op (Some made) → levels ≡ levels_made v.trees op → IsLegalIn now number one op (record { made = made; levels = levels })
+judged_seen now number one v made op levels has written e = record {
+  is_legal = sym (legal_seen now one v op has.1) ∙ written.0;
+  made = e ∙ levels_same v.trees (view now one) (seen_at now one.ops v.moment v.trees one.moment has.1.made) op;
+  numbered = ap (λ (x : View). x.number) written.1 ∙ has.0;
+  seen = written_view now one.ops v made op has.1 written.0 written.1;
+}
+
+-- a view that was moved, or none
+pub moved_any : EitherOrder → StaysLegal → (now : List TreeMap) (number : ℕ) (ops : List Op) (v : View) (op : Op) {E : Type 0} (r : Result (Option View) E) → IsViewNow now ops v → AreApart ops (op ∷ []) → legal now op ≡ Ok Legal →
+    IfOk r (λ moved. IfSome moved (MovesView v now op (number + 1))) → IfOk r (λ moved. (moment : ℕ) → IsViewed (applied_one now op moment) (number + 1) ops moved)
+moved_any either stays now number ops v op (Ok (Some after)) is apart allowed moves = λ moment. record {
+  known = omega (arith, moves.numbered);
+  made = λ same. moved_view either stays now ops v after op (number + 1) moment is apart allowed moves;
+}
+moved_any either stays now number ops v op (Ok None) is apart allowed moves = λ moment. tt
+moved_any either stays now number ops v op (Err e) is apart allowed moves = tt
+
+-- Views by their places
+
+pub none_moved : (now : List TreeMap) (number : ℕ) (there : Option Transaction) → IsMovedTo now number there None
+none_moved now number None = tt
+none_moved now number (Some one) = tt
+
+at_next : {A : Type 0} (xs : List A) (x d : A) (place : ℕ) → (slice_index_or (xs ++ x ∷ []) place d ≡ slice_index_or xs place d) ⊎ ((place ≡ length xs) × (slice_index_or (xs ++ x ∷ []) place d ≡ x))
+at_next [] x d zero = inr (refl, refl)
+at_next [] x d (suc place) = inl refl
+at_next (y ∷ xs) x d zero = inl refl
+at_next (y ∷ xs) x d (suc place) = elim (at_next xs x d place) [
+  | inl e ↦ inl e
+  | inr h ↦ inr (ap suc h.0, h.1)
+]
+
+at_end : {A : Type 0} (xs : List A) (x d : A) → slice_index_or (xs ++ x ∷ []) (length xs) d ≡ x
+at_end [] x d = refl
+at_end (y ∷ xs) x d = at_end xs x d
+
+at_front : {A : Type 0} (xs : List A) (x d : A) (place : ℕ) → (slice_index_or xs place d ≡ slice_index_or (xs ++ x ∷ []) place d) ⊎ (slice_index_or xs place d ≡ d)
+at_front [] x d place = inr refl
+at_front (y ∷ xs) x d zero = inl refl
+at_front (y ∷ xs) x d (suc place) = at_front xs x d place
+
+-- one more
+pub moved_more : (now : List TreeMap) (number : ℕ) (places : Places) (moved : List (Option View)) (one : Option View) (place : ℕ) → length moved ≡ place → AreMoved now number places moved → IsMovedTo now number (at places place) one → AreMoved now number places (moved ++ one ∷ [])
+moved_more now number places moved one place long all its other = elim (at_next moved one None other) [
+  | inl e ↦ subst (IsMovedTo now number (at places other)) (sym e) (all other)
+  | inr h ↦ subst (IsMovedTo now number (at places other)) (sym h.1) (subst (λ p. IsMovedTo now number (at places p) one) (sym (h.0 ∙ long)) its)
+]
+
+-- one less, and that one
+pub moved_less : (now : List TreeMap) (number : ℕ) (places : Places) (moved : List (Option View)) (one : Option View) → AreMoved now number places (moved ++ one ∷ []) → AreMoved now number places moved
+moved_less now number places moved one all other = elim (at_front moved one None other) [
+  | inl e ↦ subst (IsMovedTo now number (at places other)) (sym e) (all other)
+  | inr e ↦ subst (IsMovedTo now number (at places other)) (sym e) (none_moved now number (at places other))
+]
+
+pub moved_last : (now : List TreeMap) (number : ℕ) (places : Places) (moved : List (Option View)) (one : Option View) → AreMoved now number places (moved ++ one ∷ []) → IsMovedTo now number (at places (length moved)) one
+moved_last now number places moved one all = subst (IsMovedTo now number (at places (length moved))) (at_end moved one None) (all (length moved))
+
+-- whose claims a change does not meet
+apart_all : (ops : List Op) (op : Op) → list_any (λ (o : Op). meets (claim_of op) (claim_of o)) ops ≡ false → AreApart ops (op ∷ [])
+apart_all [] op none = tt
+apart_all (o ∷ ops) op none =
+    let parts = neither (meets (claim_of op) (claim_of o)) (list_any (λ (x : Op). meets (claim_of op) (claim_of x)) ops) none in
+    ((λ c. true≢false (sym (conflict_meets (claim_of op) (claim_of o) (conflict_sym (claim_of o) (claim_of op) c)) ∙ parts.0), tt), apart_all ops op parts.1)
+  where
+    neither : (b c : Bool) → (b || c) ≡ false → (b ≡ false) × (c ≡ false)
+    neither true c e = absurd (true≢false e)
+    neither false c e = (refl, e)
+
+pub apart_if : (op : Op) (one : Transaction) → is_active one ≡ true → holds (claim_of op) one ≡ false → AreApart one.ops (op ∷ [])
+apart_if op one active none = apart_all one.ops op (sym (ap (λ b. b && list_any (λ (o : Op). meets (claim_of op) (claim_of o)) one.ops) active) ∙ none)
+
+-- a key that a view hasn't isn't there, at whatever moment
+module _ (hive : ℕ) (path : List (List ℕ)) where
+  none_named : (trees : List TreeMap) → info_in trees hive path ≡ None → value_names_in trees hive path ≡ None
+  none_named trees e = by_hive (slice_get trees hive) e
+    where
+      by_row : (tree : TreeMap) (o : Option Row) → option_map (λ (key : Row). let info : Info = record { subkeys = length (subkeys tree path); values = finite.len key.values; time = key.time } in info) o ≡ None → option_map (λ (key : Row). map (λ (v : Value). v.name) (finite.values key.values)) o ≡ None
+      by_row tree None e = refl
+      by_row tree (Some key) e = cc
+
+      by_hive : (o : Option TreeMap) → option_and_then (λ tree. info_of tree path) o ≡ None → option_and_then (λ tree. value_names_at tree path) o ≡ None
+      by_hive None e = refl
+      by_hive (Some tree) e = by_row tree (row tree path) e
+
+  none_counted : (trees : List TreeMap) → value_names_in trees hive path ≡ None → info_in trees hive path ≡ None
+  none_counted trees e = by_hive (slice_get trees hive) e
+    where
+      by_row : (tree : TreeMap) (o : Option Row) → option_map (λ (key : Row). map (λ (v : Value). v.name) (finite.values key.values)) o ≡ None → option_map (λ (key : Row). let info : Info = record { subkeys = length (subkeys tree path); values = finite.len key.values; time = key.time } in info) o ≡ None
+      by_row tree None e = refl
+      by_row tree (Some key) e = cc
+
+      by_hive : (o : Option TreeMap) → option_and_then (λ tree. value_names_at tree path) o ≡ None → option_and_then (λ tree. info_of tree path) o ≡ None
+      by_hive None e = refl
+      by_hive (Some tree) e = by_row tree (row tree path) e
+
+  pub missing_seen : (now : List TreeMap) (ops : List Op) (moment : Option ℕ) (trees : List TreeMap) (n : ℕ) → IsMade now ops moment trees → info_in trees hive path ≡ None → info_in (applied now ops n) hive path ≡ None
+  missing_seen now ops moment trees n made none = none_counted (applied now ops n) (sym (value_names_alike trees (applied now ops n) (seen_at now ops moment trees n made) hive path) ∙ none_named trees none)
