@@ -64,11 +64,11 @@ module _ (before after : Type 0) (back : after → before) (store : List ℕ) (t
   refused count why rose risen up lt (inr (inl (fault, r))) = inr (inl (fault, up r))
   refused count why rose risen up lt (inr (inr (tells, none))) =
       inr (inr (
-        (k, tells),
-        λ faithful. (
-          k,
-          lt,
-          λ held holds. none faithful held
+        k,
+        lt,
+        (
+          tells,
+          λ faithful held holds. none faithful held
               (subst (λ (p : List ℕ). HoldsUnder store p (mid (log_file k)).seen held) (sym (was_seen faithful (primary_file k)))
               (subst (λ (l : List ℕ). HoldsUnder store (then (primary_file k)).seen l held) (sym (was_seen faithful (log_file k))) holds)),
         ),

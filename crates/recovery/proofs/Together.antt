@@ -3,7 +3,7 @@ use Rattle.std.proofs.Common.{◌≡◌, inl, inr, ℕ, zero, suc, Bool, ◌+◌
 use Rattle.std.specs.Prelude.{min, if◌then◌else◌}
 use Rattle.std.proofs.lemmas.Bool.{cases_lt, eq-eqb}
 use Rattle.std.specs.List.{AllByRecursion}
-use Rattle.std.proofs.lemmas.Option.{none-some, same_Some, slice_get_within, slice_get-get_or}
+use Rattle.std.proofs.lemmas.Option.{same_Some, slice_get_within, slice_get-get_or}
 use Rattle.std.proofs.lemmas.List.{length-map}
 use Rattle.refusals.specs.declared.limits.TheConstants.{GREATEST_NUMBER}
 use Rattle.reg_tree.specs.Maps.{TreeMap, IsTree}
@@ -15,7 +15,6 @@ use Rattle.reg_tree.specs.declared.element.Element.{Element}
 use Rattle.prefix_law.specs.Changes as law
 use Rattle.prefix_law.specs.Promises.{Choice, Spelled, settled, floor, top}
 use Rattle.prefix_law.specs.Recovery.{Recovers, IsLastNumber}
-use Rattle.prefix_law.specs.Files.{IsLastNumberOf}
 use Rattle.prefix_law.specs.Life.{NamesHive}
 use Rattle.prefix_law.proofs.OfFiles.{files_once, files_recover}
 use Rattle.disk_model.specs.StoreFiles.{primary_file, log_file, journal_file}
@@ -39,6 +38,7 @@ use Rattle.engine_law.proofs.Bridge.{all_allowed}
 use Rattle.recovery.specs.Reading.{AreAtRest, AreOf, IsNumber, LeadTo, SomeLeadsNowhere, greatest, replayed_on}
 use Rattle.recovery.specs.Kept.{IsKept}
 use Rattle.recovery.specs.Recovered.{IsRecovered}
+use Rattle.recovery.specs.Refused.{IsAhead, IsInStore, LeadsNowhere}
 use Rattle.recovery.specs.declared.found.Found.{Found}
 
 -- The laws that are used
@@ -174,50 +174,35 @@ lead_pushed journal hives trees tree place many hive is lead made = λ i h t at 
     (λ g there. subst (λ n. replayed_on journal n (memory_of g) ≡ Some tree) (sym many)
     (subst (λ (x : HiveFile). replayed_on journal place (memory_of x) ≡ Some tree) (same_Some hive g (sym is ∙ subst (λ n. slice_get hives n ≡ Some g) many there)) made)) i t got h at
 
--- Files that are of a journal and hives, and recover something
+-- What is wrong with files that are of a journal and hives
 
-number_of : (es : List Element) (has : (i k : ℕ) → Type 0) (hives below number : ℕ) → 0 < top 0 (spelled_as below es) → IsLastNumberOf has hives below (timed_elements es) number → number ≡ top 0 (spelled_as below es)
-number_of [] has hives below number some last = absurd (omega (arith, some))
-number_of (x ∷ xs) has hives below number some last = last
+module _ (journal : Journal) (below : ℕ) (elements : List Element) (hives : List HiveFile) (rest : AreAtRest journal below elements hives) (files : ℕ → List ℕ) (of : AreOf files journal hives) where
+  -- a hive that is there is one of the store's
+  abbrev is_one : (i : ℕ) (hive : HiveFile) → slice_get hives i ≡ Some hive → IsInStore files i
+  is_one i hive is = record {
+    store = store_of journal;
+    journal = spelled_as below elements;
+    store_is = rest.store;
+    spells = of.spells ∙ ap (λ (s : Spelled TimedOp). Some s) (now_is journal below elements hives rest);
+    there = omega (arith, slice_get_within hives i hive is, rest.many);
+  }
 
-module _ (one_store : OneStore) (one_held : OneHeld) (journal : Journal) (below : ℕ) (elements : List Element) (hives : List HiveFile) (rest : AreAtRest journal below elements hives)
-    (files : ℕ → List ℕ) (of : AreOf files journal hives) (store : Store) (number : ℕ) (trees : List TreeMap) (r : IsRecovered files store number trees) where
-  which : store ≡ store_of journal
-  which = one_store (files journal_file) store (store_of journal) r.recovers.journal (choice_of journal).now r.store_is rest.store r.recovers.spelled of.spells
+  pub nowhere_from : SomeLeadsNowhere (spelled_as below elements) hives → (i : ℕ) × LeadsNowhere files i
+  nowhere_from (i, hive, is, none) = (i, (is_one i hive is, memory_of hive, of.holds i hive is, none))
 
-  spelled_is : r.recovers.journal ≡ spelled_as below elements
-  spelled_is = same_Some _ _ (sym r.recovers.spelled ∙ ap (λ (s : Store). spelled (texts s) (files journal_file)) which ∙ of.spells) ∙ now_is journal below elements hives rest
-
-  there : (i : ℕ) (hive : HiveFile) → slice_get hives i ≡ Some hive → i < store.hives
-  there i hive is = omega (arith, slice_get_within hives i hive is, rest.many, ap (λ (s : Store). s.hives) which)
-
-  holds_same : (i : ℕ) (hive : HiveFile) (is : slice_get hives i ≡ Some hive) → (r.recovers.each i (there i hive is)).held ≡ memory_of hive
-  holds_same i hive is = one_held (store_of journal).id (files (primary_file i)) (files (log_file i)) _ (memory_of hive)
-      (subst (λ (s : Store). HoldsUnder s.id (files (primary_file i)) (files (log_file i)) (r.recovers.each i (there i hive is)).held) which (r.recovers.each i (there i hive is)).holds_it) (of.holds i hive is)
-
-  -- each hive's number is not above the recovered one, and each is led to its tree
-  not_above : (i : ℕ) (hive : HiveFile) → slice_get hives i ≡ Some hive → (memory_of hive).1 ≤ number
-  not_above i hive is = omega (arith, (r.recovers.each i (there i hive is)).not_above, ap (λ (x : TreeMap × ℕ). x.1) (holds_same i hive is))
-
-  leads : (i : ℕ) (hive : HiveFile) → slice_get hives i ≡ Some hive → replayed_on (spelled_as below elements) i (memory_of hive) ≡ Some (tree_of trees i)
-  leads i hive is = sym (ap (λ (j : Spelled TimedOp). replayed_on j i (memory_of hive)) spelled_is) ∙ sym (ap (replayed_on r.recovers.journal i) (holds_same i hive is)) ∙ (r.recovers.each i (there i hive is)).replayed
-
-  pub none_nowhere : SomeLeadsNowhere (spelled_as below elements) hives → ⊥
-  none_nowhere (i, hive, is, none) = none-some (tree_of trees i) (sym none ∙ leads i hive is)
-
-  -- the number is that of the last change that the journal spells
-  last_is : 0 < top 0 (spelled_as below elements) → number ≡ top 0 (spelled_as below elements)
-  last_is some = number_of elements _ store.hives below number some (subst (λ (j : Spelled TimedOp). IsLastNumberOf _ store.hives j.below j.elements number) spelled_is r.recovers.last)
-
-  pub none_above : (own : ℕ) → IsNumber (top 0 (spelled_as below elements)) hives own → (i : ℕ) (hive : HiveFile) → slice_get hives i ≡ Some hive → min own GREATEST_NUMBER < (files_of hive).now.1 → ⊥
-  none_above own is i hive at above =
-      let low = not_above i hive at in
-      let same = ap (λ (x : TreeMap × ℕ). x.1) (memory_is journal below elements hives rest i hive at) in
-      by_number is low same
+  pub ahead_is : (own : ℕ) → IsNumber (top 0 (spelled_as below elements)) hives own → (i : ℕ) (hive : HiveFile) → slice_get hives i ≡ Some hive → min own GREATEST_NUMBER < (files_of hive).now.1 → IsAhead files i
+  ahead_is own is i hive got above = (
+    is_one i hive got,
+    memory_of hive,
+    of.holds i hive got,
+    by_elements elements is (ap (top 0) (now_is journal below elements hives rest)) (ap (λ (x : TreeMap × ℕ). x.1) (memory_is journal below elements hives rest i hive got)),
+  )
     where
-      by_number : IsNumber (top 0 (spelled_as below elements)) hives own → (memory_of hive).1 ≤ number → (files_of hive).now.1 ≡ (memory_of hive).1 → ⊥
-      by_number (inl (some, n)) low same = let l = last_is some in omega (arith, above, low, same, n, l, r.recovers.limit)
-      by_number (inr (none, n)) low same = let g = below_greatest hives i hive at in omega (arith, above, low, same, n, g, r.recovers.limit)
+      by_elements : (es : List Element) → IsNumber (top 0 (spelled_as below es)) hives own → top 0 (choice_of journal).now ≡ top 0 (spelled_as below es) → (files_of hive).now.1 ≡ (memory_of hive).1 → top GREATEST_NUMBER (spelled_as below es) < (memory_of hive).1
+      by_elements [] (inl (some, n)) last same = absurd (omega (arith, some))
+      by_elements [] (inr (none, n)) last same = let g = below_greatest hives i hive got in omega (arith, above, same, n, g)
+      by_elements (x ∷ xs) (inl (some, n)) last same = omega (arith, above, same, n, last, rest.numbers)
+      by_elements (x ∷ xs) (inr (none, n)) last same = absurd (omega (arith, none))
 
 -- files that are of what was found recover what was found
 pub of_found : (trees : List TreeMap) (number base : ℕ) (opened : List Element) (journal : Journal) (hives : List HiveFile) → IsFound trees number base opened (choice_of journal) (map view_of hives)

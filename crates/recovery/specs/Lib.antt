@@ -1,5 +1,6 @@
 pub mod Recovered
 pub mod Reading
+pub mod Refused
 pub mod Kept
 pub mod Shown
 pub mod Created

@@ -17,7 +17,7 @@ use Rattle.commit_journal.specs.Store.{IsStore}
 use Rattle.commit_journal.specs.Journals.{choice_of, store_of, texts_of}
 use Rattle.commit_journal.specs.declared.journal.Journal.{Journal}
 use Rattle.disk_model.specs.Unwritten.{IsSyncedOrSame}
-use Rattle.hive_flush.specs.Standing.{HoldsUnder, IsOfHive}
+use Rattle.hive_flush.specs.Standing.{HoldsUnder, NothingHeld}
 use Rattle.hive_flush.specs.HiveStates.{IsBroken, IsOn, files_of, memory_of, place_of}
 use Rattle.hive_flush.specs.HiveStates as states
 use Rattle.hive_flush.specs.declared.hive.HiveFile.{HiveFile}
@@ -39,14 +39,11 @@ pub record AreOpened (faithful : Type 0) (store : List ℕ) (then now : ℕ → 
   pub files : faithful → (f : ℕ) → IsSyncedOrSame (then f) (now f)
   pub journal : now journal_file ≡ then journal_file
 
--- some hive of so many holds nothing
-abbrev pub SomeHoldsNothing : List ℕ → ℕ → (ℕ → FileState) → Type 0
-SomeHoldsNothing store count state = (i : ℕ) × (i < count)
-    × ((held : TreeMap × ℕ) → HoldsUnder store (state (primary_file i)).seen (state (log_file i)).seen held → ⊥)
-
--- a refusal tells of one of the hives, and some hive holds nothing where the device has answered as it should
+-- a refusal tells of one of so many hives, with its number, or of a version that isn't known; and that hive holds nothing, where the
+-- device has answered as it should
 abbrev pub IsNoHive : Type 0 → List ℕ → ℕ → (ℕ → FileState) → Refusal → Type 0
-IsNoHive faithful store count state why = ((i : ℕ) × IsOfHive i why) × (faithful → SomeHoldsNothing store count state)
+IsNoHive faithful store count state why = (i : ℕ) × (i < count)
+    × NothingHeld faithful i store (state (primary_file i)).seen (state (log_file i)).seen why
 
 -- A journal and hives, all of one store and with nothing on their way; the journal spells these changes, each of which is a
 -- change on the store's hives.

@@ -6,6 +6,7 @@ use Rattle.reg_tree.specs.Maps.{TreeMap}
 use Rattle.disk_model.specs.FileState.{FileState}
 use Rattle.commit_journal.specs.Store.{Store, IsStore}
 use Rattle.engine_law.specs.Prefixes.{Recover}
+use Rattle.recovery.specs.Refused.{IsWrong}
 
 -- Files are those of a store, and recover a number and trees: the journal's header tells the store, with its number of hives, and
 -- there is a tree for each.
@@ -29,7 +30,7 @@ TellsOfFiles refusal.Unsupported = Unit {0}
 TellsOfFiles refusal.JournalDamaged = Unit {0}
 TellsOfFiles _ = ⊥
 
--- why files are refused as those of a store: it is told of them, and they recover nothing, where the device has answered as it
--- should
+-- why files are refused as those of a store: it is told of them, and what it tells is wrong with them, where the device has
+-- answered as it should
 abbrev pub IsNoStore : Type 0 → (ℕ → List ℕ) → Refusal → Type 0
-IsNoStore faithful files why = TellsOfFiles why × (faithful → NothingRecovered files)
+IsNoStore faithful files why = TellsOfFiles why × (faithful → IsWrong files why)

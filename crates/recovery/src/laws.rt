@@ -1,12 +1,16 @@
-//! What files recover, and what openings that came to nothing leave of them: laws.
+//! What files recover, what is wrong with those that are refused, and what openings that came to nothing leave of them: laws.
 ghost use Rattle.std.specs.Prelude.{◌≡◌, ℕ, List};
+ghost use Rattle.refusals.specs.declared.refusal.Cause.{Cause};
+ghost use Rattle.refusals.specs.declared.refusal.Refusal.{Refusal};
+ghost use Rattle.refusals.specs.declared.refusal.Refusal.TheVariants.{HiveDamaged};
 ghost use Rattle.reg_tree.specs.Maps.{TreeMap};
 ghost use Rattle.disk_model.specs.Crash.{LeavesHonest};
 ghost use Rattle.disk_model.specs.FileState.{FileState};
 ghost use Rattle.disk_model.specs.StoreFiles.{IsPrimary};
 ghost use Rattle.commit_journal.specs.Store.{Store};
 ghost use Rattle.recovery.specs.Beginnings.{AllCameToNothing, MayBegin, after_crash};
-ghost use Rattle.recovery.specs.Recovered.{IsRecovered, seen_in};
+ghost use Rattle.recovery.specs.Recovered.{IsRecovered, NothingRecovered, seen_in};
+ghost use Rattle.recovery.specs.Refused.{AreAlike, IsWrong};
 
 use commit_journal::laws::one_store;
 use hive_flush::laws::one_is_held;
@@ -15,6 +19,21 @@ use hive_flush::laws::one_is_held;
 pub fn one_is_recovered()
     ensures { (files : ℕ → List ℕ) (a b : Store) (n m : ℕ) (ts us : List TreeMap) →
         IsRecovered files a n ts → IsRecovered files b m us → (a ≡ b) × (n ≡ m) × (ts ≡ us) }
+{
+    one_store();
+    one_is_held();
+}
+
+/// A law: files with which something is wrong, as a refusal of an opening tells it, recover nothing.
+///
+/// What is told of one hive is wrong whatever the files of the others hold: so files that are alike in the journal and in that
+/// hive's two files recover nothing, too.
+pub fn refused_files_recover_nothing()
+    ensures none { (files : ℕ → List ℕ) (why : Refusal) → IsWrong files why →
+        NothingRecovered files }
+    ensures hive { (files others : ℕ → List ℕ) (hive : ℕ) (cause : Cause) →
+        AreAlike files others hive → IsWrong files (HiveDamaged hive cause) →
+        IsWrong others (HiveDamaged hive cause) }
 {
     one_store();
     one_is_held();

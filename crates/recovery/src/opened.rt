@@ -67,8 +67,16 @@ impl<D: Disk> Model for Opened<D> {
 /// file is as it was, or synced: so whatever a crash leaves within might have been left before
 /// ([`laws::openings_lose_nothing`](crate::laws::openings_lose_nothing)).
 ///
-/// Refused with `HiveDamaged` of a hive, `Unsupported` or `JournalDamaged` only where the files recover nothing; with `DiskFault`
-/// where the device failed; and with `NoMemory`. The disk is handed back then, and so much holds of it too.
+/// Refused only for what is wrong with the files, which recover nothing then
+/// ([`laws::refused_files_recover_nothing`](crate::laws::refused_files_recover_nothing)), or for the device or memory:
+///
+/// - `HiveDamaged` of a hive that holds nothing in the journal's store, or, with the cause `BadStore`, has a number above that of
+///   the journal's last change, or above the greatest of all where there is none;
+/// - `Unsupported`, where some hive holds nothing;
+/// - `JournalDamaged`, where the journal is no store's, or one of its changes isn't legal on what some hive holds;
+/// - `DiskFault`, where the device failed; and `NoMemory`.
+///
+/// The disk is handed back then, and so much holds of it too.
 pub fn open<D: Disk>(alloc: Global, disk: D) -> Result<Opened<D>, (Refusal, D)>
     ensures recovered { IfOk result (λ opened. D.faithful opened.disk →
         IsRecovered (seen_in (D.state_at disk (D.clock disk)))

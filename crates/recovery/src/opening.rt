@@ -14,15 +14,14 @@ use crate::found::Found;
 use crate::reading::open_hives;
 use crate::recovering::recovered;
 use commit_journal::Journal;
-use commit_journal::laws::one_store;
 use disk_model::Disk;
 use refusals::Refusal;
 use std::alloc::Global;
 
 /// What the files of a store recover.
 ///
-/// Refused with a refusal that tells of the files only where they recover nothing; with `DiskFault` where the device failed; and
-/// with `NoMemory`. No file changes but by its sync.
+/// Refused for what is wrong with the files; with `DiskFault` where the device failed; and with `NoMemory`. No file changes but by
+/// its sync.
 pub(crate) fn find<D: Disk>(alloc: Global, disk: &mut D) -> Result<Found, Refusal>
     ensures kept { IfOk result IsKept }
     ensures works { IfOk result (λ found. AllWork found.hives.items) }
@@ -42,7 +41,6 @@ pub(crate) fn find<D: Disk>(alloc: Global, disk: &mut D) -> Result<Found, Refusa
         (D.clock disk.new) }
     ensures faithful { D.faithful disk.new → D.faithful disk.old }
 {
-    one_store();
     let read = Journal::open(alloc, disk)?;
     let hives = open_hives(alloc, disk, read.journal.id(), read.journal.hives())?;
     let found = recovered(alloc, read, hives)?;

@@ -10,15 +10,14 @@ ghost use Rattle.engine_words.specs.Changes.{timed_elements};
 ghost use Rattle.hive_flush.specs.HiveStates.{memory_of};
 ghost use Rattle.recovery.specs.Kept.{IsKept};
 ghost use Rattle.recovery.specs.Reading.{AreAtRest, AreOf, LeadTo, SomeLeadsNowhere, greatest, replayed_on};
-ghost use Rattle.recovery.specs.Recovered.{NothingRecovered, TellsOfFiles};
+ghost use Rattle.recovery.specs.Recovered.{TellsOfFiles};
+ghost use Rattle.recovery.specs.Refused.{IsWrong};
 
 use crate::found::Found;
 use crate::numbers::{first_above, number_of};
 use crate::replaying::replayed;
 use commit_journal::Opened;
-use commit_journal::laws::one_store;
 use hive_flush::HiveFile;
-use hive_flush::laws::one_is_held;
 use refusals::limits::GREATEST_NUMBER;
 use refusals::{Cause, Refusal};
 use reg_tree::{Element, Tree, Trees};
@@ -34,11 +33,8 @@ pub(crate) fn recovered(alloc: Global, read: Opened, hives: Vec<HiveFile>) -> Re
     ensures journal { IfOk result (λ found. found.journal ≡ read.journal) }
     ensures hives { IfOk result (λ found. found.hives.items ≡ hives.items) }
     ensures fails { IfErr result (λ why. (why ≡ NoMemory) ⊎ (TellsOfFiles why
-        × ((files : ℕ → List ℕ) → AreOf files read.journal hives.items →
-        NothingRecovered files))) }
+        × ((files : ℕ → List ℕ) → AreOf files read.journal hives.items → IsWrong files why))) }
 {
-    one_store();
-    one_is_held();
     let number = number_of(read.journal.last_number(), &hives);
     if let Some(hive) = first_above(&hives, number.min(GREATEST_NUMBER)) {
         return Err(Refusal::HiveDamaged {

@@ -8,7 +8,7 @@ use Rattle.recovery.specs.Kept.{AllWork}
 use Rattle.hive_files.specs.Frames.{FailsBy}
 use Rattle.recovery.specs.Reading.{AreOf, IsNoHive}
 use Rattle.recovery.specs.Recovered.{seen_in}
-use Rattle.recovery.proofs.Openings.{are_of, are_on, refused_hives}
+use Rattle.recovery.proofs.Openings.{are_of, are_on, refused_hives, refused_journal}
 use Rattle.recovery.specs.Repairs.{most_repairs, repairs_left}
 use Rattle.recovery.proofs.Counting.{most_beside}
 use Rattle.recovery.proofs.Together.{of_found}
@@ -31,6 +31,12 @@ recovered-requires g c =
       };
     }
 
+pub returns-in_err-read-clause-fails : goal.returns-in_err-read-clause-fails
+returns-in_err-read-clause-fails g c =
+    let p = err_from_is_err_and c.from_residual.result c.from_residual.ensures.1 in
+    let D = g.D.Disk in
+    rw (p.1, p.2) (refused_journal (D.failures c.args.disk.now < D.failures c.open.new.disk) (D.faithful c.open.new.disk) (seen_in (D.state_at c.args.disk.now (D.clock c.args.disk.now))) c.in_err-read.field-0.0 c.in_err-read.ensures.fails)
+
 pub returns-in_err-hives-clause-fails : goal.returns-in_err-hives-clause-fails
 returns-in_err-hives-clause-fails g c =
     let p = err_from_is_err_and c.from_residual-in_err-hives.result c.from_residual-in_err-hives.ensures.1 in
@@ -40,7 +46,7 @@ returns-in_err-hives-clause-fails g c =
     let old = D.state_at c.args.disk.now (D.clock c.args.disk.now) in
     let mid = D.state_at c.open.new.disk (D.clock c.open.new.disk) in
     let last = c.open_hives.new.disk in
-    rw (p.1, p.2) (refused_hives c.one_store.ensures (D.faithful last) (D.faithful c.open.new.disk) c.open_hives.ensures.faithful (D.failures c.open.new.disk < D.failures last) (D.failures c.args.disk.now < D.failures last)
+    rw (p.1, p.2) (refused_hives (D.faithful last) (D.faithful c.open.new.disk) c.open_hives.ensures.faithful (D.failures c.open.new.disk < D.failures last) (D.failures c.args.disk.now < D.failures last)
     (λ rose. omega (arith, rose, c.open.ensures.failures)) j e.store (choice_of j).now old mid e.spells c.open.ensures.others c.in_err-hives.field-0.0
     (subst (λ (s : List ℕ). FailsBy (D.failures c.open.new.disk < D.failures last) (IsNoHive (D.faithful last) s (store_of j).hives mid) c.in_err-hives.field-0.0) c.id.ensures
     (subst (λ n. FailsBy (D.failures c.open.new.disk < D.failures last) (IsNoHive (D.faithful last) c.id.result n mid) c.in_err-hives.field-0.0) c.hives.ensures c.in_err-hives.ensures.fails)))

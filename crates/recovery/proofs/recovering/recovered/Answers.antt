@@ -1,4 +1,4 @@
-use Rattle.std.proofs.Common.{◌≡◌, inl, inr, ◌∙◌, ◌<◌, ap, sym, subst, arith, length, slice_get, map, Some, List}
+use Rattle.std.proofs.Common.{◌≡◌, inl, inr, ◌∙◌, ◌<◌, ap, sym, refl, subst, arith, length, slice_get, map, Some, List}
 use Rattle.std.proofs.lemmas.Result.{err_from_is_err_and}
 use Rattle.prefix_law.specs.Promises.{floor}
 use Rattle.reg_tree.specs.Maps.{TreeMap}
@@ -9,7 +9,7 @@ use Rattle.engine_law.specs.Prefixes.{view_of}
 use Rattle.engine_law.proofs.HiveLists.{at_slot}
 use Rattle.hive_flush.specs.declared.hive.HiveFile.{HiveFile}
 use Rattle.recovery.specs.Reading.{IsNumber, LeadTo, SomeLeadsNowhere}
-use Rattle.recovery.proofs.Together.{is_found, kept_is, none_above, none_nowhere, number_is, spelled_as}
+use Rattle.recovery.proofs.Together.{ahead_is, is_found, kept_is, nowhere_from, number_is, spelled_as}
 use Rattle.recovery.proofs.recovering.recovered.Goals as goal
 
 pub returns-in-Some-clause-fails : goal.returns-in-Some-clause-fails
@@ -23,7 +23,7 @@ returns-in-Some-clause-fails c =
     let number = number_is j c.args.read.below es hs c.requires.rest c.last_number.result c.number_of-number.result c.last_number.ensures (subst (λ (l : List HiveFile). IsNumber c.last_number.result l c.number_of-number.result) c.deref.ensures.value c.number_of-number.ensures) in
     inr (
       tt,
-      λ files of store n trees r. none_above c.one_store.ensures c.one_is_held.ensures j c.args.read.below es hs c.requires.rest files of store n trees r c.number_of-number.result number c.in-Some.hive h.0 h.1 (omega (arith, above, c.min.ensures)),
+      λ files of. inr (refl, ahead_is j c.args.read.below es hs c.requires.rest files of c.number_of-number.result number c.in-Some.hive h.0 h.1 (omega (arith, above, c.min.ensures))),
     )
 
 pub returns-in_err-trees-clause-fails : goal.returns-in_err-trees-clause-fails
@@ -35,9 +35,9 @@ returns-in_err-trees-clause-fails c =
     rw (p.1, p.2) (elim (c.in_err-trees.ensures.fails) [
       | inl damaged ↦ rw damaged.0 (inr (
         tt,
-        λ files of store n trees r. none_nowhere c.one_store.ensures c.one_is_held.ensures j c.args.read.below es hs c.requires.rest files of store n trees r
+        λ files of. inr (nowhere_from j c.args.read.below es hs c.requires.rest files of
             (subst (λ (l : List Element). SomeLeadsNowhere (spelled_as c.args.read.below l) hs) c.deref-4.ensures.value
-            (subst (λ (l : List HiveFile). SomeLeadsNowhere (spelled_as c.args.read.below c.deref-4.result.now) l) c.deref-3.ensures.value damaged.1)),
+            (subst (λ (l : List HiveFile). SomeLeadsNowhere (spelled_as c.args.read.below c.deref-4.result.now) l) c.deref-3.ensures.value damaged.1))),
       ))
       | inr hungry ↦ inl hungry
     ])
