@@ -2,7 +2,7 @@
 ghost use Rattle.std.specs.Prelude.{◌≡◌, ◌∷◌, IsErr};
 ghost use Rattle.file_disk.specs.Records.{calls_in};
 
-use crate::folder::{Folder, Unheld};
+use crate::folder::{Folder, MOST_FILES, Unheld};
 use crate::record::{Call, Record, noted};
 use crate::world::World;
 use disk_model::{Disk, Failed};
@@ -36,6 +36,17 @@ impl<R: Files<File = File> + Drop, W: World> FileDisk<R, W> {
             calls: Record::Begun,
             world: PhantomData,
         })
+    }
+
+    /// How many bytes the journal and the hives have, without the hives' logs: what an opening reads, where nothing is to be
+    /// repaired. What can't be asked of counts nothing.
+    pub fn store_bytes(&mut self) -> u64
+        ensures { self.new.calls ≡ self.old.calls }
+    {
+        (0..MOST_FILES)
+            .filter(|number| *number == 0 || *number % 2 == 1)
+            .map(|number| self.folder.len(number).unwrap_or(0))
+            .fold(0, u64::saturating_add)
     }
 }
 

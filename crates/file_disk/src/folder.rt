@@ -2,6 +2,7 @@
 ghost use Rattle.std.specs.Prelude.{◌≤◌, length, IfOk};
 
 use std::alloc::{AllocError, AllocFailed, Global};
+use std::fmt;
 use std::fs::{File, OpenOptions, TryLockError};
 use std::io::{self, ErrorKind};
 use std::os::unix::fs::FileExt;
@@ -10,6 +11,24 @@ use std::rt::Files;
 /// How many files the folder of a store may have: a journal, and two files for each of 16 hives. Others read as empty, and a write
 /// of one fails.
 pub const MOST_FILES: u32 = 33;
+
+/// The name in its folder of the file of this number: `journal`, `hive00.dat`, `hive00.log`, `hive01.dat`, and so on.
+#[derive(Clone, Copy, Debug, PartialEq, Eq)]
+pub struct FileName {
+    /// The number.
+    pub number: u32,
+}
+
+impl fmt::Display for FileName {
+    fn fmt<W: fmt::Write>(&self, f: &mut fmt::Formatter<W>) -> fmt::Result {
+        if self.number == 0 {
+            return write!(f, "journal");
+        }
+        let hive = (self.number - 1) / 2;
+        let ending = if self.number % 2 == 1 { "dat" } else { "log" };
+        write!(f, "hive{hive:02}.{ending}")
+    }
+}
 
 // the longest name of a file, with the slash before it, in bytes
 const LONGEST_NAME: usize = 11;
@@ -201,13 +220,7 @@ impl<R: Files<File = File> + Drop> Folder<R> {
     fn name(&mut self, number: u32) -> io::Result<()> {
         self.path.clear();
         self.path.push_str(self.folder.as_str())?;
-        if number == 0 {
-            self.path.push_str("/journal")?;
-            return Ok(());
-        }
-        let hive = (number - 1) / 2;
-        let ending = if number % 2 == 1 { "dat" } else { "log" };
-        write!(self.path, "/hive{hive:02}.{ending}")?;
+        write!(self.path, "/{}", FileName { number })?;
         Ok(())
     }
 }

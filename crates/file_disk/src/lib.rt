@@ -10,5 +10,5 @@ mod record;
 mod world;
 
 pub use disk::FileDisk;
-pub use folder::{MOST_FILES, Unheld};
+pub use folder::{FileName, MOST_FILES, Unheld};
 pub use world::{Unknown, World};

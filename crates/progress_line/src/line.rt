@@ -1,6 +1,7 @@
 //! The line itself.
 ghost use Rattle.std.specs.Prelude.{◌≡◌, ◌<◌, ◌≤◌, ◌*◌, ◌/◌};
 
+use std::cell::Cell;
 use std::io::Eprint;
 use std::time::{Clock, Duration};
 
@@ -10,50 +11,80 @@ const PATIENCE: u64 = 500;
 /// The line isn't written anew before so many milliseconds have gone by.
 const PAUSE: u64 = 100;
 
-/// A line on standard error that tells of work how much of its whole is done.
+/// Work that has a name.
+#[derive(Clone, Copy, Debug, PartialEq, Eq)]
+pub struct Stage {
+    /// What the line calls it.
+    pub work: &'static str,
+    /// How much there is of it, in any unit. Where that isn't known nothing is told of it.
+    pub whole: Option<u64>,
+}
+
+/// A line on standard error that tells of one stage of work after another how much of it is done. Whoever does a part of the work
+/// may have a `&` of it.
 #[derive(Drop)]
 pub struct ProgressLine<'a, R> {
     terminal: &'a R,
-    work: &'static str,
-    whole: u64,
-    next: Duration,
-    is_shown: bool,
+    stage: Cell<Stage>,
+    done: Cell<u64>,
+    next: Cell<Duration>,
+    is_shown: Cell<bool>,
 }
 
 impl<'a, R: Eprint + Clock> ProgressLine<'a, R> {
-    /// A line for work of this name that has just begun, and of which there is so much in all.
-    pub fn new(terminal: &'a R, work: &'static str, whole: u64) -> ProgressLine<'a, R> {
+    /// A line for work whose first stage begins now.
+    pub fn new(terminal: &'a R, first: Stage) -> ProgressLine<'a, R> {
         ProgressLine {
             terminal,
-            work,
-            whole,
-            next: later(terminal, PATIENCE),
-            is_shown: false,
+            stage: Cell::new(first),
+            done: Cell::new(0),
+            next: Cell::new(later(terminal, PATIENCE)),
+            is_shown: Cell::new(false),
         }
     }
 
-    /// So much is done, of the same unit as the whole.
-    pub fn tell(&mut self, done: u64) {
+    /// The next stage begins: nothing of it is done. The line goes away until it is told of.
+    pub fn begin(&self, stage: Stage) {
+        self.stage.set(stage);
+        self.done.set(0);
+        self.clear();
+    }
+
+    /// So much more of the stage is done, of the same unit as the whole.
+    pub fn advance(&self, more: u64) {
+        self.done.set(self.done.get().saturating_add(more));
+        let Stage { work, whole } = self.stage.get();
+        let Some(whole) = whole else {
+            return;
+        };
         if !self.is_due() {
             return;
         }
-        let percent = percent_of(done, self.whole);
-        self.is_shown |= eprint!(self.terminal; "\r{}: {percent} %", self.work).is_ok();
-        self.next = later(self.terminal, PAUSE);
+        let percent = percent_of(self.done.get(), whole);
+        if eprint!(self.terminal; "\r{work}: {percent} %").is_ok() {
+            self.is_shown.set(true);
+        }
+        self.next.set(later(self.terminal, PAUSE));
     }
 
     /// The work is done: the line goes away.
     pub fn end(self) {
-        if self.is_shown {
+        self.clear();
+    }
+
+    // the line goes away
+    fn clear(&self) {
+        if self.is_shown.get() {
             // from the line's first column to its end: all is blank again
             let _ = eprint!(self.terminal; "\r\x1b[K");
+            self.is_shown.set(false);
         }
     }
 
     // whether the line is to be written by now; never where no clock tells
     fn is_due(&self) -> bool {
         match self.terminal.monotonic() {
-            Ok(now) => now >= self.next,
+            Ok(now) => now >= self.next.get(),
             Err(_) => false,
         }
     }
