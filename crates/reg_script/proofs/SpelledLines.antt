@@ -1,17 +1,24 @@
 -- What is read of a line's words is what they spell.
-use Rattle.std.proofs.Common.{◌≡◌, ℕ, ◌-◌, ◌^◌, ◌<◌, ◌≤◌, true, cond, List, [], ◌∷◌, Some, None, refl, sym, ◌∙◌, ap, subst, arith}
+use Rattle.std.proofs.Common.{◌≡◌, ℕ, ◌-◌, ◌^◌, ◌<◌, ◌≤◌, true, cond, List, [], ◌∷◌, Option, Some, None, refl, sym, ◌∙◌, ap, subst, arith, inl, inr}
 use Rattle.std.specs.Prelude.{nat_le, codes}
 use Rattle.std.specs.Option.{option_map, option_and_then}
+use Rattle.std.specs.Str.{bytes_eq}
 use Rattle.std.proofs.lemmas.Option.{none-some, cond_some}
 use Rattle.std.proofs.lemmas.Bool.Decides.{nat_tests}
+use Rattle.std.proofs.lemmas.Slice.Eq.{bytes_eq-Decides}
 use Rattle.refusals.specs.declared.limits.TheConstants.{MOST_HIVES}
 use Rattle.reg_script.specs.Words.{words, number_of, label_of, uuid_of}
-use Rattle.reg_script.specs.Lines.{one_of, two_of, request_with, request_of_words, hives_of, hives_line, at_line, flush_line, begin_line, inside_line, label_in, transaction_line, line_with, line_of_words, line_of}
-use Rattle.reg_script.specs.Grammar.{OfNumber, OfLabel, RequestedBy, SpelledBy, Spells}
+use Rattle.reg_script.specs.Lines.{one_of, two_of, request_with, request_of_words, hives_of, hives_line, at_line, alone, begin_line, inside_line, label_in, hive_in, call_of, call_in, tear_of, tear_in, device_line, step_line, transaction_line, line_with, line_of_words, line_of}
+use Rattle.reg_script.specs.Grammar.{OfNumber, OfLabel, RequestedBy, LabSpelledBy, SpelledBy, Spells, tear_word}
 use Rattle.reg_script.specs.declared.line.Request.{Request}
 use Rattle.reg_script.specs.declared.line.Request.TheVariants.{Create, Delete, Set, Unset, Get, Keys, Values, Info}
 use Rattle.reg_script.specs.declared.line.Line.{Line}
-use Rattle.reg_script.specs.declared.line.Line.TheVariants.{Hives, At, Session, End, Plain, Begin, Inside, Commit, Rollback, Close, Outcome, Flush}
+use Rattle.reg_script.specs.declared.line.Line.TheVariants.{Hives, At, Session, End, Plain, Begin, Inside, Commit, Rollback, Close, Outcome, Flush, Lab}
+use Rattle.reg_script.specs.declared.lab_line.LabLine.{LabLine}
+use Rattle.reg_script.specs.declared.lab_line.LabLine.TheVariants.{Accept, JournalStep, FlusherStep, TrimStep, FlushWhole, StopAt, FailAt, Crash}
+use Rattle.reg_script.specs.declared.lab_line.CrashTear.{CrashTear}
+use Rattle.reg_script.specs.declared.lab_line.CrashTear.TheVariants.{Old, New, Torn}
+use Rattle.reg_script.proofs.Cuts.{is_or_not}
 use Rattle.reg_script.proofs.SpelledUnits.{map_some, then_some}
 use Rattle.reg_script.proofs.SpelledWords.{read_number, spelled_number, read_label, spelled_label}
 use Rattle.reg_script.proofs.SpelledRequests.{read_request, one_word, two_words, first_word, spelled_request, spelled_request_words}
@@ -30,6 +37,31 @@ request_alone said (Get at name) s = alike said _ s.2 refl
 request_alone said (Keys at) s = alike said _ s.1 refl
 request_alone said (Values at) s = alike said _ s.1 refl
 request_alone said (Info at) s = alike said _ s.1 refl
+
+read_tear : (tear : CrashTear) → tear_of (tear_word tear) ≡ Some tear
+read_tear Old = refl
+read_tear New = refl
+read_tear Torn = refl
+
+-- calls of the device are counted from 1
+read_call : (number : List ℕ) (call : ℕ) → number_of (2 ^ 64 - 1) number ≡ Some call → 1 ≤ call → call_in (number ∷ []) ≡ Some call
+read_call number call read least =
+    let some : nat_le 1 call ≡ true = grind (arith, nat_tests, least) in
+    ap (option_and_then call_of) read ∙ ap (λ test. cond test (Some call) None) some
+
+read_lab : (said : List (List ℕ)) (line : LabLine) → LabSpelledBy line said → line_of_words said ≡ Some (Lab line)
+read_lab said (Accept label) (word, e, l) = ap line_of_words e ∙ ap (option_map (λ a. Lab (Accept a))) (read_label word label l)
+read_lab said JournalStep e = ap line_of_words e
+read_lab said (FlusherStep hive) ((number, e, d), most) = ap line_of_words e ∙ ap (option_map (λ h. Lab (FlusherStep h))) (read_number 255 number hive d most)
+read_lab said TrimStep e = ap line_of_words e
+read_lab said (FlushWhole hive) ((number, e, d), most) = ap line_of_words e ∙ ap (option_map (λ h. Lab (FlushWhole h))) (read_number 255 number hive d most)
+read_lab said (StopAt call) ((number, e, d), least, most) =
+    let within : call ≤ 2 ^ 64 - 1 = omega (arith, most) in
+    ap line_of_words e ∙ ap (option_map (λ k. Lab (StopAt k))) (read_call number call (read_number (2 ^ 64 - 1) number call d within) least)
+read_lab said (FailAt call) ((number, e, d), least, most) =
+    let within : call ≤ 2 ^ 64 - 1 = omega (arith, most) in
+    ap line_of_words e ∙ ap (option_map (λ k. Lab (FailAt k))) (read_call number call (read_number (2 ^ 64 - 1) number call d within) least)
+read_lab said (Crash tear) e = ap line_of_words e ∙ ap (option_map (λ t. Lab (Crash t))) (read_tear tear)
 
 read_words : (said : List (List ℕ)) (line : Line) → SpelledBy line said → line_of_words said ≡ Some line
 read_words said (Hives count) ((number, e, d), least, most) =
@@ -55,6 +87,7 @@ read_words said (Rollback label) (word, e, l) = ap line_of_words e ∙ ap (optio
 read_words said (Close label) (word, e, l) = ap line_of_words e ∙ ap (option_map (λ a. Close a)) (read_label word label l)
 read_words said (Outcome label) (word, e, l) = ap line_of_words e ∙ ap (option_map (λ a. Outcome a)) (read_label word label l)
 read_words said Flush e = ap line_of_words e
+read_words said (Lab line) s = read_lab said line s
 
 -- a line that is spelled is read
 pub read_line : (bytes : List ℕ) (line : Line) → Spells bytes line → line_of bytes ≡ Some line
@@ -92,12 +125,51 @@ of_session verb made shape args line e =
     let within : session.0 < 2 ^ 32 = omega (arith, number.1) in
     subst (λ l. SpelledBy l (verb ∷ args)) session.2 (shape session.0 (verb ∷ args) (number.0, within))
 
-of_flush : (args : List (List ℕ)) (line : Line) → flush_line args ≡ Some line → SpelledBy line (codes "flush" ∷ args)
-of_flush [] line e = subst (λ l. SpelledBy l (codes "flush" ∷ [])) (same Flush line e) refl
+-- a line of one word
+of_alone : (verb : List ℕ) (made : Line) → SpelledBy made (verb ∷ []) → (args : List (List ℕ)) (line : Line) → alone made args ≡ Some line → SpelledBy line (verb ∷ args)
+of_alone verb made spelled [] line e = subst (λ l. SpelledBy l (verb ∷ [])) (same made line e) spelled
   where
     same : (x y : Line) → Some x ≡ Some y → x ≡ y
     same x y h = cc
-of_flush (word ∷ args) line e = absurd (none-some line e)
+of_alone verb made spelled (word ∷ args) line e = absurd (none-some line e)
+
+-- a line of a hive's number
+of_hive : (verb : List ℕ) (made : ℕ → Line) → ((hive : ℕ) (said : List (List ℕ)) → OfNumber verb hive said × (hive ≤ 255) → SpelledBy (made hive) said) → (args : List (List ℕ)) (line : Line) → option_map made (hive_in args) ≡ Some line → SpelledBy line (verb ∷ args)
+of_hive verb made shape args line e =
+    let hive = map_some made (hive_in args) line e in
+    let word = then_some (number_of 255) (one_of args) hive.0 hive.1 in
+    subst (λ l. SpelledBy l (verb ∷ args)) hive.2 (shape hive.0 (verb ∷ args) (of_number verb 255 args word.0 hive.0 word.1 word.2))
+
+-- a line that counts calls of the device
+of_call : (verb : List ℕ) (made : ℕ → Line) → ((call : ℕ) (said : List (List ℕ)) → OfNumber verb call said × (1 ≤ call) × (call < 2 ^ 64) → SpelledBy (made call) said) → (args : List (List ℕ)) (line : Line) → option_map made (call_in args) ≡ Some line → SpelledBy line (verb ∷ args)
+of_call verb made shape args line e =
+    let call = map_some made (call_in args) line e in
+    let word = then_some (λ w. option_and_then call_of (number_of (2 ^ 64 - 1) w)) (one_of args) call.0 call.1 in
+    let number = then_some call_of (number_of (2 ^ 64 - 1) word.0) call.0 word.2 in
+    let counted = cond_some (nat_le 1 number.0) number.0 call.0 number.2 in
+    let spelled = of_number verb (2 ^ 64 - 1) args word.0 number.0 word.1 number.1 in
+    let least : 1 ≤ number.0 = grind (arith, nat_tests, counted.0) in
+    let within : number.0 < 2 ^ 64 = omega (arith, spelled.1) in
+    subst (λ l. SpelledBy l (verb ∷ args)) call.2 (subst (λ k. SpelledBy (made k) (verb ∷ args)) counted.1 (shape number.0 (verb ∷ args) (spelled.0, least, within)))
+
+one_tear : (word : List ℕ) (this tear : CrashTear) (other : Option CrashTear) → (other ≡ Some tear → word ≡ tear_word tear) → cond (bytes_eq word (tear_word this)) (Some this) other ≡ Some tear → word ≡ tear_word tear
+one_tear word this tear other further e = elim (is_or_not (bytes_eq word (tear_word this))) [
+  | inl same ↦ (bytes_eq-Decides word (tear_word this)).0 same ∙ ap tear_word (equal this tear (sym (ap (λ test. cond test (Some this) other) same) ∙ e))
+  | inr not_same ↦ further (sym (ap (λ test. cond test (Some this) other) not_same) ∙ e)
+]
+  where
+    equal : (x y : CrashTear) → Some x ≡ Some y → x ≡ y
+    equal x y h = cc
+
+spelled_tear : (word : List ℕ) (tear : CrashTear) → tear_of word ≡ Some tear → word ≡ tear_word tear
+spelled_tear word tear e = one_tear word Old tear _ (one_tear word New tear _ (one_tear word Torn tear None (λ none. absurd (none-some tear none)))) e
+
+of_crash : (args : List (List ℕ)) (line : Line) → option_map (λ tear. Lab (Crash tear)) (tear_in args) ≡ Some line → SpelledBy line (codes "crash" ∷ args)
+of_crash args line e =
+    let tear = map_some (λ t. Lab (Crash t)) (tear_in args) line e in
+    let word = then_some tear_of (one_of args) tear.0 tear.1 in
+    subst (λ l. SpelledBy l (codes "crash" ∷ args)) tear.2
+    (ap (λ ws. codes "crash" ∷ ws) (one_word args word.0 word.1 ∙ ap (λ w. w ∷ []) (spelled_tear word.0 tear.0 word.2)))
 
 of_begin : (args : List (List ℕ)) (line : Line) → option_and_then begin_line (two_of args) ≡ Some line → SpelledBy line (codes "begin" ∷ args)
 of_begin args line e =
@@ -130,6 +202,22 @@ of_request verb args line e =
     let request = map_some (λ r. Plain r) (request_with verb args) line e in
     subst (λ l. SpelledBy l (verb ∷ args)) request.2 (spelled_request verb args request.0 request.1)
 
+spelled_device : (verb : List ℕ) (args : List (List ℕ)) (line : Line) → device_line verb args ≡ Some line → SpelledBy line (verb ∷ args)
+spelled_device verb args line e =
+    first_word SpelledBy verb (codes "stop") args line _ _ (of_call (codes "stop") (λ call. Lab (StopAt call)) (λ call said h. h) args line)
+    (first_word SpelledBy verb (codes "fail") args line _ _ (of_call (codes "fail") (λ call. Lab (FailAt call)) (λ call said h. h) args line)
+    (first_word SpelledBy verb (codes "crash") args line _ _ (of_crash args line)
+    (of_request verb args line))) e
+
+spelled_step : (verb : List ℕ) (args : List (List ℕ)) (line : Line) → step_line verb args ≡ Some line → SpelledBy line (verb ∷ args)
+spelled_step verb args line e =
+    first_word SpelledBy verb (codes "accept") args line _ _ (of_label (codes "accept") (λ label. Lab (Accept label)) (λ label said h. h) args line)
+    (first_word SpelledBy verb (codes "jstep") args line _ _ (of_alone (codes "jstep") (Lab JournalStep) refl args line)
+    (first_word SpelledBy verb (codes "fstep") args line _ _ (of_hive (codes "fstep") (λ hive. Lab (FlusherStep hive)) (λ hive said h. h) args line)
+    (first_word SpelledBy verb (codes "tstep") args line _ _ (of_alone (codes "tstep") (Lab TrimStep) refl args line)
+    (first_word SpelledBy verb (codes "fall") args line _ _ (of_hive (codes "fall") (λ hive. Lab (FlushWhole hive)) (λ hive said h. h) args line)
+    (spelled_device verb args line))))) e
+
 spelled_transaction : (verb : List ℕ) (args : List (List ℕ)) (line : Line) → transaction_line verb args ≡ Some line → SpelledBy line (verb ∷ args)
 spelled_transaction verb args line e =
     first_word SpelledBy verb (codes "tx") args line _ _ (of_inside args line)
@@ -138,7 +226,7 @@ spelled_transaction verb args line e =
     (first_word SpelledBy verb (codes "rollback") args line _ _ (of_label (codes "rollback") (λ label. Rollback label) (λ label said h. h) args line)
     (first_word SpelledBy verb (codes "close") args line _ _ (of_label (codes "close") (λ label. Close label) (λ label said h. h) args line)
     (first_word SpelledBy verb (codes "outcome") args line _ _ (of_label (codes "outcome") (λ label. Outcome label) (λ label said h. h) args line)
-    (of_request verb args line)))))) e
+    (spelled_step verb args line)))))) e
 
 spelled_with : (verb : List ℕ) (args : List (List ℕ)) (line : Line) → line_with verb args ≡ Some line → SpelledBy line (verb ∷ args)
 spelled_with verb args line e =
@@ -146,7 +234,7 @@ spelled_with verb args line e =
     (first_word SpelledBy verb (codes "at") args line _ _ (of_at args line)
     (first_word SpelledBy verb (codes "session") args line _ _ (of_session (codes "session") (λ number. Session number) (λ number said h. h) args line)
     (first_word SpelledBy verb (codes "end") args line _ _ (of_session (codes "end") (λ number. End number) (λ number said h. h) args line)
-    (first_word SpelledBy verb (codes "flush") args line _ _ (of_flush args line)
+    (first_word SpelledBy verb (codes "flush") args line _ _ (of_alone (codes "flush") Flush refl args line)
     (spelled_transaction verb args line))))) e
 
 spelled_words : (said : List (List ℕ)) (line : Line) → line_of_words said ≡ Some line → SpelledBy line said

@@ -12,7 +12,11 @@ use Rattle.reg_script.specs.declared.line.Place.{Place}
 use Rattle.reg_script.specs.declared.line.Request.{Request}
 use Rattle.reg_script.specs.declared.line.Request.TheVariants.{Create, Delete, Set, Unset, Get, Keys, Values, Info}
 use Rattle.reg_script.specs.declared.line.Line.{Line}
-use Rattle.reg_script.specs.declared.line.Line.TheVariants.{Hives, At, Session, End, Plain, Begin, Inside, Commit, Rollback, Close, Outcome, Flush}
+use Rattle.reg_script.specs.declared.line.Line.TheVariants.{Hives, At, Session, End, Plain, Begin, Inside, Commit, Rollback, Close, Outcome, Flush, Lab}
+use Rattle.reg_script.specs.declared.lab_line.LabLine.{LabLine}
+use Rattle.reg_script.specs.declared.lab_line.LabLine.TheVariants.{Accept, JournalStep, FlusherStep, TrimStep, FlushWhole, StopAt, FailAt, Crash}
+use Rattle.reg_script.specs.declared.lab_line.CrashTear.{CrashTear}
+use Rattle.reg_script.specs.declared.lab_line.CrashTear.TheVariants.{Old, New, Torn}
 
 -- one decimal digit or more, and the number that they write
 pub record IsDecimal (word : List ℕ) (number : ℕ) : Type 0 where
@@ -91,6 +95,23 @@ RequestedBy (Keys at) said = OfPlace (codes "keys") at said
 RequestedBy (Values at) said = OfPlace (codes "values") at said
 RequestedBy (Info at) said = OfPlace (codes "info") at said
 
+-- the word of what a loss of power leaves
+abbrev pub tear_word : CrashTear → List ℕ
+tear_word Old = codes "old"
+tear_word New = codes "new"
+tear_word Torn = codes "torn"
+
+-- the words of a line that only a laboratory takes; calls of the device are counted from 1
+abbrev pub LabSpelledBy : LabLine → List (List ℕ) → Type 0
+LabSpelledBy (Accept label) said = OfLabel (codes "accept") label said
+LabSpelledBy JournalStep said = said ≡ codes "jstep" ∷ []
+LabSpelledBy (FlusherStep hive) said = OfNumber (codes "fstep") hive said × (hive ≤ 255)
+LabSpelledBy TrimStep said = said ≡ codes "tstep" ∷ []
+LabSpelledBy (FlushWhole hive) said = OfNumber (codes "fall") hive said × (hive ≤ 255)
+LabSpelledBy (StopAt call) said = OfNumber (codes "stop") call said × (1 ≤ call) × (call < 2 ^ 64)
+LabSpelledBy (FailAt call) said = OfNumber (codes "fail") call said × (1 ≤ call) × (call < 2 ^ 64)
+LabSpelledBy (Crash tear) said = said ≡ codes "crash" ∷ tear_word tear ∷ []
+
 -- the words of a line, likewise; a request stands alone, or behind `tx` and a label
 abbrev pub SpelledBy : Line → List (List ℕ) → Type 0
 SpelledBy (Hives count) said = OfNumber (codes "hives") count said × (1 ≤ count) × (count ≤ MOST_HIVES)
@@ -107,6 +128,7 @@ SpelledBy (Rollback label) said = OfLabel (codes "rollback") label said
 SpelledBy (Close label) said = OfLabel (codes "close") label said
 SpelledBy (Outcome label) said = OfLabel (codes "outcome") label said
 SpelledBy Flush said = said ≡ codes "flush" ∷ []
+SpelledBy (Lab line) said = LabSpelledBy line said
 
 -- bytes spell a line where their parts between blanks do
 abbrev pub Spells : List ℕ → Line → Type 0

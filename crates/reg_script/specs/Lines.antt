@@ -7,7 +7,10 @@ use Rattle.reg_script.specs.declared.line.Place.{Place}
 use Rattle.reg_script.specs.declared.line.Request.{Request}
 use Rattle.reg_script.specs.declared.line.Request.TheVariants.{Create, Delete, Set, Unset, Get, Keys, Values, Info}
 use Rattle.reg_script.specs.declared.line.Line.{Line}
-use Rattle.reg_script.specs.declared.line.Line.TheVariants.{Hives, At, Session, End, Plain, Begin, Inside, Commit, Rollback, Close, Outcome, Flush}
+use Rattle.reg_script.specs.declared.line.Line.TheVariants.{Hives, At, Session, End, Plain, Begin, Inside, Commit, Rollback, Close, Outcome, Flush, Lab}
+use Rattle.reg_script.specs.declared.lab_line.LabLine.TheVariants.{Accept, JournalStep, FlusherStep, TrimStep, FlushWhole, StopAt, FailAt, Crash}
+use Rattle.reg_script.specs.declared.lab_line.CrashTear.{CrashTear}
+use Rattle.reg_script.specs.declared.lab_line.CrashTear.TheVariants.{Old, New, Torn}
 use Rattle.refusals.specs.declared.limits.TheConstants.{MOST_HIVES}
 
 -- the words behind the first, where they are one, two or four
@@ -70,10 +73,10 @@ session_line word = option_map (λ number. Session number) (number_of (2 ^ 32 - 
 abbrev pub end_line : List ℕ → Option Line
 end_line word = option_map (λ number. End number) (number_of (2 ^ 32 - 1) word)
 
--- nothing stands behind the word
-abbrev pub flush_line : List (List ℕ) → Option Line
-flush_line [] = Some Flush
-flush_line (word ∷ args) = None
+-- a line of one word: nothing stands behind it
+abbrev pub alone : Line → List (List ℕ) → Option Line
+alone line [] = Some line
+alone line (word ∷ args) = None
 
 abbrev pub begin_line : List ℕ × List ℕ → Option Line
 begin_line args = option_and_then (λ label. option_map (λ id. Begin label id) (uuid_of args.1)) (label_of args.0)
@@ -87,7 +90,47 @@ inside_line (word ∷ asked) = option_and_then (λ label. option_map (λ request
 abbrev pub label_in : List (List ℕ) → Option (List ℕ)
 label_in args = option_and_then label_of (one_of args)
 
--- a line that begins, uses or ends a transaction, or a request alone
+-- the number of a hive
+abbrev pub hive_in : List (List ℕ) → Option ℕ
+hive_in args = option_and_then (number_of 255) (one_of args)
+
+-- which call it is: they are counted from 1
+abbrev pub call_of : ℕ → Option ℕ
+call_of call = if nat_le 1 call then Some call else None
+
+abbrev pub call_in : List (List ℕ) → Option ℕ
+call_in args = option_and_then (λ word. option_and_then call_of (number_of (2 ^ 64 - 1) word)) (one_of args)
+
+-- what a loss of power leaves
+abbrev pub tear_of : List ℕ → Option CrashTear
+tear_of word =
+    if bytes_eq word (codes "old") then Some Old
+    else if bytes_eq word (codes "new") then Some New
+    else if bytes_eq word (codes "torn") then Some Torn
+    else None
+
+abbrev pub tear_in : List (List ℕ) → Option CrashTear
+tear_in args = option_and_then tear_of (one_of args)
+
+-- a failure of the device to come, a loss of power, or a request alone
+abbrev pub device_line : List ℕ → List (List ℕ) → Option Line
+device_line verb args =
+    if bytes_eq verb (codes "stop") then option_map (λ call. Lab (StopAt call)) (call_in args)
+    else if bytes_eq verb (codes "fail") then option_map (λ call. Lab (FailAt call)) (call_in args)
+    else if bytes_eq verb (codes "crash") then option_map (λ tear. Lab (Crash tear)) (tear_in args)
+    else option_map (λ request. Plain request) (request_with verb args)
+
+-- a line of a single step, one that has to do with the device, or a request alone
+abbrev pub step_line : List ℕ → List (List ℕ) → Option Line
+step_line verb args =
+    if bytes_eq verb (codes "accept") then option_map (λ label. Lab (Accept label)) (label_in args)
+    else if bytes_eq verb (codes "jstep") then alone (Lab JournalStep) args
+    else if bytes_eq verb (codes "fstep") then option_map (λ hive. Lab (FlusherStep hive)) (hive_in args)
+    else if bytes_eq verb (codes "tstep") then alone (Lab TrimStep) args
+    else if bytes_eq verb (codes "fall") then option_map (λ hive. Lab (FlushWhole hive)) (hive_in args)
+    else device_line verb args
+
+-- a line that begins, uses or ends a transaction, a laboratory's, or a request alone
 abbrev pub transaction_line : List ℕ → List (List ℕ) → Option Line
 transaction_line verb args =
     if bytes_eq verb (codes "tx") then inside_line args
@@ -96,7 +139,7 @@ transaction_line verb args =
     else if bytes_eq verb (codes "rollback") then option_map (λ label. Rollback label) (label_in args)
     else if bytes_eq verb (codes "close") then option_map (λ label. Close label) (label_in args)
     else if bytes_eq verb (codes "outcome") then option_map (λ label. Outcome label) (label_in args)
-    else option_map (λ request. Plain request) (request_with verb args)
+    else step_line verb args
 
 -- the first word says which line it is
 abbrev pub line_with : List ℕ → List (List ℕ) → Option Line
@@ -105,7 +148,7 @@ line_with verb args =
     else if bytes_eq verb (codes "at") then option_and_then at_line (one_of args)
     else if bytes_eq verb (codes "session") then option_and_then session_line (one_of args)
     else if bytes_eq verb (codes "end") then option_and_then end_line (one_of args)
-    else if bytes_eq verb (codes "flush") then flush_line args
+    else if bytes_eq verb (codes "flush") then alone Flush args
     else transaction_line verb args
 
 abbrev pub line_of_words : List (List ℕ) → Option Line

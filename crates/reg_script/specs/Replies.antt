@@ -7,7 +7,7 @@ use Rattle.std.specs.Str.{bytes_eq}
 use Rattle.hex.specs.Hex.{encode_lower}
 use Rattle.refusals.specs.Refusals.{refusal_text}
 use Rattle.reg_script.specs.declared.reply.ReplyLine.{ReplyLine}
-use Rattle.reg_script.specs.declared.reply.ReplyLine.TheVariants.{Done, Created, CreatedInside, Opened, Accepted, Value, Keys, Values, Info, Committed, Flushed, StillActive, HasCommitted, RolledBack, Refused}
+use Rattle.reg_script.specs.declared.reply.ReplyLine.TheVariants.{Done, Created, CreatedInside, Opened, Accepted, Value, Keys, Values, Info, Committed, Flushed, StepIdle, StepMore, StepDone, StillActive, HasCommitted, RolledBack, Refused}
 
 -- a unit stands for itself from 0x21 to 0x7e, but for `%`; any other is `%` and four hex digits
 abbrev pub unit_text : ℕ → List ℕ
@@ -37,6 +37,9 @@ reply_text (Values names) = codes "values " ++ decimal (length names) ++ names_t
 reply_text (Info subkeys values time) = codes "info " ++ decimal subkeys ++ codes " " ++ decimal values ++ codes " " ++ decimal time
 reply_text (Committed number) = codes "committed " ++ decimal number
 reply_text (Flushed number) = codes "flushed " ++ decimal number
+reply_text StepIdle = codes "idle"
+reply_text StepMore = codes "more"
+reply_text StepDone = codes "done"
 reply_text StillActive = codes "active"
 reply_text HasCommitted = codes "committed"
 reply_text RolledBack = codes "rolledback"

@@ -10,6 +10,8 @@
 #![tactic(auto)]
 
 pub mod grammar;
+mod lab_line;
+mod lab_reading;
 mod label;
 mod line;
 mod numbers;
@@ -22,6 +24,7 @@ mod unread;
 mod words;
 mod writing;
 
+pub use lab_line::{CrashTear, LabLine};
 pub use label::{LONGEST_LABEL, Label};
 pub use line::{Line, Place, Request, Text};
 pub use reading::read_line;

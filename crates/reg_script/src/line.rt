@@ -1,6 +1,7 @@
 //! The lines of a script.
 ghost use Rattle.std.specs.Prelude.{◌≡◌};
 
+use crate::lab_line::LabLine;
 use crate::label::Label;
 use reg_tree::Data;
 use std::marker::Model;
@@ -164,4 +165,9 @@ pub enum Line {
     },
     /// `flush`: waits until every change accepted so far is durable.
     Flush,
+    /// A line that only a laboratory takes.
+    Lab {
+        /// The line.
+        line: LabLine,
+    },
 }

@@ -2,13 +2,14 @@
 ghost use Rattle.std.specs.Prelude.{◌≡◌};
 ghost use Rattle.std.specs.Option.{option_copied};
 ghost use Rattle.reg_script.specs.Words.{parts_of};
-ghost use Rattle.reg_script.specs.Lines.{line_of, hives_line, at_line, session_line, end_line, flush_line, begin_line, inside_line, label_in, transaction_line};
+ghost use Rattle.reg_script.specs.Lines.{line_of, hives_line, at_line, session_line, end_line, alone, begin_line, inside_line, label_in, transaction_line};
 ghost use Rattle.reg_script.specs.Reads.{Reads};
 
+use crate::lab_reading::step_line;
 use crate::label::Label;
 use crate::line::Line;
 use crate::numbers::number;
-use crate::requests::{request, request_with};
+use crate::requests::request;
 use crate::texts::{label, small_number, uuid, whole_number};
 use crate::unread::Unread;
 use crate::words::{first_word, next_word, one_word, two_words};
@@ -32,13 +33,13 @@ pub fn read_line(alloc: Global, bytes: &[u8]) -> Result<Line, Unread>
     } else if verb == b"end".as_slice() {
         end(one_word(rest)?)
     } else if verb == b"flush".as_slice() {
-        flush(rest)
+        alone(Line::Flush, rest)
     } else {
         transaction_line(alloc, verb, rest)
     }
 }
 
-// a line that begins, uses or ends a transaction, or a request alone
+// a line that begins, uses or ends a transaction, a laboratory's, or a request alone
 fn transaction_line(alloc: Global, verb: &[u8], rest: Option<&[u8]>) -> Result<Line, Unread>
     ensures { Reads result (transaction_line verb.now (parts_of 32 (option_copied rest.entry))) }
 {
@@ -59,8 +60,7 @@ fn transaction_line(alloc: Global, verb: &[u8], rest: Option<&[u8]>) -> Result<L
         let label = label_alone(rest)?;
         Ok(Line::Outcome { label })
     } else {
-        let request = request_with(alloc, verb, rest)?;
-        Ok(Line::Plain { request })
+        step_line(alloc, verb, rest)
     }
 }
 
@@ -96,12 +96,12 @@ fn end(word: &[u8]) -> Result<Line, Unread>
     Ok(Line::End { number })
 }
 
-// nothing stands behind the word
-fn flush(rest: Option<&[u8]>) -> Result<Line, Unread>
-    ensures { Reads result (flush_line (parts_of 32 (option_copied rest.entry))) }
+/// A line of one word, behind which nothing stands.
+pub(crate) fn alone(line: Line, rest: Option<&[u8]>) -> Result<Line, Unread>
+    ensures { Reads result (alone line (parts_of 32 (option_copied rest.entry))) }
 {
     match rest {
-        None => Ok(Line::Flush),
+        None => Ok(line),
         Some(_) => Err(Unread::NotUnderstood),
     }
 }
@@ -123,7 +123,8 @@ fn inside(alloc: Global, rest: Option<&[u8]>) -> Result<Line, Unread>
     Ok(Line::Inside { label, request })
 }
 
-fn label_alone(rest: Option<&[u8]>) -> Result<Label, Unread>
+/// The label that stands alone behind a blank.
+pub(crate) fn label_alone(rest: Option<&[u8]>) -> Result<Label, Unread>
     ensures { Reads result (label_in (parts_of 32 (option_copied rest.entry))) }
 {
     label(one_word(rest)?)

@@ -70,6 +70,12 @@ pub enum ReplyLine {
         /// The number of the last change.
         number: u64,
     },
+    /// `idle`: a step had nothing to do.
+    StepIdle,
+    /// `more`: a step was made, and its work isn't done by it.
+    StepMore,
+    /// `done`: a step was made, and its work is done by it.
+    StepDone,
     /// `active`: the transaction has not ended.
     StillActive,
     /// `committed`: the transaction ended with a commit.
@@ -107,6 +113,9 @@ impl ReplyLine {
             } => writeln!(writer, "info {subkeys} {values} {time}"),
             ReplyLine::Committed { number } => writeln!(writer, "committed {number}"),
             ReplyLine::Flushed { number } => writeln!(writer, "flushed {number}"),
+            ReplyLine::StepIdle => writeln!(writer, "idle"),
+            ReplyLine::StepMore => writeln!(writer, "more"),
+            ReplyLine::StepDone => writeln!(writer, "done"),
             ReplyLine::StillActive => writeln!(writer, "active"),
             ReplyLine::HasCommitted => writeln!(writer, "committed"),
             ReplyLine::RolledBack => writeln!(writer, "rolledback"),
