@@ -3,7 +3,7 @@ mod Begun
 mod Naming
 mod Fresh
 mod LineEnds
-mod Runs
+pub mod Runs
 mod Waited
 mod Worked
 mod Ran

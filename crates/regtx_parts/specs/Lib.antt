@@ -2,6 +2,7 @@ pub mod Requests
 pub mod Waits
 pub mod Work
 pub mod Scripts
+pub mod Parting
 pub mod Labels
 pub mod Players
 pub mod Plays

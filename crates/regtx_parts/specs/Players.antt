@@ -1,9 +1,14 @@
 -- What a player shows: a script between two lines.
 use Rattle.std.specs.Prelude.{ℕ, Result, Ok, Err}
 use Rattle.reg_script.specs.declared.reply.ReplyLine.{ReplyLine}
+use Rattle.engine.specs.Shown.{Shown}
 use Rattle.regtx_parts.specs.Scripts.{Script}
 use Rattle.regtx_parts.specs.Labels.{named_by}
 use Rattle.regtx_parts.specs.declared.player.Player.{Player}
+
+-- its store
+abbrev pub engine_of : {D : Type 0} → Player D → Shown D
+engine_of player = player.engine
 
 abbrev pub script_of : {D : Type 0} → Player D → Script
 script_of player = record { machine = player.engine.machine; moment = player.moment; session = player.session; labels = named_by player.labels }

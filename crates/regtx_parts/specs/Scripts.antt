@@ -4,7 +4,7 @@ use Rattle.refusals.specs.declared.refusal.Refusal.{Refusal}
 use Rattle.refusals.specs.declared.refusal.Refusal.TheVariants.{NoMemory, NoSuchHandle}
 use Rattle.reg_script.specs.Lines.{line_of}
 use Rattle.reg_script.specs.declared.line.Line.{Line}
-use Rattle.reg_script.specs.declared.line.Line.TheVariants.{Hives, At, Session, End, Plain, Begin, Inside, Commit, Rollback, Close, Outcome, Flush}
+use Rattle.reg_script.specs.declared.line.Line.TheVariants.{Hives, At, Session, End, Plain, Begin, Inside, Commit, Rollback, Close, Outcome, Flush, Lab}
 use Rattle.reg_script.specs.declared.reply.ReplyLine.{ReplyLine}
 use Rattle.reg_script.specs.declared.reply.ReplyLine.TheVariants as reply
 use Rattle.machine.specs.Machine.{Machine, fresh_machine}
@@ -16,6 +16,8 @@ use Rattle.machine.specs.declared.event.Event.{Event}
 use Rattle.machine.specs.declared.event.Event.TheVariants as event
 use Rattle.machine.specs.declared.event.Found.{Found}
 use Rattle.machine.specs.declared.event.Found.TheVariants as found
+use Rattle.machine.specs.declared.event.Progress.{Progress}
+use Rattle.machine.specs.declared.event.Progress.TheVariants as progress
 use Rattle.machine.specs.declared.event.Reply.{Reply}
 use Rattle.machine.specs.declared.event.Reply.TheVariants as answer
 use Rattle.regtx_parts.specs.Requests.{demand_of}
@@ -61,8 +63,14 @@ standing_reply standing.Active = reply.StillActive
 standing_reply standing.Committed = reply.HasCommitted
 standing_reply standing.RolledBack = reply.RolledBack
 
--- An answer of the machine as a reply. No line is replied to by what is to be waited for, a receipt or a step: the
--- lines that wait have replies of their own.
+-- how far a step came
+abbrev pub step_reply : Progress → ReplyLine
+step_reply progress.Idle = reply.StepIdle
+step_reply progress.More = reply.StepMore
+step_reply progress.Done = reply.StepDone
+
+-- An answer of the machine as a reply. What is to be waited for is told as accepted by a line that doesn't wait; the lines
+-- that do have replies of their own. No line is replied to by a receipt.
 abbrev pub reply_of : Reply → ReplyLine
 reply_of answer.Done = reply.Done
 reply_of (answer.Accepted levels number) = accepted_reply levels number
@@ -72,10 +80,10 @@ reply_of (answer.Read found) = found_reply found
 reply_of (answer.Begun tx) = reply.Done
 reply_of (answer.Stands outcome) = standing_reply outcome
 reply_of (answer.Refused refusal) = reply.Refused refusal
-reply_of (answer.Awaits number) = reply.Done
+reply_of (answer.Awaits number) = reply.Accepted number
 reply_of (answer.Receipt number) = reply.Done
 reply_of answer.NotYet = reply.Done
-reply_of (answer.Stepped progress) = reply.Done
+reply_of (answer.Stepped progress) = step_reply progress
 
 -- the machine is asked one event, and its answer is the reply; nothing else of the script changes
 abbrev pub Asks : Script → Event → ReplyLine → Script → Type 0
@@ -172,6 +180,7 @@ Answers old (Rollback label) told new = IsLabelled (old.labels label) (λ tx. As
 Answers old (Close label) told new = IsLabelled (old.labels label) (λ tx. Asks old (event.Close old.session tx) told new) old told new
 Answers old (Outcome label) told new = IsLabelled (old.labels label) (λ tx. Asks old (event.Outcome old.session tx) told new) old told new
 Answers old Flush told new = AsksAndWaits old event.FlushAsk reply.Flushed told new
+Answers old (Lab line) told new = ⊥
 
 -- `hives` is the first line and stands nowhere else
 abbrev pub first_line : Option Line → Option ℕ
@@ -188,7 +197,9 @@ first_line (Some (Rollback label)) = None
 first_line (Some (Close label)) = None
 first_line (Some (Outcome label)) = None
 first_line (Some Flush) = None
+first_line (Some (Lab line)) = None
 
+-- a line that only a laboratory takes is none here
 abbrev pub later_line : Option Line → Option Line
 later_line None = None
 later_line (Some (Hives count)) = None
@@ -203,6 +214,7 @@ later_line (Some (Rollback label)) = Some (Rollback label)
 later_line (Some (Close label)) = Some (Close label)
 later_line (Some (Outcome label)) = Some (Outcome label)
 later_line (Some Flush) = Some Flush
+later_line (Some (Lab line)) = None
 
 -- how many hives the bytes of a script's first line ask for
 abbrev pub hives_asked : List ℕ → Option ℕ

@@ -2,7 +2,7 @@
 
 /// Why there is no further line of a script.
 #[derive(Clone, Copy)]
-pub(crate) enum Ending {
+pub enum Ending {
     /// The script was read to its end.
     Ended,
     /// The script can't be read on.

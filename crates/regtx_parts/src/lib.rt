@@ -4,6 +4,10 @@
 //! over the store that is on a disk. What they write is stated apart from them: the lines by the grammar of `reg_script`, the
 //! answers by the machine of `machine`, which knows no bytes, what a line asks of it by `specs/Scripts`, and the text by
 //! `specs/Plays` and `specs/Running`.
+//!
+//! What a run is made of is public, for runs of another kind: [`begin_on`] makes the store that a script's first line asks for, on a disk
+//! in memory that fails as a plan says, and [`open_store`] opens the one that is on a disk; a [`Player`] answers one line after another; [`next_line`], [`end`] and [`wrong`] read a
+//! script's lines and tell how they end.
 #![tactic(auto)]
 
 mod asking;
@@ -19,6 +23,11 @@ mod running;
 mod waiting;
 mod working;
 
+pub use ending::Ending;
+pub use making::{begin_on, make_journal_room};
+pub use opening::open_store;
+pub use player::Player;
 pub use reg_script::Status;
-pub use runner::{play, refuse_script};
+pub use runner::{end, is_refusal, next_line, play, refuse_script, wrong};
 pub use running::{run, run_unread};
+pub use working::{Pace, frees_room, next_step, settle};

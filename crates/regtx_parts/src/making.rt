@@ -1,5 +1,5 @@
 //! A new store on a disk in memory.
-ghost use Rattle.std.specs.Prelude.{◌≡◌, ◌≤◌, [], ℕ, Some, None, IfOk, IfSome, IfNone, length};
+ghost use Rattle.std.specs.Prelude.{◌≡◌, ◌≤◌, [], ℕ, Some, None, IfOk, IfSome, IfNone, OnOk, length};
 ghost use Rattle.refusals.specs.declared.limits.TheConstants.{MOST_HIVES, MOST_JOURNAL_BYTES};
 ghost use Rattle.disk_model.specs.Room.{IsRoomy};
 ghost use Rattle.machine.specs.Machine.{fresh_machine, opened_machine};
@@ -29,8 +29,26 @@ const GROWING_FILES: u32 = 1;
 /// More writes than the journal makes between two syncs.
 const MOST_WRITES: usize = 8;
 
-/// The store that a script's first line asks for, with session 0 open, or nothing where the bytes are no such line.
+/// The store that a script's first line asks for, on a disk that fails in no call, with session 0 open; or nothing where the bytes
+/// are no such line.
 pub(crate) fn begin(alloc: Global, bytes: &[u8]) -> Result<Option<Engine<MemDisk>>, AllocError>
+    ensures none { IfOk result (λ made. IfNone made (hives_asked bytes.now ≡ None)) }
+    ensures some { IfOk result (λ made. IfSome made
+        (λ engine. (hives : ℕ) × (hives_asked bytes.now ≡ Some hives)
+        × (engine.machine ≡ with_session (fresh_machine hives) 0))) }
+{
+    begin_on(alloc, bytes, Arc::new(alloc, Plan::new())?)
+}
+
+/// The store that a script's first line asks for, on a new disk in memory that fails as the plan says, with session 0 open; or
+/// nothing where the bytes are no such line.
+///
+/// Refused for want of memory alone, which is also what is told where the plan lets a call fail while the store is made.
+pub fn begin_on(
+    alloc: Global,
+    bytes: &[u8],
+    plan: Arc<Plan>,
+) -> Result<Option<Engine<MemDisk>>, AllocError>
     ensures none { IfOk result (λ made. IfNone made (hives_asked bytes.now ≡ None)) }
     ensures some { IfOk result (λ made. IfSome made
         (λ engine. (hives : ℕ) × (hives_asked bytes.now ≡ Some hives)
@@ -39,7 +57,7 @@ pub(crate) fn begin(alloc: Global, bytes: &[u8]) -> Result<Option<Engine<MemDisk
     reg_script::grammar::reads_what_is_spelled();
     match read_line(alloc, bytes) {
         // a disk in memory fails only where it finds no memory, so the want of that is all that stands against a new store
-        Ok(Line::Hives { count }) => match store_in_session_0(alloc, count) {
+        Ok(Line::Hives { count }) => match store_in_session_0(alloc, count, plan) {
             Ok(engine) => Ok(Some(engine)),
             Err(_) => Err(AllocError),
         },
@@ -49,12 +67,12 @@ pub(crate) fn begin(alloc: Global, bytes: &[u8]) -> Result<Option<Engine<MemDisk
 }
 
 // a store of this many new hives, in which session 0 is open
-fn store_in_session_0(alloc: Global, hives: u8) -> Result<Engine<MemDisk>, Refusal>
+fn store_in_session_0(alloc: Global, hives: u8, plan: Arc<Plan>) -> Result<Engine<MemDisk>, Refusal>
     requires some { 1 ≤ hives }
     requires few { hives ≤ MOST_HIVES }
     ensures { IfOk result (λ engine. engine.machine ≡ with_session (fresh_machine hives) 0) }
 {
-    let mut engine = new_store(alloc, hives)?;
+    let mut engine = new_store(alloc, hives, plan)?;
     match ask(&mut engine, Event::StartSession { session: 0 }) {
         Reply::Done => Ok(engine),
         _ => Err(Refusal::NoMemory),
@@ -62,14 +80,14 @@ fn store_in_session_0(alloc: Global, hives: u8) -> Result<Engine<MemDisk>, Refus
 }
 
 // a store of this many new hives
-fn new_store(alloc: Global, hives: u8) -> Result<Engine<MemDisk>, Refusal>
+fn new_store(alloc: Global, hives: u8, plan: Arc<Plan>) -> Result<Engine<MemDisk>, Refusal>
     requires some { 1 ≤ hives }
     requires few { hives ≤ MOST_HIVES }
     ensures { IfOk result (λ engine. engine.machine ≡ fresh_machine hives) }
 {
     one_is_recovered();
     let trees = Trees::new(alloc, usize::from(hives))?;
-    let disk = disk_with(alloc, &trees)?;
+    let disk = disk_with(alloc, &trees, plan)?;
     let opened = opened_on(alloc, disk)?;
     // what was just made needs no repair
     if !opened.is_whole() {
@@ -79,13 +97,13 @@ fn new_store(alloc: Global, hives: u8) -> Result<Engine<MemDisk>, Refusal>
 }
 
 // a disk with a new store of these trees
-fn disk_with(alloc: Global, trees: &Trees) -> Result<MemDisk, Refusal>
+fn disk_with(alloc: Global, trees: &Trees, plan: Arc<Plan>) -> Result<MemDisk, Refusal>
     requires few { length trees.now ≤ MOST_HIVES }
     ensures { IfOk result (λ disk. (store : Store) ×
         IsRecovered (seen_in (⟦<MemDisk as Disk>⟧.state_at disk (⟦<MemDisk as Disk>⟧.clock disk)))
         store 0 trees.now) }
 {
-    let mut disk = roomy_disk(alloc)?;
+    let mut disk = roomy_disk(alloc, plan)?;
     create(alloc, &mut disk, Uuid::nil(), trees)?;
     Ok(disk)
 }
@@ -117,11 +135,24 @@ fn begun(alloc: Global, opened: Opened<MemDisk>) -> Result<Engine<MemDisk>, Refu
 }
 
 // A disk on which no call that a journal makes takes memory, up to the limit of its room: so no reply tells of a fault of
-// the device.
-fn roomy_disk(alloc: Global) -> Result<MemDisk, AllocError>
+// the device that the plan doesn't ask for.
+fn roomy_disk(alloc: Global, plan: Arc<Plan>) -> Result<MemDisk, AllocError>
     ensures { IfOk result (IsRoomy GROWING_FILES MOST_JOURNAL_BYTES MOST_WRITES) }
 {
-    let mut disk = MemDisk::new(alloc, Arc::new(alloc, Plan::new())?);
-    disk.room(GROWING_FILES, MOST_JOURNAL_BYTES as usize, MOST_WRITES)?;
+    let mut disk = MemDisk::new(alloc, plan);
+    make_journal_room(&mut disk)?;
     Ok(disk)
+}
+
+/// Takes memory ahead for the journal of the store on a disk, so that no call that it makes takes any, up to the limit of its
+/// room. The disk's files stay as they are.
+pub fn make_journal_room(disk: &mut MemDisk) -> Result<(), AllocError>
+    ensures room { OnOk result (IsRoomy GROWING_FILES MOST_JOURNAL_BYTES MOST_WRITES disk.new) }
+    ensures files { (k f : ℕ) →
+        ⟦<MemDisk as Disk>⟧.state_at disk.new k f ≡ ⟦<MemDisk as Disk>⟧.state_at disk.old k f }
+    ensures clock { ⟦<MemDisk as Disk>⟧.clock disk.new ≡ ⟦<MemDisk as Disk>⟧.clock disk.old }
+    ensures failures { ⟦<MemDisk as Disk>⟧.failures disk.new
+        ≡ ⟦<MemDisk as Disk>⟧.failures disk.old }
+{
+    disk.room(GROWING_FILES, MOST_JOURNAL_BYTES as usize, MOST_WRITES)
 }

@@ -19,7 +19,7 @@ use std::alloc::Global;
 ///
 /// Refused where memory is wanting, where the device fails, and with a refusal that tells of the files where they recover
 /// nothing. The disk is handed back then.
-pub(crate) fn open_store<D: Disk>(alloc: Global, disk: D) -> Result<(Engine<D>, u64), (Refusal, D)>
+pub fn open_store<D: Disk>(alloc: Global, disk: D) -> Result<(Engine<D>, u64), (Refusal, D)>
     ensures ok { IfOk result (λ it. IsOpenedOn (D.faithful it.0.disk)
         (seen_in (D.state_at disk (D.clock disk))) it.1 it.0.machine) }
     ensures err { IfErr result (λ back. MayNotOpen (D.failures back.1) (D.faithful back.1)

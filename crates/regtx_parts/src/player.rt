@@ -4,8 +4,10 @@ ghost use Rattle.machine.specs.Steps.{Step};
 ghost use Rattle.reg_script.specs.declared.line.Line.{Line as AnyLine};
 ghost use Rattle.reg_script.specs.declared.reply.ReplyLine.{ReplyLine as AnyReplyLine};
 ghost use Rattle.regtx_parts.specs.Scripts.{Asks, Answers, AsksAndWaits, event_alone, event_inside, later_line, line_asked, script_at};
-ghost use Rattle.regtx_parts.specs.Players.{script_of, reply_by};
+ghost use Rattle.regtx_parts.specs.Players.{engine_of, script_of, reply_by};
 ghost use Rattle.regtx_parts.specs.Work.{Between};
+
+mod stepping;
 
 use crate::asking::ask;
 use crate::demand::{Demand, demand_of};
@@ -23,7 +25,7 @@ use uuid::Uuid;
 
 /// A script between two lines: its store, the moment and the session of what follows, and the transaction that each label names.
 #[derive(Drop)]
-pub(crate) struct Player<D: Disk> {
+pub struct Player<D: Disk> {
     engine: Engine<D>,
     moment: u64,
     session: u32,
@@ -32,9 +34,9 @@ pub(crate) struct Player<D: Disk> {
 
 impl<D: Disk> Player<D> {
     /// A script before its first line, over a store: no label names anything, and session 0 is the current one.
-    pub(crate) fn new(alloc: Global, engine: Engine<D>) -> Player<D>
+    pub fn new(alloc: Global, engine: Engine<D>) -> Player<D>
         ensures script { script_of result ≡ script_at engine.machine }
-        ensures engine { result.engine ≡ engine }
+        ensures engine { engine_of result ≡ engine }
     {
         Player {
             engine,
@@ -45,36 +47,39 @@ impl<D: Disk> Player<D> {
     }
 
     /// What the store does between two lines, at this pace.
-    pub(crate) fn keep_up(&mut self, pace: Pace)
+    pub fn keep_up(&mut self, pace: Pace)
         ensures works { Between pace (script_of self.old).machine (script_of self.new).machine }
         ensures rest { script_of self.new
             ≡ record (script_of self.old) { machine = (script_of self.new).machine } }
-        ensures faithful { D.faithful self.new.engine.disk → D.faithful self.old.engine.disk }
+        ensures faithful { D.faithful (engine_of self.new).disk → D.faithful (engine_of self.old).disk }
     {
         keep_up(&mut self.engine, pace);
     }
 
+    /// The store.
+    pub fn engine(&self) -> &Engine<D>
+        ensures { result.now ≡ engine_of self.now }
+    {
+        &self.engine
+    }
+
     /// The store, without the script.
-    pub(crate) fn into_engine(self) -> Engine<D>
-        ensures { result ≡ self.engine }
+    pub fn into_engine(self) -> Engine<D>
+        ensures { result ≡ engine_of self }
     {
         self.engine
     }
 
     /// Answers a further line of the script, or nothing where the bytes are no such line. Memory is refused only for
     /// reading the line, before anything is asked.
-    pub(crate) fn reply_to(
-        &mut self,
-        alloc: Global,
-        bytes: &[u8],
-    ) -> Result<Option<ReplyLine>, AllocError>
+    pub fn reply_to(&mut self, alloc: Global, bytes: &[u8]) -> Result<Option<ReplyLine>, AllocError>
         ensures none { IfOk result (λ made. IfNone made
             ((line_asked bytes.now ≡ None) × (self.new ≡ self.old))) }
         ensures err { OnErr result (self.new ≡ self.old) }
         ensures some { IfOk result (λ made. IfSome made
             (λ told. (asked : AnyLine) × (line_asked bytes.now ≡ Some asked)
             × Answers (script_of self.old) asked told (script_of self.new))) }
-        ensures faithful { D.faithful self.new.engine.disk → D.faithful self.old.engine.disk }
+        ensures faithful { D.faithful (engine_of self.new).disk → D.faithful (engine_of self.old).disk }
     {
         match read_line(alloc, bytes) {
             Ok(line) => Ok(self.answer(alloc, line)),
@@ -83,15 +88,15 @@ impl<D: Disk> Player<D> {
         }
     }
 
-    // answers the line, or nothing where it is a script's first
-    fn answer(&mut self, alloc: Global, line: Line) -> Option<ReplyLine>
+    /// Answers a line of the script, or nothing where it is a script's first, or one that only a laboratory takes.
+    pub fn answer(&mut self, alloc: Global, line: Line) -> Option<ReplyLine>
         ensures told { MatchOption result ((later_line (Some line) ≡ None) × (self.new ≡ self.old))
             (λ told. (later_line (Some line) ≡ Some line)
             × Answers (script_of self.old) line told (script_of self.new)) }
-        ensures faithful { D.faithful self.new.engine.disk → D.faithful self.old.engine.disk }
+        ensures faithful { D.faithful (engine_of self.new).disk → D.faithful (engine_of self.old).disk }
     {
         let told = match line {
-            Line::Hives { .. } => return None,
+            Line::Hives { .. } | Line::Lab { .. } => return None,
             Line::At { moment } => {
                 self.moment = moment;
                 Ok(ReplyLine::Done)
@@ -116,7 +121,7 @@ impl<D: Disk> Player<D> {
     // opens the session, and makes it the current one
     fn enter(&mut self, number: u32) -> ReplyLine
         ensures told { Answers (script_of self.old) (Line.Session number) result (script_of self.new) }
-        ensures faithful { D.faithful self.new.engine.disk → D.faithful self.old.engine.disk }
+        ensures faithful { D.faithful (engine_of self.new).disk → D.faithful (engine_of self.old).disk }
     {
         match self.event(Event::StartSession { session: number }) {
             Reply::Done => {
@@ -133,7 +138,7 @@ impl<D: Disk> Player<D> {
         ensures refused { IfErr result (λ refusal.
             Answers (script_of self.old) (Line.Plain request) (ReplyLine.Refused refusal)
             (script_of self.new)) }
-        ensures faithful { D.faithful self.new.engine.disk → D.faithful self.old.engine.disk }
+        ensures faithful { D.faithful (engine_of self.new).disk → D.faithful (engine_of self.old).disk }
     {
         let event = self.event_alone(demand_of(alloc, request)?);
         Ok(self.ask(event))
@@ -150,7 +155,7 @@ impl<D: Disk> Player<D> {
         ensures refused { IfErr result (λ refusal.
             Answers (script_of self.old) (Line.Inside label request) (ReplyLine.Refused refusal)
             (script_of self.new)) }
-        ensures faithful { D.faithful self.new.engine.disk → D.faithful self.old.engine.disk }
+        ensures faithful { D.faithful (engine_of self.new).disk → D.faithful (engine_of self.old).disk }
     {
         let asked = demand_of(alloc, request)?;
         let event = self.event_inside(self.tx(label)?, asked);
@@ -215,7 +220,7 @@ impl<D: Disk> Player<D> {
         ensures refused { IfErr result (λ refusal.
             Answers (script_of self.old) (Line.Begin label id) (ReplyLine.Refused refusal)
             (script_of self.new)) }
-        ensures faithful { D.faithful self.new.engine.disk → D.faithful self.old.engine.disk }
+        ensures faithful { D.faithful (engine_of self.new).disk → D.faithful (engine_of self.old).disk }
     {
         self.labels.make_room(label)?;
         let session = self.session;
@@ -234,7 +239,7 @@ impl<D: Disk> Player<D> {
         ensures refused { IfErr result (λ refusal.
             Answers (script_of self.old) (Line.Commit label) (ReplyLine.Refused refusal)
             (script_of self.new)) }
-        ensures faithful { D.faithful self.new.engine.disk → D.faithful self.old.engine.disk }
+        ensures faithful { D.faithful (engine_of self.new).disk → D.faithful (engine_of self.old).disk }
     {
         let session = self.session;
         let moment = self.moment;
@@ -256,7 +261,7 @@ impl<D: Disk> Player<D> {
         ensures refused { IfErr result (λ refusal.
             Answers (script_of self.old) (Line.Rollback label) (ReplyLine.Refused refusal)
             (script_of self.new)) }
-        ensures faithful { D.faithful self.new.engine.disk → D.faithful self.old.engine.disk }
+        ensures faithful { D.faithful (engine_of self.new).disk → D.faithful (engine_of self.old).disk }
     {
         let session = self.session;
         let tx = self.tx(label)?;
@@ -269,7 +274,7 @@ impl<D: Disk> Player<D> {
         ensures refused { IfErr result (λ refusal.
             Answers (script_of self.old) (Line.Close label) (ReplyLine.Refused refusal)
             (script_of self.new)) }
-        ensures faithful { D.faithful self.new.engine.disk → D.faithful self.old.engine.disk }
+        ensures faithful { D.faithful (engine_of self.new).disk → D.faithful (engine_of self.old).disk }
     {
         let session = self.session;
         let tx = self.tx(label)?;
@@ -282,7 +287,7 @@ impl<D: Disk> Player<D> {
         ensures refused { IfErr result (λ refusal.
             Answers (script_of self.old) (Line.Outcome label) (ReplyLine.Refused refusal)
             (script_of self.new)) }
-        ensures faithful { D.faithful self.new.engine.disk → D.faithful self.old.engine.disk }
+        ensures faithful { D.faithful (engine_of self.new).disk → D.faithful (engine_of self.old).disk }
     {
         let session = self.session;
         let tx = self.tx(label)?;
@@ -290,9 +295,9 @@ impl<D: Disk> Player<D> {
     }
 
     /// Makes all accepted changes durable, as the line `flush` does.
-    pub(crate) fn flush(&mut self) -> ReplyLine
+    pub fn flush(&mut self) -> ReplyLine
         ensures told { Answers (script_of self.old) Line.Flush result (script_of self.new) }
-        ensures faithful { D.faithful self.new.engine.disk → D.faithful self.old.engine.disk }
+        ensures faithful { D.faithful (engine_of self.new).disk → D.faithful (engine_of self.old).disk }
     {
         match self.ask_and_wait(Event::FlushAsk) {
             Ok(number) => ReplyLine::Flushed { number },
@@ -316,15 +321,15 @@ impl<D: Disk> Player<D> {
     fn event(&mut self, event: Event) -> Reply
         ensures step { Step self.old.engine.machine event result self.new.engine.machine }
         ensures rest { self.new ≡ record self.old { engine = self.new.engine } }
-        ensures faithful { D.faithful self.new.engine.disk → D.faithful self.old.engine.disk }
+        ensures faithful { D.faithful (engine_of self.new).disk → D.faithful (engine_of self.old).disk }
     {
         ask(&mut self.engine, event)
     }
 
-    // asks one event, whose answer is the reply
-    fn ask(&mut self, event: Event) -> ReplyLine
+    /// Asks the store one event, whose answer is the reply: nothing else of the script changes.
+    pub fn ask(&mut self, event: Event) -> ReplyLine
         ensures told { Asks (script_of self.old) event result (script_of self.new) }
-        ensures faithful { D.faithful self.new.engine.disk → D.faithful self.old.engine.disk }
+        ensures faithful { D.faithful (engine_of self.new).disk → D.faithful (engine_of self.old).disk }
     {
         reply_of(self.event(event))
     }
@@ -334,7 +339,7 @@ impl<D: Disk> Player<D> {
     fn ask_and_wait(&mut self, event: Event) -> Result<u64, ReplyLine>
         ensures told { (tell : ℕ → AnyReplyLine) → AsksAndWaits (script_of self.old) event tell
             (reply_by tell result) (script_of self.new) }
-        ensures faithful { D.faithful self.new.engine.disk → D.faithful self.old.engine.disk }
+        ensures faithful { D.faithful (engine_of self.new).disk → D.faithful (engine_of self.old).disk }
     {
         match self.event(event) {
             Reply::Awaits { number } => match wait(&mut self.engine, number) {

@@ -1,13 +1,13 @@
 //! An answer of the store as the reply to a line.
 ghost use Rattle.std.specs.Prelude.{◌≡◌};
-ghost use Rattle.regtx_parts.specs.Scripts.{reply_of, found_reply, accepted_reply, added_reply, standing_reply};
+ghost use Rattle.regtx_parts.specs.Scripts.{reply_of, found_reply, accepted_reply, added_reply, standing_reply, step_reply};
 
-use machine::{Found, Outcome, Reply};
+use machine::{Found, Outcome, Progress, Reply};
 use reg_script::ReplyLine;
 use reg_tree::Value;
 
-/// The reply to the line that asked. What is to be waited for, a receipt and a step are no line's reply: the lines that
-/// wait have replies of their own.
+/// The reply to the line that asked. What is to be waited for is told as accepted, for the lines that wait have replies of
+/// their own. A receipt is no line's reply.
 pub(crate) fn reply_of(answer: Reply) -> ReplyLine
     ensures { result ≡ reply_of answer }
 {
@@ -18,12 +18,21 @@ pub(crate) fn reply_of(answer: Reply) -> ReplyLine
         Reply::Read { found } => found_reply(found),
         Reply::Stands { outcome } => standing_reply(outcome),
         Reply::Refused { refusal } => ReplyLine::Refused { refusal },
-        Reply::Done
-        | Reply::Begun { .. }
-        | Reply::Awaits { .. }
-        | Reply::Receipt { .. }
-        | Reply::NotYet
-        | Reply::Stepped { .. } => ReplyLine::Done,
+        Reply::Awaits { number } => ReplyLine::Accepted { number },
+        Reply::Stepped { progress } => step_reply(progress),
+        Reply::Done | Reply::Begun { .. } | Reply::Receipt { .. } | Reply::NotYet => {
+            ReplyLine::Done
+        }
+    }
+}
+
+fn step_reply(progress: Progress) -> ReplyLine
+    ensures { result ≡ step_reply progress }
+{
+    match progress {
+        Progress::Idle => ReplyLine::StepIdle,
+        Progress::More => ReplyLine::StepMore,
+        Progress::Done => ReplyLine::StepDone,
     }
 }
 

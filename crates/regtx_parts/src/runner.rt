@@ -172,7 +172,7 @@ fn take_turn<D: Disk, R: BufRead, W: Write>(
 }
 
 /// Whether a reply is a refusal.
-pub(crate) fn is_refusal(told: &ReplyLine) -> bool
+pub fn is_refusal(told: &ReplyLine) -> bool
     ensures { result ≡ is_refusal told.now }
 {
     match told {
@@ -181,8 +181,8 @@ pub(crate) fn is_refusal(told: &ReplyLine) -> bool
     }
 }
 
-// reads the next line into the buffer, without the byte that ends it
-fn next_line<R: BufRead>(reader: &mut R, line: &mut Vec<u8>) -> Result<(), Ending>
+/// Reads the next line of a script into the buffer, without the byte that ends it; or answers why there is none.
+pub fn next_line<R: BufRead>(reader: &mut R, line: &mut Vec<u8>) -> Result<(), Ending>
     ensures line { OnOk result (TakesLine (R.remaining reader.old)
         (R.remaining reader.new) line.new.items) }
     ensures none { IfErr result (λ ending. WereRead (R.remaining reader.old) [] (Some ending)) }
@@ -209,8 +209,9 @@ fn strip_end(line: &mut Vec<u8>)
     }
 }
 
-/// Writes why there is no further line.
-pub(crate) fn end<W: Write>(writer: &mut W, ending: Ending) -> io::Result<Status>
+/// Writes why there is no further line, and answers with which status the run ends by that: nothing is written of a script that was
+/// read to its end.
+pub fn end<W: Write>(writer: &mut W, ending: Ending) -> io::Result<Status>
     ensures { IfOk result (λ status. (text : List ℕ) × Ends ending text status
         × Appends (W.contents writer.old) (W.contents writer.new) text) }
 {
@@ -227,8 +228,8 @@ pub(crate) fn end<W: Write>(writer: &mut W, ending: Ending) -> io::Result<Status
     }
 }
 
-// writes that the line of this number is none
-fn wrong<W: Write>(writer: &mut W, number: u64) -> io::Result<Status>
+/// Writes that the line of this number is not understood, which ends a run. Lines are counted from 1.
+pub fn wrong<W: Write>(writer: &mut W, number: u64) -> io::Result<Status>
     ensures { IfOk result (λ status. (status ≡ Status.Wrong)
         × Appends (W.contents writer.old) (W.contents writer.new) (wrong_text number)) }
 {

@@ -12,7 +12,7 @@ use refusals::limits::MOST_JOURNAL_BYTES;
 
 /// Whether a store works between two lines.
 #[derive(Clone, Copy)]
-pub(crate) enum Pace {
+pub enum Pace {
     /// It makes no step but those that a line asks for.
     AsAsked,
     /// It frees its journal's room where half of it is used.
@@ -33,16 +33,21 @@ pub(crate) fn keep_up<D: Disk>(engine: &mut Engine<D>, pace: Pace)
     match pace {
         Pace::AsAsked => {}
         Pace::FreesRoom => {
-            if engine.room() >= BUSY_ROOM {
+            if frees_room(engine) {
                 settle(engine);
             }
         }
     }
 }
 
+/// Whether so much of the journal's room is used that a store which frees its room does so between two lines.
+pub fn frees_room<D: Disk>(engine: &Engine<D>) -> bool {
+    engine.room() >= BUSY_ROOM
+}
+
 /// Makes each step that has something to do, until none has: all accepted changes are durable then, the hives have them, and the journal's room
 /// is free. The first refused step ends it.
-pub(crate) fn settle<D: Disk>(engine: &mut Engine<D>)
+pub fn settle<D: Disk>(engine: &mut Engine<D>)
     ensures works { Works engine.old.machine engine.new.machine }
     ensures faithful { D.faithful engine.new.disk → D.faithful engine.old.disk }
 {
@@ -64,8 +69,8 @@ fn is_made<D: Disk>(engine: &mut Engine<D>, event: Event) -> bool
     !matches!(ask(engine, event), Reply::Refused { .. })
 }
 
-// the next step that has something to do
-fn next_step<D: Disk>(engine: &Engine<D>) -> Option<Event>
+/// The next step that has something to do: of the journal, of a hive's flush, or of a trim.
+pub fn next_step<D: Disk>(engine: &Engine<D>) -> Option<Event>
     ensures { IfSome result IsStep }
 {
     if engine.has_pending() {

@@ -1,4 +1,5 @@
 use Rattle.std.proofs.Common.{sym, subst}
+use Rattle.std.proofs.lemmas.Result.{IfOk-weaker}
 use Rattle.recovery.specs.Recovered.{seen_in}
 use Rattle.regtx_parts.specs.Running.{IsOpenedOn}
 use Rattle.regtx_parts.proofs.running.begin_run.Goals as goal
@@ -12,3 +13,8 @@ returns-in-Ok-writeln-clause-begun g c =
       script_is = c.new.ensures.script;
       told = c.in-Ok-writeln.ensures.bytes;
     }
+
+-- why no store was opened is told
+pub returns-in-Err-clause-unopened : goal.returns-in-Err-clause-unopened
+returns-in-Err-clause-unopened g c = IfOk-weaker c.tell_refusal.result _ _ (λ status told.
+    record { why = c.in-Err.why; may = c.in-Err.ensures.err; told = told.1; status_is = told.0 }) c.tell_refusal.ensures

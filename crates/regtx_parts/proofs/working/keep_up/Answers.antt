@@ -3,5 +3,5 @@ use Rattle.regtx_parts.specs.Work.{Between}
 use Rattle.regtx_parts.proofs.Worked.{none_made}
 use Rattle.regtx_parts.proofs.working.keep_up.Goals as goal
 
-pub returns-else-room-ge-BUSY_ROOM-clause-works : goal.returns-else-room-ge-BUSY_ROOM-clause-works
-returns-else-room-ge-BUSY_ROOM-clause-works g c = subst (λ pace. Between pace c.args.engine.now.machine c.args.engine.now.machine) (sym c.in-FreesRoom.is) (none_made c.args.engine.now.machine)
+pub returns-else-frees_room-clause-works : goal.returns-else-frees_room-clause-works
+returns-else-frees_room-clause-works g c = subst (λ pace. Between pace c.args.engine.now.machine c.args.engine.now.machine) (sym c.in-FreesRoom.is) (none_made c.args.engine.now.machine)
