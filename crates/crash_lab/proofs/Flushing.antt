@@ -1,0 +1,23 @@
+-- A hive's flush, step by step.
+use Rattle.std.proofs.Common.{◌≡◌, ◌≢◌, ℕ, suc, ◌+◌, ◌-◌, ◌<◌, refl, sym, subst, inl, inr, arith}
+use Rattle.machine.specs.declared.event.Event.TheVariants as event
+use Rattle.reg_script.specs.declared.reply.ReplyLine.{ReplyLine}
+use Rattle.reg_script.specs.declared.reply.ReplyLine.TheVariants as reply
+use Rattle.regtx_parts.specs.Scripts.{Script, Asks}
+use Rattle.crash_lab.specs.Experiments.{Flushes}
+
+-- one step fewer is left
+one_fewer : (most made : ℕ) → made < most → most - made ≡ suc (most - (made + 1))
+one_fewer most made below = omega (arith, below)
+
+-- a step that isn't told as `more` is the last
+pub last_step : (most made hive : ℕ) (old new : Script) (told : ReplyLine) → made < most → Asks old (event.FlusherStep hive) told new → told ≢ reply.StepMore → Flushes (most - made) old hive told new
+last_step most made hive old new told below asked other = subst (λ left. Flushes left old hive told new) (sym (one_fewer most made below)) (inl (asked, other))
+
+-- one that is goes before others
+pub step_before : (most made hive : ℕ) (old mid new : Script) (told : ReplyLine) → made < most → Asks old (event.FlusherStep hive) reply.StepMore mid → Flushes (most - (made + 1)) mid hive told new → Flushes (most - made) old hive told new
+step_before most made hive old mid new told below asked on = subst (λ left. Flushes left old hive told new) (sym (one_fewer most made below)) (inr (mid, asked, on))
+
+-- none is left
+pub none_left : (most made hive : ℕ) (script : Script) → most - made ≡ 0 → Flushes (most - made) script hive reply.StepMore script
+none_left most made hive script none = subst (λ left. Flushes left script hive reply.StepMore script) (sym none) (refl, refl)

@@ -1,0 +1,5 @@
+mod Flushing
+mod Lines
+mod Shutting
+mod TreeTexts
+mod Turning

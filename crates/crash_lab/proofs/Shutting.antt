@@ -1,0 +1,28 @@
+-- Why nothing opens behind a loss of power.
+use Rattle.std.proofs.Common.{◌≡◌, ◌≢◌, ℕ, ◌<◌, ◌∙◌, inl, inr, sym, subst}
+use Rattle.disk_model.specs.FileState.{FileState}
+use Rattle.disk_model.specs.declared.tear.Tear.{Tear}
+use Rattle.recovery.specs.Recovered.{IsNoStore, TellsOfFiles, seen_in}
+use Rattle.refusals.specs.declared.refusal.Refusal.{Refusal}
+use Rattle.refusals.specs.declared.refusal.Refusal.TheVariants.{DiskFault, NoMemory}
+use Rattle.regtx_parts.specs.Running.{MayNotOpen}
+use Rattle.crash_lab.specs.Crashes.{IsLeftBy, MayStayShut}
+
+-- no refusal that tells of the files is that of a device that fails
+tells_no_fault : (why : Refusal) → TellsOfFiles why → why ≢ DiskFault
+tells_no_fault why tells fault = subst TellsOfFiles fault tells
+
+-- whether a refusal is another one than that of a device that fails
+abbrev IsOther : Refusal → Type 0
+IsOther DiskFault = ⊥
+IsOther why = Unit {0}
+
+wants_no_fault : NoMemory ≢ DiskFault
+wants_no_fault same = subst IsOther same tt
+
+-- a device that failed found no memory; else it is told what is told of the files that are left
+pub stays_shut : (tear : Tear) (files left : ℕ → FileState) (failures : ℕ) (why told : Refusal) → IsLeftBy tear files left → MayNotOpen failures (Unit {0}) (seen_in left) why
+    → (why ≡ DiskFault → told ≡ NoMemory) → (why ≢ DiskFault → told ≡ why) → MayStayShut tear files told
+stays_shut tear files left failures why told by (inl wanting) fault other = inl (other (λ is. wants_no_fault (sym wanting ∙ is)) ∙ wanting)
+stays_shut tear files left failures why told by (inr (inl failed)) fault other = inl (fault failed.0)
+stays_shut tear files left failures why told by (inr (inr none)) fault other = inr (left, by, subst (IsNoStore (Unit {0}) (seen_in left)) (sym (other (tells_no_fault why none.0))) none)

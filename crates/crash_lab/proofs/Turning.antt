@@ -1,0 +1,64 @@
+-- The run of a script in a laboratory, turn by turn.
+use Rattle.std.proofs.Common.{◌≡◌, ℕ, ◌+◌, Bool, List, [], ◌∷◌, ◌++◌, Option, Some, None, refl, ap, inl, inr}
+use Rattle.std.specs.Io.KnownBytes.{Appends}
+use Rattle.machine.specs.Machine.{trees_now}
+use Rattle.reg_script.specs.Replies.{reply_line}
+use Rattle.reg_script.proofs.Written.{appends_more}
+use Rattle.reg_script.specs.declared.reply.ReplyLine.TheVariants as reply
+use Rattle.reg_script.specs.declared.status.Status.{Status}
+use Rattle.reg_script.specs.declared.status.Status.TheVariants.{Wrong}
+use Rattle.reg_script.specs.Statuses.{with_refusal}
+use Rattle.regtx_parts.specs.Scripts.{hives_asked}
+use Rattle.regtx_parts.specs.Plays.{WereRead, wrong_text, Ends}
+use Rattle.regtx_parts.specs.Turns.{TakesLine}
+use Rattle.regtx_parts.specs.declared.ending.Ending.{Ending}
+use Rattle.regtx_parts.specs.declared.ending.Ending.TheVariants.{OutOfMemory}
+use Rattle.regtx_parts.proofs.Runs.{one_read, more_read, none_read, is_end}
+use Rattle.crash_lab.specs.Benches.{Bench, IsNew}
+use Rattle.crash_lab.specs.Experiments.{line_asked, told_text}
+use Rattle.crash_lab.specs.Runs.{IsExperiment, IsExperimentOn, Turns}
+use Rattle.crash_lab.specs.declared.running.Turn.TheVariants.{Replied}
+
+-- a line that is none ends the run
+pub stops_wrong : (old : Bench) (number : ℕ) (known rest before after : Option (List ℕ)) (line : List ℕ) (status : Status) → TakesLine known rest line → line_asked line ≡ None → status ≡ Wrong → Appends before after (wrong_text number) → IsExperimentOn old number known before after status
+stops_wrong old number known rest before after line status taken none wrong written =
+    (line ∷ [], None, wrong_text number, one_read known rest line taken, inl (none, record { last = refl; stopped = refl; printed = refl; wrong = wrong }), written)
+
+-- there is no further line
+pub ends_here : (old : Bench) (number : ℕ) (known before after : Option (List ℕ)) (ending : Ending) (text : List ℕ) (status : Status) → WereRead known [] (Some ending) → Ends ending text status → Appends before after text → IsExperimentOn old number known before after status
+ends_here old number known before after ending text status read how written = ([], Some ending, text, read, how, written)
+
+-- a line was answered, and the run goes on
+pub goes_on : (old new : Bench) (number : ℕ) (known rest before mid after : Option (List ℕ)) (refused : Bool) (status : Status)
+    → Turns old number known before (Replied refused) new rest mid → IsExperimentOn new (number + 1) rest mid after status
+    → IsExperimentOn old number known before after (with_refusal refused status)
+goes_on old new number known rest before mid after refused status turn on =
+    let line = turn.0 in
+    let text = told_text turn.2 (trees_now new.script.machine) in (
+      line ∷ on.0,
+      on.1,
+      text ++ on.2,
+      more_read known rest line on.0 on.1 turn.3 on.3,
+      inr (turn.1, turn.2, new, on.2, status, turn.4, turn.5, on.4, refl, ap (λ b. with_refusal b status) turn.7),
+      appends_more before mid after text on.2 turn.6 on.5,
+    )
+
+-- a first line that says how many hives there are
+pub begins : (known rest before mid after : Option (List ℕ)) (line : List ℕ) (hives : ℕ) (bench : Bench) (status : Status) → TakesLine known rest line → hives_asked line ≡ Some hives → IsNew hives bench → Appends before mid (reply_line reply.Done) → IsExperimentOn bench 2 rest mid after status → IsExperiment known before after status
+begins known rest before mid after line hives bench status taken asked new written on = (
+  line ∷ on.0,
+  on.1,
+  reply_line reply.Done ++ on.2,
+  more_read known rest line on.0 on.1 taken on.3,
+  inr (hives, bench, on.2, asked, new, on.4, refl),
+  appends_more before mid after (reply_line reply.Done) on.2 written on.5,
+)
+
+-- a first line that is none
+pub begins_wrong : (known rest before after : Option (List ℕ)) (line : List ℕ) (status : Status) → TakesLine known rest line → hives_asked line ≡ None → status ≡ Wrong → Appends before after (wrong_text 1) → IsExperiment known before after status
+begins_wrong known rest before after line status taken none wrong written =
+    (line ∷ [], None, wrong_text 1, one_read known rest line taken, inl (none, record { last = refl; stopped = refl; printed = refl; wrong = wrong }), written)
+
+-- memory for the first line is refused
+pub begins_without_memory : (known before after : Option (List ℕ)) (text : List ℕ) (status : Status) → Ends OutOfMemory text status → Appends before after text → IsExperiment known before after status
+begins_without_memory known before after text status how written = ([], Some OutOfMemory, text, none_read known OutOfMemory is_end, how, written)

@@ -1,0 +1,19 @@
+use Rattle.std.proofs.Common.{◌≡◌, ◌∙◌, ℕ, Some, IfSome, ap, sym, subst}
+use Rattle.machine.specs.Machine.{fresh_machine}
+use Rattle.machine.specs.Steps.{with_session}
+use Rattle.engine.specs.Lives.{IsSafe}
+use Rattle.regtx_parts.specs.Scripts.{hives_asked, script_at}
+use Rattle.crash_lab.specs.Benches.{files_of}
+use Rattle.crash_lab.proofs.bench.Laboratory.begin.Goals as goal
+
+pub returns-in-Some-clause-some : goal.returns-in-Some-clause-some
+returns-in-Some-clause-some c =
+    let made = subst (λ made. IfSome made (λ engine. (hives : ℕ) × (hives_asked c.args.bytes.now ≡ Some hives) × (engine.machine ≡ with_session (fresh_machine hives) 0))) c.in-Some.is c.in_ok-engine.ensures.some in (
+      made.0,
+      made.1,
+      record {
+        script_is = c.new-player.ensures.script ∙ ap script_at made.2;
+        asked_is = c.in_ok-device.ensures;
+        kept = (c.new-player.result.engine.store, subst (λ engine. IsSafe engine.store engine.machine (files_of engine.disk)) (sym c.new-player.ensures.engine) (c.keeps_a_prefix.ensures tt));
+      },
+    )

@@ -1,0 +1,22 @@
+-- A loss of power: what is left, and what opens of it.
+use Rattle.std.specs.Prelude.{◌≡◌, ◌⊎◌, ℕ, ⊤}
+use Rattle.disk_model.specs.FileState.{FileState}
+use Rattle.disk_model.specs.Tear.{IsCrashOf}
+use Rattle.disk_model.specs.declared.tear.Tear.{Tear}
+use Rattle.machine.specs.Machine.{Machine}
+use Rattle.recovery.specs.Recovered.{IsNoStore, seen_in}
+use Rattle.refusals.specs.declared.refusal.Refusal.{Refusal}
+use Rattle.refusals.specs.declared.refusal.Refusal.TheVariants.{NoMemory}
+use Rattle.regtx_parts.specs.Running.{IsOpenedOn}
+
+-- each file is left as the tear says
+abbrev pub IsLeftBy : Tear → (ℕ → FileState) → (ℕ → FileState) → Type 0
+IsLeftBy tear files left = (f : ℕ) → IsCrashOf tear (files f) (left f)
+
+-- The files that are left recover this number, at which the machine begins with the trees that they recover.
+abbrev pub OpensBehind : Tear → (ℕ → FileState) → ℕ → Machine → Type 0
+OpensBehind tear files number machine = (left : ℕ → FileState) × IsLeftBy tear files left × IsOpenedOn ⊤ (seen_in left) number machine
+
+-- Why nothing opens: memory was wanting, or the files that are left recover nothing, of which the refusal tells.
+abbrev pub MayStayShut : Tear → (ℕ → FileState) → Refusal → Type 0
+MayStayShut tear files why = (why ≡ NoMemory) ⊎ ((left : ℕ → FileState) × IsLeftBy tear files left × IsNoStore ⊤ (seen_in left) why)

@@ -1,0 +1,4 @@
+pub mod Benches
+pub mod Crashes
+pub mod Experiments
+pub mod Runs

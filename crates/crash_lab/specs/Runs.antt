@@ -1,0 +1,57 @@
+-- What a script prints in a laboratory, and how its run ends.
+use Rattle.std.specs.Prelude.{◌≡◌, ℕ, ◌+◌, ◌⊎◌, List, [], ◌∷◌, ◌++◌, Option, Some, None}
+use Rattle.std.specs.Io.KnownBytes.{Appends}
+use Rattle.reg_script.specs.Replies.{reply_line}
+use Rattle.reg_script.specs.Statuses.{with_refusal}
+use Rattle.reg_script.specs.declared.line.Line.{Line}
+use Rattle.reg_script.specs.declared.reply.ReplyLine.TheVariants as reply
+use Rattle.reg_script.specs.declared.status.Status.{Status}
+use Rattle.reg_script.specs.declared.status.Status.TheVariants.{Wrong}
+use Rattle.machine.specs.Machine.{trees_now}
+use Rattle.regtx_parts.specs.Plays.{Ends, EndsAs, IsWrong, WereRead, wrong_text}
+use Rattle.regtx_parts.specs.Scripts.{hives_asked}
+use Rattle.regtx_parts.specs.Turns.{TakesLine}
+use Rattle.regtx_parts.specs.declared.ending.Ending.{Ending}
+use Rattle.regtx_parts.specs.declared.ending.Ending.TheVariants.{Ended, Broken, OutOfMemory}
+use Rattle.crash_lab.specs.Benches.{Bench, IsNew}
+use Rattle.crash_lab.specs.Experiments.{Answered, is_refused, line_asked, told_text}
+use Rattle.crash_lab.specs.declared.reply.LabReply.{LabReply}
+use Rattle.crash_lab.specs.declared.running.Turn.{Turn}
+use Rattle.crash_lab.specs.declared.running.Turn.TheVariants.{Over, Replied}
+
+-- From old, at the line of this number, the lines and the way that reading ended print this text, and end with this status: each
+-- line is answered in turn, up to one that is not understood.
+abbrev pub RunsOn : Bench → ℕ → List (List ℕ) → Option Ending → List ℕ → Status → Type 0
+RunsOn old number [] ending text status = EndsAs ending text status
+RunsOn old number (line ∷ lines) ending text status =
+    ((line_asked line ≡ None) × IsWrong number lines ending text status)
+    ⊎ ((asked : Line) × (told : LabReply) × (new : Bench) × (rest : List ℕ) × (later : Status) × (line_asked line ≡ Some asked) × Answered old asked told new
+    × RunsOn new (number + 1) lines ending rest later × (text ≡ told_text told (trees_now new.script.machine) ++ rest) × (status ≡ with_refusal (is_refused told) later))
+
+-- the first line says how many hives there are; a script without a line is wrong at line 1
+abbrev pub Runs : List (List ℕ) → Option Ending → List ℕ → Status → Type 0
+Runs [] (Some Ended) text status = (text ≡ wrong_text 1) × (status ≡ Wrong)
+Runs [] (Some Broken) text status = Ends Broken text status
+Runs [] (Some OutOfMemory) text status = Ends OutOfMemory text status
+Runs [] None text status = ⊥
+Runs (line ∷ lines) ending text status =
+    ((hives_asked line ≡ None) × IsWrong 1 lines ending text status)
+    ⊎ ((hives : ℕ) × (bench : Bench) × (rest : List ℕ) × (hives_asked line ≡ Some hives) × IsNew hives bench × RunsOn bench 2 lines ending rest status
+    × (text ≡ reply_line reply.Done ++ rest))
+
+-- some lines were read, and what was written is what they print
+abbrev pub IsExperiment : Option (List ℕ) → Option (List ℕ) → Option (List ℕ) → Status → Type 0
+IsExperiment known before after status =
+    (lines : List (List ℕ)) × (ending : Option Ending) × (text : List ℕ) × WereRead known lines ending × Runs lines ending text status × Appends before after text
+
+-- the same from a script's later line on
+abbrev pub IsExperimentOn : Bench → ℕ → Option (List ℕ) → Option (List ℕ) → Option (List ℕ) → Status → Type 0
+IsExperimentOn old number known before after status =
+    (lines : List (List ℕ)) × (ending : Option Ending) × (text : List ℕ) × WereRead known lines ending × RunsOn old number lines ending text status × Appends before after text
+
+-- one turn of a run: a line was answered, or the run is over
+abbrev pub Turns : Bench → ℕ → Option (List ℕ) → Option (List ℕ) → Turn → Bench → Option (List ℕ) → Option (List ℕ) → Type 0
+Turns old number known before (Over status) new rest after = IsExperimentOn old number known before after status
+Turns old number known before (Replied refused) new rest after =
+    (line : List ℕ) × (asked : Line) × (told : LabReply) × TakesLine known rest line × (line_asked line ≡ Some asked) × Answered old asked told new
+    × Appends before after (told_text told (trees_now new.script.machine)) × (refused ≡ is_refused told)

@@ -1,0 +1,66 @@
+//! What a line of a laboratory is answered, and its text.
+ghost use Rattle.std.specs.Prelude.{◌≡◌, OnOk, IfOk};
+ghost use Rattle.std.specs.Io.KnownBytes.{Appends};
+ghost use Rattle.crash_lab.specs.Experiments.{is_refused, told_text, trees_text};
+
+use reg_script::ReplyLine;
+use reg_tree::Trees;
+use regtx_parts::is_refusal;
+use std::io;
+use std::io::Write;
+use tree_text::write_tree;
+
+/// What a line of a laboratory is answered.
+#[derive(Drop)]
+pub(crate) enum LabReply {
+    /// A reply of one line, as any script's.
+    Told {
+        /// The reply.
+        told: ReplyLine,
+    },
+    /// A store was opened behind a loss of power; its trees are told.
+    Opened {
+        /// The number of its last change.
+        number: u64,
+    },
+}
+
+impl LabReply {
+    /// Whether it is a refusal.
+    pub(crate) fn is_refusal(&self) -> bool
+        ensures { result ≡ is_refused self.now }
+    {
+        match self {
+            LabReply::Told { told } => is_refusal(told),
+            LabReply::Opened { .. } => false,
+        }
+    }
+
+    /// Writes its text; these are the trees of the store that was opened.
+    pub(crate) fn write<W: Write>(&self, trees: &Trees, writer: &mut W) -> io::Result<()>
+        ensures { OnOk result (Appends (W.contents writer.old) (W.contents writer.new)
+            (told_text self.now trees.now)) }
+    {
+        match self {
+            LabReply::Told { told } => told.write(writer),
+            LabReply::Opened { number } => {
+                writeln!(writer, "opened {number}")?;
+                write_trees(trees, writer)
+            }
+        }
+    }
+}
+
+// the text of each hive's tree, in the order of hives
+fn write_trees<W: Write>(trees: &Trees, writer: &mut W) -> io::Result<()>
+    ensures { OnOk result (Appends (W.contents writer.old) (W.contents writer.new)
+        (trees_text 0 trees.now)) }
+{
+    for hive in 0..trees.len() {
+        let Some(tree) = trees.tree(hive as u8) else {
+            unreachable!();
+        };
+        write_tree(writer, hive as u8, tree)?;
+    }
+    Ok(())
+}
