@@ -2,6 +2,8 @@
 //! an engine take its calls from here.
 #![tactic(auto)]
 
+#[cfg(test)]
+mod batches;
 pub mod calls;
 #[cfg(test)]
 mod crashes;

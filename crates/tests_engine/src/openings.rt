@@ -197,3 +197,71 @@ fn an_opening_that_is_stopped_loses_nothing(rt: HostRuntime) -> Result<(), Fail>
     }
     Ok(())
 }
+
+// why an opening of a store with its repair is refused whose device fails at a call alone, and the disk as it is then; nothing
+// where it makes no such call
+fn unfinished(
+    alloc: Global,
+    disk: &MemDisk,
+    call: u64,
+) -> Result<Option<(Refusal, MemDisk)>, Refusal>
+    requires { 1 ≤ call }
+{
+    let (disk, plan) = planned(alloc, disk, Tear::New)?;
+    plan.fail_at(call);
+    match open(alloc, disk) {
+        Ok(mut store) => match repair_all(&mut store) {
+            Ok(()) => Ok(None),
+            Err(why) => Ok(Some((why, store.into_disk()))),
+        },
+        Err(back) => Ok(Some(back)),
+    }
+}
+
+// why such an opening is refused, what is opened behind it and a crash with each tear, and what is opened without one
+fn faulted(
+    alloc: Global,
+    disk: &MemDisk,
+    call: u64,
+) -> Result<Option<(Refusal, [Found; 3], Found)>, Refusal>
+    requires { 1 ≤ call }
+{
+    let Some((why, disk)) = unfinished(alloc, disk, call)? else {
+        return Ok(None);
+    };
+    let crashed = found_behind_crashes(alloc, &disk)?;
+    Ok(Some((why, crashed, found(alloc, disk)?)))
+}
+
+// behind the last call of such an opening
+const TRIED: u64 = 50;
+
+// how many of the first calls of such an opening fail it, one at a time, and whether each is told as a fault and leaves what was
+// there; no call behind them fails it
+fn faults(alloc: Global, before: Tear) -> Result<(u64, bool), Refusal> {
+    let disk = unclean(alloc, before)?;
+    let (mut faults, mut is_kept) = (0u64, true);
+    for call in 1..TRIED {
+        if let Some(told) = faulted(alloc, &disk, call)? {
+            faults = faults.saturating_add(1);
+            is_kept = is_kept
+                && faults == call
+                && told == (Refusal::DiskFault, [FLUSHED; 3], FLUSHED);
+        }
+    }
+    Ok((faults, is_kept))
+}
+
+#[test]
+fn an_opening_in_which_one_call_fails_loses_nothing(rt: HostRuntime) -> Result<(), Fail> {
+    let alloc = rt.alloc();
+    for before in [Tear::Old, Tear::New, Tear::Torn] {
+        let (faults, is_kept) = faults(alloc, before)?;
+        assert!(&rt; is_kept, "{before:?}");
+        // the journal, two primary files and a log, each synced, measured and read, and a repair: pages, the last sector and
+        // their syncs; and no more than were tried
+        assert!(&rt; faults >= 16, "{faults} faults, {before:?}");
+        assert!(&rt; faults < TRIED - 1, "{faults} faults, {before:?}");
+    }
+    Ok(())
+}

@@ -55,10 +55,10 @@ pub fn run(alloc: Global, store: &mut Engine<MemDisk>) -> u64 {
     acknowledged
 }
 
-// the last of the first four changes that is acknowledged, or 0
-fn last_acknowledged(store: &mut Engine<MemDisk>) -> u64 {
+/// The last of the first five changes that is acknowledged, or 0.
+pub fn last_acknowledged(store: &mut Engine<MemDisk>) -> u64 {
     let mut acknowledged = 0;
-    for number in 1..5u64 {
+    for number in 1..6u64 {
         if is_acknowledged(store, number) {
             acknowledged = number;
         }

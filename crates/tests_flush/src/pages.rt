@@ -130,21 +130,54 @@ fn again(
     Ok((number, found(alloc, &mut disk)?))
 }
 
+// a hive whose flush was stopped at a call and then torn, so that a repair is left
+fn unrepaired(alloc: Global, call: u64, tear: Tear) -> Result<MemDisk, Refusal>
+    requires { 1 ≤ call }
+{
+    let disk = stopped(alloc, &begun(alloc)?, call, telling(alloc, AFTER)?, 3)?;
+    Ok(left(alloc, &disk, tear)?)
+}
+
+// how many calls the repair of a hive makes: three pages and their sync, the last sector and its sync
+const REPAIR: u64 = 6;
+
+fn repair_calls(alloc: Global, disk: &MemDisk) -> Result<u64, Refusal> {
+    let mut disk = left(alloc, disk, Tear::New)?;
+    let mut file = open(alloc, &mut disk)?;
+    Ok(u64::from(repaired(&mut file, &mut disk)?))
+}
+
+// the first call of a repair, and the tear, at which a stop leaves anything but the tree and the number of after the flush
+fn first_loss(alloc: Global, disk: &MemDisk) -> Result<Option<(u64, Tear)>, Refusal> {
+    let kept = (3, (3, [AFTER; 3]));
+    for call in 1..REPAIR + 1 {
+        for tear in TEARS {
+            if again(alloc, disk, call, tear)? != kept {
+                return Ok(Some((call, tear)));
+            }
+        }
+    }
+    Ok(None)
+}
+
 #[test]
 fn each_stop_of_a_repair_leaves_the_same(rt: HostRuntime) -> Result<(), Fail> {
     let alloc = rt.alloc();
     // the raised sector stands, and no page
-    let disk = stopped(alloc, &begun(alloc)?, 8, telling(alloc, AFTER)?, 3)?;
-    let disk = left(alloc, &disk, Tear::Old)?;
-    let mut whole = left(alloc, &disk, Tear::New)?;
-    let mut file = open(alloc, &mut whole)?;
-    // three pages and their sync, the last sector and its sync
-    assert_eq!(&rt; repaired(&mut file, &mut whole), Ok(6));
-    for call in 1..7 {
-        for tear in TEARS {
-            let told = again(alloc, &disk, call, tear)?;
-            assert_eq!(&rt; told, (3, (3, [AFTER; 3])), "call {call}, {tear:?}");
-        }
-    }
+    let disk = unrepaired(alloc, 8, Tear::Old)?;
+    assert_eq!(&rt; repair_calls(alloc, &disk)?, REPAIR);
+    assert_eq!(&rt; first_loss(alloc, &disk)?, None);
+    Ok(())
+}
+
+#[test]
+fn each_stop_of_a_repair_behind_a_torn_last_sector_leaves_the_same(
+    rt: HostRuntime,
+) -> Result<(), Fail> {
+    let alloc = rt.alloc();
+    // all pages stand, and of the last sector the last byte is wrong
+    let disk = unrepaired(alloc, 9, Tear::Torn)?;
+    assert_eq!(&rt; repair_calls(alloc, &disk)?, REPAIR);
+    assert_eq!(&rt; first_loss(alloc, &disk)?, None);
     Ok(())
 }
