@@ -1,5 +1,5 @@
-//! The program `regtx`: reads the words of its command line, and leaves the work to `regtx_parts`, `hive_dump` and
-//! `store_making`.
+//! The program `regtx`: reads the words of its command line, and leaves the work to `regtx_parts`, `crash_lab`, `power_sweep`,
+//! `hive_dump` and `store_making`.
 //!
 //! Everything is printed to standard output, each reply at once where a script comes from a pipe or a keyboard; but how far a
 //! long script is read is told on standard error, where that alone is a terminal. The status is 0 where no refusal was printed, 1
@@ -17,7 +17,7 @@ mod words;
 use crate::fault::Fault;
 use crate::files::opened;
 use crate::making::{import_store, new_store};
-use crate::running::{play_script, run_script};
+use crate::running::{InMemory, play_script, run_script};
 use crate::terminal::Telling;
 use crate::words::{Task, task_asked};
 use hive_dump::{DumpFault, dump};
@@ -49,14 +49,16 @@ fn run<R: Files<File = File> + Print + Eprint + Clock + Env + AllocGlobal>(
 ) -> Result<Status, Fault> {
     let words = words_given(rt, rt.alloc())?;
     match task_asked(rt.alloc(), &words)? {
-        Task::Play { script } => play_script(rt, telling, script),
+        Task::Play { script } => play_script(rt, telling, InMemory::Play, script),
+        Task::Lab { script } => play_script(rt, telling, InMemory::Lab, script),
+        Task::Sweep { script } => play_script(rt, telling, InMemory::Sweep, script),
         Task::Dump { file } => dump_file(rt, file),
         Task::New { folder, id, count } => new_store(rt, folder, id, count),
         Task::Import {
             folder,
             id,
             sources,
-        } => import_store(rt, folder, id, &sources),
+        } => import_store(rt, telling, folder, id, &sources),
         Task::Run { folder, script } => run_script(rt, telling, folder, script),
     }
 }

@@ -7,14 +7,17 @@ ghost use Rattle.std.specs.Prelude.{◌≤◌, IfOk};
 
 use crate::fault::Fault;
 use crate::files::opened;
+use crate::terminal::{Telling, end, length_of};
 use crate::words::{HiveCount, Sources};
 use file_disk::{FileDisk, Unknown};
+use progress_line::{Moved, ProgressLine, Stage, Watched, WatchedDisk};
 use refusals::Refusal;
 use reg_script::Status;
 use std::fs::{self, File};
-use std::io::{self, BufWriter, ErrorKind};
+use std::io::{self, BufWriter, Eprint, ErrorKind};
 use std::path::Path;
 use std::rt::Files;
+use std::time::Clock;
 use store_making::{Import, make_new};
 use uuid::Uuid;
 
@@ -34,27 +37,47 @@ pub fn new_store<R: Files<File = File> + Print + AllocGlobal>(
 
 /// Makes a store of the hives of some files in a folder, and prints whether it is made. All files are read first, then the folder
 /// is looked at, and last comes what the files hold.
-pub fn import_store<R: Files<File = File> + Print + AllocGlobal>(
+pub fn import_store<R: Files<File = File> + Print + Eprint + Clock + AllocGlobal>(
     rt: &R,
+    telling: Telling,
     folder: &str,
     id: Uuid,
     sources: &Sources<'_>,
 ) -> Result<Status, Fault> {
     let alloc = rt.alloc();
     let mut writer = BufWriter::new(alloc, io::writer(rt))?;
-    let import = import_of(rt, sources)?;
-    let mut disk = held_folder(rt, folder)?;
+    let line = telling.line(rt, importing(rt, sources));
+    let import = import_of(rt, sources, line.as_ref())?;
+    let disk = held_folder(rt, folder)?;
+    let mut disk = WatchedDisk::new(disk, Moved::Written, line.as_ref());
     let made = import.make(alloc, &mut disk, id, &mut writer);
+    end(line);
     Ok(made.unwrap_or(Status::Refused))
 }
 
+// the work of an import: files are read, and hives of about their size are written
+fn importing<R: Files>(rt: &R, sources: &Sources<'_>) -> Stage {
+    let mut whole: u64 = 0;
+    for path in &sources.paths {
+        whole = whole.saturating_add(length_of(rt, path).unwrap_or(0));
+    }
+    Stage {
+        work: "import",
+        whole: Some(whole.saturating_mul(2)),
+    }
+}
+
 // the import of files, each read as the hive of its place
-fn import_of<R: Files + AllocGlobal>(rt: &R, sources: &Sources<'_>) -> Result<Import, Fault>
+fn import_of<R: Files + Eprint + Clock + AllocGlobal>(
+    rt: &R,
+    sources: &Sources<'_>,
+    line: Option<&ProgressLine<'_, R>>,
+) -> Result<Import, Fault>
     ensures some { IfOk result (λ import. 1 ≤ import.count) }
 {
     let mut import = Import::new(rt.alloc());
     for path in &sources.paths {
-        let mut file = opened(rt, path)?;
+        let mut file = Watched::new(opened(rt, path)?, line, None);
         import.take(rt.alloc(), &mut file)?;
     }
     Ok(import)

@@ -1,32 +1,74 @@
-//! What the words `play` and `run` do with files: the script, and the folder of the store that `run` works on.
+//! What the words `play`, `lab`, `sweep` and `run` do with files: the script, and the folder of the store that `run` works on.
 //!
-//! What is run and told is left to `regtx_parts`. Of the files of a store it is trusted that they are what they answer, and that the
-//! system keeps what it has synced: then what is proved of runs over any disk holds of them.
+//! What is run and told is left to `regtx_parts`, `crash_lab` and `power_sweep`. Of the files of a store it is trusted that they are
+//! what they answer, and that the system keeps what it has synced: then what is proved of runs over any disk holds of them.
 use crate::fault::Fault;
-use crate::terminal::{Telling, watched};
+use crate::terminal::{Telling, end, length_of, reading};
+use crash_lab::lab;
 use file_disk::{FileDisk, Unheld, Unknown};
+use power_sweep::sweep;
+use progress_line::{Moved, Stage, Watched, WatchedDisk};
 use refusals::Refusal;
 use reg_script::Status;
 use regtx_parts::{play, refuse_script, run, run_unread};
-use std::fs::{self, File};
-use std::io::{self, BufReader, BufWriter, Eprint, LineWriter, Write};
+use std::alloc::Global;
+use std::fs::File;
+use std::io::{self, BufRead, BufReader, BufWriter, Eprint, LineWriter, Write};
 use std::rt::Files;
 use std::time::Clock;
 
-/// Plays the script of this path over a store in memory.
+/// What is done with a script over a store in memory.
+#[derive(Clone, Copy, PartialEq, Eq)]
+pub enum InMemory {
+    /// It is played.
+    Play,
+    /// It is run in the laboratory.
+    Lab,
+    /// Power cuts are swept over its run.
+    Sweep,
+}
+
+impl InMemory {
+    // the word of the command line
+    fn word(self) -> &'static str {
+        match self {
+            InMemory::Play => "play",
+            InMemory::Lab => "lab",
+            InMemory::Sweep => "sweep",
+        }
+    }
+
+    // does it, reading the script's lines and writing what is told
+    fn carry_out<R: BufRead, W: Write>(
+        self,
+        alloc: Global,
+        reader: &mut R,
+        writer: &mut W,
+    ) -> io::Result<Status> {
+        match self {
+            InMemory::Play => play(alloc, reader, writer),
+            InMemory::Lab => lab(alloc, reader, writer),
+            InMemory::Sweep => sweep(alloc, reader, writer),
+        }
+    }
+}
+
+/// Does this with the script of a path.
 pub fn play_script<R: Files + Print + Eprint + Clock + AllocGlobal>(
     rt: &R,
     telling: Telling,
+    work: InMemory,
     script: &str,
 ) -> Result<Status, Fault> {
     let alloc = rt.alloc();
-    let played = if is_at_hand(rt, script) {
+    let played = if work != InMemory::Sweep && is_at_hand(rt, script) {
         let mut writer = BufWriter::new(alloc, io::writer(rt))?;
-        play_file(rt, telling, script, &mut writer)?
+        play_file(rt, telling, work, script, &mut writer)?
     } else {
-        // whoever sends the script may wait for a reply before the next line: each leaves as soon as it is made
+        // whoever sends the script may wait for a reply before the next line, and a row of a sweep takes a while: each line leaves
+        // as soon as it is made
         let mut writer = LineWriter::new(alloc, io::writer(rt))?;
-        play_file(rt, telling, script, &mut writer)?
+        play_file(rt, telling, work, script, &mut writer)?
     };
     Ok(played.unwrap_or(Status::Refused))
 }
@@ -64,30 +106,26 @@ fn store_in<'a, R: Files<File = File> + AllocGlobal>(
 
 // whether reading the script waits for nobody, as that of a plain file
 fn is_at_hand<R: Files>(rt: &R, script: &str) -> bool {
-    match fs::metadata(rt, script) {
-        Ok(metadata) => metadata.is_file(),
-        Err(_) => false,
-    }
+    length_of(rt, script).is_some()
 }
 
-// plays the script; the answer within tells of writes that failed
+// does this with the script; the answer within tells of writes that failed
 fn play_file<R: Files + Eprint + Clock + AllocGlobal, W: Write>(
     rt: &R,
     telling: Telling,
+    work: InMemory,
     script: &str,
     writer: &mut W,
 ) -> Result<io::Result<Status>, Fault> {
+    let Ok(file) = File::open(rt, script) else {
+        return Ok(refuse_script(writer));
+    };
     let alloc = rt.alloc();
-    Ok(match File::open(rt, script) {
-        Ok(file) => {
-            let file = watched(rt, telling, "play", script, file);
-            let mut reader = BufReader::new(alloc, file)?;
-            let played = play(alloc, &mut reader, writer);
-            reader.into_inner().end();
-            played
-        }
-        Err(_) => refuse_script(writer),
-    })
+    let line = telling.line(rt, reading(rt, work.word(), script));
+    let mut reader = BufReader::new(alloc, Watched::new(file, line.as_ref(), None))?;
+    let played = work.carry_out(alloc, &mut reader, writer);
+    end(line);
+    Ok(played)
 }
 
 // runs the script over a store; the answer within tells of writes that failed
@@ -99,15 +137,22 @@ fn run_file<R: Files<File = File> + Eprint + Clock + AllocGlobal, W: Write>(
     writer: &mut W,
 ) -> Result<io::Result<Status>, Fault> {
     let alloc = rt.alloc();
-    let (_, ran) = match File::open(rt, script) {
-        Ok(file) => {
-            let file = watched(rt, telling, "run", script, file);
-            let mut reader = BufReader::new(alloc, file)?;
-            let ran = run(alloc, disk, &mut reader, writer);
-            reader.into_inner().end();
-            ran
-        }
-        Err(_) => run_unread(alloc, disk, writer),
+    let mut disk = disk;
+    let opening = Stage {
+        work: "opening",
+        whole: Some(disk.store_bytes()),
     };
+    let line = telling.line(rt, opening);
+    let disk = WatchedDisk::new(disk, Moved::Read, line.as_ref());
+    let ran = match File::open(rt, script) {
+        Ok(file) => {
+            let stage = reading(rt, "run", script);
+            let file = Watched::new(file, line.as_ref(), Some(stage));
+            let mut reader = BufReader::new(alloc, file)?;
+            run(alloc, disk, &mut reader, writer).1
+        }
+        Err(_) => run_unread(alloc, disk, writer).1,
+    };
+    end(line);
     Ok(ran)
 }

@@ -1,5 +1,5 @@
-//! What a person at a terminal sees of long work: how much of a file was read.
-use progress_line::{ProgressLine, Watched};
+//! What a person at a terminal sees of long work.
+use progress_line::{ProgressLine, Stage};
 use std::fs;
 use std::io::{Eprint, IsTerminal};
 use std::rt::Files;
@@ -24,31 +24,35 @@ impl Telling {
             Telling::Silent
         }
     }
+
+    /// A line for work that begins with this stage, where it is told of.
+    pub fn line<R: Eprint + Clock>(self, rt: &R, first: Stage) -> Option<ProgressLine<'_, R>> {
+        match self {
+            Telling::Line => Some(ProgressLine::new(rt, first)),
+            Telling::Silent => None,
+        }
+    }
 }
 
-/// A file of this path that was opened, as a reader that tells how much of it was read while this work is done.
-pub fn watched<'a, R: Files + Eprint + Clock>(
-    rt: &'a R,
-    telling: Telling,
-    work: &'static str,
-    path: &str,
-    file: R::File,
-) -> Watched<'a, R::File, R> {
-    let line = match telling {
-        Telling::Line => line_for(rt, work, path),
-        Telling::Silent => None,
-    };
-    Watched::new(file, line)
+/// The work is done: its line, if it has one, goes away.
+pub fn end<R: Eprint + Clock>(line: Option<ProgressLine<'_, R>>) {
+    if let Some(line) = line {
+        line.end();
+    }
 }
 
-// a line for a plain file; of any other it isn't known how much there is of it
-fn line_for<'a, R: Files + Eprint + Clock>(
-    rt: &'a R,
-    work: &'static str,
-    path: &str,
-) -> Option<ProgressLine<'a, R>> {
+/// The stage in which the file of this path is read.
+pub fn reading<R: Files>(rt: &R, work: &'static str, path: &str) -> Stage {
+    Stage {
+        work,
+        whole: length_of(rt, path),
+    }
+}
+
+/// The length of a plain file; of any other it isn't known how much there is of it.
+pub fn length_of<R: Files>(rt: &R, path: &str) -> Option<u64> {
     match fs::metadata(rt, path) {
-        Ok(metadata) if metadata.is_file() => Some(ProgressLine::new(rt, work, metadata.len())),
+        Ok(metadata) if metadata.is_file() => Some(metadata.len()),
         _ => None,
     }
 }

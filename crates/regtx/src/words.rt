@@ -16,6 +16,16 @@ pub enum Task<'a> {
         /// Where the script is.
         script: &'a str,
     },
+    /// `lab SCRIPT`: a script is to be run in the laboratory.
+    Lab {
+        /// Where the script is.
+        script: &'a str,
+    },
+    /// `sweep SCRIPT`: power cuts are to be swept over the run of a script.
+    Sweep {
+        /// Where the script is.
+        script: &'a str,
+    },
     /// `run DIR SCRIPT`: a script is to be run over a store.
     Run {
         /// The folder of the store.
@@ -73,6 +83,12 @@ pub fn task_asked<'a>(alloc: Global, words: &'a [String]) -> Result<Task<'a>, Fa
         Some(("play", given)) => Ok(Task::Play {
             script: text(given, "SCRIPT")?,
         }),
+        Some(("lab", given)) => Ok(Task::Lab {
+            script: text(given, "SCRIPT")?,
+        }),
+        Some(("sweep", given)) => Ok(Task::Sweep {
+            script: text(given, "SCRIPT")?,
+        }),
         Some(("run", given)) => Ok(Task::Run {
             folder: text(given, "DIR")?,
             script: text(given, "SCRIPT")?,
@@ -97,6 +113,8 @@ pub fn task_asked<'a>(alloc: Global, words: &'a [String]) -> Result<Task<'a>, Fa
 // the words that are understood
 fn command<'a>(alloc: Global) -> Result<Command<'a>, AllocError> {
     let play = Command::new(alloc, "play").arg(one(alloc, "SCRIPT"))?;
+    let lab = Command::new(alloc, "lab").arg(one(alloc, "SCRIPT"))?;
+    let sweep = Command::new(alloc, "sweep").arg(one(alloc, "SCRIPT"))?;
     let run = Command::new(alloc, "run")
         .arg(one(alloc, "DIR"))?
         .arg(one(alloc, "SCRIPT"))?;
@@ -113,6 +131,8 @@ fn command<'a>(alloc: Global) -> Result<Command<'a>, AllocError> {
     Command::new(alloc, "regtx")
         .subcommand_required(true)
         .subcommand(play)?
+        .subcommand(lab)?
+        .subcommand(sweep)?
         .subcommand(run)?
         .subcommand(dump)?
         .subcommand(new)?
