@@ -6,9 +6,11 @@
 #![tactic(auto)]
 
 mod line;
+mod stage;
 mod watched;
 mod watched_disk;
 
-pub use line::{ProgressLine, Stage};
+pub use line::ProgressLine;
+pub use stage::{Stage, Work};
 pub use watched::Watched;
 pub use watched_disk::{Moved, WatchedDisk};

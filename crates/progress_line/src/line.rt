@@ -1,6 +1,7 @@
 //! The line itself.
 ghost use Rattle.std.specs.Prelude.{◌≡◌, ◌<◌, ◌≤◌, ◌*◌, ◌/◌};
 
+use crate::stage::Stage;
 use std::cell::Cell;
 use std::io::Eprint;
 use std::time::{Clock, Duration};
@@ -10,15 +11,6 @@ const PATIENCE: u64 = 500;
 
 /// The line isn't written anew before so many milliseconds have gone by.
 const PAUSE: u64 = 100;
-
-/// Work that has a name.
-#[derive(Clone, Copy, Debug, PartialEq, Eq)]
-pub struct Stage {
-    /// What the line calls it.
-    pub work: &'static str,
-    /// How much there is of it, in any unit. Where that isn't known nothing is told of it.
-    pub whole: Option<u64>,
-}
 
 /// A line on standard error that tells of one stage of work after another how much of it is done. Whoever does a part of the work
 /// may have a `&` of it.
@@ -60,7 +52,7 @@ impl<'a, R: Eprint + Clock> ProgressLine<'a, R> {
         if !self.is_due() {
             return;
         }
-        let percent = percent_of(self.done.get(), whole);
+        let (work, percent) = (work.word(), percent_of(self.done.get(), whole));
         if eprint!(self.terminal; "\r{work}: {percent} %").is_ok() {
             self.is_shown.set(true);
         }

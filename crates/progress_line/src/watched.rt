@@ -1,7 +1,8 @@
 //! A reader that tells how much of it was read.
 ghost use Rattle.std.specs.Prelude.{◌≡◌};
 
-use crate::line::{ProgressLine, Stage};
+use crate::line::ProgressLine;
+use crate::stage::Stage;
 use std::io::{self, Eprint, Read};
 use std::time::Clock;
 

@@ -9,12 +9,14 @@ use crate::fault::Fault;
 use crate::files::opened;
 use crate::terminal::{Telling, end, length_of};
 use crate::words::{HiveCount, Sources};
+use disk_model::Disk;
 use file_disk::{FileDisk, Unknown};
-use progress_line::{Moved, ProgressLine, Stage, Watched, WatchedDisk};
+use progress_line::{Moved, ProgressLine, Stage, Watched, WatchedDisk, Work};
 use refusals::Refusal;
 use reg_script::Status;
+use std::alloc::Global;
 use std::fs::{self, File};
-use std::io::{self, BufWriter, Eprint, ErrorKind};
+use std::io::{self, BufWriter, Eprint, ErrorKind, Write};
 use std::path::Path;
 use std::rt::Files;
 use std::time::Clock;
@@ -44,15 +46,41 @@ pub fn import_store<R: Files<File = File> + Print + Eprint + Clock + AllocGlobal
     id: Uuid,
     sources: &Sources<'_>,
 ) -> Result<Status, Fault> {
+    let line = telling.line(rt, importing(rt, sources));
+    let made = import_watched(rt, folder, id, sources, line.as_ref());
+    end(line);
+    made
+}
+
+// the same, telling of it where there is a line for that
+fn import_watched<R: Files<File = File> + Print + Eprint + Clock + AllocGlobal>(
+    rt: &R,
+    folder: &str,
+    id: Uuid,
+    sources: &Sources<'_>,
+    line: Option<&ProgressLine<'_, R>>,
+) -> Result<Status, Fault> {
     let alloc = rt.alloc();
     let mut writer = BufWriter::new(alloc, io::writer(rt))?;
-    let line = telling.line(rt, importing(rt, sources));
-    let import = import_of(rt, sources, line.as_ref())?;
+    let import = import_of(rt, sources, line)?;
     let disk = held_folder(rt, folder)?;
-    let mut disk = WatchedDisk::new(disk, Moved::Written, line.as_ref());
-    let made = import.make(alloc, &mut disk, id, &mut writer);
-    end(line);
+    let made = make_watched(alloc, import, disk, id, line, &mut writer);
     Ok(made.unwrap_or(Status::Refused))
+}
+
+// makes the store of an import, telling of what is written
+fn make_watched<D: Disk + Drop, R: Eprint + Clock, W: Write>(
+    alloc: Global,
+    import: Import,
+    disk: D,
+    id: Uuid,
+    line: Option<&ProgressLine<'_, R>>,
+    writer: &mut W,
+) -> io::Result<Status>
+    requires some { 1 ≤ import.count }
+{
+    let mut disk = WatchedDisk::new(disk, Moved::Written, line);
+    import.make(alloc, &mut disk, id, writer)
 }
 
 // the work of an import: files are read, and hives of about their size are written
@@ -62,7 +90,7 @@ fn importing<R: Files>(rt: &R, sources: &Sources<'_>) -> Stage {
         whole = whole.saturating_add(length_of(rt, path).unwrap_or(0));
     }
     Stage {
-        work: "import",
+        work: Work::Import,
         whole: Some(whole.saturating_mul(2)),
     }
 }

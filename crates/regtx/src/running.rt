@@ -5,15 +5,16 @@
 use crate::fault::Fault;
 use crate::terminal::{Telling, end, length_of, reading};
 use crash_lab::lab;
+use disk_model::Disk;
 use file_disk::{FileDisk, Unheld, Unknown};
 use power_sweep::sweep;
-use progress_line::{Moved, Stage, Watched, WatchedDisk};
+use progress_line::{Moved, ProgressLine, Stage, Watched, WatchedDisk, Work};
 use refusals::Refusal;
 use reg_script::Status;
 use regtx_parts::{play, refuse_script, run, run_unread};
 use std::alloc::Global;
 use std::fs::File;
-use std::io::{self, BufRead, BufReader, BufWriter, Eprint, LineWriter, Write};
+use std::io::{self, BufReader, BufWriter, Eprint, LineWriter, Read, Write};
 use std::rt::Files;
 use std::time::Clock;
 
@@ -29,27 +30,28 @@ pub enum InMemory {
 }
 
 impl InMemory {
-    // the word of the command line
-    fn word(self) -> &'static str {
+    // what a line tells of
+    fn work(self) -> Work {
         match self {
-            InMemory::Play => "play",
-            InMemory::Lab => "lab",
-            InMemory::Sweep => "sweep",
+            InMemory::Play => Work::Play,
+            InMemory::Lab => Work::Lab,
+            InMemory::Sweep => Work::Sweep,
         }
     }
 
-    // does it, reading the script's lines and writing what is told
-    fn carry_out<R: BufRead, W: Write>(
+    // does it, reading the script's lines and writing what is told; the answer within tells of writes that failed
+    fn carry_out<T: Read + Drop, W: Write>(
         self,
         alloc: Global,
-        reader: &mut R,
+        script: T,
         writer: &mut W,
-    ) -> io::Result<Status> {
-        match self {
-            InMemory::Play => play(alloc, reader, writer),
-            InMemory::Lab => lab(alloc, reader, writer),
-            InMemory::Sweep => sweep(alloc, reader, writer),
-        }
+    ) -> Result<io::Result<Status>, Fault> {
+        let mut reader = BufReader::new(alloc, script)?;
+        Ok(match self {
+            InMemory::Play => play(alloc, &mut reader, writer),
+            InMemory::Lab => lab(alloc, &mut reader, writer),
+            InMemory::Sweep => sweep(alloc, &mut reader, writer),
+        })
     }
 }
 
@@ -57,18 +59,18 @@ impl InMemory {
 pub fn play_script<R: Files + Print + Eprint + Clock + AllocGlobal>(
     rt: &R,
     telling: Telling,
-    work: InMemory,
+    how: InMemory,
     script: &str,
 ) -> Result<Status, Fault> {
     let alloc = rt.alloc();
-    let played = if work != InMemory::Sweep && is_at_hand(rt, script) {
+    let played = if how != InMemory::Sweep && is_at_hand(rt, script) {
         let mut writer = BufWriter::new(alloc, io::writer(rt))?;
-        play_file(rt, telling, work, script, &mut writer)?
+        play_file(rt, telling, how, script, &mut writer)?
     } else {
         // whoever sends the script may wait for a reply before the next line, and a row of a sweep takes a while: each line leaves
         // as soon as it is made
         let mut writer = LineWriter::new(alloc, io::writer(rt))?;
-        play_file(rt, telling, work, script, &mut writer)?
+        play_file(rt, telling, how, script, &mut writer)?
     };
     Ok(played.unwrap_or(Status::Refused))
 }
@@ -113,19 +115,18 @@ fn is_at_hand<R: Files>(rt: &R, script: &str) -> bool {
 fn play_file<R: Files + Eprint + Clock + AllocGlobal, W: Write>(
     rt: &R,
     telling: Telling,
-    work: InMemory,
+    how: InMemory,
     script: &str,
     writer: &mut W,
 ) -> Result<io::Result<Status>, Fault> {
     let Ok(file) = File::open(rt, script) else {
         return Ok(refuse_script(writer));
     };
-    let alloc = rt.alloc();
-    let line = telling.line(rt, reading(rt, work.word(), script));
-    let mut reader = BufReader::new(alloc, Watched::new(file, line.as_ref(), None))?;
-    let played = work.carry_out(alloc, &mut reader, writer);
+    let line = telling.line(rt, reading(rt, how.work(), script));
+    let script = Watched::new(file, line.as_ref(), None);
+    let played = how.carry_out(rt.alloc(), script, writer);
     end(line);
-    Ok(played)
+    played
 }
 
 // runs the script over a store; the answer within tells of writes that failed
@@ -136,23 +137,31 @@ fn run_file<R: Files<File = File> + Eprint + Clock + AllocGlobal, W: Write>(
     script: &str,
     writer: &mut W,
 ) -> Result<io::Result<Status>, Fault> {
-    let alloc = rt.alloc();
     let mut disk = disk;
     let opening = Stage {
-        work: "opening",
+        work: Work::Opening,
         whole: Some(disk.store_bytes()),
     };
     let line = telling.line(rt, opening);
-    let disk = WatchedDisk::new(disk, Moved::Read, line.as_ref());
-    let ran = match File::open(rt, script) {
-        Ok(file) => {
-            let stage = reading(rt, "run", script);
-            let file = Watched::new(file, line.as_ref(), Some(stage));
-            let mut reader = BufReader::new(alloc, file)?;
-            run(alloc, disk, &mut reader, writer).1
-        }
-        Err(_) => run_unread(alloc, disk, writer).1,
-    };
+    let ran = run_watched(rt, disk, script, line.as_ref(), writer);
     end(line);
-    Ok(ran)
+    ran
+}
+
+// the same, telling of it where there is a line for that
+fn run_watched<R: Files + Eprint + Clock + AllocGlobal, D: Disk + Drop, W: Write>(
+    rt: &R,
+    disk: D,
+    script: &str,
+    line: Option<&ProgressLine<'_, R>>,
+    writer: &mut W,
+) -> Result<io::Result<Status>, Fault> {
+    let alloc = rt.alloc();
+    let disk = WatchedDisk::new(disk, Moved::Read, line);
+    let Ok(file) = File::open(rt, script) else {
+        return Ok(run_unread(alloc, disk, writer).1);
+    };
+    let file = Watched::new(file, line, Some(reading(rt, Work::Run, script)));
+    let mut reader = BufReader::new(alloc, file)?;
+    Ok(run(alloc, disk, &mut reader, writer).1)
 }

@@ -1,5 +1,5 @@
 //! What a person at a terminal sees of long work.
-use progress_line::{ProgressLine, Stage};
+use progress_line::{ProgressLine, Stage, Work};
 use std::fs;
 use std::io::{Eprint, IsTerminal};
 use std::rt::Files;
@@ -42,7 +42,7 @@ pub fn end<R: Eprint + Clock>(line: Option<ProgressLine<'_, R>>) {
 }
 
 /// The stage in which the file of this path is read.
-pub fn reading<R: Files>(rt: &R, work: &'static str, path: &str) -> Stage {
+pub fn reading<R: Files>(rt: &R, work: Work, path: &str) -> Stage {
     Stage {
         work,
         whole: length_of(rt, path),
