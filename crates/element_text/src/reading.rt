@@ -12,7 +12,7 @@ use refusals::Refusal;
 use refusals::limits::MOST_PATH_NAMES;
 use reg_names::{Name, Path, ValueName};
 use reg_tree::{Data, Element, Op, Ops};
-use std::alloc::{AllocError, Global};
+use std::alloc::Global;
 
 /// The change on one of so many hives that bytes begin with, and the bytes behind it.
 ///
@@ -147,8 +147,7 @@ fn take_value_name(alloc: Global, bytes: &[u8]) -> Result<(ValueName, &[u8]), Re
 {
     let (len, rest) = take_u16(bytes)?;
     let (text, rest) = take_bytes(rest, len as usize)?;
-    let units = units_of(alloc, text)?;
-    match Name::value(alloc, &units) {
+    match Name::value_in_bytes(alloc, text) {
         Ok(name) => Ok((name, rest)),
         Err(Refusal::NoMemory) => Err(Refusal::NoMemory),
         Err(_) => Err(Refusal::JournalDamaged),
@@ -186,7 +185,8 @@ fn take_names(alloc: Global, count: u16, bytes: &[u8]) -> Result<(Vec<Name>, &[u
     ensures keys { IfOk result (λ got. list_all is_key_name got.0.items ≡ true) }
     ensures count { IfOk result (λ got. length got.0.items ≡ count) }
 {
-    let mut names = Vec::new(alloc);
+    // each name has a byte at least
+    let mut names = Vec::with_capacity(alloc, usize::from(count).min(bytes.len()))?;
     let mut rest = bytes;
     for _taken in 0..count {
         let (name, behind) = take_key_name(alloc, rest)?;
@@ -203,21 +203,9 @@ fn take_key_name(alloc: Global, bytes: &[u8]) -> Result<(Name, &[u8]), Refusal>
 {
     let (len, rest) = take_u8(bytes)?;
     let (text, rest) = take_bytes(rest, len as usize)?;
-    let units = units_of(alloc, text)?;
-    match Name::key(alloc, &units) {
+    match Name::key_in_bytes(alloc, text) {
         Ok(name) => Ok((name, rest)),
         Err(Refusal::NoMemory) => Err(Refusal::NoMemory),
         Err(_) => Err(Refusal::JournalDamaged),
     }
-}
-
-/// Bytes as units.
-fn units_of(alloc: Global, bytes: &[u8]) -> Result<Vec<u16>, AllocError>
-    ensures { IfOk result (λ units. units.items ≡ bytes.now) }
-{
-    let mut units = Vec::with_capacity(alloc, bytes.len())?;
-    for byte in bytes {
-        units.push(u16::from(*byte))?;
-    }
-    Ok(units)
 }

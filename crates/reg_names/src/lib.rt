@@ -10,6 +10,7 @@
 
 mod name;
 mod path;
+mod units;
 
 pub use name::{Name, ValueName, folded_unit};
 pub use path::Path;

@@ -1,6 +1,5 @@
 //! Names of keys and values: lists of UTF-16 units, compared by their folded units.
 ghost use Rattle.std.specs.Prelude.{◌≡◌, List, ℕ, IfOk, true, refl};
-ghost use Rattle.std.specs.Arc.{arc_slice_items};
 ghost use Rattle.std.specs.Ordering.{eq_by_cmp, as_partial_cmp};
 ghost use Rattle.std.specs.Cmp.{eq_by_cmp_equiv, partial_equiv_from_equiv, partial_order_from_agreeing_total};
 ghost use Rattle.std.specs.Cmp.Lexicographic.{on_texts};
@@ -8,12 +7,12 @@ ghost use Rattle.reg_names.specs.Names.{fold_unit, folded, name_cmp, is_name_uni
 ghost use Rattle.refusals.specs.Answers.{IsOrNoMemory};
 
 use crate::path::SEPARATOR;
+use crate::units::Units;
 use refusals::Refusal;
 use refusals::limits::{MOST_KEY_NAME_UNITS, MOST_VALUE_NAME_UNITS};
 use std::alloc::{AllocError, Global};
 use std::cmp::Ordering;
 use std::marker::Model;
-use std::sync::ArcSlice;
 
 /// The unit with `a` to `z` replaced by `A` to `Z`; any other unit is its own fold.
 pub fn folded_unit(unit: u16) -> u16
@@ -28,16 +27,16 @@ pub fn folded_unit(unit: u16) -> u16
 /// The name of a key or a value, with its spelling. Names compare by their folded units.
 ///
 /// A name from a hive file may have any units; the calls of the project make and name only those of
-/// [`Name::key`] and [`Name::value`]. A clone shares the units.
+/// [`Name::key`] and [`Name::value`]. A name of up to 11 units takes no memory; the clones of a longer one share its units.
 #[derive(Drop)]
 pub struct Name {
-    units: ArcSlice<u16>,
+    units: Units,
 }
 
 impl Model for Name {
     ghost Value = { List ℕ };
 
-    ghost view = { λ name. arc_slice_items name.units };
+    ghost view = { λ name. name.units };
 }
 
 impl Name {
@@ -68,11 +67,36 @@ impl Name {
         }
     }
 
+    /// The key name that bytes spell, each of which is a unit. Refused as by [`Name::key`].
+    pub fn key_in_bytes(alloc: Global, bytes: &[u8]) -> Result<Name, Refusal>
+        ensures { IsOrNoMemory result (name_if (is_key_name bytes.now) bytes.now) }
+    {
+        let units = Units::widened(alloc, bytes)?;
+        if is_key_text(units.as_slice()) {
+            Ok(Name { units })
+        } else {
+            Err(Refusal::BadName)
+        }
+    }
+
+    /// The value name that bytes spell, each of which is a unit. Refused as by [`Name::value`].
+    pub fn value_in_bytes(alloc: Global, bytes: &[u8]) -> Result<ValueName, Refusal>
+        ensures { IsOrNoMemory result (name_if (is_value_name bytes.now) bytes.now) }
+    {
+        let units = Units::widened(alloc, bytes)?;
+        if is_value_text(units.as_slice()) {
+            let name = Name { units };
+            Ok(ValueName { name })
+        } else {
+            Err(Refusal::BadName)
+        }
+    }
+
     /// A name as a hive file holds it, of any units. It is refused for want of memory alone.
     pub fn stored(alloc: Global, units: &[u16]) -> Result<Name, AllocError>
         ensures { IfOk result (λ name. name ≡ units.now) }
     {
-        let units = ArcSlice::from_slice(alloc, units)?;
+        let units = Units::new(alloc, units)?;
         Ok(Name { units })
     }
 

@@ -6,12 +6,9 @@ use Rattle.std.specs.Ordering.{eq_by_cmp, is_lt}
 use Rattle.std.specs.Cmp.{tied_itself}
 use Rattle.std.specs.FinMap.Entries.{is_sorted, below_all}
 use Rattle.std.specs.declared.cmp.Ordering.TheVariants.{Less, Equal, Greater}
-use Rattle.std.specs.Arc.{arc_value}
-use Rattle.std.specs.declared.sync.Arc.{Arc}
-use Rattle.std.specs.declared.alloc.Global.{Global}
 use Rattle.shared_map.specs.declared.map.Held.{Held}
-use Rattle.shared_map.specs.declared.map.Held.TheVariants.{Empty, Few, Many}
-use Rattle.shared_map.specs.Listings.{Seen, keyed_all, leaf_entries, group_entries, held_entries, seen_entries, seen}
+use Rattle.shared_map.specs.Listings.{held_entries}
+use Rattle.shared_map.specs.Keyed.{AreKeyed, entries_keyed}
 use Rattle.reg_tree_parts.specs.Orders.{name_order}
 use Rattle.reg_tree_parts.specs.Rows.{Row}
 use Rattle.reg_tree_parts.specs.Nodes.{Entries, below, all_below, entries_of, root_name, with_entry, subkeys_of, HasSubkeys, IsNode, AreNodes}
@@ -73,27 +70,9 @@ smaller_if row ks i None e = tt
 smaller_if row ks i (Some k) e = omega (arith, subkey_smaller ks i k.now e)
 
 -- what a map lists stands under its own name
-module _ {A : Type 0} (key : A → List ℕ) where
-  abbrev Named : List (List ℕ × A) → Type 0
-  Named es = AllByRecursion (λ (e : List ℕ × A). key e.1 ≡ e.0) es
-
-  both : (xs ys : List (List ℕ × A)) → Named xs → Named ys → Named (xs ++ ys)
-  both [] ys h g = g
-  both (x ∷ xs) ys h g = (h.0, both xs ys h.1 g)
-
-  items_named : (items : List (Arc A Global)) → Named (keyed_all key items)
-  items_named [] = tt
-  items_named (x ∷ items) = (refl, items_named items)
-
-  parts_named : {P : Type 0} (list : P → List (List ℕ × A)) → ((p : P) → Named (list p)) → (parts : List (Seen P)) → Named (seen_entries list parts)
-  parts_named list each [] = tt
-  parts_named list each (part ∷ parts) = both (list part.body) (seen_entries list parts) (each part.body) (parts_named list each parts)
-
-  pub entries_named : (held : Held A) → Named (held_entries key held)
-  entries_named Empty = tt
-  entries_named (Few leaf) = items_named (arc_value leaf).items.items
-  entries_named (Many whole) =
-      parts_named (group_entries (leaf_entries key)) (λ g. parts_named (leaf_entries key) (λ l. items_named l.items.items) (map seen g.parts.items)) (map seen (arc_value (arc_value whole).body).parts.items)
+keyed_named : {A : Type 0} (key : A → List ℕ) (es : List (List ℕ × A)) → AreKeyed key es → AllByRecursion (λ (e : List ℕ × A). key e.1 ≡ e.0) es
+keyed_named key [] keyed = tt
+keyed_named key (e ∷ es) keyed = (sym keyed.0, keyed_named key es keyed.1)
 
 -- all of it, of a node's own list of subkeys
 pub has_subkeys : (row : Row) (held : Held Entries) (ks : List (List ℕ × Entries)) → ks ≡ held_entries root_name held → AreNodes ks → T (is_sorted name_order ks) → HasSubkeys (entries_of row ks) (subkeys_of (entries_of row ks))
@@ -101,5 +80,5 @@ has_subkeys row held ks is nodes h = subst (HasSubkeys (entries_of row ks)) (sym
   whole = λ other e. ap (λ r. entries_of r ks) (some_same row other e);
   nodes = nodes;
   rises = h;
-  named = subst (AllByRecursion (λ (e : List ℕ × Entries). root_name e.1 ≡ e.0)) (sym is) (entries_named root_name held);
+  named = subst (AllByRecursion (λ (e : List ℕ × Entries). root_name e.1 ≡ e.0)) (sym is) (keyed_named root_name (held_entries root_name held) (entries_keyed root_name (record { held = held })));
 })

@@ -1,5 +1,6 @@
 pub mod Orders
 pub mod Weights
+pub mod Bytes
 pub mod Rows
 pub mod Held
 pub mod ValueEdits

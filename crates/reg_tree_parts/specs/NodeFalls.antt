@@ -5,10 +5,11 @@ use denote.Param.Weighed.{most}
 use Rattle.std.specs.declared.sync.Arc.{Arc}
 use Rattle.std.specs.declared.alloc.Global.{Global}
 use Rattle.std.specs.Arc.{arc_value}
+use Rattle.shared_map.specs.declared.leaf.Leaf.{Leaf}
 use Rattle.shared_map.specs.declared.map.Held.{Held}
-use Rattle.shared_map.specs.declared.map.Held.TheVariants.{Empty, Few, Many}
+use Rattle.shared_map.specs.declared.map.Held.TheVariants.{Empty, Few, Several, Many}
 use Rattle.shared_map.specs.Listings.{held_entries, leaf_entries, group_entries}
-use Rattle.shared_map.specs.ListingFalls.{capped, most_items, most_parts}
+use Rattle.shared_map.specs.ListingFalls.{capped, capped_part, most_items, most_parts}
 use Rattle.reg_tree_parts.specs.Rows.{Row}
 use Rattle.reg_tree_parts.specs.Nodes.{Entries, below, all_below, root_name}
 use Rattle.reg_tree_parts.specs.declared.node.Node.TheDeep.{deep-Node}
@@ -26,13 +27,21 @@ most_below : (subkeys : List (List ℕ × Entries)) → most measure subkeys ≤
 most_below [] = omega arith
 most_below (k ∷ ks) = omega (arith, most_below ks, length-append (below k.0 k.1) (all_below ks), length-below k.0 k.1)
 
+-- the measure of what a leaf has
+items_fall : (leaf : Leaf Entries) → most (λ (x : Arc Entries Global). length (arc_value x) + 1) leaf.items.items ≤ most measure (leaf_entries root_name leaf)
+items_fall leaf = most_items measure root_name (λ x. length (arc_value x) + 1) (λ x. omega arith) leaf.items.items
+
 held_falls : (key : Arc Row Global) (held : Held Entries) (weight : ℕ) → deep-Node (record { key = key; subkeys = record { held = held }; weight = weight }) ≤ most measure (held_entries root_name held)
 held_falls key Empty weight = omega arith
-held_falls key (Few leaf) weight = capped (capped (capped (capped (most_items measure root_name (λ x. length (arc_value x) + 1) (λ x. omega arith) (arc_value leaf).items.items))))
+held_falls key (Few leaf) weight = capped (capped (capped (capped_part (capped (items_fall (arc_value leaf).body)))))
+held_falls key (Several group) weight =
+    capped (capped (capped (capped_part (capped (most_parts measure _ (leaf_entries root_name) (λ q. capped_part (capped (items_fall (arc_value q).body))) (arc_value group).body.parts.items)))))
 held_falls key (Many whole) weight =
-    capped (capped (capped (capped (capped (most_parts measure _ (group_entries (leaf_entries root_name))
-    (λ p. capped (capped (most_parts measure _ (leaf_entries root_name) (λ q. capped (capped (most_items measure root_name (λ x. length (arc_value x) + 1) (λ x. omega arith) (arc_value q.body).items.items))) (arc_value p.body).parts.items)))
-    (arc_value (arc_value whole).body).parts.items)))))
+    capped (capped (capped (capped_part (capped (most_parts measure _ (group_entries (group_entries (leaf_entries root_name)))
+    (λ o. capped_part (capped (most_parts measure _ (group_entries (leaf_entries root_name))
+    (λ p. capped_part (capped (most_parts measure _ (leaf_entries root_name) (λ q. capped_part (capped (items_fall (arc_value q).body))) (arc_value p).body.parts.items)))
+    (arc_value o).body.parts.items)))
+    (arc_value whole).body.parts.items)))))
 
 -- no subkey has more entries than the node
 pub node_falls : (node : Inside) → deep-Node node ≤ suc (length (all_below (held_entries root_name node.subkeys.held)))

@@ -22,7 +22,7 @@ loop-taken-preserved c =
 pub returns-in_err-name-clause-names : goal.returns-in_err-name-clause-names
 returns-in_err-name-clause-names c =
     let l = c.loop-taken in
-    let p = err_from_is_err_and c.from_residual.result c.from_residual.ensures.1 in
+    let p = err_from_is_err_and c.from_residual-in_err-name.result c.from_residual-in_err-name.ensures.1 in
     rw (p.1, p.2) (⊎_elim (λ h. inl (h.0, l.invariant.read ∙ stops key_name_at l.names.items (c.args.count - l._taken) (c.args.count - (l._taken + 1)) l.rest.now (omega arith) h.1)) (λ h. inr h) c.in_err-name.ensures.name)
 
 pub returns-clause-names : goal.returns-clause-names
