@@ -1,35 +1,38 @@
 -- Parts and groups that are added to others.
 use Rattle.std.proofs.Common.{◌≡◌, ℕ, List, [], ◌∷◌, ◌++◌, map, take, drop, refl, sym, ◌∙◌, ap, subst, append_assoc}
+use Rattle.std.specs.declared.sync.Arc.{Arc}
+use Rattle.std.specs.declared.alloc.Global.{Global}
+use Rattle.std.specs.Arc.{arc_value}
 use Rattle.shared_map.specs.declared.parts.Part.{Part}
 use Rattle.shared_map.specs.declared.parts.Group.{Group}
-use Rattle.shared_map.specs.Listings.{Seen, seen, parts_entries}
+use Rattle.shared_map.specs.Listings.{parts_entries}
 use Rattle.shared_map.specs.Parts.{AreParts, AreSums, IsMoreSums}
 use Rattle.shared_map.proofs.Halves.{map-halves}
 
-pub parts-append : {E P : Type 0} (list : P → List E) (xs ys : List (Part P)) → parts_entries list (xs ++ ys) ≡ parts_entries list xs ++ parts_entries list ys
+pub parts-append : {E P : Type 0} (list : P → List E) (xs ys : List (Arc (Part P) Global)) → parts_entries list (xs ++ ys) ≡ parts_entries list xs ++ parts_entries list ys
 parts-append list [] ys = refl
-parts-append list (x ∷ xs) ys = ap (λ es. list x.body.value ++ es) (parts-append list xs ys) ∙ sym (append_assoc (list x.body.value) (parts_entries list xs) (parts_entries list ys))
+parts-append list (x ∷ xs) ys = ap (λ es. list x.value.body ++ es) (parts-append list xs ys) ∙ sym (append_assoc (list x.value.body) (parts_entries list xs) (parts_entries list ys))
 
-pub parts_join : {A P : Type 0} (list : P → List (List ℕ × A)) (load : A → ℕ) (Fits : P → Type 0) (xs ys : List (Part P)) → AreParts list load Fits xs → AreParts list load Fits ys → AreParts list load Fits (xs ++ ys)
+pub parts_join : {A P : Type 0} (list : P → List (List ℕ × A)) (load : A → ℕ) (Fits : P → Type 0) (xs ys : List (Arc (Part P) Global)) → AreParts list load Fits xs → AreParts list load Fits ys → AreParts list load Fits (xs ++ ys)
 parts_join list load Fits [] ys f g = g
 parts_join list load Fits (x ∷ xs) ys f g = (f.0, f.1, parts_join list load Fits xs ys f.2 g)
 
 module _ {P : Type 0} where
-  sums-join : (xs ys : List (Seen P)) (ws vs : List (Part (Group P))) → AreSums xs ws → AreSums ys vs → AreSums (xs ++ ys) (ws ++ vs)
+  sums-join : (xs ys : List (Part P)) (ws vs : List (Arc (Part (Group P)) Global)) → AreSums xs ws → AreSums ys vs → AreSums (xs ++ ys) (ws ++ vs)
   sums-join xs ys [] vs f g = subst (λ zs. AreSums (zs ++ ys) vs) (sym f) g
   sums-join xs ys (w ∷ ws) vs f g =
       (f.0, (f.1.0 ++ ys, (ap (λ zs. zs ++ ys) f.1.1.0 ∙ append_assoc f.0 f.1.0 ys, (f.1.1.1.0, sums-join f.1.0 ys ws vs f.1.1.1.1 g))))
 
   -- groups of the front and then of the back of parts are groups of them all
-  pub more_join : (parts front back : List (Part P)) (h : ℕ) (old mid new : List (Part (Group P))) → front ≡ take h parts → back ≡ drop h parts → IsMoreSums (map seen front) old mid → IsMoreSums (map seen back) mid new → IsMoreSums (map seen parts) old new
+  pub more_join : (parts front back : List (Arc (Part P) Global)) (h : ℕ) (old mid new : List (Arc (Part (Group P)) Global)) → front ≡ take h parts → back ≡ drop h parts → IsMoreSums (map arc_value front) old mid → IsMoreSums (map arc_value back) mid new → IsMoreSums (map arc_value parts) old new
   more_join parts front back h old mid new f b m n = (
     m.0 ++ n.0,
     (
       n.1.0 ∙ ap (λ ws. ws ++ n.0) m.1.0 ∙ append_assoc old m.0 n.0,
-      subst (λ ss. AreSums ss (m.0 ++ n.0)) (ap (λ ps. map seen ps ++ map seen back) f ∙ ap (λ ps. map seen (take h parts) ++ map seen ps) b ∙ map-halves seen h parts) (sums-join (map seen front) (map seen back) m.0 n.0 m.1.1 n.1.1),
+      subst (λ ss. AreSums ss (m.0 ++ n.0)) (ap (λ ps. map arc_value ps ++ map arc_value back) f ∙ ap (λ ps. map arc_value (take h parts) ++ map arc_value ps) b ∙ map-halves arc_value h parts) (sums-join (map arc_value front) (map arc_value back) m.0 n.0 m.1.1 n.1.1),
     ),
   )
 
   -- groups that are added to nothing
-  pub all_sums : (parts : List (Seen P)) (old new : List (Part (Group P))) → old ≡ [] → IsMoreSums parts old new → AreSums parts new
+  pub all_sums : (parts : List (Part P)) (old new : List (Arc (Part (Group P)) Global)) → old ≡ [] → IsMoreSums parts old new → AreSums parts new
   all_sums parts old new none m = subst (AreSums parts) (sym (m.1.0 ∙ ap (λ o. o ++ m.0) none)) m.1.1

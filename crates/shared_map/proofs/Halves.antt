@@ -6,7 +6,7 @@ use Rattle.std.specs.Arc.{arc_value}
 use Rattle.shared_map.specs.declared.leaf.Leaf.{Leaf}
 use Rattle.shared_map.specs.declared.parts.Part.{Part}
 use Rattle.shared_map.specs.declared.parts.Group.{Group}
-use Rattle.shared_map.specs.Listings.{seen, keyed, keyed_all, leaf_entries, parts_entries}
+use Rattle.shared_map.specs.Listings.{keyed, keyed_all, leaf_entries, parts_entries}
 use Rattle.shared_map.specs.Parts.{IsSum, AreSums}
 use Rattle.shared_map.proofs.LeafLists.{same_entries}
 
@@ -17,26 +17,26 @@ map-halves f (suc h) (x ∷ xs) = ap (λ ys. f x ∷ ys) (map-halves f h xs)
 
 -- two leaves of the halves of a list have its entries
 pub leaf_halves : {A : Type 0} (key : A → List ℕ) (items xs ys : List (Arc A Global)) (h : ℕ) → map arc_value xs ≡ map arc_value (take h items) → map arc_value ys ≡ map arc_value (drop h items)
-    → (p q : Part (Leaf A)) → leaf_entries key (arc_value p.body) ≡ keyed_all key xs → leaf_entries key (arc_value q.body) ≡ keyed_all key ys → (made : List (Part (Leaf A))) → made ≡ p ∷ q ∷ [] → parts_entries (leaf_entries key) made ≡ keyed_all key items
+    → (p q : Arc (Part (Leaf A)) Global) → leaf_entries key ((arc_value p).body) ≡ keyed_all key xs → leaf_entries key ((arc_value q).body) ≡ keyed_all key ys → (made : List (Arc (Part (Leaf A)) Global)) → made ≡ p ∷ q ∷ [] → parts_entries (leaf_entries key) made ≡ keyed_all key items
 leaf_halves key items xs ys h front back p q ps qs made is =
     ap (parts_entries (leaf_entries key)) is
-    ∙ ap (λ es. es ++ (leaf_entries key (arc_value q.body) ++ [])) (ps ∙ same_entries key xs (take h items) front)
-    ∙ ap (λ es. keyed_all key (take h items) ++ es) (append-nil (leaf_entries key (arc_value q.body)) ∙ qs ∙ same_entries key ys (drop h items) back)
+    ∙ ap (λ es. es ++ (leaf_entries key ((arc_value q).body) ++ [])) (ps ∙ same_entries key xs (take h items) front)
+    ∙ ap (λ es. keyed_all key (take h items) ++ es) (append-nil (leaf_entries key ((arc_value q).body)) ∙ qs ∙ same_entries key ys (drop h items) back)
     ∙ map-halves (keyed key) h items
 
 -- two groups of the halves of parts take them all
-pub group_halves : {P : Type 0} (parts xs ys : List (Part P)) (h : ℕ) → map seen xs ≡ map seen (take h parts) → map seen ys ≡ map seen (drop h parts)
-    → (p q : Part (Group P)) → IsSum (map seen xs) (seen p) → IsSum (map seen ys) (seen q) → (made : List (Part (Group P))) → made ≡ p ∷ q ∷ [] → AreSums (map seen parts) made
+pub group_halves : {P : Type 0} (parts xs ys : List (Arc (Part P) Global)) (h : ℕ) → map arc_value xs ≡ map arc_value (take h parts) → map arc_value ys ≡ map arc_value (drop h parts)
+    → (p q : Arc (Part (Group P)) Global) → IsSum (map arc_value xs) (arc_value p) → IsSum (map arc_value ys) (arc_value q) → (made : List (Arc (Part (Group P)) Global)) → made ≡ p ∷ q ∷ [] → AreSums (map arc_value parts) made
 group_halves parts xs ys h front back p q ps qs made is =
-    subst (AreSums (map seen parts)) (sym is) (
-      map seen (take h parts),
+    subst (AreSums (map arc_value parts)) (sym is) (
+      map arc_value (take h parts),
       (
-        map seen (drop h parts),
+        map arc_value (drop h parts),
         (
-          sym (map-halves seen h parts),
+          sym (map-halves arc_value h parts),
           (
-            subst (λ s. IsSum s (seen p)) front ps,
-            (map seen (drop h parts), ([], (sym (append-nil (map seen (drop h parts))), (subst (λ s. IsSum s (seen q)) back qs, refl)))),
+            subst (λ s. IsSum s (arc_value p)) front ps,
+            (map arc_value (drop h parts), ([], (sym (append-nil (map arc_value (drop h parts))), (subst (λ s. IsSum s (arc_value q)) back qs, refl)))),
           ),
         ),
       ),
@@ -72,3 +72,7 @@ pub item_at : {A : Type 0} (xs : List A) (i : ℕ) → i < length xs → (x : A)
 item_at [] i lt = absurd (omega arith)
 item_at (y ∷ xs) zero lt = (y, λ d. refl)
 item_at (y ∷ xs) (suc i) lt = item_at xs i (omega arith)
+
+-- the same part holds the same
+pub same_body : {P : Type 0} (p q : Part P) → p ≡ q → p.body ≡ q.body
+same_body p q e = ap (λ (x : Part _). x.body) e

@@ -6,10 +6,10 @@ use Rattle.std.specs.Arc.{arc_value}
 use Rattle.std.specs.Option.{option_map}
 use Rattle.std.proofs.lemmas.Option.{slice_get-map, slice_get-get_or}
 use Rattle.shared_map.specs.declared.parts.Part.{Part}
-use Rattle.shared_map.specs.Listings.{Seen, seen, keyed, keyed_all, seen_entries, parts_entries}
-use Rattle.shared_map.specs.Parts.{AreSeen, AreParts, IsPart, IsNth}
+use Rattle.shared_map.specs.Listings.{keyed, keyed_all, entries_in, parts_entries}
+use Rattle.shared_map.specs.Parts.{EachIsPart, AreParts, IsPart, IsNth}
 use Rattle.shared_map.proofs.Halves.{map-around}
-use Rattle.shared_map.proofs.Steps.{seen-append, fit_front, fit_back}
+use Rattle.shared_map.proofs.Steps.{entries_in-append, fit_front, fit_back}
 use Rattle.shared_map.proofs.Sums.{counts}
 
 get-past : {X : Type 0} (xs ys : List X) (n j : ℕ) → n ≡ length xs + j → slice_get (xs ++ ys) n ≡ slice_get ys j
@@ -34,31 +34,31 @@ leaf_at key items i item below is = sym (ap (option_map (λ e. e.1)) (slice_get-
 pub leaf_past : {A : Type 0} (key : A → List ℕ) (items : List (Arc A Global)) (i : ℕ) → length items ≤ i → None ≡ option_map (λ e. e.1) (slice_get (keyed_all key items) i)
 leaf_past key items i past = sym (ap (option_map (λ e. e.1)) (slice_get-map (keyed key) items i ∙ ap (option_map (keyed key)) (past_end items i past)))
 
-module _ {A P : Type 0} (list : P → List (List ℕ × A)) (load : A → ℕ) (Fits : P → Type 0) (parts : List (Part P)) (fit : AreParts list load Fits parts) where
+module _ {A P : Type 0} (list : P → List (List ℕ × A)) (load : A → ℕ) (Fits : P → Type 0) (parts : List (Arc (Part P) Global)) (fit : AreParts list load Fits parts) where
   -- in the part that has it
-  module _ (index i j : ℕ) (place : IsNth parts index i j) (part : Part P) (is : part ≡ get_or parts i part) where
-    split : map seen parts ≡ map seen (take i parts) ++ (seen part ∷ map seen (drop (i + 1) parts))
-    split = map-around seen parts i part place.in_range is
+  module _ (index i j : ℕ) (place : IsNth parts index i j) (part : Arc (Part P) Global) (is : part ≡ get_or parts i part) where
+    split : map arc_value parts ≡ map arc_value (take i parts) ++ (arc_value part ∷ map arc_value (drop (i + 1) parts))
+    split = map-around arc_value parts i part place.in_range is
 
-    fit_split : AreSeen list load Fits (map seen (take i parts) ++ (seen part ∷ map seen (drop (i + 1) parts)))
-    fit_split = subst (AreSeen list load Fits) split fit
+    fit_split : EachIsPart list load Fits (map arc_value (take i parts) ++ (arc_value part ∷ map arc_value (drop (i + 1) parts)))
+    fit_split = subst (EachIsPart list load Fits) split fit
 
-    part_is : IsPart list load (seen part)
-    part_is = (fit_back list load Fits (map seen (take i parts)) _ fit_split).0
+    part_is : IsPart list load (arc_value part)
+    part_is = (fit_back list load Fits (map arc_value (take i parts)) _ fit_split).0
 
-    pub nth_fits : Fits (arc_value part.body)
-    nth_fits = (fit_back list load Fits (map seen (take i parts)) _ fit_split).1
+    pub nth_fits : Fits (arc_value part).body
+    nth_fits = (fit_back list load Fits (map arc_value (take i parts)) _ fit_split).1
 
-    within : j < part.count
-    within = subst (λ (p : Part P). j < p.count) (sym is) (place.within part)
+    within : j < (arc_value part).count
+    within = subst (λ (p : Arc (Part P) Global). j < (arc_value p).count) (sym is) (place.within part)
 
-    pub nth_step : slice_get (parts_entries list parts) index ≡ slice_get (list (arc_value part.body)) j
+    pub nth_step : slice_get (parts_entries list parts) index ≡ slice_get (list (arc_value part).body) j
     nth_step =
-        ap (λ ss. slice_get (seen_entries list ss) index) split
-        ∙ ap (λ es. slice_get es index) (seen-append list (map seen (take i parts)) (seen part ∷ map seen (drop (i + 1) parts)))
-        ∙ get-past (seen_entries list (map seen (take i parts))) _ index j (sym place.before ∙ ap (λ n. n + j) (counts list load Fits (map seen (take i parts)) (fit_front list load Fits (map seen (take i parts)) _ fit_split)))
-        ∙ get-front (list (arc_value part.body)) _ j (subst (λ n. j < n) part_is.count within)
+        ap (λ ss. slice_get (entries_in list ss) index) split
+        ∙ ap (λ es. slice_get es index) (entries_in-append list (map arc_value (take i parts)) (arc_value part ∷ map arc_value (drop (i + 1) parts)))
+        ∙ get-past (entries_in list (map arc_value (take i parts))) _ index j (sym place.before ∙ ap (λ n. n + j) (counts list load Fits (map arc_value (take i parts)) (fit_front list load Fits (map arc_value (take i parts)) _ fit_split)))
+        ∙ get-front (list (arc_value part).body) _ j (subst (λ n. j < n) part_is.count within)
 
   -- past the last
-  pub nth_past : (index : ℕ) → sum_by (λ (part : Seen P). part.count) (map seen parts) ≤ index → slice_get (parts_entries list parts) index ≡ None
-  nth_past index past = past_end (parts_entries list parts) index (subst (λ n. n ≤ index) (counts list load Fits (map seen parts) fit) past)
+  pub nth_past : (index : ℕ) → sum_by (λ (part : Part P). part.count) (map arc_value parts) ≤ index → slice_get (parts_entries list parts) index ≡ None
+  nth_past index past = past_end (parts_entries list parts) index (subst (λ n. n ≤ index) (counts list load Fits (map arc_value parts) fit) past)

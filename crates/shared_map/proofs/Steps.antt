@@ -5,29 +5,31 @@ use Rattle.std.specs.Ordering.{is_lt, eq_by_cmp}
 use Rattle.std.specs.FinMap.Entries.{find, put, where_key, is_sorted, below_all}
 use Rattle.std.specs.Arc.{arc_value}
 use Rattle.reg_names.specs.Names.{folded}
+use Rattle.std.specs.declared.sync.Arc.{Arc}
+use Rattle.std.specs.declared.alloc.Global.{Global}
 use Rattle.shared_map.specs.declared.parts.Part.{Part}
 use Rattle.shared_map.specs.Orders.{name_order}
-use Rattle.shared_map.specs.Listings.{Seen, seen, seen_entries, parts_entries}
-use Rattle.shared_map.specs.Parts.{StartsAt, IsPart, AreSeen, AreParts, IsPlace}
+use Rattle.shared_map.specs.Listings.{entries_in, parts_entries}
+use Rattle.shared_map.specs.Parts.{StartsAt, IsPart, EachIsPart, AreParts, IsPlace}
 use Rattle.shared_map.proofs.Names.{names_total}
 use Rattle.shared_map.proofs.SortedLists.{front_of, less_of}
 use Rattle.shared_map.proofs.Halves.{map-around, map-from, map-past, item_at}
 use Rattle.shared_map.proofs.Spans.{both, all_less, sorted_front, sorted_back, across, less_on, below_on, find_within, put_within, where_within}
 
-pub seen-append : {E P : Type 0} (list : P → List E) (xs ys : List (Seen P)) → seen_entries list (xs ++ ys) ≡ seen_entries list xs ++ seen_entries list ys
-seen-append list [] ys = refl
-seen-append list (x ∷ xs) ys = ap (λ es. list x.body ++ es) (seen-append list xs ys) ∙ sym (append_assoc (list x.body) (seen_entries list xs) (seen_entries list ys))
+pub entries_in-append : {E P : Type 0} (list : P → List E) (xs ys : List (Part P)) → entries_in list (xs ++ ys) ≡ entries_in list xs ++ entries_in list ys
+entries_in-append list [] ys = refl
+entries_in-append list (x ∷ xs) ys = ap (λ es. list x.body ++ es) (entries_in-append list xs ys) ∙ sym (append_assoc (list x.body) (entries_in list xs) (entries_in list ys))
 
 module _ {A P : Type 0} (list : P → List (List ℕ × A)) (load : A → ℕ) (Fits : P → Type 0) where
-  pub fit_join : (xs ys : List (Seen P)) → AreSeen list load Fits xs → AreSeen list load Fits ys → AreSeen list load Fits (xs ++ ys)
+  pub fit_join : (xs ys : List (Part P)) → EachIsPart list load Fits xs → EachIsPart list load Fits ys → EachIsPart list load Fits (xs ++ ys)
   fit_join [] ys f g = g
   fit_join (x ∷ xs) ys f g = (f.0, f.1, fit_join xs ys f.2 g)
 
-  pub fit_front : (xs ys : List (Seen P)) → AreSeen list load Fits (xs ++ ys) → AreSeen list load Fits xs
+  pub fit_front : (xs ys : List (Part P)) → EachIsPart list load Fits (xs ++ ys) → EachIsPart list load Fits xs
   fit_front [] ys f = tt
   fit_front (x ∷ xs) ys f = (f.0, f.1, fit_front xs ys f.2)
 
-  pub fit_back : (xs ys : List (Seen P)) → AreSeen list load Fits (xs ++ ys) → AreSeen list load Fits ys
+  pub fit_back : (xs ys : List (Part P)) → EachIsPart list load Fits (xs ++ ys) → EachIsPart list load Fits ys
   fit_back [] ys f = f
   fit_back (x ∷ xs) ys f = fit_back xs ys f.2
 
@@ -51,89 +53,89 @@ module _ {A P : Type 0} (list : P → List (List ℕ × A)) (load : A → ℕ) (
   starts-some first [] starts = absurd starts
   starts-some first (x ∷ xs) starts = omega arith
 
-  module _ (parts : List (Part P)) (fit : AreParts list load Fits parts) (sorted : T (is_sorted name_order (parts_entries list parts)))
-      (name : List ℕ) (i : ℕ) (place : IsPlace parts name i) (part : Part P) (is : part ≡ get_or parts i part) where
-    front : List (Seen P)
-    front = map seen (take i parts)
+  module _ (parts : List (Arc (Part P) Global)) (fit : AreParts list load Fits parts) (sorted : T (is_sorted name_order (parts_entries list parts)))
+      (name : List ℕ) (i : ℕ) (place : IsPlace parts name i) (part : Arc (Part P) Global) (is : part ≡ get_or parts i part) where
+    front : List (Part P)
+    front = map arc_value (take i parts)
 
-    back : List (Seen P)
-    back = map seen (drop (i + 1) parts)
+    back : List (Part P)
+    back = map arc_value (drop (i + 1) parts)
 
-    split : map seen parts ≡ front ++ (seen part ∷ back)
+    split : map arc_value parts ≡ front ++ (arc_value part ∷ back)
     unfolding front back
-    split = map-around seen parts i part place.in_range is
+    split = map-around arc_value parts i part place.in_range is
 
-    pub entries_split : parts_entries list parts ≡ seen_entries list (map seen (take i parts)) ++ (list (arc_value part.body) ++ seen_entries list (map seen (drop (i + 1) parts)))
+    pub entries_split : parts_entries list parts ≡ entries_in list (map arc_value (take i parts)) ++ (list (arc_value part).body ++ entries_in list (map arc_value (drop (i + 1) parts)))
     unfolding front back
-    entries_split = ap (seen_entries list) split ∙ seen-append list front (seen part ∷ back)
+    entries_split = ap (entries_in list) split ∙ entries_in-append list front (arc_value part ∷ back)
 
-    fit_split : AreSeen list load Fits (front ++ (seen part ∷ back))
-    fit_split = subst (AreSeen list load Fits) split fit
+    fit_split : EachIsPart list load Fits (front ++ (arc_value part ∷ back))
+    fit_split = subst (EachIsPart list load Fits) split fit
 
-    pub part_is : IsPart list load (seen part)
-    part_is = (fit_back front (seen part ∷ back) fit_split).0
+    pub part_is : IsPart list load (arc_value part)
+    part_is = (fit_back front (arc_value part ∷ back) fit_split).0
 
-    pub part_fits : Fits (arc_value part.body)
-    part_fits = (fit_back front (seen part ∷ back) fit_split).1
+    pub part_fits : Fits (arc_value part).body
+    part_fits = (fit_back front (arc_value part ∷ back) fit_split).1
 
-    pub part_some : 0 < length (list (arc_value part.body))
-    part_some = starts-some (folded part.first) (list (arc_value part.body)) part_is.first
+    pub part_some : 0 < length (list (arc_value part).body)
+    part_some = starts-some (folded (arc_value part).first) (list (arc_value part).body) part_is.first
 
-    sorted_split : T (is_sorted name_order (seen_entries list (map seen (take i parts)) ++ (list (arc_value part.body) ++ seen_entries list (map seen (drop (i + 1) parts)))))
+    sorted_split : T (is_sorted name_order (entries_in list (map arc_value (take i parts)) ++ (list (arc_value part).body ++ entries_in list (map arc_value (drop (i + 1) parts)))))
     sorted_split = subst (λ es. T (is_sorted name_order es)) entries_split sorted
 
-    pub part_sorted : T (is_sorted name_order (list (arc_value part.body)))
-    part_sorted = sorted_front name_order (list (arc_value part.body)) _ (sorted_back name_order (seen_entries list (map seen (take i parts))) _ sorted_split)
+    pub part_sorted : T (is_sorted name_order (list (arc_value part).body))
+    part_sorted = sorted_front name_order (list (arc_value part).body) _ (sorted_back name_order (entries_in list (map arc_value (take i parts))) _ sorted_split)
 
-    less : T (all_less name_order (seen_entries list (map seen (take i parts))) name)
+    less : T (all_less name_order (entries_in list (map arc_value (take i parts))) name)
     less = elim (cases_lt 0 i) [
-      | inl some ↦ after_front (seen_entries list (map seen (take i parts))) (list (arc_value part.body) ++ seen_entries list (map seen (drop (i + 1) parts))) (folded part.first) name sorted_split
-          (starts-more (folded part.first) (list (arc_value part.body)) _ part_is.first) (ap (λ (p : Part P). is_lt (name_order name (folded p.first))) is ∙ place.reached part some)
-      | inr none ↦ let zero_i : i ≡ 0 = omega arith in subst (λ n. T (all_less name_order (seen_entries list (map seen (take n parts))) name)) (sym zero_i) tt
+      | inl some ↦ after_front (entries_in list (map arc_value (take i parts))) (list (arc_value part).body ++ entries_in list (map arc_value (drop (i + 1) parts))) (folded (arc_value part).first) name sorted_split
+          (starts-more (folded (arc_value part).first) (list (arc_value part).body) _ part_is.first) (ap (λ (p : Arc (Part P) Global). is_lt (name_order name (folded (arc_value p).first))) is ∙ place.reached part some)
+      | inr none ↦ let zero_i : i ≡ 0 = omega arith in subst (λ n. T (all_less name_order (entries_in list (map arc_value (take n parts))) name)) (sym zero_i) tt
     ]
 
-    above : T (below_all name_order name (seen_entries list (map seen (drop (i + 1) parts))))
+    above : T (below_all name_order name (entries_in list (map arc_value (drop (i + 1) parts))))
     unfolding front back
     above = elim (cases_lt (i + 1) (length parts)) [
       | inl more ↦
           let next = item_at parts (i + 1) more in
-          let begins : map seen (drop (i + 1) parts) ≡ seen next.0 ∷ map seen (drop (suc (i + 1)) parts) = map-from seen parts (i + 1) next.0 more (sym (next.1 next.0)) in
-          let after : AreSeen list load Fits (seen next.0 ∷ map seen (drop (suc (i + 1)) parts)) = subst (AreSeen list load Fits) begins (back_fits) in
-          before_back (seen_entries list (map seen (drop (i + 1) parts))) (folded next.0.first) name back_sorted
-          (subst (λ ss. StartsAt (folded next.0.first) (seen_entries list ss)) (sym begins) (starts-more (folded next.0.first) (list (arc_value next.0.body)) _ after.0.first))
-          (ap (λ (p : Part P). is_lt (name_order name (folded p.first))) (sym (next.1 next.0)) ∙ place.before_next next.0 more)
-      | inr last ↦ subst (λ ss. T (below_all name_order name (seen_entries list ss))) (sym (map-past seen parts (i + 1) last)) tt
+          let begins : map arc_value (drop (i + 1) parts) ≡ arc_value next.0 ∷ map arc_value (drop (suc (i + 1)) parts) = map-from arc_value parts (i + 1) next.0 more (sym (next.1 next.0)) in
+          let after : EachIsPart list load Fits (arc_value next.0 ∷ map arc_value (drop (suc (i + 1)) parts)) = subst (EachIsPart list load Fits) begins (back_fits) in
+          before_back (entries_in list (map arc_value (drop (i + 1) parts))) (folded (arc_value next.0).first) name back_sorted
+          (subst (λ ss. StartsAt (folded (arc_value next.0).first) (entries_in list ss)) (sym begins) (starts-more (folded (arc_value next.0).first) (list (arc_value next.0).body) _ after.0.first))
+          (ap (λ (p : Arc (Part P) Global). is_lt (name_order name (folded (arc_value p).first))) (sym (next.1 next.0)) ∙ place.before_next next.0 more)
+      | inr last ↦ subst (λ ss. T (below_all name_order name (entries_in list ss))) (sym (map-past arc_value parts (i + 1) last)) tt
     ]
       where
-        back_fits : AreSeen list load Fits (map seen (drop (i + 1) parts))
-        back_fits = (fit_back front (seen part ∷ back) fit_split).2
+        back_fits : EachIsPart list load Fits (map arc_value (drop (i + 1) parts))
+        back_fits = (fit_back front (arc_value part ∷ back) fit_split).2
 
-        back_sorted : T (is_sorted name_order (seen_entries list (map seen (drop (i + 1) parts))))
-        back_sorted = sorted_back name_order (list (arc_value part.body)) _ (sorted_back name_order (seen_entries list (map seen (take i parts))) _ sorted_split)
+        back_sorted : T (is_sorted name_order (entries_in list (map arc_value (drop (i + 1) parts))))
+        back_sorted = sorted_back name_order (list (arc_value part).body) _ (sorted_back name_order (entries_in list (map arc_value (take i parts))) _ sorted_split)
 
     -- the part decides what is found
-    pub find_step : find name_order name (parts_entries list parts) ≡ find name_order name (list (arc_value part.body))
+    pub find_step : find name_order name (parts_entries list parts) ≡ find name_order name (list (arc_value part).body)
     find_step = ap (find name_order name) entries_split ∙ find_within name_order names_total name _ _ _ less above
 
-    module _ (new made : List (Seen P)) (spliced : made ≡ map seen (take i parts) ++ (new ++ map seen (drop (i + 1) parts))) where
-      made_entries : seen_entries list made ≡ seen_entries list (map seen (take i parts)) ++ (seen_entries list new ++ seen_entries list (map seen (drop (i + 1) parts)))
+    module _ (new made : List (Part P)) (spliced : made ≡ map arc_value (take i parts) ++ (new ++ map arc_value (drop (i + 1) parts))) where
+      made_entries : entries_in list made ≡ entries_in list (map arc_value (take i parts)) ++ (entries_in list new ++ entries_in list (map arc_value (drop (i + 1) parts)))
       made_entries =
-          ap (seen_entries list) spliced ∙ seen-append list (map seen (take i parts)) (new ++ map seen (drop (i + 1) parts))
-          ∙ ap (λ es. seen_entries list (map seen (take i parts)) ++ es) (seen-append list new (map seen (drop (i + 1) parts)))
+          ap (entries_in list) spliced ∙ entries_in-append list (map arc_value (take i parts)) (new ++ map arc_value (drop (i + 1) parts))
+          ∙ ap (λ es. entries_in list (map arc_value (take i parts)) ++ es) (entries_in-append list new (map arc_value (drop (i + 1) parts)))
 
       -- what is put into the part is put into the whole
-      pub put_step : (v : A) → seen_entries list new ≡ put name_order name v (list (arc_value part.body)) → seen_entries list made ≡ put name_order name v (parts_entries list parts)
+      pub put_step : (v : A) → entries_in list new ≡ put name_order name v (list (arc_value part).body) → entries_in list made ≡ put name_order name v (parts_entries list parts)
       put_step v is_put =
-          made_entries ∙ ap (λ es. seen_entries list (map seen (take i parts)) ++ (es ++ seen_entries list (map seen (drop (i + 1) parts)))) is_put
+          made_entries ∙ ap (λ es. entries_in list (map arc_value (take i parts)) ++ (es ++ entries_in list (map arc_value (drop (i + 1) parts)))) is_put
           ∙ sym (ap (put name_order name v) entries_split ∙ put_within name_order names_total name _ _ _ less above v)
 
       -- what is taken out of the part is taken out of the whole
-      pub where_step : seen_entries list new ≡ where_key name_order (λ x. not (eq_by_cmp name_order name x)) (list (arc_value part.body)) → seen_entries list made ≡ where_key name_order (λ x. not (eq_by_cmp name_order name x)) (parts_entries list parts)
+      pub where_step : entries_in list new ≡ where_key name_order (λ x. not (eq_by_cmp name_order name x)) (list (arc_value part).body) → entries_in list made ≡ where_key name_order (λ x. not (eq_by_cmp name_order name x)) (parts_entries list parts)
       where_step is_taken =
-          made_entries ∙ ap (λ es. seen_entries list (map seen (take i parts)) ++ (es ++ seen_entries list (map seen (drop (i + 1) parts)))) is_taken
+          made_entries ∙ ap (λ es. entries_in list (map arc_value (take i parts)) ++ (es ++ entries_in list (map arc_value (drop (i + 1) parts)))) is_taken
           ∙ sym (ap (where_key name_order (λ x. not (eq_by_cmp name_order name x))) entries_split ∙ where_within name_order names_total name _ _ _ less above)
 
       -- and the parts stay parts
-      pub fit_step : AreSeen list load Fits new → AreSeen list load Fits made
+      pub fit_step : EachIsPart list load Fits new → EachIsPart list load Fits made
       unfolding front back
-      fit_step fits = subst (AreSeen list load Fits) (sym spliced) (fit_join front (new ++ back) (fit_front front (seen part ∷ back) fit_split) (fit_join new back fits (fit_back front (seen part ∷ back) fit_split).2))
+      fit_step fits = subst (EachIsPart list load Fits) (sym spliced) (fit_join front (new ++ back) (fit_front front (arc_value part ∷ back) fit_split) (fit_join new back fits (fit_back front (arc_value part ∷ back) fit_split).2))

@@ -2,59 +2,66 @@
 use Rattle.std.proofs.Common.{◌≡◌, ℕ, ◌+◌, ◌<◌, List, [], ◌∷◌, ◌++◌, length, min, sum_by, get_or, refl, sym, ◌∙◌, ap, subst, arith, length-append}
 use Rattle.std.proofs.lemmas.List.Sums.{sum_by-append, sum_by-cons}
 use Rattle.reg_names.specs.Names.{folded}
+use Rattle.std.specs.declared.sync.Arc.{Arc}
+use Rattle.std.specs.declared.alloc.Global.{Global}
+use Rattle.std.specs.Arc.{arc_value}
 use Rattle.shared_map.specs.declared.parts.Part.{Part}
 use Rattle.shared_map.specs.declared.parts.Group.{Group}
-use Rattle.shared_map.specs.Listings.{Seen, seen, seen_entries, parts_entries, group_entries}
-use Rattle.shared_map.specs.Parts.{StartsAt, load_of, IsPart, AreSeen, AreParts, FitsGroup, IsSum, AreSums}
-use Rattle.shared_map.proofs.Steps.{seen-append, fit_front, fit_back}
+use Rattle.shared_map.specs.Listings.{entries_in, parts_entries, group_entries}
+use Rattle.shared_map.specs.Parts.{StartsAt, load_of, IsPart, EachIsPart, AreParts, FitsGroup, IsSum, AreSums}
+use Rattle.shared_map.proofs.Steps.{entries_in-append, fit_front, fit_back}
 
 least_twice : (a b m : ℕ) → min (min a m + min b m) m ≡ min (a + b) m
 least_twice a b m = omega arith
 
 module _ {A P : Type 0} (list : P → List (List ℕ × A)) (load : A → ℕ) (Fits : P → Type 0) where
   -- the counts of parts are the number of their entries
-  pub counts : (parts : List (Seen P)) → AreSeen list load Fits parts → sum_by (λ part. part.count) parts ≡ length (seen_entries list parts)
+  pub counts : (parts : List (Part P)) → EachIsPart list load Fits parts → sum_by (λ part. part.count) parts ≡ length (entries_in list parts)
   counts [] fit = refl
-  counts (part ∷ parts) fit = omega (arith, sum_by-cons (λ (p : Seen P). p.count) part parts, fit.0.count, counts parts fit.2, length-append (list part.body) (seen_entries list parts))
+  counts (part ∷ parts) fit = omega (arith, sum_by-cons (λ (p : Part P). p.count) part parts, fit.0.count, counts parts fit.2, length-append (list part.body) (entries_in list parts))
 
   -- and their weights, as far as 64 bits hold them, the weight of their entries
-  weights : (parts : List (Seen P)) → AreSeen list load Fits parts → min (sum_by (λ part. part.weight) parts) 18446744073709551615 ≡ min (load_of load (seen_entries list parts)) 18446744073709551615
+  weights : (parts : List (Part P)) → EachIsPart list load Fits parts → min (sum_by (λ part. part.weight) parts) 18446744073709551615 ≡ min (load_of load (entries_in list parts)) 18446744073709551615
   weights [] fit = refl
   weights (part ∷ parts) fit =
-      omega (arith, sum_by-cons (λ (p : Seen P). p.weight) part parts, fit.0.weighs, weights parts fit.2, sum_by-append (λ (e : List ℕ × A). load e.1) (list part.body) (seen_entries list parts))
+      omega (arith, sum_by-cons (λ (p : Part P). p.weight) part parts, fit.0.weighs, weights parts fit.2, sum_by-append (λ (e : List ℕ × A). load e.1) (list part.body) (entries_in list parts))
 
-  begins_at : (parts : List (Seen P)) (first : List ℕ) → AreSeen list load Fits parts → 0 < length parts → ((d : Seen P) → let part = get_or parts 0 d in first ≡ part.first) → StartsAt (folded first) (seen_entries list parts)
+  begins_at : (parts : List (Part P)) (first : List ℕ) → EachIsPart list load Fits parts → 0 < length parts → ((d : Part P) → let part = get_or parts 0 d in first ≡ part.first) → StartsAt (folded first) (entries_in list parts)
   begins_at [] first fit some begins = absurd (omega arith)
   begins_at (part ∷ parts) first fit some begins = more (list part.body) (subst (λ f. StartsAt (folded f) (list part.body)) (sym (begins part)) fit.0.first)
     where
-      more : (xs : List (List ℕ × A)) → StartsAt (folded first) xs → StartsAt (folded first) (xs ++ seen_entries list parts)
+      more : (xs : List (List ℕ × A)) → StartsAt (folded first) xs → StartsAt (folded first) (xs ++ entries_in list parts)
       more [] starts = absurd starts
       more (x ∷ xs) starts = starts
 
   -- a group of parts is a part, which lists what they list
-  pub sum_part : (parts : List (Seen P)) (whole : Seen (Group P)) → AreSeen list load Fits parts → IsSum parts whole → IsPart (group_entries list) load whole
+  pub sum_part : (parts : List (Part P)) (whole : Part (Group P)) → EachIsPart list load Fits parts → IsSum parts whole → IsPart (group_entries list) load whole
   sum_part parts whole fit sum =
-      let same : group_entries list whole.body ≡ seen_entries list parts = ap (seen_entries list) sum.same in
+      let same : group_entries list whole.body ≡ entries_in list parts = ap (entries_in list) sum.same in
       record {
         first = subst (StartsAt (folded whole.first)) (sym same) (begins_at parts whole.first fit sum.some sum.begins);
         count = sum.count ∙ counts parts fit ∙ ap length (sym same);
         weighs = sum.weighs ∙ weights parts fit ∙ ap (λ es. min (load_of load es) 18446744073709551615) (sym same);
       }
 
-  pub sum_fits : (parts : List (Seen P)) (whole : Seen (Group P)) → AreSeen list load Fits parts → IsSum parts whole → FitsGroup list load Fits whole.body
-  sum_fits parts whole fit sum = subst (AreSeen list load Fits) (sym sum.same) fit
+  pub sum_fits : (parts : List (Part P)) (whole : Part (Group P)) → EachIsPart list load Fits parts → IsSum parts whole → FitsGroup list load Fits whole.body
+  sum_fits parts whole fit sum = subst (EachIsPart list load Fits) (sym sum.same) fit
 
-  pub sums_entries : (parts : List (Seen P)) (wholes : List (Part (Group P))) → AreSums parts wholes → parts_entries (group_entries list) wholes ≡ seen_entries list parts
-  sums_entries parts [] sums = ap (seen_entries list) (sym sums)
+  -- both
+  pub sum_held : (parts : List (Part P)) (whole : Part (Group P)) → EachIsPart list load Fits parts → IsSum parts whole → IsPart (group_entries list) load whole × FitsGroup list load Fits whole.body
+  sum_held parts whole fit sum = (sum_part parts whole fit sum, sum_fits parts whole fit sum)
+
+  pub sums_entries : (parts : List (Part P)) (wholes : List (Arc (Part (Group P)) Global)) → AreSums parts wholes → parts_entries (group_entries list) wholes ≡ entries_in list parts
+  sums_entries parts [] sums = ap (entries_in list) (sym sums)
   sums_entries parts (whole ∷ wholes) sums =
-      let sum : IsSum sums.0 (seen whole) = sums.1.1.1.0 in
-      ap (λ es. es ++ parts_entries (group_entries list) wholes) (ap (seen_entries list) sum.same)
-      ∙ ap (λ es. seen_entries list sums.0 ++ es) (sums_entries sums.1.0 wholes sums.1.1.1.1)
-      ∙ sym (ap (seen_entries list) sums.1.1.0 ∙ seen-append list sums.0 sums.1.0)
+      let sum : IsSum sums.0 (arc_value whole) = sums.1.1.1.0 in
+      ap (λ es. es ++ parts_entries (group_entries list) wholes) (ap (entries_in list) sum.same)
+      ∙ ap (λ es. entries_in list sums.0 ++ es) (sums_entries sums.1.0 wholes sums.1.1.1.1)
+      ∙ sym (ap (entries_in list) sums.1.1.0 ∙ entries_in-append list sums.0 sums.1.0)
 
-  pub sums_fit : (parts : List (Seen P)) (wholes : List (Part (Group P))) → AreSeen list load Fits parts → AreSums parts wholes → AreParts (group_entries list) load (FitsGroup list load Fits) wholes
+  pub sums_fit : (parts : List (Part P)) (wholes : List (Arc (Part (Group P)) Global)) → EachIsPart list load Fits parts → AreSums parts wholes → AreParts (group_entries list) load (FitsGroup list load Fits) wholes
   sums_fit parts [] fit sums = tt
   sums_fit parts (whole ∷ wholes) fit sums =
-      let split : AreSeen list load Fits (sums.0 ++ sums.1.0) = subst (AreSeen list load Fits) sums.1.1.0 fit in
+      let split : EachIsPart list load Fits (sums.0 ++ sums.1.0) = subst (EachIsPart list load Fits) sums.1.1.0 fit in
       let front = fit_front list load Fits sums.0 sums.1.0 split in
-      (sum_part sums.0 (seen whole) front sums.1.1.1.0, sum_fits sums.0 (seen whole) front sums.1.1.1.0, sums_fit sums.1.0 wholes (fit_back list load Fits sums.0 sums.1.0 split) sums.1.1.1.1)
+      (sum_part sums.0 (arc_value whole) front sums.1.1.1.0, sum_fits sums.0 (arc_value whole) front sums.1.1.1.0, sums_fit sums.1.0 wholes (fit_back list load Fits sums.0 sums.1.0 split) sums.1.1.1.1)

@@ -7,7 +7,7 @@ use Rattle.shared_map.specs.declared.leaf.Leaf.{Leaf}
 use Rattle.shared_map.specs.declared.parts.Part.{Part}
 use Rattle.shared_map.specs.declared.parts.Group.{Group}
 use Rattle.shared_map.specs.declared.map.Held.{Held}
-use Rattle.shared_map.specs.declared.map.Held.TheVariants.{Empty, Few, Many}
+use Rattle.shared_map.specs.declared.map.Held.TheVariants.{Empty, Few, Several, Many}
 use Rattle.shared_map.specs.declared.map.SharedMap.{SharedMap}
 
 -- an entry: a shared thing under its folded name
@@ -22,23 +22,14 @@ keyed_all key items = map (keyed key) items
 abbrev pub leaf_entries : {A : Type 0} → (A → List ℕ) → Leaf A → List (List ℕ × A)
 leaf_entries key leaf = keyed_all key leaf.items.items
 
--- what a part is, whoever else shares its body: what it holds, the name it begins at, and its count and weight
-pub record Seen (P : Type 0) : Type 0 where
-  pub body : P
-  pub first : List ℕ
-  pub count : ℕ
-  pub weight : ℕ
-
-abbrev pub seen : {P : Type 0} → Part P → Seen P
-seen part = record { body = arc_value part.body; first = part.first; count = part.count; weight = part.weight }
-
 -- the entries of parts, one after the other
-abbrev pub seen_entries : {E P : Type 0} → (P → List E) → List (Seen P) → List E
-seen_entries list [] = []
-seen_entries list (part ∷ parts) = list part.body ++ seen_entries list parts
+abbrev pub entries_in : {E P : Type 0} → (P → List E) → List (Part P) → List E
+entries_in list [] = []
+entries_in list (part ∷ parts) = list part.body ++ entries_in list parts
 
-abbrev pub parts_entries : {E P : Type 0} → (P → List E) → List (Part P) → List E
-parts_entries list parts = seen_entries list (map seen parts)
+-- the entries of shared parts
+abbrev pub parts_entries : {E P : Type 0} → (P → List E) → List (Arc (Part P) Global) → List E
+parts_entries list parts = entries_in list (map arc_value parts)
 
 -- the entries of a group of parts
 abbrev pub group_entries : {E P : Type 0} → (P → List E) → Group P → List E
@@ -47,8 +38,9 @@ group_entries list group = parts_entries list group.parts.items
 -- the entries of what a map holds
 abbrev pub held_entries : {A : Type 0} → (A → List ℕ) → Held A → List (List ℕ × A)
 held_entries key Empty = []
-held_entries key (Few leaf) = leaf_entries key (arc_value leaf)
-held_entries key (Many whole) = group_entries (group_entries (leaf_entries key)) (arc_value (arc_value whole).body)
+held_entries key (Few leaf) = leaf_entries key (arc_value leaf).body
+held_entries key (Several group) = group_entries (leaf_entries key) (arc_value group).body
+held_entries key (Many whole) = group_entries (group_entries (group_entries (leaf_entries key))) (arc_value whole).body
 
 -- the entries of a map, by the names of what it lists
 abbrev pub entries : {A : Type 0} → (A → List ℕ) → SharedMap A → List (List ℕ × A)

@@ -7,10 +7,11 @@ ghost use Rattle.std.specs.Ordering.{eq_by_cmp};
 ghost use Rattle.reg_names.specs.Names.{folded};
 ghost use Rattle.shared_map.specs.Orders.{name_order};
 ghost use Rattle.shared_map.specs.Searches.{IsFound, IsGap};
-ghost use Rattle.shared_map.specs.Listings.{seen, keyed_all, leaf_entries, parts_entries};
+ghost use Rattle.shared_map.specs.Listings.{keyed_all, leaf_entries, parts_entries};
 ghost use Rattle.shared_map.specs.Parts.{IsPart, AreParts, FitsLeaf, load_of};
 
 use crate::parts::Part;
+use crate::piece::Piece;
 use reg_names::Name;
 use std::alloc::{AllocError, Global};
 use std::cmp::Ordering;
@@ -39,7 +40,7 @@ pub struct Leaf<E> {
 }
 
 /// The most entries of a leaf.
-const MOST_ENTRIES: usize = 32;
+const MOST_ENTRIES: usize = 16;
 
 impl<E: Listed> Leaf<E> {
     // a leaf of these entries
@@ -49,85 +50,6 @@ impl<E: Listed> Leaf<E> {
     {
         let weight = weight_of(&items);
         Leaf { items, weight }
-    }
-
-    /// A leaf of nothing.
-    pub(crate) fn empty(alloc: Global) -> Leaf<E>
-        ensures { leaf_entries E.key result ≡ [] }
-    {
-        Leaf {
-            items: Vec::new(alloc),
-            weight: 0,
-        }
-    }
-
-    /// How many entries there are.
-    pub(crate) fn len(&self) -> usize
-        ensures { result ≡ length (leaf_entries E.key self.now) }
-    {
-        self.items.len()
-    }
-
-    /// The weight of the entries together.
-    pub(crate) fn weight(&self) -> u64
-        requires { FitsLeaf E.key E.load self.now }
-        ensures { result ≡ min (load_of E.load (leaf_entries E.key self.now)) u64.MAX }
-    {
-        self.weight
-    }
-
-    /// The entry of this name.
-    pub(crate) fn find(&self, name: &Name) -> Option<&E>
-        requires { T (is_sorted name_order (leaf_entries E.key self.now)) }
-        ensures found { option_copied result
-            ≡ find name_order (folded name.now) (leaf_entries E.key self.now) }
-        ensures named { IfSome result (λ entry. E.key entry.now ≡ folded name.now) }
-    {
-        match search(&self.items, name) {
-            Ok(at) => Some(&*self.items[at]),
-            Err(_) => None,
-        }
-    }
-
-    /// The entry at this index.
-    pub(crate) fn at(&self, index: usize) -> Option<&E>
-        ensures { option_copied result
-            ≡ option_map (λ e. e.1) (slice_get (leaf_entries E.key self.now) index) }
-    {
-        if index < self.items.len() {
-            Some(&*self.items[index])
-        } else {
-            None
-        }
-    }
-
-    /// The parts of the entries with this one in the place of its name.
-    pub(crate) fn with(&self, alloc: Global, new: Arc<E>) -> Result<Vec<Part<Leaf<E>>>, AllocError>
-        requires { T (is_sorted name_order (leaf_entries E.key self.now)) }
-        ensures entries { IfOk result (λ made. parts_entries (leaf_entries E.key) made.items
-            ≡ put name_order (E.key new.value) new.value (leaf_entries E.key self.now)) }
-        ensures parts { IfOk result (λ made. AreParts (leaf_entries E.key) E.load (FitsLeaf E.key
-            E.load) made.items) }
-    {
-        let items = self.with_item(alloc, new)?;
-        leaf_parts(alloc, items)
-    }
-
-    /// The parts of the entries without the one of this name.
-    pub(crate) fn without(
-        &self,
-        alloc: Global,
-        name: &Name,
-    ) -> Result<Vec<Part<Leaf<E>>>, AllocError>
-        requires { T (is_sorted name_order (leaf_entries E.key self.now)) }
-        ensures entries { IfOk result (λ made. parts_entries (leaf_entries E.key) made.items
-            ≡ where_key name_order (λ key. not (eq_by_cmp name_order (folded name.now) key))
-            (leaf_entries E.key self.now)) }
-        ensures parts { IfOk result (λ made. AreParts (leaf_entries E.key) E.load (FitsLeaf E.key
-            E.load) made.items) }
-    {
-        let items = self.without_item(alloc, name)?;
-        leaf_parts(alloc, items)
     }
 
     // the entries with this one in the place of its name
@@ -166,11 +88,59 @@ impl<E: Listed> Leaf<E> {
     }
 }
 
+impl<E: Listed> Piece<E> for Leaf<E> {
+    ghost list = { leaf_entries E.key };
+
+    ghost Fits = { FitsLeaf E.key E.load };
+
+    fn find(&self, name: &Name) -> Option<&E> {
+        match search(&self.items, name) {
+            Ok(at) => Some(&*self.items[at]),
+            Err(_) => None,
+        }
+    }
+
+    fn at(&self, index: usize) -> Option<&E> {
+        if index < self.items.len() {
+            Some(&*self.items[index])
+        } else {
+            None
+        }
+    }
+
+    fn with(&self, alloc: Global, new: Arc<E>) -> Result<Vec<Arc<Part<Leaf<E>>>>, AllocError>
+        requires fits { FitsLeaf E.key E.load self.now }
+        requires sorted { T (is_sorted name_order (leaf_entries E.key self.now)) }
+        requires some { 0 < length (leaf_entries E.key self.now) }
+        ensures entries { IfOk result (λ made. parts_entries (leaf_entries E.key) made.items
+            ≡ put name_order (E.key new.value) new.value (leaf_entries E.key self.now)) }
+        ensures parts { IfOk result (λ made. AreParts (leaf_entries E.key) E.load (FitsLeaf E.key
+            E.load) made.items) }
+    {
+        let items = self.with_item(alloc, new)?;
+        leaf_parts(alloc, items)
+    }
+
+    fn without(&self, alloc: Global, name: &Name) -> Result<Vec<Arc<Part<Leaf<E>>>>, AllocError>
+        requires fits { FitsLeaf E.key E.load self.now }
+        requires sorted { T (is_sorted name_order (leaf_entries E.key self.now)) }
+        requires some { 0 < length (leaf_entries E.key self.now) }
+        ensures entries { IfOk result (λ made. parts_entries (leaf_entries E.key) made.items
+            ≡ where_key name_order (λ key. not (eq_by_cmp name_order (folded name.now) key))
+            (leaf_entries E.key self.now)) }
+        ensures parts { IfOk result (λ made. AreParts (leaf_entries E.key) E.load (FitsLeaf E.key
+            E.load) made.items) }
+    {
+        let items = self.without_item(alloc, name)?;
+        leaf_parts(alloc, items)
+    }
+}
+
 /// The parts of these entries: none, one leaf, or two halves.
 pub(crate) fn leaf_parts<E: Listed>(
     alloc: Global,
     items: Vec<Arc<E>>,
-) -> Result<Vec<Part<Leaf<E>>>, AllocError>
+) -> Result<Vec<Arc<Part<Leaf<E>>>>, AllocError>
     ensures entries { IfOk result (λ made. parts_entries (leaf_entries E.key) made.items
         ≡ keyed_all E.key items.items) }
     ensures parts { IfOk result (λ made. AreParts (leaf_entries E.key) E.load (FitsLeaf E.key
@@ -190,11 +160,26 @@ pub(crate) fn leaf_parts<E: Listed>(
     Ok(made)
 }
 
+/// The parts of this entry alone.
+pub(crate) fn one_leaf<E: Listed>(
+    alloc: Global,
+    new: Arc<E>,
+) -> Result<Vec<Arc<Part<Leaf<E>>>>, AllocError>
+    ensures entries { IfOk result (λ made. parts_entries (leaf_entries E.key) made.items
+        ≡ (E.key new.value, new.value) ∷ []) }
+    ensures parts { IfOk result (λ made. AreParts (leaf_entries E.key) E.load (FitsLeaf E.key
+        E.load) made.items) }
+{
+    let mut items = Vec::new(alloc);
+    items.push(new)?;
+    leaf_parts(alloc, items)
+}
+
 /// Adds the leaves of these entries.
 pub(crate) fn add_leaves<E: Listed>(
     alloc: Global,
     items: &[Arc<E>],
-    made: &mut Vec<Part<Leaf<E>>>,
+    made: &mut Vec<Arc<Part<Leaf<E>>>>,
 ) -> Result<(), AllocError>
     requires { AreParts (leaf_entries E.key) E.load (FitsLeaf E.key E.load) made.old.items }
     ensures entries { OnOk result (parts_entries (leaf_entries E.key) made.new.items
@@ -216,18 +201,19 @@ pub(crate) fn add_leaves<E: Listed>(
 }
 
 // the part of a leaf of these entries
-fn leaf_part<E: Listed>(alloc: Global, items: Vec<Arc<E>>) -> Result<Part<Leaf<E>>, AllocError>
+fn leaf_part<E: Listed>(alloc: Global, items: Vec<Arc<E>>) -> Result<Arc<Part<Leaf<E>>>, AllocError>
     requires { 0 < length items.items }
-    ensures entries { IfOk result (λ part. leaf_entries E.key (arc_value part.body)
+    ensures entries { IfOk result (λ part. leaf_entries E.key (arc_value part).body
         ≡ keyed_all E.key items.items) }
-    ensures part { IfOk result (λ part. IsPart (leaf_entries E.key) E.load (seen part)) }
-    ensures fits { IfOk result (λ part. FitsLeaf E.key E.load (arc_value part.body)) }
+    ensures part { IfOk result (λ part. IsPart (leaf_entries E.key) E.load (arc_value part)) }
+    ensures fits { IfOk result (λ part. FitsLeaf E.key E.load (arc_value part).body) }
 {
     let first = items[0].name().clone()?;
     let count = items.len();
     let leaf = Leaf::new(items);
     let weight = leaf.weight;
-    Ok(Part::new(Arc::new(alloc, leaf)?, first, count, weight))
+    let part = Arc::new(alloc, Part::new(leaf, first, count, weight))?;
+    Ok(part)
 }
 
 // the weight of these entries together

@@ -4,6 +4,7 @@
 mod leaf;
 mod map;
 mod parts;
+mod piece;
 
 pub use leaf::{Leaf, Listed};
 pub use map::SharedMap;

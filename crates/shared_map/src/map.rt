@@ -1,4 +1,4 @@
-//! The map: a leaf, or groups of groups of leaves.
+//! The map: a leaf, a group of leaves, or groups of groups of groups of leaves.
 ghost use Rattle.std.specs.Prelude.{◌≡◌, ℕ, T, not, ◌<◌, List, [], min, length, IfOk, IfSome, map, slice_get};
 ghost use Rattle.std.specs.Option.{option_copied, option_map};
 ghost use Rattle.std.specs.FinMap.Entries.{find, is_sorted, put, where_key};
@@ -8,8 +8,9 @@ ghost use Rattle.shared_map.specs.Orders.{name_order};
 ghost use Rattle.shared_map.specs.Listings.{entries, keyed_all, leaf_entries, group_entries, parts_entries};
 ghost use Rattle.shared_map.specs.Parts.{load_of, AreParts, FitsLeaf, FitsGroup, FitsMap};
 
-use crate::leaf::{Leaf, Listed, add_leaves};
-use crate::parts::{Group, Part, add_groups, group_part, group_parts, nth, place, spliced};
+use crate::leaf::{Leaf, Listed, add_leaves, one_leaf};
+use crate::parts::{Group, MOST_PARTS, Part, group_part, grouped};
+use crate::piece::{Piece, with_in, without_in};
 use reg_names::Name;
 use std::alloc::{AllocError, Global};
 use std::sync::Arc;
@@ -23,8 +24,9 @@ pub struct SharedMap<E> {
 #[derive(Drop)]
 enum Held<E> {
     Empty,
-    Few(Arc<Leaf<E>>),
-    Many(Arc<Part<Group<Group<Leaf<E>>>>>),
+    Few(Arc<Part<Leaf<E>>>),
+    Several(Arc<Part<Group<Leaf<E>>>>),
+    Many(Arc<Part<Group<Group<Group<Leaf<E>>>>>>),
 }
 
 impl<E: Listed> SharedMap<E> {
@@ -48,6 +50,10 @@ impl<E: Listed> SharedMap<E> {
                 let held = Held::Few(leaf.clone()?);
                 Ok(SharedMap { held })
             }
+            Held::Several(group) => {
+                let held = Held::Several(group.clone()?);
+                Ok(SharedMap { held })
+            }
             Held::Many(whole) => {
                 let held = Held::Many(whole.clone()?);
                 Ok(SharedMap { held })
@@ -62,7 +68,8 @@ impl<E: Listed> SharedMap<E> {
     {
         match &self.held {
             Held::Empty => 0,
-            Held::Few(leaf) => leaf.len(),
+            Held::Few(leaf) => leaf.count(),
+            Held::Several(group) => group.count(),
             Held::Many(whole) => whole.count(),
         }
     }
@@ -75,6 +82,7 @@ impl<E: Listed> SharedMap<E> {
         match &self.held {
             Held::Empty => 0,
             Held::Few(leaf) => leaf.weight(),
+            Held::Several(group) => group.weight(),
             Held::Many(whole) => whole.weight(),
         }
     }
@@ -89,8 +97,9 @@ impl<E: Listed> SharedMap<E> {
     {
         match &self.held {
             Held::Empty => None,
-            Held::Few(leaf) => leaf.find(name),
-            Held::Many(whole) => find_in_whole(whole.body(), name),
+            Held::Few(leaf) => leaf.body().find(name),
+            Held::Several(group) => group.body().find(name),
+            Held::Many(whole) => whole.body().find(name),
         }
     }
 
@@ -101,8 +110,9 @@ impl<E: Listed> SharedMap<E> {
     {
         match &self.held {
             Held::Empty => None,
-            Held::Few(leaf) => leaf.at(index),
-            Held::Many(whole) => at_in_whole(whole.body(), index),
+            Held::Few(leaf) => leaf.body().at(index),
+            Held::Several(group) => group.body().at(index),
+            Held::Many(whole) => whole.body().at(index),
         }
     }
 
@@ -113,13 +123,7 @@ impl<E: Listed> SharedMap<E> {
     {
         let mut leaves = Vec::new(alloc);
         add_leaves(alloc, &items, &mut leaves)?;
-        if leaves.len() == 1 {
-            let made = of_leaves(alloc, leaves)?;
-            return Ok(made);
-        }
-        let mut groups = Vec::new(alloc);
-        add_groups(alloc, &leaves, &mut groups)?;
-        let made = of_groups(alloc, groups)?;
+        let made = of_leaves(alloc, leaves)?;
         Ok(made)
     }
 
@@ -132,9 +136,10 @@ impl<E: Listed> SharedMap<E> {
         ensures fits { IfOk result (FitsMap E.key E.load) }
     {
         match &self.held {
-            Held::Empty => of_leaves(alloc, Leaf::empty(alloc).with(alloc, new)?),
-            Held::Few(leaf) => of_leaves(alloc, leaf.with(alloc, new)?),
-            Held::Many(whole) => of_groups(alloc, with_in_whole(alloc, whole.body(), new)?),
+            Held::Empty => of_leaves(alloc, one_leaf(alloc, new)?),
+            Held::Few(leaf) => of_leaves(alloc, leaf.body().with(alloc, new)?),
+            Held::Several(group) => of_leaves(alloc, with_in(alloc, group.body().parts(), new)?),
+            Held::Many(whole) => of_clusters(alloc, with_in(alloc, whole.body().parts(), new)?),
         }
     }
 
@@ -148,201 +153,61 @@ impl<E: Listed> SharedMap<E> {
     {
         match &self.held {
             Held::Empty => Ok(SharedMap { held: Held::Empty }),
-            Held::Few(leaf) => {
-                let leaves = leaf.without(alloc, name)?;
-                let made = of_leaves(alloc, leaves)?;
-                Ok(made)
+            Held::Few(leaf) => of_leaves(alloc, leaf.body().without(alloc, name)?),
+            Held::Several(group) => {
+                let leaves = without_in(alloc, group.body().parts(), name)?;
+                of_leaves(alloc, leaves)
             }
-            Held::Many(whole) => of_groups(alloc, without_in_whole(alloc, whole.body(), name)?),
+            Held::Many(whole) => {
+                let clusters = without_in(alloc, whole.body().parts(), name)?;
+                of_clusters(alloc, clusters)
+            }
         }
     }
-}
-
-// the entry at this index of a whole
-fn at_in_whole<E: Listed>(whole: &Group<Group<Leaf<E>>>, index: usize) -> Option<&E>
-    requires { FitsGroup (group_entries (leaf_entries E.key)) E.load (FitsGroup (leaf_entries
-        E.key) E.load (FitsLeaf E.key E.load)) whole.now }
-    ensures { option_copied result ≡ option_map (λ e. e.1) (slice_get (group_entries (group_entries
-        (leaf_entries E.key)) whole.now) index) }
-{
-    let parts = whole.parts();
-    match nth(parts, index) {
-        Some((at, rest)) => at_in_group(parts[at].body(), rest),
-        None => None,
-    }
-}
-
-// the entry at this index of a group of leaves
-fn at_in_group<E: Listed>(group: &Group<Leaf<E>>, index: usize) -> Option<&E>
-    requires { FitsGroup (leaf_entries E.key) E.load (FitsLeaf E.key E.load) group.now }
-    ensures { option_copied result ≡ option_map (λ e. e.1) (slice_get (group_entries (leaf_entries
-        E.key) group.now) index) }
-{
-    let parts = group.parts();
-    match nth(parts, index) {
-        Some((at, rest)) => parts[at].body().at(rest),
-        None => None,
-    }
-}
-
-// the entry of this name in a whole
-fn find_in_whole<'a, E: Listed>(whole: &'a Group<Group<Leaf<E>>>, name: &Name) -> Option<&'a E>
-    requires fits { FitsGroup (group_entries (leaf_entries E.key)) E.load (FitsGroup (leaf_entries
-        E.key) E.load (FitsLeaf E.key E.load)) whole.now }
-    requires sorted { T (is_sorted name_order (group_entries (group_entries (leaf_entries E.key))
-        whole.now)) }
-    requires some { 0 < length (group_entries (group_entries (leaf_entries E.key)) whole.now) }
-    ensures found { option_copied result ≡ find name_order (folded name.now) (group_entries
-        (group_entries (leaf_entries E.key)) whole.now) }
-    ensures named { IfSome result (λ entry. E.key entry.now ≡ folded name.now) }
-{
-    let parts = whole.parts();
-    let at = place(parts, name);
-    find_in_group(parts[at].body(), name)
-}
-
-// the entry of this name in a group of leaves
-fn find_in_group<'a, E: Listed>(group: &'a Group<Leaf<E>>, name: &Name) -> Option<&'a E>
-    requires fits { FitsGroup (leaf_entries E.key) E.load (FitsLeaf E.key E.load) group.now }
-    requires sorted { T (is_sorted name_order (group_entries (leaf_entries E.key) group.now)) }
-    requires some { 0 < length (group_entries (leaf_entries E.key) group.now) }
-    ensures found { option_copied result ≡ find name_order (folded name.now) (group_entries
-        (leaf_entries E.key) group.now) }
-    ensures named { IfSome result (λ entry. E.key entry.now ≡ folded name.now) }
-{
-    let parts = group.parts();
-    let at = place(parts, name);
-    parts[at].body().find(name)
-}
-
-// the groups of a whole with this entry in the place of its name
-fn with_in_whole<E: Listed>(
-    alloc: Global,
-    whole: &Group<Group<Leaf<E>>>,
-    new: Arc<E>,
-) -> Result<Vec<Part<Group<Leaf<E>>>>, AllocError>
-    requires fits { FitsGroup (group_entries (leaf_entries E.key)) E.load (FitsGroup (leaf_entries
-        E.key) E.load (FitsLeaf E.key E.load)) whole.now }
-    requires sorted { T (is_sorted name_order (group_entries (group_entries (leaf_entries E.key))
-        whole.now)) }
-    requires some { 0 < length (group_entries (group_entries (leaf_entries E.key)) whole.now) }
-    ensures entries { IfOk result (λ made. parts_entries (group_entries (leaf_entries E.key))
-        made.items ≡ put name_order (E.key new.value) new.value (group_entries (group_entries
-        (leaf_entries E.key)) whole.now)) }
-    ensures parts { IfOk result (λ made. AreParts (group_entries (leaf_entries E.key)) E.load
-        (FitsGroup (leaf_entries E.key) E.load (FitsLeaf E.key E.load)) made.items) }
-{
-    let parts = whole.parts();
-    let at = place(parts, new.name());
-    let groups = with_in_group(alloc, parts[at].body(), new)?;
-    let made = spliced(alloc, parts, at, groups)?;
-    Ok(made)
-}
-
-// the parts of a group of leaves with this entry in the place of its name
-fn with_in_group<E: Listed>(
-    alloc: Global,
-    group: &Group<Leaf<E>>,
-    new: Arc<E>,
-) -> Result<Vec<Part<Group<Leaf<E>>>>, AllocError>
-    requires fits { FitsGroup (leaf_entries E.key) E.load (FitsLeaf E.key E.load) group.now }
-    requires sorted { T (is_sorted name_order (group_entries (leaf_entries E.key) group.now)) }
-    requires some { 0 < length (group_entries (leaf_entries E.key) group.now) }
-    ensures entries { IfOk result (λ made. parts_entries (group_entries (leaf_entries E.key))
-        made.items ≡ put name_order (E.key new.value) new.value (group_entries (leaf_entries E.key)
-        group.now)) }
-    ensures parts { IfOk result (λ made. AreParts (group_entries (leaf_entries E.key)) E.load
-        (FitsGroup (leaf_entries E.key) E.load (FitsLeaf E.key E.load)) made.items) }
-{
-    let parts = group.parts();
-    let at = place(parts, new.name());
-    let leaves = parts[at].body().with(alloc, new)?;
-    let pieces = spliced(alloc, parts, at, leaves)?;
-    let made = group_parts(alloc, pieces)?;
-    Ok(made)
-}
-
-// the groups of a whole without the entry of this name
-fn without_in_whole<E: Listed>(
-    alloc: Global,
-    whole: &Group<Group<Leaf<E>>>,
-    name: &Name,
-) -> Result<Vec<Part<Group<Leaf<E>>>>, AllocError>
-    requires fits { FitsGroup (group_entries (leaf_entries E.key)) E.load (FitsGroup (leaf_entries
-        E.key) E.load (FitsLeaf E.key E.load)) whole.now }
-    requires sorted { T (is_sorted name_order (group_entries (group_entries (leaf_entries E.key))
-        whole.now)) }
-    requires some { 0 < length (group_entries (group_entries (leaf_entries E.key)) whole.now) }
-    ensures entries { IfOk result (λ made. parts_entries (group_entries (leaf_entries E.key))
-        made.items ≡ where_key name_order (λ key. not (eq_by_cmp name_order (folded name.now) key))
-        (group_entries (group_entries (leaf_entries E.key)) whole.now)) }
-    ensures parts { IfOk result (λ made. AreParts (group_entries (leaf_entries E.key)) E.load
-        (FitsGroup (leaf_entries E.key) E.load (FitsLeaf E.key E.load)) made.items) }
-{
-    let parts = whole.parts();
-    let at = place(parts, name);
-    let groups = without_in_group(alloc, parts[at].body(), name)?;
-    let made = spliced(alloc, parts, at, groups)?;
-    Ok(made)
-}
-
-// the parts of a group of leaves without the entry of this name
-fn without_in_group<E: Listed>(
-    alloc: Global,
-    group: &Group<Leaf<E>>,
-    name: &Name,
-) -> Result<Vec<Part<Group<Leaf<E>>>>, AllocError>
-    requires fits { FitsGroup (leaf_entries E.key) E.load (FitsLeaf E.key E.load) group.now }
-    requires sorted { T (is_sorted name_order (group_entries (leaf_entries E.key) group.now)) }
-    requires some { 0 < length (group_entries (leaf_entries E.key) group.now) }
-    ensures entries { IfOk result (λ made. parts_entries (group_entries (leaf_entries E.key))
-        made.items ≡ where_key name_order (λ key. not (eq_by_cmp name_order (folded name.now) key))
-        (group_entries (leaf_entries E.key) group.now)) }
-    ensures parts { IfOk result (λ made. AreParts (group_entries (leaf_entries E.key)) E.load
-        (FitsGroup (leaf_entries E.key) E.load (FitsLeaf E.key E.load)) made.items) }
-{
-    let parts = group.parts();
-    let at = place(parts, name);
-    let leaves = parts[at].body().without(alloc, name)?;
-    let pieces = spliced(alloc, parts, at, leaves)?;
-    let made = group_parts(alloc, pieces)?;
-    Ok(made)
 }
 
 // a map of these leaves
 fn of_leaves<E: Listed>(
     alloc: Global,
-    leaves: Vec<Part<Leaf<E>>>,
+    leaves: Vec<Arc<Part<Leaf<E>>>>,
 ) -> Result<SharedMap<E>, AllocError>
     requires { AreParts (leaf_entries E.key) E.load (FitsLeaf E.key E.load) leaves.items }
     ensures entries { IfOk result (λ made. entries E.key made
         ≡ parts_entries (leaf_entries E.key) leaves.items) }
     ensures fits { IfOk result (FitsMap E.key E.load) }
 {
+    if leaves.is_empty() {
+        return Ok(SharedMap { held: Held::Empty });
+    }
     if leaves.len() == 1 {
-        let held = Held::Few(leaves[0].shared_body()?);
+        let held = Held::Few(leaves[0].clone()?);
         return Ok(SharedMap { held });
     }
-    let groups = group_parts(alloc, leaves)?;
-    let made = of_groups(alloc, groups)?;
+    if leaves.len() <= MOST_PARTS {
+        let held = Held::Several(group_part(alloc, leaves)?);
+        return Ok(SharedMap { held });
+    }
+    let groups = grouped(alloc, &leaves)?;
+    let clusters = grouped(alloc, &groups)?;
+    let made = of_clusters(alloc, clusters)?;
     Ok(made)
 }
 
-// a map of these groups
-fn of_groups<E: Listed>(
+// a map of these groups of groups
+fn of_clusters<E: Listed>(
     alloc: Global,
-    groups: Vec<Part<Group<Leaf<E>>>>,
+    clusters: Vec<Arc<Part<Group<Group<Leaf<E>>>>>>,
 ) -> Result<SharedMap<E>, AllocError>
-    requires { AreParts (group_entries (leaf_entries E.key)) E.load (FitsGroup (leaf_entries E.key)
-        E.load (FitsLeaf E.key E.load)) groups.items }
+    requires { AreParts (group_entries (group_entries (leaf_entries E.key))) E.load (FitsGroup
+        (group_entries (leaf_entries E.key)) E.load (FitsGroup (leaf_entries E.key) E.load (FitsLeaf
+        E.key E.load))) clusters.items }
     ensures entries { IfOk result (λ made. entries E.key made
-        ≡ parts_entries (group_entries (leaf_entries E.key)) groups.items) }
+        ≡ parts_entries (group_entries (group_entries (leaf_entries E.key))) clusters.items) }
     ensures fits { IfOk result (FitsMap E.key E.load) }
 {
-    if groups.is_empty() {
+    if clusters.is_empty() {
         return Ok(SharedMap { held: Held::Empty });
     }
-    let whole = group_part(alloc, groups)?;
-    let held = Held::Many(Arc::new(alloc, whole)?);
+    let held = Held::Many(group_part(alloc, clusters)?);
     Ok(SharedMap { held })
 }

@@ -1,31 +1,33 @@
 //! Parts: what is kept of a piece of a map, and groups of such pieces.
 ghost use Rattle.std.specs.Prelude.{◌≡◌, ℕ, ◌+◌, ◌<◌, List, ◌++◌, length, min, map, take, drop, IfOk, OnOk, MatchOption, ◌≤◌, sum_by, slice_index_or};
+ghost use Rattle.std.specs.Arc.{arc_value};
 ghost use Rattle.reg_names.specs.Names.{folded};
-ghost use Rattle.shared_map.specs.Listings.{seen};
 ghost use Rattle.shared_map.specs.Parts.{IsPlace, IsNth, IsSum, AreSums, IsMoreSums};
 
 use reg_names::Name;
 use std::alloc::{AllocError, Global};
 use std::sync::Arc;
 
-/// A piece of a map: what it holds, the name of its first entry, and how many entries of what weight it has.
+/// A piece of a map: how many entries of what weight it has, the name of its first entry, and what it holds.
+///
+/// What is read of the parts beside a change stands first, next to the pointer's own counts.
 #[derive(Drop)]
 pub struct Part<P> {
-    body: Arc<P>,
-    first: Name,
     count: usize,
     weight: u64,
+    first: Name,
+    body: P,
 }
 
-/// Some parts in order.
+/// Some parts in order, each shared as one thing: another group has it by one more pointer.
 #[derive(Drop)]
 pub struct Group<P> {
-    parts: Vec<Part<P>>,
+    parts: Vec<Arc<Part<P>>>,
 }
 
 impl<P: Drop> Group<P> {
     /// The parts.
-    pub(crate) fn parts(&self) -> &[Part<P>]
+    pub(crate) fn parts(&self) -> &[Arc<Part<P>>]
         ensures { result.now ≡ self.now.parts.items }
     {
         &self.parts
@@ -33,13 +35,13 @@ impl<P: Drop> Group<P> {
 }
 
 /// The most parts of a group that is no map's whole.
-const MOST_PARTS: usize = 64;
+pub(crate) const MOST_PARTS: usize = 16;
 
 impl<P> Part<P> {
     /// A part of these.
-    pub(crate) fn new(body: Arc<P>, first: Name, count: usize, weight: u64) -> Part<P>
-        ensures { seen result
-            ≡ record { body = body.value; first = first; count = count; weight = weight } }
+    pub(crate) fn new(body: P, first: Name, count: usize, weight: u64) -> Part<P>
+        ensures { result
+            ≡ record { body = body; first = first; count = count; weight = weight } }
     {
         Part {
             body,
@@ -47,6 +49,13 @@ impl<P> Part<P> {
             count,
             weight,
         }
+    }
+
+    /// What it holds.
+    pub(crate) fn body(&self) -> &P
+        ensures { result.now ≡ self.now.body }
+    {
+        &self.body
     }
 
     /// How many entries it has.
@@ -64,44 +73,13 @@ impl<P> Part<P> {
     }
 }
 
-impl<P: Drop> Part<P> {
-    /// What it holds, by another pointer.
-    pub(crate) fn shared_body(&self) -> Result<Arc<P>, AllocError>
-        ensures { IfOk result (λ body. body.value ≡ self.now.body.value) }
-    {
-        let body = self.body.clone()?;
-        Ok(body)
-    }
-
-    /// What it holds.
-    pub(crate) fn body(&self) -> &P
-        ensures { result.now ≡ self.now.body.value }
-    {
-        &self.body
-    }
-
-    // the same part, which shares its body
-    fn shared(&self) -> Result<Part<P>, AllocError>
-        ensures { IfOk result (λ copy. seen copy ≡ seen self.now) }
-    {
-        let body = self.body.clone()?;
-        let first = self.first.clone()?;
-        Ok(Part {
-            body,
-            first,
-            count: self.count,
-            weight: self.weight,
-        })
-    }
-}
-
 // adds the same parts
-fn extend<P: Drop>(made: &mut Vec<Part<P>>, parts: &[Part<P>]) -> Result<(), AllocError>
+fn extend<P: Drop>(made: &mut Vec<Arc<Part<P>>>, parts: &[Arc<Part<P>>]) -> Result<(), AllocError>
     ensures { OnOk result
-        (map seen made.new.items ≡ map seen made.old.items ++ map seen parts.now) }
+        (map arc_value made.new.items ≡ map arc_value made.old.items ++ map arc_value parts.now) }
 {
     for part in parts {
-        made.push(part.shared()?)?;
+        made.push(part.clone()?)?;
     }
     Ok(())
 }
@@ -109,13 +87,13 @@ fn extend<P: Drop>(made: &mut Vec<Part<P>>, parts: &[Part<P>]) -> Result<(), All
 /// The parts with others in the place of one.
 pub(crate) fn spliced<P: Drop>(
     alloc: Global,
-    parts: &[Part<P>],
+    parts: &[Arc<Part<P>>],
     at: usize,
-    new: Vec<Part<P>>,
-) -> Result<Vec<Part<P>>, AllocError>
+    new: Vec<Arc<Part<P>>>,
+) -> Result<Vec<Arc<Part<P>>>, AllocError>
     requires { at < length parts.now }
-    ensures { IfOk result (λ made. map seen made.items ≡ map seen (take at parts.now)
-        ++ (map seen new.items ++ map seen (drop (at + 1) parts.now))) }
+    ensures { IfOk result (λ made. map arc_value made.items ≡ map arc_value (take at parts.now)
+        ++ (map arc_value new.items ++ map arc_value (drop (at + 1) parts.now))) }
 {
     let mut made = Vec::with_capacity(alloc, parts.len().saturating_add(1))?;
     extend(&mut made, &parts[..at])?;
@@ -126,7 +104,7 @@ pub(crate) fn spliced<P: Drop>(
 }
 
 /// The place of the part in which this name belongs.
-pub(crate) fn place<P>(parts: &[Part<P>], name: &Name) -> usize
+pub(crate) fn place<P>(parts: &[Arc<Part<P>>], name: &Name) -> usize
     requires { 0 < length parts.now }
     ensures { IsPlace parts.now (folded name.now) result }
 {
@@ -143,13 +121,13 @@ pub(crate) fn place<P>(parts: &[Part<P>], name: &Name) -> usize
     low
 }
 
-/// Adds the groups of these parts.
-pub(crate) fn add_groups<P: Drop>(
+// adds the groups of these parts
+fn add_groups<P: Drop>(
     alloc: Global,
-    parts: &[Part<P>],
-    made: &mut Vec<Part<Group<P>>>,
+    parts: &[Arc<Part<P>>],
+    made: &mut Vec<Arc<Part<Group<P>>>>,
 ) -> Result<(), AllocError>
-    ensures { OnOk result (IsMoreSums (map seen parts.now) made.old.items made.new.items) }
+    ensures { OnOk result (IsMoreSums (map arc_value parts.now) made.old.items made.new.items) }
 {
     if parts.is_empty() {
         return Ok(());
@@ -164,9 +142,21 @@ pub(crate) fn add_groups<P: Drop>(
     Ok(())
 }
 
+/// The groups of these parts.
+pub(crate) fn grouped<P: Drop>(
+    alloc: Global,
+    parts: &[Arc<Part<P>>],
+) -> Result<Vec<Arc<Part<Group<P>>>>, AllocError>
+    ensures { IfOk result (λ made. AreSums (map arc_value parts.now) made.items) }
+{
+    let mut made = Vec::new(alloc);
+    add_groups(alloc, parts, &mut made)?;
+    Ok(made)
+}
+
 /// The part that has the entry at this index, and the entry's index in it.
-pub(crate) fn nth<P>(parts: &[Part<P>], index: usize) -> Option<(usize, usize)>
-    ensures { MatchOption result (sum_by (λ part. part.count) (map seen parts.now) ≤ index) (λ at.
+pub(crate) fn nth<P>(parts: &[Arc<Part<P>>], index: usize) -> Option<(usize, usize)>
+    ensures { MatchOption result (sum_by (λ part. part.count) (map arc_value parts.now) ≤ index) (λ at.
         IsNth parts.now index at.0 at.1) }
 {
     let mut rest = index;
@@ -183,9 +173,9 @@ pub(crate) fn nth<P>(parts: &[Part<P>], index: usize) -> Option<(usize, usize)>
 /// The parts of groups of these parts: none, one, or two halves.
 pub(crate) fn group_parts<P: Drop>(
     alloc: Global,
-    parts: Vec<Part<P>>,
-) -> Result<Vec<Part<Group<P>>>, AllocError>
-    ensures { IfOk result (λ made. AreSums (map seen parts.items) made.items) }
+    parts: Vec<Arc<Part<P>>>,
+) -> Result<Vec<Arc<Part<Group<P>>>>, AllocError>
+    ensures { IfOk result (λ made. AreSums (map arc_value parts.items) made.items) }
 {
     let mut made = Vec::new(alloc);
     if parts.is_empty() {
@@ -202,8 +192,8 @@ pub(crate) fn group_parts<P: Drop>(
 }
 
 // the same parts
-fn copied<P: Drop>(alloc: Global, parts: &[Part<P>]) -> Result<Vec<Part<P>>, AllocError>
-    ensures { IfOk result (λ made. map seen made.items ≡ map seen parts.now) }
+fn copied<P: Drop>(alloc: Global, parts: &[Arc<Part<P>>]) -> Result<Vec<Arc<Part<P>>>, AllocError>
+    ensures { IfOk result (λ made. map arc_value made.items ≡ map arc_value parts.now) }
 {
     let mut made = Vec::with_capacity(alloc, parts.len())?;
     extend(&mut made, parts)?;
@@ -213,21 +203,21 @@ fn copied<P: Drop>(alloc: Global, parts: &[Part<P>]) -> Result<Vec<Part<P>>, All
 /// The part of one group of these parts. Refused also where 64 bits don't hold the count.
 pub(crate) fn group_part<P: Drop>(
     alloc: Global,
-    parts: Vec<Part<P>>,
-) -> Result<Part<Group<P>>, AllocError>
+    parts: Vec<Arc<Part<P>>>,
+) -> Result<Arc<Part<Group<P>>>, AllocError>
     requires { 0 < length parts.items }
-    ensures { IfOk result (λ made. IsSum (map seen parts.items) (seen made)) }
+    ensures { IfOk result (λ made. IsSum (map arc_value parts.items) (arc_value made)) }
 {
     let first = parts[0].first.clone()?;
     let count = count_of(&parts)?;
     let weight = weight_of(&parts);
-    let body = Arc::new(alloc, Group { parts })?;
-    Ok(Part::new(body, first, count, weight))
+    let part = Arc::new(alloc, Part::new(Group { parts }, first, count, weight))?;
+    Ok(part)
 }
 
 // how many entries these parts have together
-fn count_of<P>(parts: &[Part<P>]) -> Result<usize, AllocError>
-    ensures { IfOk result (λ count. count ≡ sum_by (λ part. part.count) (map seen parts.now)) }
+fn count_of<P>(parts: &[Arc<Part<P>>]) -> Result<usize, AllocError>
+    ensures { IfOk result (λ count. count ≡ sum_by (λ part. part.count) (map arc_value parts.now)) }
 {
     let mut count = 0usize;
     for part in parts {
@@ -240,8 +230,8 @@ fn count_of<P>(parts: &[Part<P>]) -> Result<usize, AllocError>
 }
 
 // the weight of these parts together
-fn weight_of<P>(parts: &[Part<P>]) -> u64
-    ensures { result ≡ min (sum_by (λ part. part.weight) (map seen parts.now)) u64.MAX }
+fn weight_of<P>(parts: &[Arc<Part<P>>]) -> u64
+    ensures { result ≡ min (sum_by (λ part. part.weight) (map arc_value parts.now)) u64.MAX }
 {
     let mut weight = 0u64;
     for part in parts {

@@ -10,7 +10,7 @@ pub returns-then-items-le-MOST_ENTRIES-clause-entries :
     goal.returns-then-items-le-MOST_ENTRIES-clause-entries
 returns-then-items-le-MOST_ENTRIES-clause-entries g t c =
     ap (parts_entries (leaf_entries g.E.Listed.key)) c.in_ok-push.ensures.items ∙ parts-append (leaf_entries g.E.Listed.key) c.args.made.now.items (c.in_ok-leaf_part.field-0 ∷ [])
-    ∙ ap (λ es. parts_entries (leaf_entries g.E.Listed.key) c.args.made.now.items ++ es) (append-nil (leaf_entries g.E.Listed.key (arc_value c.in_ok-leaf_part.field-0.body)) ∙ c.in_ok-leaf_part.ensures.entries ∙ same_entries g.E.Listed.key c.in_ok-copied.field-0.items c.args.items.now c.in_ok-copied.ensures)
+    ∙ ap (λ es. parts_entries (leaf_entries g.E.Listed.key) c.args.made.now.items ++ es) (append-nil (leaf_entries g.E.Listed.key (arc_value c.in_ok-leaf_part.field-0).body) ∙ c.in_ok-leaf_part.ensures.entries ∙ same_entries g.E.Listed.key c.in_ok-copied.field-0.items c.args.items.now c.in_ok-copied.ensures)
 
 pub returns-then-items-le-MOST_ENTRIES-clause-parts :
     goal.returns-then-items-le-MOST_ENTRIES-clause-parts

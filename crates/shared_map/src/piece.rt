@@ -1,0 +1,144 @@
+//! Pieces: what a part holds, a leaf or a group of parts that hold pieces in their turn.
+ghost use Rattle.std.specs.Prelude.{◌≡◌, ℕ, T, not, List, ◌<◌, length, slice_get, IfOk, IfSome};
+ghost use Rattle.std.specs.Option.{option_copied, option_map};
+ghost use Rattle.std.specs.FinMap.Entries.{find, is_sorted, put, where_key};
+ghost use Rattle.std.specs.Ordering.{eq_by_cmp};
+ghost use Rattle.reg_names.specs.Names.{folded};
+ghost use Rattle.shared_map.specs.Orders.{name_order};
+ghost use Rattle.shared_map.specs.Listings.{parts_entries, group_entries};
+ghost use Rattle.shared_map.specs.Parts.{AreParts, FitsGroup};
+
+use crate::leaf::Listed;
+use crate::parts::{Group, Part, group_parts, nth, place, spliced};
+use reg_names::Name;
+use std::alloc::{AllocError, Global};
+use std::sync::Arc;
+
+/// A piece of a map: it lists entries in the order of their folded names, and never changes.
+pub trait Piece<E: Listed>: Drop {
+    /// The entries.
+    ghost list: { Self → List (List ℕ × E) };
+
+    /// What is kept beside the entries is that of them.
+    ghost Fits: { Self → Type 0 };
+
+    /// The entry of this name.
+    fn find(&self, name: &Name) -> Option<&E>
+        requires fits { Fits self.now }
+        requires sorted { T (is_sorted name_order (list self.now)) }
+        requires some { 0 < length (list self.now) }
+        ensures found { option_copied result
+            ≡ find name_order (folded name.now) (list self.now) }
+        ensures named { IfSome result (λ entry. E.key entry.now ≡ folded name.now) };
+
+    /// The entry at this index.
+    fn at(&self, index: usize) -> Option<&E>
+        requires { Fits self.now }
+        ensures { option_copied result
+            ≡ option_map (λ e. e.1) (slice_get (list self.now) index) };
+
+    /// The parts of the entries with this one in the place of its name.
+    fn with(&self, alloc: Global, new: Arc<E>) -> Result<Vec<Arc<Part<Self>>>, AllocError>
+        requires fits { Fits self.now }
+        requires sorted { T (is_sorted name_order (list self.now)) }
+        requires some { 0 < length (list self.now) }
+        ensures entries { IfOk result (λ made. parts_entries list made.items
+            ≡ put name_order (E.key new.value) new.value (list self.now)) }
+        ensures parts { IfOk result (λ made. AreParts list E.load Fits made.items) };
+
+    /// The parts of the entries without the one of this name.
+    fn without(&self, alloc: Global, name: &Name) -> Result<Vec<Arc<Part<Self>>>, AllocError>
+        requires fits { Fits self.now }
+        requires sorted { T (is_sorted name_order (list self.now)) }
+        requires some { 0 < length (list self.now) }
+        ensures entries { IfOk result (λ made. parts_entries list made.items ≡ where_key name_order
+            (λ key. not (eq_by_cmp name_order (folded name.now) key)) (list self.now)) }
+        ensures parts { IfOk result (λ made. AreParts list E.load Fits made.items) };
+}
+
+impl<E: Listed, P: Piece<E>> Piece<E> for Group<P> {
+    ghost list = { group_entries P.list };
+
+    ghost Fits = { FitsGroup P.list E.load P.Fits };
+
+    fn find(&self, name: &Name) -> Option<&E> {
+        let parts = self.parts();
+        let at = place(parts, name);
+        parts[at].body().find(name)
+    }
+
+    fn at(&self, index: usize) -> Option<&E> {
+        let parts = self.parts();
+        match nth(parts, index) {
+            Some((at, rest)) => parts[at].body().at(rest),
+            None => None,
+        }
+    }
+
+    fn with(&self, alloc: Global, new: Arc<E>) -> Result<Vec<Arc<Part<Group<P>>>>, AllocError>
+        requires fits { FitsGroup P.list E.load P.Fits self.now }
+        requires sorted { T (is_sorted name_order (group_entries P.list self.now)) }
+        requires some { 0 < length (group_entries P.list self.now) }
+        ensures entries { IfOk result (λ made. parts_entries (group_entries P.list) made.items
+            ≡ put name_order (E.key new.value) new.value (group_entries P.list self.now)) }
+        ensures parts { IfOk result (λ made. AreParts (group_entries P.list) E.load (FitsGroup
+            P.list E.load P.Fits) made.items) }
+    {
+        let pieces = with_in(alloc, self.parts(), new)?;
+        let made = group_parts(alloc, pieces)?;
+        Ok(made)
+    }
+
+    fn without(&self, alloc: Global, name: &Name) -> Result<Vec<Arc<Part<Group<P>>>>, AllocError>
+        requires fits { FitsGroup P.list E.load P.Fits self.now }
+        requires sorted { T (is_sorted name_order (group_entries P.list self.now)) }
+        requires some { 0 < length (group_entries P.list self.now) }
+        ensures entries { IfOk result (λ made. parts_entries (group_entries P.list) made.items
+            ≡ where_key name_order (λ key. not (eq_by_cmp name_order (folded name.now) key))
+            (group_entries P.list self.now)) }
+        ensures parts { IfOk result (λ made. AreParts (group_entries P.list) E.load (FitsGroup
+            P.list E.load P.Fits) made.items) }
+    {
+        let pieces = without_in(alloc, self.parts(), name)?;
+        let made = group_parts(alloc, pieces)?;
+        Ok(made)
+    }
+}
+
+/// The parts with this entry in the place of its name.
+pub(crate) fn with_in<E: Listed, P: Piece<E>>(
+    alloc: Global,
+    parts: &[Arc<Part<P>>],
+    new: Arc<E>,
+) -> Result<Vec<Arc<Part<P>>>, AllocError>
+    requires fits { AreParts P.list E.load P.Fits parts.now }
+    requires sorted { T (is_sorted name_order (parts_entries P.list parts.now)) }
+    requires some { 0 < length (parts_entries P.list parts.now) }
+    ensures entries { IfOk result (λ made. parts_entries P.list made.items
+        ≡ put name_order (E.key new.value) new.value (parts_entries P.list parts.now)) }
+    ensures parts { IfOk result (λ made. AreParts P.list E.load P.Fits made.items) }
+{
+    let at = place(parts, new.name());
+    let pieces = parts[at].body().with(alloc, new)?;
+    let made = spliced(alloc, parts, at, pieces)?;
+    Ok(made)
+}
+
+/// The parts without the entry of this name.
+pub(crate) fn without_in<E: Listed, P: Piece<E>>(
+    alloc: Global,
+    parts: &[Arc<Part<P>>],
+    name: &Name,
+) -> Result<Vec<Arc<Part<P>>>, AllocError>
+    requires fits { AreParts P.list E.load P.Fits parts.now }
+    requires sorted { T (is_sorted name_order (parts_entries P.list parts.now)) }
+    requires some { 0 < length (parts_entries P.list parts.now) }
+    ensures entries { IfOk result (λ made. parts_entries P.list made.items ≡ where_key name_order
+        (λ key. not (eq_by_cmp name_order (folded name.now) key)) (parts_entries P.list parts.now)) }
+    ensures parts { IfOk result (λ made. AreParts P.list E.load P.Fits made.items) }
+{
+    let at = place(parts, name);
+    let pieces = parts[at].body().without(alloc, name)?;
+    let made = spliced(alloc, parts, at, pieces)?;
+    Ok(made)
+}
