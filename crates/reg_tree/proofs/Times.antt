@@ -25,7 +25,7 @@ use Rattle.reg_tree.specs.Maps.{TreeMap, row, is_there, subkeys, beginnings, mis
 use Rattle.reg_tree.specs.Operations.{hive_of, touched, depth_there, descriptor_of, row_after, tree_after}
 use Rattle.reg_tree.specs.Judgement.{judged_there, judged_delete, judged, changed, changed_if, legal_after, legal_if, legal, applied, applied_if, applied_one, outweighs, outweighs_if, any_outweighs}
 use Rattle.reg_tree.specs.Times.{timeless, timeless_entry, untimed, SameButTimes}
-use Rattle.reg_tree.specs.TreeLists.{value_in, value_names_in, subkeys_in, levels_in}
+use Rattle.reg_tree.specs.TreeLists.{value_in, value_names_in, value_index_in, subkeys_in, subkey_index_in, levels_in}
 use Rattle.reg_tree.specs.declared.op.Op.{Op}
 use Rattle.reg_tree.specs.declared.op.Op.TheVariants.{CreateKey, DeleteKey, SetValue, DeleteValue}
 use Rattle.reg_tree.specs.declared.op.Legality.{Legality}
@@ -254,6 +254,16 @@ module _ (xs ys : List TreeMap) (same : SameButTimes xs ys) where
     where
       alike : (a b : TreeMap) → untimed a ≡ untimed b → option_map (λ key. subkeys a path) (row a path) ≡ option_map (λ key. subkeys b path) (row b path)
       alike a b e = mapped_same a b e (λ key. subkeys a path) (λ key. refl) path ∙ ap (λ names. option_map (λ key. names) (row b path)) (subkeys_same a b e path)
+
+  pub value_index_alike : (hive : ℕ) (path : List (List ℕ)) (index : ℕ) → value_index_in xs hive path index ≡ value_index_in ys hive path index
+  value_index_alike hive path index =
+      told_alike (λ o. option_and_then (λ tree. option_and_then (λ key. slice_get (finite.values key.values) index) (row tree path)) o) (λ a b e. found_same a b e (λ key. slice_get (finite.values key.values) index) (λ key. refl) path) hive
+
+  pub subkey_index_alike : (hive : ℕ) (path : List (List ℕ)) (index : ℕ) → subkey_index_in xs hive path index ≡ subkey_index_in ys hive path index
+  subkey_index_alike hive path index = told_alike (λ o. option_and_then (λ tree. option_and_then (λ key. slice_get (subkeys tree path) index) (row tree path)) o) alike hive
+    where
+      alike : (a b : TreeMap) → untimed a ≡ untimed b → option_and_then (λ key. slice_get (subkeys a path) index) (row a path) ≡ option_and_then (λ key. slice_get (subkeys b path) index) (row b path)
+      alike a b e = found_same a b e (λ key. slice_get (subkeys a path) index) (λ key. refl) path ∙ ap (λ names. option_and_then (λ key. slice_get names index) (row b path)) (subkeys_same a b e path)
 
   pub outweighs_alike : (op : Op) (m n : ℕ) → outweighs xs op m ≡ outweighs ys op n
   outweighs_alike op m n = of_both (slice_get xs (hive_of op)) (slice_get ys (hive_of op)) (hive_same xs ys same (hive_of op))
