@@ -1,15 +1,12 @@
 -- What an event that makes no step leaves: all that the journal and the device have to do with, but for one change more.
-use Rattle.std.proofs.Common.{◌≡◌, ◌⊎◌, inl, inr, ℕ, ◌+◌, ◌<◌, ◌≤◌, ◌==◌, ◌||◌, Bool, true, false, cond, List, [], ◌∷◌, ◌++◌, length, refl, sym, ◌∙◌, ap, subst, arith, Option, Some, None}
-use Rattle.std.specs.Prelude.{nat_le, nat_lt}
-use Rattle.std.proofs.lemmas.Bool.Decides.{nat_tests}
-use Rattle.refusals.specs.declared.refusal.Refusal.{Refusal}
-use Rattle.refusals.specs.declared.refusal.Refusal.TheVariants.{HistoryFull, JournalFull, TooLarge}
-use Rattle.refusals.specs.declared.limits.TheConstants.{GREATEST_NUMBER, MOST_HISTORY, MOST_JOURNAL_BYTES}
+use Rattle.std.proofs.Common.{◌≡◌, ◌⊎◌, inl, inr, ℕ, ◌+◌, ◌<◌, ◌==◌, Bool, true, false, cond, List, [], ◌∷◌, ◌++◌, length, refl, sym, ◌∙◌, ap, arith, Option, Some, None}
+use Rattle.refusals.specs.declared.refusal.Refusal.TheVariants.{TooLarge}
+use Rattle.reg_tree.specs.Operations.{hive_of}
 use Rattle.reg_tree.specs.Judgement.{legal, any_outweighs}
 use Rattle.reg_tree.specs.Texts.{element_text_len}
 use Rattle.reg_tree.specs.declared.element.Element.{Element}
 use Rattle.reg_tree.specs.declared.op.Op.{Op}
-use Rattle.machine.specs.Machine.{Machine, trees_now, last_number, is_open, change, first_of, refused_if, refusal_by, room_of, room_refusal, commit_refusal, commit_refusal_if, fault, closed_refusal}
+use Rattle.machine.specs.Machine.{Machine, trees_now, is_open, change, first_of, refused_if, refusal_by, room_of, room_refusal, commit_refusal, commit_refusal_if, fault, call_refusal}
 use Rattle.machine.specs.Transactions.{Transaction, inactive_refusal}
 use Rattle.machine.specs.Steps.{Step, Accepts, Commits, with_session, is_step}
 use Rattle.machine.specs.Kept.{IsKept, IsActiveAt, AreLegalChanges, Stays, Grows}
@@ -38,6 +35,7 @@ aside old new sessions places begun e = inl (record {
   durable = ap (λ (m : Machine). m.durable) e;
   room = ap (λ (m : Machine). m.room) e;
   faulted = ap (λ (m : Machine). m.faulted) e;
+  bounds = ap (λ (m : Machine). m.bounds) e;
 })
 
 same : (old new : Machine) → new ≡ old → Calm old new
@@ -58,12 +56,13 @@ grown old new e places some legal free is = let room = has_room old e free in in
   room = ap (λ (m : Machine). m.room) is;
   fits = omega (arith, room.2, ap (λ (m : Machine). m.room) is);
   faulted = ap (λ (m : Machine). m.faulted) is;
+  bounds = ap (λ (m : Machine). m.bounds) is;
 })
 
 accepts : (old new : Machine) (session moment : ℕ) (op : Op) (levels : Option ℕ) (number : ℕ) → Accepts old session moment op levels number new → Calm old new
 accepts old new session moment op levels number a =
     let f = none_first (fault old) _ a.free in
-    let g = none_first (closed_refusal old session) _ f.1 in
+    let g = none_first (call_refusal old session (hive_of op)) _ f.1 in
     let h : room_refusal old (element_text_len (change moment op)) ≡ None = ap (λ j. refusal_by j (room_refusal old (element_text_len (change moment op)))) (sym a.is_legal) ∙ g.1 in
     grown old new (change moment op) new.places (omega arith) (a.is_legal, tt) h a.next
 

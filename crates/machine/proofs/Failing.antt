@@ -13,8 +13,9 @@ use Rattle.reg_tree.specs.declared.op.Op.TheVariants.{CreateKey, DeleteKey, SetV
 use Rattle.reg_tree.specs.declared.op.Legality.{Legality}
 use Rattle.reg_tree.specs.declared.op.Legality.TheVariants.{Legal, Opened}
 use Rattle.machine.specs.Transactions.{Transaction, Places, missing_refusal, inactive_refusal, view, is_active}
-use Rattle.machine.specs.Machine.{Machine, trees_now, found_in, first_of, refused_if, refusal_by, fault, closed_refusal, start_refusal, read_refusal, room_refusal, write_refusal, begin_refusal, added_refusal_if, commit_refusal_if}
+use Rattle.machine.specs.Machine.{Machine, trees_now, found_in, first_of, refused_if, refusal_by, fault, closed_refusal, call_refusal, tx_call_refusal, start_refusal, read_refusal, room_refusal, write_refusal, begin_refusal, added_refusal_if, commit_refusal_if}
 use Rattle.machine.specs.Steps.{Step, Refuses, IsRefused, is_step}
+use Rattle.machine.specs.declared.handle.Tx.{Tx}
 use Rattle.machine.specs.declared.event.Found.{Found}
 use Rattle.machine.specs.declared.event.Event.{Event}
 use Rattle.machine.specs.declared.event.Event.TheVariants as event
@@ -90,6 +91,9 @@ module _ (old : Machine) where
   closed : (session : ℕ) → IsOther (closed_refusal old session)
   closed session = other_if _ _ (λ e. cc)
 
+  calling : (session hive : ℕ) → IsOther (call_refusal old session hive)
+  calling session hive = other_first (closed_refusal old session) _ (closed session) (other_if _ _ (λ e. cc))
+
   starting : (session : ℕ) → IsOther (start_refusal old session)
   starting session = other_first (fault old) _ faulted (other_if _ _ (λ e. cc))
 
@@ -97,7 +101,7 @@ module _ (old : Machine) where
   room long = other_first _ _ (other_if _ _ (λ e. cc)) (other_if _ _ (λ e. cc))
 
   writing : (session moment : ℕ) (op : Op) → IsOther (write_refusal old session moment op)
-  writing session moment op = other_first (fault old) _ faulted (other_first (closed_refusal old session) _ (closed session) (by_legality (legal (trees_now old) op) _ (legality (trees_now old) op) (room _)))
+  writing session moment op = other_first (fault old) _ faulted (other_first (call_refusal old session (hive_of op)) _ (calling session (hive_of op)) (by_legality (legal (trees_now old) op) _ (legality (trees_now old) op) (room _)))
 
   beginning : (session : ℕ) → IsOther (begin_refusal old session)
   beginning session = other_first (fault old) _ faulted (other_first (closed_refusal old session) _ (closed session) (other_if _ _ (λ e. cc)))
@@ -117,6 +121,9 @@ inactive (Some one) = by_case (is_active one)
     by_case : (t : Bool) → IsOther (cond t None (Some NotActive))
     by_case true = λ e. cc
     by_case false = λ e. cc
+
+tx_calling : (old : Machine) (session : ℕ) (tx : Tx) (hive : ℕ) → IsOther (tx_call_refusal old session tx hive)
+tx_calling old session tx hive = other_first _ _ (inactive (found_in old session tx)) (other_if _ _ (λ e. cc))
 
 adding : (now : List TreeMap) (places : Places) (place : ℕ) (op : Op) (o : Option Transaction) → IsOther (added_refusal_if now places place op o)
 adding now places place op None = λ e. cc
@@ -141,11 +148,11 @@ is_refused old new wanted f s = absurd (f s.0)
 pub steps_alone_fail : (old new : Machine) (e : Event) → Step old e (reply.Refused DiskFault) new → is_step e ≡ true
 steps_alone_fail old new (event.StartSession session) s = refuses old new _ (starting old session) s
 steps_alone_fail old new (event.EndSession session) s = is_refused old new _ (closed old session) s
-steps_alone_fail old new (event.Read session hive path question) s = refuses old new _ (other_first _ _ (closed old session) (reading _)) s
+steps_alone_fail old new (event.Read session hive path question) s = refuses old new _ (other_first _ _ (calling old session hive) (reading _)) s
 steps_alone_fail old new (event.Write session moment op) s = refuses old new _ (writing old session moment op) s
 steps_alone_fail old new (event.Begin session id) s = refuses old new _ (beginning old session) s
-steps_alone_fail old new (event.TxRead session tx hive path question) s = refuses old new _ (other_first _ _ (inactive _) (reading _)) s
-steps_alone_fail old new (event.TxWrite session tx moment op) s = refuses old new _ (other_first _ _ (faulted old) (adding (trees_now old) old.places tx.place op (found_in old session tx))) s
+steps_alone_fail old new (event.TxRead session tx hive path question) s = refuses old new _ (other_first _ _ (tx_calling old session tx hive) (reading _)) s
+steps_alone_fail old new (event.TxWrite session tx moment op) s = refuses old new _ (other_first _ _ (faulted old) (other_first _ _ (tx_calling old session tx (hive_of op)) (adding (trees_now old) old.places tx.place op (found_in old session tx)))) s
 steps_alone_fail old new (event.CommitAccept session tx moment) s = refuses old new _ (other_first _ _ (faulted old) (committing old moment (found_in old session tx))) s
 steps_alone_fail old new (event.Rollback session tx) s = is_refused old new _ (inactive _) s
 steps_alone_fail old new (event.Close session tx) s = is_refused old new _ (missing _) s

@@ -7,15 +7,16 @@ use Rattle.std.proofs.lemmas.List.Sums.{sum_by-append, sum_by-cons, length-filte
 use mathlib.Core.Bool.{false≢true}
 use Rattle.refusals.specs.declared.refusal.Refusal.{Refusal}
 use Rattle.refusals.specs.declared.refusal.Refusal.TheVariants.{TooLarge, NoSeat, HistoryFull, JournalFull}
-use Rattle.refusals.specs.declared.limits.TheConstants.{GREATEST_NUMBER, MOST_HISTORY, MOST_JOURNAL_BYTES, MOST_SESSIONS, MOST_TRANSACTIONS}
+use Rattle.refusals.specs.declared.limits.TheConstants.{GREATEST_NUMBER, MOST_JOURNAL_BYTES, MOST_SESSIONS, MOST_TRANSACTIONS}
 use Rattle.reg_tree.specs.Maps.{TreeMap}
+use Rattle.reg_tree.specs.Operations.{hive_of}
 use Rattle.reg_tree.specs.Judgement.{applied, any_outweighs}
 use Rattle.reg_tree.specs.Sequences.{after_elements}
 use Rattle.reg_tree.specs.Texts.{element_text_len}
 use Rattle.reg_tree.specs.declared.element.Element.{Element}
 use Rattle.reg_tree.specs.declared.op.Op.{Op}
 use Rattle.machine.specs.Transactions.{Transaction, Places, at, with_op, count_held, inactive_refusal}
-use Rattle.machine.specs.Machine.{Machine, trees_now, last_number, pending, room_of, room_with, is_open, change, first_of, refused_if, refusal_by, fault, closed_refusal, start_refusal, room_refusal, commit_refusal, commit_refusal_if}
+use Rattle.machine.specs.Machine.{Machine, trees_now, last_number, pending, room_of, room_with, is_open, change, first_of, refused_if, refusal_by, fault, closed_refusal, call_refusal, bounds_of, start_refusal, room_refusal, commit_refusal, commit_refusal_if}
 use Rattle.machine.specs.Steps.{Accepts, Begins, Commits, Ends, Journals, Trims, EndsTrim, StepFails, Step, with_session}
 use Rattle.machine.specs.Kept.{IsKept, IsWithin, IsActiveAt, AreLegalChanges, AreLegalHistory}
 use Rattle.machine.specs.declared.handle.Tx.{Tx}
@@ -119,12 +120,12 @@ within : (n m : ℕ) → nat_lt n m ≡ false → m ≤ n
 within n m e = grind (arith, nat_tests)
 
 pub has_room : (machine : Machine) (element : Element) → room_refusal machine (element_text_len element) ≡ None →
-    (length machine.accepted < MOST_HISTORY) × (last_number machine < GREATEST_NUMBER) × (machine.room + room_of element ≤ MOST_JOURNAL_BYTES)
+    (length machine.accepted < machine.bounds.changes) × (last_number machine < GREATEST_NUMBER) × (machine.room + room_of element ≤ MOST_JOURNAL_BYTES)
 has_room machine element e =
-    let full = refused_if (nat_le MOST_HISTORY (length machine.accepted) || nat_le GREATEST_NUMBER (last_number machine)) HistoryFull in
+    let full = refused_if (nat_le machine.bounds.changes (length machine.accepted) || nat_le GREATEST_NUMBER (last_number machine)) HistoryFull in
     let parts = none_first full (refused_if (nat_lt MOST_JOURNAL_BYTES (machine.room + room_of element)) JournalFull) e in
     let numbers = neither _ _ (not_refused _ HistoryFull parts.0) in
-    (below MOST_HISTORY (length machine.accepted) numbers.0, below GREATEST_NUMBER (last_number machine) numbers.1, within MOST_JOURNAL_BYTES (machine.room + room_of element) (not_refused _ JournalFull parts.1))
+    (below machine.bounds.changes (length machine.accepted) numbers.0, below GREATEST_NUMBER (last_number machine) numbers.1, within MOST_JOURNAL_BYTES (machine.room + room_of element) (not_refused _ JournalFull parts.1))
 
 -- What a step leaves of all this
 
@@ -249,7 +250,7 @@ module _ (law : WeightAlone) (old : Machine) (k : IsKept old) where
   accepts : (new : Machine) (session moment : ℕ) (op : Op) (levels : Option ℕ) (number : ℕ) → count_held new.places ≤ count_held old.places → Accepts old session moment op levels number new → Leaves old new
   accepts new session moment op levels number fewer a =
       let f = none_first (fault old) _ a.free in
-      let g = none_first (closed_refusal old session) _ f.1 in
+      let g = none_first (call_refusal old session (hive_of op)) _ f.1 in
       let free : room_refusal old (element_text_len (change moment op)) ≡ None = ap (λ j. refusal_by j (room_refusal old (element_text_len (change moment op)))) (sym a.is_legal) ∙ g.1 in
       longer new (change moment op) new.places (omega (arith, fewer, k.within.held)) (omega arith) (a.is_legal, tt) free a.next
 
@@ -334,7 +335,7 @@ fits_after law old new e r k s = (leaves law old k new e r s).fits
 
 -- as a store is opened
 pub within_at_first : (trees : List TreeMap) (number : ℕ) (journaled : List Element) (failures : ℕ) → number ≤ GREATEST_NUMBER →
-    IsWithin (record { opened = trees; before = number; accepted = []; sessions = []; places = []; begun = 0; durable = number; room = room_with journaled; failures = failures; faulted = false })
+    IsWithin (record { opened = trees; before = number; accepted = []; sessions = []; places = []; begun = 0; durable = number; room = room_with journaled; failures = failures; faulted = false; bounds = bounds_of trees })
 within_at_first trees number journaled failures few = record {
   opened = omega arith;
   known = omega arith;

@@ -1,7 +1,7 @@
 -- What every state of the machine keeps: what is known of transactions that are held, and of handles.
 use Rattle.std.specs.Prelude.{◌≡◌, ◌≢◌, ◌⊎◌, ℕ, ◌+◌, ◌<◌, ◌≤◌, true, length, List, [], ◌∷◌, ◌++◌, map, filter_map, Option, Some, None, Ok, Err, ⊤}
 use Rattle.refusals.specs.declared.refusal.Refusal.TheVariants.{TooLarge}
-use Rattle.refusals.specs.declared.limits.TheConstants.{GREATEST_NUMBER, MOST_HISTORY, MOST_JOURNAL_BYTES, MOST_SESSIONS, MOST_TRANSACTIONS}
+use Rattle.refusals.specs.declared.limits.TheConstants.{GREATEST_NUMBER, MOST_JOURNAL_BYTES, MOST_SESSIONS, MOST_TRANSACTIONS}
 use Rattle.reg_tree.specs.Maps.{TreeMap}
 use Rattle.reg_tree.specs.Judgement.{legal, applied, applied_one}
 use Rattle.reg_tree.specs.Sequences.{AreTrees}
@@ -27,7 +27,7 @@ pub record IsWithin (machine : Machine) : Type 0 where
   pub opened : machine.before ≤ machine.durable
   pub known : machine.durable ≤ last_number machine
   pub numbers : last_number machine ≤ GREATEST_NUMBER
-  pub changes : length machine.accepted ≤ MOST_HISTORY
+  pub changes : length machine.accepted ≤ machine.bounds.changes
   pub sessions : length machine.sessions ≤ MOST_SESSIONS
   pub held : count_held machine.places ≤ MOST_TRANSACTIONS
   pub room : room_with (pending machine) ≤ machine.room
@@ -84,7 +84,7 @@ pub record IsGone (machine : Machine) (tx : Tx) : Type 0 where
   pub was_begun : tx.generation ≤ machine.begun
   pub not_there : (one : Transaction) → at machine.places tx.place ≡ Some one → one.generation ≢ tx.generation
 
--- What the journal, its numbers and the device have to do with stays.
+-- What the journal, its numbers, the bounds and the device have to do with stays.
 pub record Stays (old new : Machine) : Type 0 where
   pub opened : new.opened ≡ old.opened
   pub before : new.before ≡ old.before
@@ -92,6 +92,7 @@ pub record Stays (old new : Machine) : Type 0 where
   pub durable : new.durable ≡ old.durable
   pub room : new.room ≡ old.room
   pub faulted : new.faulted ≡ old.faulted
+  pub bounds : new.bounds ≡ old.bounds
 
 -- One change is accepted, which has an operation, is legal operation by operation on the trees of now, and for which there is a
 -- number and room in the journal; that is used. The rest stays.
@@ -107,3 +108,4 @@ pub record Grows (old new : Machine) : Type 0 where
   pub room : new.room ≡ old.room + room_of element
   pub fits : new.room ≤ MOST_JOURNAL_BYTES
   pub faulted : new.faulted ≡ old.faulted
+  pub bounds : new.bounds ≡ old.bounds

@@ -10,9 +10,10 @@ use Rattle.refusals.specs.declared.limits.TheConstants.{MOST_JOURNAL_BYTES, MOST
 use Rattle.reg_tree.specs.Maps.{TreeMap}
 use Rattle.reg_tree.specs.Fresh.{fresh_tree}
 use Rattle.reg_tree.specs.Texts.{element_text_len}
+use Rattle.reg_tree.specs.Operations.{hive_of}
 use Rattle.reg_tree.specs.Judgement.{legal}
 use Rattle.reg_tree.specs.Judgement.{any_outweighs}
-use Rattle.reg_tree.specs.TreeLists.{value_in, info_in, subkeys_in, value_names_in, levels_in}
+use Rattle.reg_tree.specs.TreeLists.{value_in, value_index_in, info_in, subkeys_in, subkey_index_in, value_names_in, levels_in}
 use Rattle.reg_tree.specs.Sequences.{after_elements}
 use Rattle.reg_tree.specs.declared.element.Element.{Element}
 use Rattle.reg_tree.specs.declared.op.Op.{Op}
@@ -21,16 +22,17 @@ use Rattle.reg_tree.specs.declared.op.Legality.{Legality}
 use Rattle.reg_tree.specs.declared.op.Legality.TheVariants.{Legal, Opened}
 use Rattle.conflicts.specs.Claims.{claim_of}
 use Rattle.machine.specs.Transactions.{Transaction, Places, is_claimed, view, own, count_held, inactive_refusal}
+use Rattle.machine.specs.declared.bounds.Bounds.{Bounds}
 use Rattle.machine.specs.declared.handle.Tx.{Tx}
 use Rattle.machine.specs.declared.event.Question.{Question}
-use Rattle.machine.specs.declared.event.Question.TheVariants.{ValueOf, KeysOf, ValuesOf, InfoOf}
+use Rattle.machine.specs.declared.event.Question.TheVariants.{ValueOf, ValueAt, KeyAt, KeysOf, ValuesOf, InfoOf}
 use Rattle.machine.specs.declared.event.Found.{Found}
 use Rattle.machine.specs.declared.event.Found.TheVariants as found
 
 -- the trees as the store was opened, the number of the last change before that, and the changes accepted since; the
 -- sessions that are open, in the order in which they were opened; the transaction at each place, and how many were
 -- begun; the number up to which changes are durable; the room that the journal has used; how many calls of the device
--- have failed, and whether the store is faulted by one
+-- have failed, and whether the store is faulted by one; and how many changes it accepts, and which hives calls may name
 pub record Machine : Type 0 where
   pub opened : List TreeMap
   pub before : ℕ
@@ -42,6 +44,7 @@ pub record Machine : Type 0 where
   pub room : ℕ
   pub failures : ℕ
   pub faulted : Bool
+  pub bounds : Bounds
 
 -- the journal's header and first gate take 65 bytes, and each change 17 and its length
 abbrev pub room_of : Element → ℕ
@@ -49,6 +52,10 @@ room_of element = 17 + element_text_len element
 
 abbrev pub room_with : List Element → ℕ
 room_with elements = 65 + sum_by room_of elements
+
+-- the bounds of a store whose calls name each of its trees
+abbrev pub bounds_of : List TreeMap → Bounds
+bounds_of trees = record { changes = MOST_HISTORY; hives = length trees }
 
 -- a store as it was opened on trees after the change of a number, its journal spelling changes: no change was accepted
 -- since, and nobody is there
@@ -65,6 +72,7 @@ opened_machine trees number journaled failures =
       room = room_with journaled;
       failures = failures;
       faulted = false;
+      bounds = bounds_of trees;
     }
 
 -- a store of new hives, whose journal is empty
@@ -112,6 +120,18 @@ fault machine = refused_if machine.faulted Faulted
 abbrev pub closed_refusal : Machine → ℕ → Option Refusal
 closed_refusal machine session = refused_if (not (is_open machine session)) NoSuchHandle
 
+-- a hive that calls may not name is none, for them
+abbrev pub unnamed_refusal : Machine → ℕ → Option Refusal
+unnamed_refusal machine hive = refused_if (nat_le machine.bounds.hives hive) NotFound
+
+-- why a call of a session that names a hive is refused, whatever it asks
+abbrev pub call_refusal : Machine → ℕ → ℕ → Option Refusal
+call_refusal machine session hive = first_of (closed_refusal machine session) (unnamed_refusal machine hive)
+
+-- why one in a transaction is
+abbrev pub tx_call_refusal : Machine → ℕ → Tx → ℕ → Option Refusal
+tx_call_refusal machine session tx hive = first_of (inactive_refusal (found_in machine session tx)) (unnamed_refusal machine hive)
+
 -- 32 sessions are open
 abbrev pub start_refusal : Machine → ℕ → Option Refusal
 start_refusal machine session = first_of (fault machine) (refused_if (not (is_open machine session) && nat_le MOST_SESSIONS (length machine.sessions)) NoSeat)
@@ -119,6 +139,8 @@ start_refusal machine session = first_of (fault machine) (refused_if (not (is_op
 -- what is read of trees, where it is there
 abbrev pub looked_up : List TreeMap → ℕ → List (List ℕ) → Question → Option Found
 looked_up trees hive path (ValueOf name) = option_map found.Value (value_in trees hive (folded_path path) name)
+looked_up trees hive path (ValueAt index) = option_map found.Value (value_index_in trees hive (folded_path path) index)
+looked_up trees hive path (KeyAt index) = option_map found.Key (subkey_index_in trees hive (folded_path path) index)
 looked_up trees hive path KeysOf = option_map found.Keys (subkeys_in trees hive (folded_path path))
 looked_up trees hive path ValuesOf = option_map found.ValueNames (value_names_in trees hive (folded_path path))
 looked_up trees hive path InfoOf = option_map found.Counts (info_in trees hive (folded_path path))
@@ -142,17 +164,17 @@ refusal_by (Err refusal) further = Some refusal
 refusal_by (Ok Opened) further = None
 refusal_by (Ok Legal) further = further
 
--- why a change of so many bytes has no room: 1,048,576 changes were accepted in this opening, or the last number is the greatest; or
--- the journal has not room enough
+-- why a change of so many bytes has no room: as many changes were accepted in this opening as the store accepts, or the last
+-- number is the greatest; or the journal has not room enough
 abbrev pub room_refusal : Machine → ℕ → Option Refusal
 room_refusal machine long =
-    first_of (refused_if (nat_le MOST_HISTORY (length machine.accepted) || nat_le GREATEST_NUMBER (last_number machine)) HistoryFull)
+    first_of (refused_if (nat_le machine.bounds.changes (length machine.accepted) || nat_le GREATEST_NUMBER (last_number machine)) HistoryFull)
     (refused_if (nat_lt MOST_JOURNAL_BYTES (machine.room + (17 + long))) JournalFull)
 
 -- why an operation is not accepted by itself
 abbrev pub write_refusal : Machine → ℕ → ℕ → Op → Option Refusal
 write_refusal machine session moment op =
-    first_of (fault machine) (first_of (closed_refusal machine session) (refusal_by (legal (trees_now machine) op) (room_refusal machine (element_text_len (change moment op)))))
+    first_of (fault machine) (first_of (call_refusal machine session (hive_of op)) (refusal_by (legal (trees_now machine) op) (room_refusal machine (element_text_len (change moment op)))))
 
 -- 1,024 transactions are held, or 18,446,744,073,709,551,615 were begun
 abbrev pub seat_refusal : Places → ℕ → Option Refusal

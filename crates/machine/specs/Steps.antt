@@ -3,12 +3,13 @@ use Rattle.std.specs.Prelude.{◌≡◌, ℕ, ◌+◌, ◌<◌, ◌≤◌, not, 
 use Rattle.refusals.specs.declared.refusal.Refusal.{Refusal}
 use Rattle.refusals.specs.declared.refusal.Refusal.TheVariants.{NoMemory, NotFound, DiskFault}
 use Rattle.reg_tree.specs.Maps.{TreeMap}
+use Rattle.reg_tree.specs.Operations.{hive_of}
 use Rattle.reg_tree.specs.Judgement.{legal}
 use Rattle.reg_tree.specs.declared.op.Op.{Op}
 use Rattle.reg_tree.specs.declared.op.Legality.TheVariants.{Legal, Opened}
 use Rattle.conflicts.specs.Claims.{claim_of}
 use Rattle.machine.specs.Transactions.{Transaction, Puts, Becomes, ended, rolled_back_by, gone_with, missing_refusal, inactive_refusal}
-use Rattle.machine.specs.Machine.{Machine, trees_now, last_number, pending, room_with, room_of, is_open, found_in, change, first_of, fault, closed_refusal, start_refusal, looked_up, read_refusal, levels_made, write_refusal, begin_refusal, seen, added_refusal_if, commit_refusal_if}
+use Rattle.machine.specs.Machine.{Machine, trees_now, last_number, pending, room_with, room_of, is_open, found_in, change, first_of, fault, closed_refusal, unnamed_refusal, call_refusal, tx_call_refusal, start_refusal, looked_up, read_refusal, levels_made, write_refusal, begin_refusal, seen, added_refusal_if, commit_refusal_if}
 use Rattle.machine.specs.Acts.{Starts, Adds, Opens, Finishes, Closes}
 use Rattle.machine.specs.Shapes.{DoneOr, ReadOr, AcceptedOr, AddedOr, BegunOr, AwaitsOr, StandsOr, ReceiptOr, SteppedOr}
 use Rattle.machine.specs.declared.handle.Tx.{Tx}
@@ -154,8 +155,8 @@ Step old (event.EndSession session) reply new =
     DoneOr (Ends old session new) (λ r. IsRefused old (closed_refusal old session) r new) reply
 -- a read tells what is there now
 Step old (event.Read session hive path question) reply new =
-    ReadOr (λ found. Tells old (closed_refusal old session) (looked_up (trees_now old) hive path question) found new)
-    (λ r. Refuses old (first_of (closed_refusal old session) (read_refusal (looked_up (trees_now old) hive path question))) r new) reply
+    ReadOr (λ found. Tells old (call_refusal old session hive) (looked_up (trees_now old) hive path question) found new)
+    (λ r. Refuses old (first_of (call_refusal old session hive) (read_refusal (looked_up (trees_now old) hive path question))) r new) reply
 -- a write by itself is accepted at once
 Step old (event.Write session moment op) reply new =
     AcceptedOr (λ levels number. Accepts old session moment op levels number new)
@@ -165,12 +166,12 @@ Step old (event.Write session moment op) reply new =
 Step old (event.Begin session id) reply new =
     BegunOr (λ tx. Begins old session id tx new) (λ r. Refuses old (begin_refusal old session) r new) reply
 Step old (event.TxRead session tx hive path question) reply new =
-    ReadOr (λ found. Tells old (inactive_refusal (found_in old session tx)) (seen (trees_now old) hive path question (found_in old session tx)) found new)
-    (λ r. Refuses old (first_of (inactive_refusal (found_in old session tx)) (read_refusal (seen (trees_now old) hive path question (found_in old session tx)))) r new) reply
+    ReadOr (λ found. Tells old (tx_call_refusal old session tx hive) (seen (trees_now old) hive path question (found_in old session tx)) found new)
+    (λ r. Refuses old (first_of (tx_call_refusal old session tx hive) (read_refusal (seen (trees_now old) hive path question (found_in old session tx)))) r new) reply
 Step old (event.TxWrite session tx moment op) reply new =
-    AddedOr (λ levels. (fault old ≡ None) × ChangesPlaces old (Adds (trees_now old) old.places (found_in old session tx) tx.place moment op levels new.places) new)
-    ((fault old ≡ None) × Opens (trees_now old) old.places (found_in old session tx) tx.place op × (new ≡ old))
-    (λ r. Refuses old (first_of (fault old) (added_refusal_if (trees_now old) old.places tx.place op (found_in old session tx))) r new) reply
+    AddedOr (λ levels. (first_of (fault old) (unnamed_refusal old (hive_of op)) ≡ None) × ChangesPlaces old (Adds (trees_now old) old.places (found_in old session tx) tx.place moment op levels new.places) new)
+    ((first_of (fault old) (unnamed_refusal old (hive_of op)) ≡ None) × Opens (trees_now old) old.places (found_in old session tx) tx.place op × (new ≡ old))
+    (λ r. Refuses old (first_of (fault old) (first_of (tx_call_refusal old session tx (hive_of op)) (added_refusal_if (trees_now old) old.places tx.place op (found_in old session tx)))) r new) reply
 -- a transaction ends, and is let go
 Step old (event.CommitAccept session tx moment) reply new =
     AwaitsOr (λ number. Commits old session tx moment number new)

@@ -1,7 +1,7 @@
 //! What a store is asked, one event after another, and what it answers.
 use crate::handle::{Outcome, Tx};
 use refusals::Refusal;
-use reg_names::{Path, ValueName};
+use reg_names::{Name, Path, ValueName};
 use reg_tree::{Info, Names, Op, Value};
 use uuid::Uuid;
 
@@ -12,6 +12,16 @@ pub enum Question {
     ValueOf {
         /// The value's name.
         name: ValueName,
+    },
+    /// The value at this index, in the order of names.
+    ValueAt {
+        /// The index, from 0 on.
+        index: usize,
+    },
+    /// The name of the subkey at this index, in the order of names.
+    KeyAt {
+        /// The index, from 0 on.
+        index: usize,
     },
     /// The names of its subkeys.
     KeysOf,
@@ -28,6 +38,11 @@ pub enum Found {
     Value {
         /// The value.
         value: Value,
+    },
+    /// The name of a subkey.
+    Key {
+        /// The name.
+        name: Name,
     },
     /// The names of subkeys.
     Keys {

@@ -8,6 +8,7 @@
 //! [`laws`] says what follows from that for every store.
 #![tactic(auto)]
 
+mod bounds;
 mod event;
 mod handle;
 pub mod laws;
@@ -15,6 +16,7 @@ mod reading;
 pub mod room;
 mod sessions;
 
+pub use bounds::Bounds;
 pub use event::{Event, Found, Progress, Question, Reply};
 pub use handle::{NoSuchTransaction, NotEnded, Outcome, Tx};
 pub use reading::{levels_made, look_up};

@@ -9,8 +9,8 @@ use reg_names::Path;
 use reg_tree::{Op, Trees};
 use std::alloc::Global;
 
-/// What the question asks of a key. Refused with `NotFound` exactly where there is no such hive, key or value, and
-/// with `NoMemory`.
+/// What the question asks of a key. Refused with `NotFound` exactly where there is no such hive, key or value, an index being
+/// past the last one, and with `NoMemory`.
 pub fn look_up(
     alloc: Global,
     trees: &Trees,
@@ -26,6 +26,12 @@ pub fn look_up(
     Ok(match question {
         Question::ValueOf { name } => Found::Value {
             value: trees.get_value(hive, path, name.name())?.try_clone()?,
+        },
+        Question::ValueAt { index } => Found::Value {
+            value: trees.enum_value(hive, path, index)?.try_clone()?,
+        },
+        Question::KeyAt { index } => Found::Key {
+            name: trees.enum_key(hive, path, index)?.clone()?,
         },
         Question::KeysOf => Found::Keys {
             names: trees.subkey_names(alloc, hive, path)?,

@@ -139,3 +139,13 @@ module _ (places : Places) (claims : List Held) (all : AreClaimed places claims)
   claimed_is place [] empty e is = ap not is ∙ sym (claimed_by_none place (sym e))
   claimed_is place (o ∷ owners) empty e is =
       ap not (is ∙ suc_is_not (length owners)) ∙ sym (claimed_by place o.0 (subst (λ l. Contains l o.0) e (here o.0 (map (λ (o : Owner). o.0) owners))))
+
+-- where no other place's transaction holds one, none of them does
+pub none_elsewhere : (places : Places) (place : ℕ) (claim : Claim) → is_claimed places place claim ≡ false → (other : ℕ) → (other ≡ place → ⊥) → holds_if claim (at places other) ≡ false
+none_elsewhere places place claim none other apart = by_place (at places other) refl
+  where
+    by_place : (there : Option Transaction) → at places other ≡ there → holds_if claim there ≡ false
+    by_place None there = refl
+    by_place (Some one) there = false_from_ne_true (holds claim one) (λ h.
+        true≢false (sym (any_of (λ (e : ℕ × Transaction). not (e.0 == place) && holds claim e.1) (held places) (other, one) ((Contains-entries (slab_of places) other one).1 there)
+        (both (not (other == place)) (holds claim one) (ap not (ne_eqb other place apart)) h)) ∙ none))

@@ -1,5 +1,5 @@
 -- What a table keeps, after each way in which it changes.
-use Rattle.std.proofs.Common.{◌≡◌, ℕ, ◌+◌, true, false, arith, List, [], ◌∷◌, ◌++◌, Option, Some, None, Result, Ok, Err, sym, ◌∙◌, ap, subst}
+use Rattle.std.proofs.Common.{◌≡◌, ℕ, ◌+◌, ◌<◌, length, true, false, arith, List, [], ◌∷◌, ◌++◌, Option, Some, None, Result, Ok, Err, sym, ◌∙◌, ap, subst}
 use Rattle.std.specs.Prelude.{Contains, map, slice_set, OnErr}
 use Rattle.std.proofs.lemmas.Bool.{ltb-false}
 use Rattle.std.proofs.lemmas.List.Sums.{sum_by-append}
@@ -16,7 +16,7 @@ use Rattle.conflicts.specs.Claims.{claim_of}
 use Rattle.conflicts.specs.Holders.{Held, with_claim, without_owner}
 use Rattle.conflicts.proofs.Members.{none_empty}
 use Rattle.machine.specs.Transactions.{Transaction, Puts, at, is_active, with_op}
-use Rattle.transactions.specs.Entries.{transaction_of, places_of, IsEntry, IsSameEntry, IsViewed, IsViewNow, AreKept}
+use Rattle.transactions.specs.Entries.{transaction_of, places_of, IsEntry, IsSameEntry, HasTwoSpare, IsViewed, IsViewNow, AreKept}
 use Rattle.transactions.specs.declared.entry.Entry.{Entry}
 use Rattle.transactions.specs.declared.entry.View.{View}
 use Rattle.transactions.proofs.Slots.{slot, at_of, puts, entries_put, entries_moved, entries_begun}
@@ -80,7 +80,7 @@ module _ (trees : List TreeMap) (number begun : ℕ) (claims : List Held) where
 -- an entry that has another view
 pub seen_entry : (trees : List TreeMap) (number begun : ℕ) (e after : Entry) → IsEntry trees number begun e → after ≡ record e { view = after.view } → IsViewed trees number after.ops.items after.view → IsEntry trees number begun after
 seen_entry trees number begun e after i rest viewed =
-    subst (IsEntry trees number begun) (sym rest) record { known = i.known; counted = i.counted; short = i.short; viewed = subst (λ (x : Entry). IsViewed trees number x.ops.items after.view) rest viewed }
+    subst (IsEntry trees number begun) (sym rest) record { known = i.known; counted = i.counted; short = i.short; spare = i.spare; viewed = subst (λ (x : Entry). IsViewed trees number x.ops.items after.view) rest viewed }
 
 -- the places show no view
 pub same_places : (slots : List (Option Entry)) (place : ℕ) (e after : Entry) → slot slots place ≡ Some e → transaction_of after ≡ transaction_of e → places_of (slice_set slots place (Some after)) ≡ places_of slots
@@ -95,16 +95,18 @@ reserved_entry trees number begun e after i s = subst (IsEntry trees number begu
   known = i.known;
   counted = i.counted ∙ ap (λ (items : List Op). 16 + ops_text_len items) (sym s.1);
   short = i.short;
+  spare = λ some. let many = i.spare (subst (λ (items : List Op). 0 < length items) s.1 some) in let same = ap (λ (items : List Op). length items) s.1 in omega (arith, many, same, s.2);
   viewed = subst (λ items. IsViewed trees number items e.view) (sym s.1) i.viewed;
 }
 
 -- an entry after one more operation, which is not too long and whose view is that after it
 pub added_entry : (trees : List TreeMap) (number begun : ℕ) (e after : Entry) (op : Op) (moment : ℕ) (made : View) → IsEntry trees number begun e → transaction_of after ≡ with_op (transaction_of e) op moment → after.length ≡ e.length + op_text_len op →
-    after.view ≡ Some made → too_long (transaction_of e) op ≡ false → made.number ≡ number → IsViewNow trees (e.ops.items ++ op ∷ []) made → IsEntry trees number begun after
-added_entry trees number begun e after op moment made i kept length view short numbered seen = record {
+    after.view ≡ Some made → too_long (transaction_of e) op ≡ false → made.number ≡ number → IsViewNow trees (e.ops.items ++ op ∷ []) made → HasTwoSpare after → IsEntry trees number begun after
+added_entry trees number begun e after op moment made i kept length view short numbered seen spare = record {
   known = omega (arith, i.known, ap (λ (t : Transaction). t.generation) kept);
   counted = whole;
   short = omega (arith, whole, ap (λ (items : List Op). ops_text_len items) items, ltb-false MOST_ELEMENT_BYTES (16 + ops_text_len (e.ops.items ++ op ∷ [])) short);
+  spare = spare;
   viewed = subst (IsViewed trees number after.ops.items) (sym view) record { known = omega (arith, numbered); made = λ same. subst (λ ops. IsViewNow trees ops made) (sym items) seen };
 }
   where

@@ -54,10 +54,10 @@ later_view trees number ops (Some view) others v = record { known = omega (arith
 pub entries_moved : (trees others : List TreeMap) (number begun : ℕ) (slots : List (Option Entry)) → AreEntries trees number begun slots → AreEntries others (number + 1) begun slots
 entries_moved trees others number begun slots all place e at =
     let i : IsEntry trees number begun e = all place e at in
-    record { known = i.known; counted = i.counted; short = i.short; viewed = later_view trees number e.ops.items e.view others i.viewed }
+    record { known = i.known; counted = i.counted; short = i.short; spare = i.spare; viewed = later_view trees number e.ops.items e.view others i.viewed }
 
 -- one more was begun
 pub entries_begun : (trees : List TreeMap) (number begun : ℕ) (slots : List (Option Entry)) → AreEntries trees number begun slots → AreEntries trees number (begun + 1) slots
 entries_begun trees number begun slots all place e at =
     let i : IsEntry trees number begun e = all place e at in
-    record { known = omega (arith, i.known); counted = i.counted; short = i.short; viewed = i.viewed }
+    record { known = omega (arith, i.known); counted = i.counted; short = i.short; spare = i.spare; viewed = i.viewed }

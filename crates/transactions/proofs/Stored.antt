@@ -1,6 +1,6 @@
 -- What a store in memory answers, and what it shows after each change.
 use Rattle.std.proofs.Common.{◌≡◌, ◌⊎◌, inl, inr, ℕ, ◌+◌, ◌<◌, ◌≤◌, ◌==◌, ◌&&◌, min, Bool, true, false, not, cond, List, [], ◌∷◌, ◌++◌, length, Option, Some, None, Result, Ok, Err, refl, sym, ◌∙◌, ap, subst, arith}
-use Rattle.std.specs.Prelude.{IsErrAnd, ◌||◌, nat_le, nat_lt, is_some, slice_get}
+use Rattle.std.specs.Prelude.{IsErrAnd, IfSome, ◌||◌, nat_le, nat_lt, is_some, slice_get}
 use Rattle.std.specs.Option.{option_and_then}
 use Rattle.std.specs.List.{list_any}
 use Rattle.std.proofs.lemmas.Bool.Decides.{nat_tests}
@@ -8,7 +8,7 @@ use Rattle.std.proofs.lemmas.Option.{none-some, slice_get_past, slice_get-get_or
 use Rattle.std.proofs.lemmas.List.{length-append, length-set}
 use Rattle.refusals.specs.declared.refusal.Refusal.{Refusal}
 use Rattle.refusals.specs.declared.refusal.Refusal.TheVariants.{NoMemory, NotFound, TooLarge, NoSuchHandle, HistoryFull, JournalFull, Faulted}
-use Rattle.refusals.specs.declared.limits.TheConstants.{MOST_ELEMENT_BYTES, MOST_HISTORY, GREATEST_NUMBER, MOST_JOURNAL_BYTES}
+use Rattle.refusals.specs.declared.limits.TheConstants.{MOST_ELEMENT_BYTES, GREATEST_NUMBER, MOST_JOURNAL_BYTES}
 use Rattle.reg_tree.specs.Maps.{TreeMap}
 use Rattle.reg_tree.specs.Fresh.{fresh_tree}
 use Rattle.reg_tree.specs.Operations.{hive_of}
@@ -20,10 +20,11 @@ use Rattle.reg_tree.specs.declared.op.Op.{Op}
 use Rattle.reg_tree.specs.declared.op.Legality.TheVariants.{Legal}
 use Rattle.claims_law.specs.Skeleton.{Claim}
 use Rattle.conflicts.specs.Claims.{claim_of, meets}
-use Rattle.machine.specs.Machine.{Machine, trees_now, last_number, is_open, found_in, change, first_of, refused_if, fault, closed_refusal, commit_refusal, looked_up, read_refusal, levels_made, refusal_by, room_of, room_refusal, write_refusal, added_refusal_if, commit_refusal_if}
+use Rattle.machine.specs.Machine.{Machine, trees_now, last_number, is_open, found_in, change, first_of, refused_if, fault, closed_refusal, unnamed_refusal, call_refusal, tx_call_refusal, commit_refusal, looked_up, read_refusal, levels_made, refusal_by, room_of, room_refusal, write_refusal, commit_refusal_if}
 use Rattle.machine.specs.Steps.{Step, Accepts, Commits, Flushes, Journals, Trims, StepFails, no_hive}
 use Rattle.machine.specs.declared.event.Progress.TheVariants.{Done, Idle}
 use Rattle.machine.specs.Transactions.{Transaction, Puts, at, own, is_active, ended, rolled_back_by, missing_refusal, inactive_refusal}
+use Rattle.machine.specs.declared.bounds.Bounds.{Bounds}
 use Rattle.machine.specs.declared.handle.Tx.{Tx}
 use Rattle.machine.specs.declared.handle.Outcome.TheVariants.{Committed, RolledBack}
 use Rattle.machine.specs.declared.event.Event.{Event}
@@ -65,21 +66,21 @@ module _ (m : Machine) (session : ℕ) (why : Refusal) (res : Result Reply Refus
   closed_end = on_refusal m (event.EndSession session) res why h (no_session m session why i, refl)
 
   pub closed_read : (hive : ℕ) (path : List (List ℕ)) (question : Question) → Answers m (event.Read session hive path question) res m
-  closed_read hive path question = on_refusal m (event.Read session hive path question) res why h (inl (first _ _ why (no_session m session why i)), refl)
+  closed_read hive path question = on_refusal m (event.Read session hive path question) res why h (inl (first _ _ why (first _ _ why (no_session m session why i))), refl)
 
   pub closed_write : fault m ≡ None → (moment : ℕ) (op : Op) → Answers m (event.Write session moment op) res m
-  closed_write free moment op = on_refusal m (event.Write session moment op) res why h (inl (second _ _ (Some why) free (first _ _ why (no_session m session why i))), refl)
+  closed_write free moment op = on_refusal m (event.Write session moment op) res why h (inl (second _ _ (Some why) free (first _ _ why (first _ _ why (no_session m session why i)))), refl)
 
   pub closed_begin : fault m ≡ None → (id : List ℕ) → Answers m (event.Begin session id) res m
   closed_begin free id = on_refusal m (event.Begin session id) res why h (inl (second _ _ (Some why) free (first _ _ why (no_session m session why i))), refl)
 
   pub closed_tx_read : (tx : Tx) (hive : ℕ) (path : List (List ℕ)) (question : Question) → Answers m (event.TxRead session tx hive path question) res m
   closed_tx_read tx hive path question =
-      on_refusal m (event.TxRead session tx hive path question) res why h (inl (first _ _ why (ap inactive_refusal (none_found m session tx why i) ∙ ap Some (sym i.named))), refl)
+      on_refusal m (event.TxRead session tx hive path question) res why h (inl (first _ _ why (first _ _ why (ap inactive_refusal (none_found m session tx why i) ∙ ap Some (sym i.named)))), refl)
 
   pub closed_tx_write : fault m ≡ None → (tx : Tx) (moment : ℕ) (op : Op) → Answers m (event.TxWrite session tx moment op) res m
   closed_tx_write free tx moment op =
-      on_refusal m (event.TxWrite session tx moment op) res why h (inl (second _ _ (Some why) free (ap (added_refusal_if (trees_now m) m.places tx.place op) (none_found m session tx why i) ∙ ap Some (sym i.named))), refl)
+      on_refusal m (event.TxWrite session tx moment op) res why h (inl (second _ _ (Some why) free (first _ _ why (first _ _ why (ap inactive_refusal (none_found m session tx why i) ∙ ap Some (sym i.named))))), refl)
 
   pub closed_commit : fault m ≡ None → (tx : Tx) (moment : ℕ) → Answers m (event.CommitAccept session tx moment) res m
   closed_commit free tx moment = on_refusal m (event.CommitAccept session tx moment) res why h (inl (second _ _ (Some why) free (ap (commit_refusal_if m moment) (none_found m session tx why i) ∙ ap Some (sym i.named))), refl)
@@ -105,36 +106,64 @@ either (inr c) f = inr c
 opened_none : (m : Machine) (session : ℕ) → is_open m session ≡ true → closed_refusal m session ≡ None
 opened_none m session e = ap (λ b. refused_if (not b) NoSuchHandle) e
 
+-- a session that is open may name these hives
+may_call : (m : Machine) (session hive : ℕ) → is_open m session ≡ true → unnamed_refusal m hive ≡ None → call_refusal m session hive ≡ None
+may_call m session hive o c = second (closed_refusal m session) (unnamed_refusal m hive) None (opened_none m session o) c
+
 -- what is read isn't there
-pub missed : (m : Machine) (session hive : ℕ) (path : List (List ℕ)) (question : Question) (trees : List TreeMap) (res : Result Reply Refusal) (why : Refusal) → is_open m session ≡ true → trees ≡ trees_now m →
+pub missed : (m : Machine) (session hive : ℕ) (path : List (List ℕ)) (question : Question) (trees : List TreeMap) (res : Result Reply Refusal) (why : Refusal) → is_open m session ≡ true → unnamed_refusal m hive ≡ None → trees ≡ trees_now m →
     (read_refusal (looked_up trees hive path question) ≡ Some why) ⊎ (why ≡ NoMemory) → IsErrAnd res (λ e. e ≡ why) → Answers m (event.Read session hive path question) res m
-missed m session hive path question trees res why o e w h =
+missed m session hive path question trees res why o c e w h =
     on_refusal m (event.Read session hive path question) res why h
-    (either w (λ r. second (closed_refusal m session) (read_refusal (looked_up (trees_now m) hive path question)) (Some why) (opened_none m session o) (ap (λ t. read_refusal (looked_up t hive path question)) (sym e) ∙ r)), refl)
+    (either w (λ r. second (call_refusal m session hive) (read_refusal (looked_up (trees_now m) hive path question)) (Some why) (may_call m session hive o c) (ap (λ t. read_refusal (looked_up t hive path question)) (sym e) ∙ r)), refl)
 
 -- what a write is refused after its session
-may_write : (m : Machine) (session moment : ℕ) (op : Op) (wanted : Option Refusal) → fault m ≡ None → is_open m session ≡ true → refusal_by (legal (trees_now m) op) (room_refusal m (element_text_len (change moment op))) ≡ wanted → write_refusal m session moment op ≡ wanted
-may_write m session moment op wanted f o e = second _ _ wanted f (second _ _ wanted (opened_none m session o) e)
+may_write : (m : Machine) (session moment : ℕ) (op : Op) (wanted : Option Refusal) → fault m ≡ None → is_open m session ≡ true → unnamed_refusal m (hive_of op) ≡ None → refusal_by (legal (trees_now m) op) (room_refusal m (element_text_len (change moment op))) ≡ wanted → write_refusal m session moment op ≡ wanted
+may_write m session moment op wanted f o c e = second _ _ wanted f (second _ _ wanted (may_call m session (hive_of op) o c) e)
 
 -- a write that is not legal
-pub illegal_write : (m : Machine) (session moment : ℕ) (op : Op) (trees : List TreeMap) (res : Result Reply Refusal) (why : Refusal) → fault m ≡ None → is_open m session ≡ true → trees ≡ trees_now m → (legal trees op ≡ Err why) ⊎ (why ≡ NoMemory) →
+pub illegal_write : (m : Machine) (session moment : ℕ) (op : Op) (trees : List TreeMap) (res : Result Reply Refusal) (why : Refusal) → fault m ≡ None → is_open m session ≡ true → unnamed_refusal m (hive_of op) ≡ None → trees ≡ trees_now m → (legal trees op ≡ Err why) ⊎ (why ≡ NoMemory) →
     IsErrAnd res (λ e. e ≡ why) → Answers m (event.Write session moment op) res m
-illegal_write m session moment op trees res why f o e w h =
+illegal_write m session moment op trees res why f o c e w h =
     on_refusal m (event.Write session moment op) res why h
-    (either w (λ r. may_write m session moment op (Some why) f o (ap (λ l. refusal_by l (room_refusal m (element_text_len (change moment op)))) (ap (λ t. legal t op) (sym e) ∙ r))), refl)
+    (either w (λ r. may_write m session moment op (Some why) f o c (ap (λ l. refusal_by l (room_refusal m (element_text_len (change moment op)))) (ap (λ t. legal t op) (sym e) ∙ r))), refl)
+
+-- the hive is one that calls may not name, or before that the transaction is none that is active
+module _ (m : Machine) (session : ℕ) (why : Refusal) (res : Result Reply Refusal) (o : is_open m session ≡ true) (h : IsErrAnd res (λ e. e ≡ why)) where
+  not_called : (hive : ℕ) → unnamed_refusal m hive ≡ Some why → call_refusal m session hive ≡ Some why
+  not_called hive e = second (closed_refusal m session) (unnamed_refusal m hive) (Some why) (opened_none m session o) e
+
+  pub unnamed_read : (hive : ℕ) (path : List (List ℕ)) (question : Question) → unnamed_refusal m hive ≡ Some why → Answers m (event.Read session hive path question) res m
+  unnamed_read hive path question e = on_refusal m (event.Read session hive path question) res why h (inl (first _ _ why (not_called hive e)), refl)
+
+  pub unnamed_write : fault m ≡ None → (moment : ℕ) (op : Op) → unnamed_refusal m (hive_of op) ≡ Some why → Answers m (event.Write session moment op) res m
+  unnamed_write free moment op e = on_refusal m (event.Write session moment op) res why h (inl (second _ _ (Some why) free (first _ _ why (not_called (hive_of op) e))), refl)
+
+  abbrev pub IsUncalled : Tx → ℕ → Type 0
+  IsUncalled tx hive = (inactive_refusal (own m.places session tx) ≡ Some why) ⊎ ((inactive_refusal (own m.places session tx) ≡ None) × (unnamed_refusal m hive ≡ Some why))
+
+  not_called_in : (tx : Tx) (hive : ℕ) → IsUncalled tx hive → tx_call_refusal m session tx hive ≡ Some why
+  not_called_in tx hive (inl e) = first _ _ why (ap (λ b. inactive_refusal (cond b (own m.places session tx) None)) o ∙ e)
+  not_called_in tx hive (inr e) = second _ _ (Some why) (ap (λ b. inactive_refusal (cond b (own m.places session tx) None)) o ∙ e.0) e.1
+
+  pub uncalled_tx_read : (tx : Tx) (hive : ℕ) (path : List (List ℕ)) (question : Question) → IsUncalled tx hive → Answers m (event.TxRead session tx hive path question) res m
+  uncalled_tx_read tx hive path question u = on_refusal m (event.TxRead session tx hive path question) res why h (inl (first _ _ why (not_called_in tx hive u)), refl)
+
+  pub uncalled_tx_write : fault m ≡ None → (tx : Tx) (moment : ℕ) (op : Op) → IsUncalled tx (hive_of op) → Answers m (event.TxWrite session tx moment op) res m
+  uncalled_tx_write free tx moment op u = on_refusal m (event.TxWrite session tx moment op) res why h (inl (second _ _ (Some why) free (first _ _ why (not_called_in tx (hive_of op) u))), refl)
 
 -- a length that is cut off at the greatest number of 64 bits has no room either
 tests : (room long cut : ℕ) → cut ≡ min long 18446744073709551615 → nat_lt MOST_JOURNAL_BYTES (room + (17 + cut)) ≡ nat_lt MOST_JOURNAL_BYTES (room + (17 + long))
 tests room long cut e = grind (arith, nat_tests)
 
 pub capped : (m : Machine) (long cut : ℕ) → cut ≡ min long 18446744073709551615 → room_refusal m cut ≡ room_refusal m long
-capped m long cut e = ap (λ b. first_of (refused_if (nat_le MOST_HISTORY (length m.accepted) || nat_le GREATEST_NUMBER (last_number m)) HistoryFull) (refused_if b JournalFull)) (tests m.room long cut e)
+capped m long cut e = ap (λ b. first_of (refused_if (nat_le m.bounds.changes (length m.accepted) || nat_le GREATEST_NUMBER (last_number m)) HistoryFull) (refused_if b JournalFull)) (tests m.room long cut e)
 
-pub crowded_write : (m : Machine) (session moment : ℕ) (op : Op) (trees : List TreeMap) (res : Result Reply Refusal) (why : Refusal) (long : ℕ) → fault m ≡ None → is_open m session ≡ true → trees ≡ trees_now m → legal trees op ≡ Ok Legal →
+pub crowded_write : (m : Machine) (session moment : ℕ) (op : Op) (trees : List TreeMap) (res : Result Reply Refusal) (why : Refusal) (long : ℕ) → fault m ≡ None → is_open m session ≡ true → unnamed_refusal m (hive_of op) ≡ None → trees ≡ trees_now m → legal trees op ≡ Ok Legal →
     long ≡ min (element_text_len (change moment op)) 18446744073709551615 → room_refusal m long ≡ Some why → IsErrAnd res (λ e. e ≡ why) → Answers m (event.Write session moment op) res m
-crowded_write m session moment op trees res why long f o e l c r h =
+crowded_write m session moment op trees res why long f o n e l c r h =
     on_refusal m (event.Write session moment op) res why h
-    (inl (may_write m session moment op (Some why) f o (ap (λ x. refusal_by x (room_refusal m (element_text_len (change moment op)))) (ap (λ t. legal t op) (sym e) ∙ l) ∙ sym (capped m (element_text_len (change moment op)) long c) ∙ r)), refl)
+    (inl (may_write m session moment op (Some why) f o n (ap (λ x. refusal_by x (room_refusal m (element_text_len (change moment op)))) (ap (λ t. legal t op) (sym e) ∙ l) ∙ sym (capped m (element_text_len (change moment op)) long c) ∙ r)), refl)
 
 -- as many hives are there as were
 one_as_long : (trees : List TreeMap) (slot : Option TreeMap) (op : Op) (moment : ℕ) → length (applied_if trees slot op moment) ≡ length trees
@@ -172,15 +201,15 @@ not_full true last room e = absurd (none-some HistoryFull (sym e))
 not_full false last room e = refl
 
 -- where there is room, the history is not full
-pub below_most : (m : Machine) (long : ℕ) → room_refusal m long ≡ None → length m.accepted < MOST_HISTORY
+pub below_most : (m : Machine) (long : ℕ) → room_refusal m long ≡ None → length m.accepted < m.bounds.changes
 below_most m long e =
-    let open_history = not_full (nat_le MOST_HISTORY (length m.accepted)) (nat_le GREATEST_NUMBER (last_number m)) _ e in
+    let open_history = not_full (nat_le m.bounds.changes (length m.accepted)) (nat_le GREATEST_NUMBER (last_number m)) _ e in
     grind (arith, nat_tests, open_history)
 
 -- a table that has moved on is tied to the store with one change more
-pub tied_more : (o : List TreeMap) (n : ℕ) (a b : List Element) (s : List ℕ) (t u : Table) (d r q : ℕ) (f : Bool) (element : Element) → IsTied t (store_of o n a s t d r f) → length a < MOST_HISTORY →
-    b ≡ a ++ element ∷ [] → u.trees ≡ applied t.trees element.ops element.moment → u.number ≡ t.number + 1 → IsTied u (store_of o n b s u d q f)
-tied_more o n a b s t u d r q f element i below grown trees number =
+pub tied_more : (o : List TreeMap) (n : ℕ) (a b : List Element) (s : List ℕ) (t u : Table) (d r q : ℕ) (f : Bool) (w : Bounds) (element : Element) → IsTied t (store_of o n a s t d r f w) → length a < w.changes →
+    b ≡ a ++ element ∷ [] → u.trees ≡ applied t.trees element.ops element.moment → u.number ≡ t.number + 1 → IsTied u (store_of o n b s u d q f w)
+tied_more o n a b s t u d r q f w element i below grown trees number =
     let long : length b ≡ length a + 1 = ap length grown ∙ length-append a (element ∷ []) in
     let old_number = i.number in
     let old_durable = i.durable in
@@ -200,19 +229,19 @@ roll : (claim : Claim) (slot : Option Transaction) → rolled_back_if (holds_if 
 roll claim None = refl
 roll claim (Some one) = roll_by (is_active one) (list_any (λ op. meets claim (claim_of op)) one.ops) (ended RolledBack one) one
 
-module _ (o : List TreeMap) (n : ℕ) (a b : List Element) (s : List ℕ) (t u v : Table) (d r q : ℕ) (faulted : Bool) (free : fault (store_of o n a s t d r faulted) ≡ None) where
-  pub accepts : (session moment number : ℕ) (op : Op) (levels : Option ℕ) (trees : List TreeMap) (listed : List ℕ) → IsTied t (store_of o n a s t d r faulted) → is_open (store_of o n a s t d r faulted) session ≡ true →
-      legal t.trees op ≡ Ok Legal → room_refusal (store_of o n a s t d r faulted) (element_text_len (change moment op)) ≡ None → levels ≡ levels_made t.trees op → number ≡ v.number →
+module _ (o : List TreeMap) (n : ℕ) (a b : List Element) (s : List ℕ) (t u v : Table) (d r q : ℕ) (faulted : Bool) (w : Bounds) (free : fault (store_of o n a s t d r faulted w) ≡ None) where
+  pub accepts : (session moment number : ℕ) (op : Op) (levels : Option ℕ) (trees : List TreeMap) (listed : List ℕ) → IsTied t (store_of o n a s t d r faulted w) → is_open (store_of o n a s t d r faulted w) session ≡ true → unnamed_refusal (store_of o n a s t d r faulted w) (hive_of op) ≡ None →
+      legal t.trees op ≡ Ok Legal → room_refusal (store_of o n a s t d r faulted w) (element_text_len (change moment op)) ≡ None → levels ≡ levels_made t.trees op → number ≡ v.number →
       b ≡ a ++ change moment op ∷ [] → q ≡ r + room_of (change moment op) → u ≡ record t { trees = trees; number = t.number + 1 } → v ≡ record u { places = v.places } →
       ((place : ℕ) → at v.places place ≡ rolled_back_if (is_listed listed place) (at u.places place)) → ((place : ℕ) → is_listed listed place ≡ holds_if (claim_of op) (at t.places place)) →
-      Accepts (store_of o n a s t d r faulted) session moment op levels number (store_of o n b s v d q faulted)
-  accepts session moment number op levels trees listed i there l room made told grown g moved rest rolled lists =
-      let old = store_of o n a s t d r faulted in
+      Accepts (store_of o n a s t d r faulted w) session moment op levels number (store_of o n b s v d q faulted w)
+  accepts session moment number op levels trees listed i there named l room made told grown g moved rest rolled lists =
+      let old = store_of o n a s t d r faulted w in
       let begun : v.begun ≡ t.begun = ap (λ (x : Table). x.begun) rest ∙ ap (λ (x : Table). x.begun) moved in
       let count : v.number ≡ t.number + 1 = ap (λ (x : Table). x.number) rest ∙ ap (λ (x : Table). x.number) moved in
       let legal_now : legal (trees_now old) op ≡ Ok Legal = ap (λ x. legal x op) (sym i.trees) ∙ l in
       record {
-        free = may_write old session moment op None free there (ap (λ x. refusal_by x (room_refusal old (element_text_len (change moment op)))) legal_now ∙ room);
+        free = may_write old session moment op None free there named (ap (λ x. refusal_by x (room_refusal old (element_text_len (change moment op)))) legal_now ∙ room);
         is_legal = legal_now;
         made = made ∙ ap (λ x. levels_made x op) i.trees;
         numbered = told ∙ count ∙ ap (λ x. x + 1) i.number;
@@ -230,7 +259,7 @@ not_crowded false false e = refl
 
 pub uncut : (m : Machine) (long cut : ℕ) → room_refusal m cut ≡ None → cut ≡ min long 18446744073709551615 → cut ≡ long
 uncut m long cut e f =
-    let within = not_crowded (nat_le MOST_HISTORY (length m.accepted) || nat_le GREATEST_NUMBER (last_number m)) (nat_lt MOST_JOURNAL_BYTES (m.room + (17 + cut))) e in
+    let within = not_crowded (nat_le m.bounds.changes (length m.accepted) || nat_le GREATEST_NUMBER (last_number m)) (nat_lt MOST_JOURNAL_BYTES (m.room + (17 + cut))) e in
     grind (arith, nat_tests, within, f)
 
 -- the length of a change of one operation
@@ -277,19 +306,31 @@ module _ (m : Machine) (session moment : ℕ) (tx : Tx) (why : Refusal) (res : R
       uncommitted (inl (pending_refusal m moment (own m.places session tx) ops long (Some why) p some
       (second _ (room_refusal m long) (Some why) (ap (λ x. refused_if x TooLarge) (ap (λ x. any_outweighs x ops moment) (sym e) ∙ light)) r)))
 
+-- what holds of a transaction's operations holds of those that are pending
+pub of_pending : (P : List Op → Type 0) (slot : Option Transaction) (ops : List Op) (long : ℕ) → IsPending slot ops long → IfSome slot (λ one. P one.ops) → P ops
+of_pending P None ops long p h = absurd p
+of_pending P (Some one) ops long p h = subst P (sym p.given) h
+
+-- a transaction that ended after the trees of now were replaced ended before
+pub ends_before : (t after u : Table) (trees : List TreeMap) (session : ℕ) (tx : Tx) (given : List Op) → after ≡ record t { trees = trees; number = t.number + 1 } → EndsWith after session tx Committed given u →
+    EndsWith t session tx Committed given (record t { places = u.places }) × (u ≡ record t { trees = trees; number = t.number + 1; places = u.places })
+ends_before t after u trees session tx given moved ends =
+    let e : EndsWith (record t { trees = trees; number = t.number + 1 }) session tx Committed given u = subst (λ x. EndsWith x session tx Committed given u) moved ends in
+    (record { finishes = e.finishes; given = e.given; next = refl }, e.next)
+
 -- the operations that are handed out are those that were pending
 pub same_ops : (t u : Table) (session : ℕ) (tx : Tx) (ops given : List Op) (long : ℕ) → IsPending (own t.places session tx) ops long → EndsWith t session tx Committed given u → ops ≡ given
 same_ops t u session tx ops given long p e =
     let q : IsPendingOf e.finishes.one ops long = subst (λ x. IsPending x ops long) e.finishes.found p in
     q.given ∙ sym e.given
 
-module _ (o : List TreeMap) (n : ℕ) (a b : List Element) (s : List ℕ) (t u v : Table) (d r q : ℕ) (faulted : Bool) (free : fault (store_of o n a s t d r faulted) ≡ None) where
-  pub commits : (session moment number : ℕ) (tx : Tx) (trees : List TreeMap) (ops given : List Op) (long : ℕ) → IsTied t (store_of o n a s t d r faulted) → is_open (store_of o n a s t d r faulted) session ≡ true →
-      IsPending (own t.places session tx) ops long → EndsWith t session tx Committed given u → (length ops == 0) ≡ false → any_outweighs t.trees ops moment ≡ false → room_refusal (store_of o n a s t d r faulted) long ≡ None →
+module _ (o : List TreeMap) (n : ℕ) (a b : List Element) (s : List ℕ) (t u v : Table) (d r q : ℕ) (faulted : Bool) (w : Bounds) (free : fault (store_of o n a s t d r faulted w) ≡ None) where
+  pub commits : (session moment number : ℕ) (tx : Tx) (trees : List TreeMap) (ops given : List Op) (long : ℕ) → IsTied t (store_of o n a s t d r faulted w) → is_open (store_of o n a s t d r faulted w) session ≡ true →
+      IsPending (own t.places session tx) ops long → EndsWith t session tx Committed given u → (length ops == 0) ≡ false → any_outweighs t.trees ops moment ≡ false → room_refusal (store_of o n a s t d r faulted w) long ≡ None →
       number ≡ v.number → b ≡ a ++ record { moment = moment; ops = given } ∷ [] → q ≡ r + (17 + long) → v ≡ record u { trees = trees; number = u.number + 1 } →
-      Commits (store_of o n a s t d r faulted) session tx moment number (store_of o n b s v d q faulted)
+      Commits (store_of o n a s t d r faulted w) session tx moment number (store_of o n b s v d q faulted w)
   commits session moment number tx trees ops given long i there p ends some light room told e g moved =
-      let old = store_of o n a s t d r faulted in
+      let old = store_of o n a s t d r faulted w in
       let element : Element = record { moment = moment; ops = ends.finishes.one.ops } in
       let mine : IsPendingOf ends.finishes.one ops long = subst (λ x. IsPending x ops long) ends.finishes.found p in
       let kept : (length ends.finishes.one.ops == 0) ≡ false = ap (λ (x : List Op). length x == 0) (sym mine.given) ∙ some in
@@ -339,10 +380,10 @@ active_pending None ops long p = absurd p
 active_pending (Some one) ops long p = p.active
 
 -- a transaction without operations commits as nothing
-pub commits_nothing : (o : List TreeMap) (n : ℕ) (a : List Element) (s : List ℕ) (t u : Table) (d r : ℕ) (faulted : Bool) → fault (store_of o n a s t d r faulted) ≡ None → (session moment : ℕ) (tx : Tx) (ops given : List Op) (long : ℕ) → is_open (store_of o n a s t d r faulted) session ≡ true
-    → IsPending (own t.places session tx) ops long → (length ops == 0) ≡ true → EndsWith t session tx Committed given u → Commits (store_of o n a s t d r faulted) session tx moment 0 (store_of o n a s u d r faulted)
-commits_nothing o n a s t u d r faulted free session moment tx ops given long there p none ends =
-    let old = store_of o n a s t d r faulted in
+pub commits_nothing : (o : List TreeMap) (n : ℕ) (a : List Element) (s : List ℕ) (t u : Table) (d r : ℕ) (faulted : Bool) (w : Bounds) → fault (store_of o n a s t d r faulted w) ≡ None → (session moment : ℕ) (tx : Tx) (ops given : List Op) (long : ℕ) → is_open (store_of o n a s t d r faulted w) session ≡ true
+    → IsPending (own t.places session tx) ops long → (length ops == 0) ≡ true → EndsWith t session tx Committed given u → Commits (store_of o n a s t d r faulted w) session tx moment 0 (store_of o n a s u d r faulted w)
+commits_nothing o n a s t u d r faulted w free session moment tx ops given long there p none ends =
+    let old = store_of o n a s t d r faulted w in
     let mine : IsPendingOf ends.finishes.one ops long = subst (λ x. IsPending x ops long) ends.finishes.found p in
     let empty : (length ends.finishes.one.ops == 0) ≡ true = ap (λ (x : List Op). length x == 0) (sym mine.given) ∙ none in
     let begun : u.begun ≡ t.begun = ap (λ (x : Table). x.begun) ends.next in

@@ -64,6 +64,10 @@ module _ (slots : List (Option Entry)) (session : ℕ) (tx : Tx) (passes : inact
     pub own_is : own (places_of slots) session tx ≡ Some (transaction_of e)
     own_is = own_found slots session tx e there its_own.0
 
+-- where there are no operations
+none_some : (ops : List Op) → ops ≡ [] → 0 < length ops → ⊥
+none_some ops none some = absurd (omega (arith, some, ap (λ (ops : List Op). length ops) none))
+
 -- an entry after its end
 pub ended_entry : (trees : List TreeMap) (number begun : ℕ) (e after : Entry) (outcome : Outcome) → IsEntry trees number begun e → transaction_of after ≡ ended outcome (transaction_of e) → after.length ≡ 16 → after.view ≡ None →
     IsEntry trees number begun after
@@ -71,6 +75,7 @@ ended_entry trees number begun e after outcome i kept length unseen = record {
   known = omega (arith, i.known, ap (λ (t : Transaction). t.generation) kept);
   counted = length ∙ ap (λ (ops : List Op). 16 + ops_text_len ops) (sym (ap (λ (t : Transaction). t.ops) kept));
   short = omega (arith, length);
+  spare = λ some. absurd (none_some _ (ap (λ (t : Transaction). t.ops) kept) some);
   viewed = subst (IsViewed trees number after.ops.items) (sym unseen) tt;
 }
 
@@ -140,6 +145,7 @@ begun_entry trees number begun session id e kept length unseen = record {
   known = omega (arith, ap (λ (t : Transaction). t.generation) kept);
   counted = length ∙ ap (λ (ops : List Op). 16 + ops_text_len ops) (sym (ap (λ (t : Transaction). t.ops) kept));
   short = omega (arith, length);
+  spare = λ some. absurd (none_some _ (ap (λ (t : Transaction). t.ops) kept) some);
   viewed = subst (IsViewed trees number e.ops.items) (sym unseen) tt;
 }
 

@@ -1,11 +1,12 @@
 -- What a transaction sees: its view after one operation more, and after a change of others.
-use Rattle.std.proofs.Common.{◌≡◌, ◌⊎◌, inl, inr, ℕ, zero, suc, ◌+◌, Bool, true, false, ◌||◌, ◌&&◌, length, arith, IfOk, IfSome, List, [], ◌∷◌, ◌++◌, map, Option, Some, None, Result, Ok, Err, refl, sym, ◌∙◌, ap, subst}
+use Rattle.std.proofs.Common.{take, ◌==◌, ◌≡◌, ◌⊎◌, inl, inr, ℕ, zero, suc, ◌+◌, Bool, true, false, ◌||◌, ◌&&◌, length, arith, IfOk, IfSome, List, [], ◌∷◌, ◌++◌, map, Option, Some, None, Result, Ok, Err, refl, sym, ◌∙◌, ap, subst}
 use Rattle.std.specs.Prelude.{slice_get, slice_index_or}
 use Rattle.std.specs.List.{AllByRecursion, list_any}
-use Rattle.std.proofs.lemmas.Bool.{true≢false}
+use Rattle.std.proofs.lemmas.Bool.{true≢false, eqb-true}
 use Rattle.reg_names.specs.Names.{folded_path}
 use Rattle.refusals.specs.declared.refusal.Refusal.{Refusal}
-use Rattle.std.specs.Option.{option_map, option_and_then}
+use Rattle.std.specs.Result.{is_err}
+use Rattle.std.specs.Option.{option_eq, option_map, option_and_then}
 use Rattle.std.specs.FinMap as finite
 use Rattle.reg_tree_parts.specs.Rows.{Row}
 use Rattle.reg_tree_parts.specs.declared.value.Value.{Value}
@@ -13,7 +14,7 @@ use Rattle.reg_tree.specs.Maps.{TreeMap, row, subkeys, weight}
 use Rattle.reg_tree.specs.Reads.{info_of}
 use Rattle.reg_tree.specs.TreeLists.{info_in, value_names_in, value_names_at}
 use Rattle.reg_tree.specs.declared.tree.Info.{Info}
-use Rattle.reg_tree.specs.Judgement.{judged, legal, legal_if, legal_after, changed, applied, applied_one}
+use Rattle.reg_tree.specs.Judgement.{judged, legal, legal_if, legal_after, changed, applied, applied_one, outweighs, outweighs_if, any_outweighs}
 use Rattle.reg_tree.specs.Operations.{hive_of}
 use Rattle.reg_tree.specs.Sequences.{AreTrees}
 use Rattle.reg_tree.specs.Times.{untimed, SameButTimes}
@@ -21,7 +22,7 @@ use Rattle.reg_tree.specs.declared.op.Op.{Op}
 use Rattle.reg_tree.specs.declared.op.Op.TheVariants.{CreateKey, DeleteKey, SetValue, DeleteValue}
 use Rattle.reg_tree.specs.declared.op.Legality.{Legality}
 use Rattle.reg_tree.specs.declared.op.Legality.TheVariants.{Legal, Opened}
-use Rattle.reg_tree.proofs.Times.{moments_alike, legal_alike, levels_alike, value_names_alike, applied_same}
+use Rattle.reg_tree.proofs.Times.{moments_alike, weight_any_moment, legal_alike, levels_alike, value_names_alike, applied_same}
 use Rattle.reg_tree.proofs.OthersStay.{one_by_one, trees_stay_one}
 use Rattle.claims_law.specs.Skeleton as law
 use Rattle.claims_law.proofs.Tests.{conflict_sym}
@@ -31,7 +32,8 @@ use Rattle.conflicts.proofs.StaysLegal.{more, one_more, any_moment}
 use Rattle.conflicts.proofs.Meets.{conflict_meets}
 use Rattle.machine.specs.Machine.{levels_made}
 use Rattle.machine.specs.Transactions.{Transaction, Places, at, is_active, holds, view}
-use Rattle.transactions.specs.Entries.{IsMade, AreCarried, IsViewNow, IsViewed, WritesView, MovesView, IsLegalIn, IsMovedTo, AreMoved, moment_of}
+use Rattle.transactions.specs.Entries.{IsMade, AreCarried, AreAfter, AreLight, IsViewNow, IsViewed, WritesView, MovesView, StaysView, IsLegalIn, IsMovedTo, AreMoved, moment_of}
+use Rattle.transactions.specs.Tables.{holds_if, MeetNone}
 use Rattle.transactions.specs.declared.entry.View.{View}
 
 -- whatever its moment, a view differs from the operations applied at another in times alone
@@ -52,6 +54,24 @@ judged_of_legal trees op e = by_hive (slice_get trees (hive_of op)) e
     by_hive None e = cc
     by_hive (Some tree) e = by_judgement op (judged tree op) (weight (changed tree op 0)) e
 
+-- what is legal leaves no tree too heavy, at whatever moment
+not_heavy : (trees : List TreeMap) (op : Op) (moment : ℕ) → legal trees op ≡ Ok Legal → outweighs trees op moment ≡ false
+not_heavy trees op moment e = by_hive (slice_get trees (hive_of op)) e (judged_of_legal trees op e)
+  where
+    by_hive : (o : Option TreeMap) → legal_if o op ≡ Ok Legal → judged_if o op ≡ Ok Legal → outweighs_if o op moment ≡ false
+    by_hive None e may = refl
+    by_hive (Some tree) e may =
+        ap (λ total. is_err (legal_after op (Ok Legal) total)) (weight_any_moment tree op moment 0)
+        ∙ ap is_err (sym (ap (λ j. legal_after op j (weight (changed tree op 0))) may) ∙ e)
+
+none_heavy : (now : List TreeMap) (ops : List Op) (op : Op) (moment : ℕ) → any_outweighs now ops moment ≡ false → outweighs (applied now ops moment) op moment ≡ false → any_outweighs now (ops ++ op ∷ []) moment ≡ false
+none_heavy now [] op moment light last = ap (λ b. b || false) last
+none_heavy now (o ∷ ops) op moment light last = by_first (outweighs now o moment) light (λ none. none_heavy (applied_one now o moment) ops op moment none last)
+  where
+    by_first : (b : Bool) → (b || any_outweighs (applied_one now o moment) ops moment) ≡ false → (any_outweighs (applied_one now o moment) ops moment ≡ false → any_outweighs (applied_one now o moment) (ops ++ op ∷ []) moment ≡ false) → (b || any_outweighs (applied_one now o moment) (ops ++ op ∷ []) moment) ≡ false
+    by_first true none rest = absurd (true≢false none)
+    by_first false none rest = rest none
+
 -- the view after one operation more
 pub written_view : (now : List TreeMap) (ops : List Op) (view made : View) (op : Op) → IsViewNow now ops view → legal view.trees op ≡ Ok Legal → made ≡ record view { trees = applied_one view.trees op (moment_of view.moment); unasked = made.unasked } →
     IsViewNow now (ops ++ op ∷ []) made
@@ -63,8 +83,13 @@ written_view now ops view made op is allowed written = subst (IsViewNow now (ops
         are = before.are;
         carried = one_more now ops op 0 0 before.are before.carried (judged_of_legal (applied now ops 0) op (sym (legal_alike view.trees (applied now ops 0) (seen_at now ops view.moment view.trees 0 is.made) op) ∙ allowed));
       };
+  light = λ c. light_at view.moment view.trees is.made (is.light c) allowed;
 }
   where
+    light_at : (moment : Option ℕ) (trees : List TreeMap) → IsMade now ops moment trees → AreLight now ops moment → legal trees op ≡ Ok Legal → AreLight now (ops ++ op ∷ []) moment
+    light_at None trees h light e = tt
+    light_at (Some m) trees h light e = none_heavy now ops op m light (not_heavy (applied now ops m) op m (ap (λ ts. legal ts op) (sym h) ∙ e))
+
     by_moment : (moment : Option ℕ) (trees : List TreeMap) → IsMade now ops moment trees → IsMade now (ops ++ op ∷ []) moment (applied_one trees op (moment_of moment))
     by_moment None trees h = applied_same trees (applied now ops 0) h (op ∷ []) 0 0 ∙ ap (map untimed) (sym (one_by_one now ops (op ∷ []) 0))
     by_moment (Some m) trees h = ap (λ ts. applied_one ts op m) h ∙ sym (one_by_one now ops (op ∷ []) m)
@@ -88,18 +113,19 @@ apart_back [] change apart = tt
 apart_back (op ∷ ops) change apart = (λ c. apart.0.0 (conflict_sym (claim_of change) (claim_of op) c), apart_back ops change apart.1)
 
 -- the view after a change that meets no claim of the operations
-pub moved_view : EitherOrder → StaysLegal → (now : List TreeMap) (ops : List Op) (view after : View) (op : Op) (number moment : ℕ) → IsViewNow now ops view → AreApart ops (op ∷ []) → legal now op ≡ Ok Legal → MovesView view now op number after →
+pub moved_view : EitherOrder → StaysLegal → (now : List TreeMap) (ops : List Op) (view after : View) (op : Op) (number moment : ℕ) → IsViewNow now ops view → AreApart ops (op ∷ []) → judged_in now op ≡ Ok Legal → MovesView view now op number after →
     IsViewNow (applied_one now op moment) ops after
 moved_view either stays now ops view after op number moment is apart allowed moves =
     let before : AreCarried now ops = is.carried moves.carried in
     record {
       made = subst (λ m. IsMade (applied_one now op moment) ops m after.trees) (sym moves.moment)
           (subst (λ ts. SameButTimes ts (applied (applied_one now op moment) ops 0)) (sym moves.trees)
-          (either now view.trees ops op 0 0 moment 0 before.are apart before.carried (judged_of_legal now op allowed) (seen_at now ops view.moment view.trees 0 is.made) (alike_made op view.trees now moves.alike)));
+          (either now view.trees ops op 0 0 moment 0 before.are apart before.carried allowed (seen_at now ops view.moment view.trees 0 is.made) (alike_made op view.trees now moves.alike)));
       carried = λ c. record {
         are = trees_stay_one now op moment before.are;
         carried = stays now (op ∷ []) ops 0 moment 0 before.are (apart_back ops op apart, tt) before.carried;
       };
+      light = λ c. subst (AreLight (applied_one now op moment) ops) (sym moves.moment) tt;
     }
 
 -- a view that was made anew, whose operations were carried out
@@ -107,12 +133,15 @@ pub fresh_carried : (now : List TreeMap) (ops : List Op) (m : ℕ) → AreTrees 
 fresh_carried now ops m are carried = record { are = are; carried = any_moment now are ops m 0 carried }
 
 -- operations that were carried out, and one more
-pub carried_more : (now : List TreeMap) (front done : List Op) (op : Op) (m : ℕ) (trees made : List TreeMap) → (trees ≡ applied now front m) × AreCarriedOut now front m → legal trees op ≡ Ok Legal → made ≡ applied_one trees op m → done ≡ front ++ op ∷ [] →
-    (made ≡ applied now done m) × AreCarriedOut now done m
-carried_more now front done op m trees made before allowed is all = subst (λ (ops : List Op). (made ≡ applied now ops m) × AreCarriedOut now ops m) (sym all) (
-  is ∙ ap (λ ts. applied_one ts op m) before.0 ∙ sym (one_by_one now front (op ∷ []) m),
-  more now front op m before.1 (judged_of_legal (applied now front m) op (ap (λ ts. legal ts op) (sym before.0) ∙ allowed)),
-)
+pub carried_more : (now : List TreeMap) (front done : List Op) (op : Op) (m : ℕ) (trees made : List TreeMap) → AreAfter now front m trees → legal trees op ≡ Ok Legal → made ≡ applied_one trees op m → done ≡ front ++ op ∷ [] → AreAfter now done m made
+carried_more now front done op m trees made before allowed is all = subst (λ (ops : List Op). AreAfter now ops m made) (sym all) record {
+  made = is ∙ ap (λ ts. applied_one ts op m) before.made ∙ sym (one_by_one now front (op ∷ []) m);
+  carried = more now front op m before.carried (judged_of_legal (applied now front m) op may);
+  light = none_heavy now front op m before.light (not_heavy (applied now front m) op m may);
+}
+  where
+    may : legal (applied now front m) op ≡ Ok Legal
+    may = ap (λ ts. legal ts op) (sym before.made) ∙ allowed
 
 levels_same : (trees others : List TreeMap) → SameButTimes trees others → (op : Op) → levels_made trees op ≡ levels_made others op
 levels_same trees others same (CreateKey hive path) = levels_alike trees others same hive (folded_path path)
@@ -132,15 +161,54 @@ judged_seen now number one v made op levels has written e = record {
   seen = written_view now one.ops v made op has.1 written.0 written.1;
 }
 
+-- a moment that was compared
+pub at_moment : (moment : Option ℕ) (m : ℕ) → true ≡ option_eq ◌==◌ moment (Some m) → moment ≡ Some m
+at_moment None m e = absurd (true≢false e)
+at_moment (Some n) m e = ap Some (eqb-true n m (sym e))
+
+all_parts : (P : Op → Type 0) (front : List Op) (op : Op) → AllByRecursion P (front ++ op ∷ []) → AllByRecursion P front × P op
+all_parts P [] op h = (tt, h.0)
+all_parts P (o ∷ front) op h = let rest = all_parts P front op h.1 in ((h.0, rest.0), rest.1)
+
+apart_parts : (ops front : List Op) (op : Op) → AreApart ops (front ++ op ∷ []) → AreApart ops front × AreApart ops (op ∷ [])
+apart_parts [] front op h = (tt, tt)
+apart_parts (o ∷ ops) front op h =
+    let here = all_parts (λ b. law.Conflict (claim_of o) (claim_of b) → ⊥) front op h.0 in
+    let rest = apart_parts ops front op h.1 in
+    ((here.0, rest.0), ((here.1, tt), rest.1))
+
+pub carried_front : (now : List TreeMap) (ops : List Op) (n m : ℕ) → AreCarriedOut now ops m → AreCarriedOut now (take n ops) m
+carried_front now [] zero m c = tt
+carried_front now [] (suc n) m c = tt
+carried_front now (op ∷ ops) zero m c = tt
+carried_front now (op ∷ ops) (suc n) m c = (c.0, carried_front (applied_one now op m) ops n m c.1)
+
+carried_last : (now : List TreeMap) (front : List Op) (op : Op) (m : ℕ) → AreCarriedOut now (front ++ op ∷ []) m → judged_in (applied now front m) op ≡ Ok Legal
+carried_last now [] op m c = c.0
+carried_last now (o ∷ front) op m c = carried_last (applied_one now o m) front op m c.1
+
+-- a view past one operation more of a change
+pub stays_more : EitherOrder → StaysLegal → (now trees : List TreeMap) (front done : List Op) (op : Op) (m number : ℕ) (view seen after : View) → StaysView now front m view seen → AreCarriedOut now done m → trees ≡ applied now front m → MovesView seen trees op number after → done ≡ front ++ op ∷ [] →
+    StaysView now done m view after
+stays_more either stays now trees front done op m number view seen after kept carried made moves all = λ ops is apart.
+    let both = apart_parts ops front op (subst (AreApart ops) all apart) in
+    subst (λ ts. IsViewNow ts ops after) (sym (one_by_one now front (op ∷ []) m) ∙ ap (λ x. applied now x m) (sym all))
+    (moved_view either stays (applied now front m) ops seen after op number m (kept ops is both.0) both.1 (carried_last now front op m (subst (λ x. AreCarriedOut now x m) all carried))
+    (subst (λ ts. MovesView seen ts op number after) made moves))
+
+-- the trees of now after one operation more
+pub trees_more : (now trees made : List TreeMap) (front done : List Op) (op : Op) (m : ℕ) → trees ≡ applied now front m → made ≡ applied_one trees op m → done ≡ front ++ op ∷ [] → made ≡ applied now done m
+trees_more now trees made front done op m before is all = is ∙ ap (λ ts. applied_one ts op m) before ∙ sym (one_by_one now front (op ∷ []) m) ∙ ap (λ x. applied now x m) (sym all)
+
 -- a view that was moved, or none
-pub moved_any : EitherOrder → StaysLegal → (now : List TreeMap) (number : ℕ) (ops : List Op) (v : View) (op : Op) {E : Type 0} (r : Result (Option View) E) → IsViewNow now ops v → AreApart ops (op ∷ []) → legal now op ≡ Ok Legal →
-    IfOk r (λ moved. IfSome moved (MovesView v now op (number + 1))) → IfOk r (λ moved. (moment : ℕ) → IsViewed (applied_one now op moment) (number + 1) ops moved)
-moved_any either stays now number ops v op (Ok (Some after)) is apart allowed moves = λ moment. record {
-  known = omega (arith, moves.numbered);
-  made = λ same. moved_view either stays now ops v after op (number + 1) moment is apart allowed moves;
+pub moved_any : (now : List TreeMap) (number moment : ℕ) (ops change : List Op) (v : View) {E : Type 0} (r : Result (Option View) E) → IsViewNow now ops v → AreApart ops change →
+    IfOk r (λ moved. IfSome moved (λ after. StaysView now change moment v after × (after.number ≡ number + 1))) → IfOk r (IsViewed (applied now change moment) (number + 1) ops)
+moved_any now number moment ops change v (Ok (Some after)) is apart told = record {
+  known = omega (arith, told.1);
+  made = λ same. told.0 ops is apart;
 }
-moved_any either stays now number ops v op (Ok None) is apart allowed moves = λ moment. tt
-moved_any either stays now number ops v op (Err e) is apart allowed moves = tt
+moved_any now number moment ops change v (Ok None) is apart told = tt
+moved_any now number moment ops change v (Err e) is apart told = tt
 
 -- Views by their places
 
@@ -194,8 +262,28 @@ apart_all (o ∷ ops) op none =
     neither true c e = absurd (true≢false e)
     neither false c e = (refl, e)
 
-pub apart_if : (op : Op) (one : Transaction) → is_active one ≡ true → holds (claim_of op) one ≡ false → AreApart one.ops (op ∷ [])
+apart_if : (op : Op) (one : Transaction) → is_active one ≡ true → holds (claim_of op) one ≡ false → AreApart one.ops (op ∷ [])
 apart_if op one active none = apart_all one.ops op (sym (ap (λ b. b && list_any (λ (o : Op). meets (claim_of op) (claim_of o)) one.ops) active) ∙ none)
+
+apart_none : (ops : List Op) → AreApart ops []
+apart_none [] = tt
+apart_none (o ∷ ops) = (tt, apart_none ops)
+
+apart_more : (ops : List Op) (op : Op) (change : List Op) → AreApart ops (op ∷ []) → AreApart ops change → AreApart ops (op ∷ change)
+apart_more [] op change one rest = tt
+apart_more (o ∷ ops) op change one rest = ((one.0.0, rest.0), apart_more ops op change one.1 rest.1)
+
+pub apart_all_if : (change : List Op) (one : Transaction) → is_active one ≡ true → MeetNone change (Some one) → AreApart one.ops change
+apart_all_if [] one active none = apart_none one.ops
+apart_all_if (op ∷ change) one active none = apart_more one.ops op change (apart_if op one active none.0) (apart_all_if change one active none.1)
+
+-- an operation more
+pub meet_none_more : (front done : List Op) (op : Op) (there : Option Transaction) → MeetNone front there → holds_if (claim_of op) there ≡ false → done ≡ front ++ op ∷ [] → MeetNone done there
+meet_none_more front done op there none last all = subst (λ ops. MeetNone ops there) (sym all) (more_of front none)
+  where
+    more_of : (front : List Op) → MeetNone front there → MeetNone (front ++ op ∷ []) there
+    more_of [] none = (last, tt)
+    more_of (o ∷ front) none = (none.0, more_of front none.1)
 
 -- a key that a view hasn't isn't there, at whatever moment
 module _ (hive : ℕ) (path : List (List ℕ)) where

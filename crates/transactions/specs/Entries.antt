@@ -6,10 +6,10 @@ use Rattle.refusals.specs.declared.refusal.Refusal.{Refusal}
 use Rattle.refusals.specs.declared.refusal.Refusal.TheVariants.{NoSuchHandle}
 use Rattle.reg_tree.specs.Maps.{TreeMap}
 use Rattle.reg_tree.specs.Texts.{ops_text_len}
-use Rattle.reg_tree.specs.Judgement.{applied, applied_one, legal}
+use Rattle.reg_tree.specs.Judgement.{applied, applied_one, legal, any_outweighs}
 use Rattle.reg_tree.specs.Sequences.{AreTrees}
 use Rattle.reg_tree.specs.Times.{SameButTimes}
-use Rattle.conflicts.specs.Skeletons.{AreCarriedOut}
+use Rattle.conflicts.specs.Skeletons.{AreCarriedOut, AreApart}
 use Rattle.reg_tree.specs.TreeLists.{info_in}
 use Rattle.reg_tree.specs.declared.tree.Info.{Info}
 use Rattle.reg_tree.specs.declared.op.Op.{Op}
@@ -22,6 +22,7 @@ use Rattle.machine.specs.Machine.{levels_made, refusal_by, first_of, too_long}
 use Rattle.machine.specs.declared.handle.Tx.{Tx}
 use Rattle.transactions.specs.Tables.{Table}
 use Rattle.transactions.specs.declared.entry.Entry.{Entry}
+use Rattle.transactions.specs.declared.entry.Committed.{Committed}
 use Rattle.transactions.specs.declared.entry.Judged.{Judged}
 use Rattle.transactions.specs.declared.entry.View.{View}
 
@@ -42,10 +43,23 @@ pub record AreCarried (now : List TreeMap) (ops : List Op) : Type 0 where
   pub are : AreTrees now
   pub carried : AreCarriedOut now ops 0
 
+-- None of the operations leaves a tree too heavy at a view's moment. Without a moment nothing is said: a change that was applied after the operations
+-- was weighed after them, and it comes before them.
+abbrev pub AreLight : List TreeMap → List Op → Option ℕ → Type 0
+AreLight now ops None = ⊤
+AreLight now ops (Some moment) = any_outweighs now ops moment ≡ false
+
+-- the trees after operations that were carried out one after another
+pub record AreAfter (now : List TreeMap) (ops : List Op) (moment : ℕ) (trees : List TreeMap) : Type 0 where
+  pub made : trees ≡ applied now ops moment
+  pub carried : AreCarriedOut now ops moment
+  pub light : any_outweighs now ops moment ≡ false
+
 -- a view of the trees of now
 pub record IsViewNow (now : List TreeMap) (ops : List Op) (view : View) : Type 0 where
   pub made : IsMade now ops view.moment view.trees
   pub carried : view.carried ≡ true → AreCarried now ops
+  pub light : view.carried ≡ true → AreLight now ops view.moment
 
 -- a view that was just made
 pub record IsFresh (now : List TreeMap) (ops : List Op) (moment number : ℕ) (view : View) : Type 0 where
@@ -90,6 +104,16 @@ pub record MovesView (view : View) (now : List TreeMap) (op : Op) (number : ℕ)
   pub moment : after.moment ≡ None
   pub numbered : after.number ≡ number
 
+-- what was a view of operations is one after a change none of whose operations meets a claim of theirs
+abbrev pub StaysView : List TreeMap → List Op → ℕ → View → View → Type 0
+StaysView now change moment view after = (ops : List Op) → IsViewNow now ops view → AreApart ops change → IsViewNow (applied now change moment) ops after
+
+-- the trees after a transaction's operations, none of which leaves a tree too heavy
+pub record IsCommitted (now : List TreeMap) (ops : List Op) (moment : ℕ) (made : Committed) : Type 0 where
+  pub light : any_outweighs now ops moment ≡ false
+  pub trees : made.trees ≡ applied now ops moment
+  pub carried : made.carried ≡ true → AreCarriedOut now ops moment
+
 -- A view tells this of a key for another moment: it is so of the trees of now with the operations applied at that moment, whichever operations made the view.
 abbrev pub Tells : View → List TreeMap → ℕ → List (List ℕ) → ℕ → Option Info → Type 0
 Tells view now hive path moment told = (ops : List Op) → IsMade now ops view.moment view.trees → info_in (applied now ops moment) hive path ≡ told
@@ -100,11 +124,18 @@ abbrev pub TellsInfo : View → List TreeMap → ℕ → List (List ℕ) → ℕ
 TellsInfo view now hive path moment None = (view.moment ≡ None) ⊎ (option_map (λ (info : Info). info.time) (info_in now hive path) ≡ view.moment)
 TellsInfo view now hive path moment (Some info) = Tells view now hive path moment (Some info)
 
--- what holds of an entry: its number was given, its length is that of its change and within the limit, and so is its view
+-- there is room for two more operations beside those that there are, where there are any: whoever takes the operations of a
+-- commit may add so many without memory
+abbrev pub HasTwoSpare : Entry → Type 0
+HasTwoSpare e = 0 < length e.ops.items → length e.ops.items + 2 ≤ vec_capacity e.ops
+
+-- what holds of an entry: its number was given, its length is that of its change and within the limit, there is room for two operations
+-- beside its own, and its view is one
 pub record IsEntry (now : List TreeMap) (number begun : ℕ) (e : Entry) : Type 0 where
   pub known : e.generation ≤ begun
   pub counted : e.length ≡ 16 + ops_text_len e.ops.items
   pub short : e.length ≤ MOST_ELEMENT_BYTES
+  pub spare : HasTwoSpare e
   pub viewed : IsViewed now number e.ops.items e.view
 
 -- a claim of the active transaction at a place
@@ -130,13 +161,13 @@ abbrev pub IsJudged : List TreeMap → ℕ → Transaction → Op → Option Jud
 IsJudged now number one op None = legal (view now one) op ≡ Ok Opened
 IsJudged now number one op (Some judged) = IsLegalIn now number one op judged
 
--- they differ in the room for operations alone
+-- they differ in the room for operations alone, of which there is no less
 abbrev pub IsSameEntry : Entry → Entry → Type 0
-IsSameEntry old new = (new ≡ record old { ops = new.ops }) × (new.ops.items ≡ old.ops.items)
+IsSameEntry old new = (new ≡ record old { ops = new.ops }) × (new.ops.items ≡ old.ops.items) × (vec_capacity old.ops ≤ vec_capacity new.ops)
 
--- there is room for one operation more
+-- there is room for one operation more, and two besides
 abbrev pub HasRoom : Entry → Type 0
-HasRoom e = length e.ops.items < vec_capacity e.ops
+HasRoom e = length e.ops.items + 2 < vec_capacity e.ops
 
 -- an operation was judged by the view of a handle's transaction
 pub record IsJudgedBy (trees : List TreeMap) (number : ℕ) (op : Op) (judged : Option Judged) (one : Transaction) : Type 0 where

@@ -4,13 +4,14 @@ use Rattle.refusals.specs.declared.refusal.Refusal.{Refusal}
 use Rattle.refusals.specs.declared.refusal.Refusal.TheVariants.{NoMemory}
 use Rattle.refusals.specs.declared.limits.TheConstants.{MOST_ELEMENT_BYTES}
 use Rattle.reg_tree.specs.Maps.{TreeMap}
+use Rattle.reg_tree.specs.Operations.{hive_of}
 use Rattle.reg_tree.specs.Judgement.{legal, applied, applied_one, any_outweighs}
 use Rattle.reg_tree.specs.Texts.{element_text_len}
 use Rattle.reg_tree.specs.declared.op.Op.{Op}
 use Rattle.reg_tree.specs.declared.op.Legality.TheVariants.{Legal}
 use Rattle.conflicts.specs.Claims.{claim_of}
 use Rattle.machine.specs.Transactions.{at, own}
-use Rattle.machine.specs.Machine.{Machine, change, fault, is_open, levels_made, room_refusal, trees_now, last_number}
+use Rattle.machine.specs.Machine.{Machine, change, fault, is_open, unnamed_refusal, levels_made, room_refusal, trees_now, last_number}
 use Rattle.machine.specs.Steps.{Step}
 use Rattle.machine.specs.declared.event.Event.{Event}
 use Rattle.machine.specs.declared.event.Event.TheVariants as event
@@ -36,6 +37,7 @@ may_accept _ = false
 pub record IsReadyWrite (machine : Machine) (session moment : ℕ) (op : Op) (made : ReadyWrite) : Type 0 where
   pub free : fault machine ≡ None
   pub there : is_open machine session ≡ true
+  pub named : unnamed_refusal machine (hive_of op) ≡ None
   pub is_legal : legal (trees_now machine) op ≡ Ok Legal
   pub roomy : room_refusal machine (element_text_len (change moment op)) ≡ None
   pub levels : made.levels ≡ levels_made (trees_now machine) op
@@ -57,6 +59,7 @@ pub record IsReadyCommit (machine : Machine) (made : ReadyCommit) : Type 0 where
   pub short : text_len ≤ MOST_ELEMENT_BYTES
   pub light : any_outweighs (trees_now machine) ops made.moment ≡ false
   pub trees : made.trees ≡ applied (trees_now machine) ops made.moment
+  pub moved : AreMoved made.trees (last_number machine + 1) machine.places made.moved.items
   pub roomy : room_refusal machine text_len ≡ None
   pub room : made.room ≡ machine.room + (17 + text_len)
 

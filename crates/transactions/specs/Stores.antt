@@ -2,7 +2,6 @@
 use Rattle.std.specs.Prelude.{◌≡◌, ◌≤◌, ℕ, Bool, true, false, List, length, Result, Ok, Err, refl}
 use Rattle.std.specs.Coded.{Coded, code_by, coded×, coded_ℕ, coded_list, coded_bool}
 use Rattle.refusals.specs.declared.refusal.Refusal.{Refusal}
-use Rattle.refusals.specs.declared.limits.TheConstants.{MOST_HISTORY}
 use Rattle.reg_tree.specs.Maps.{TreeMap}
 use Rattle.reg_tree.specs.contracts.element.Element as element
 use Rattle.reg_tree.specs.declared.element.Element.{Element}
@@ -10,6 +9,8 @@ use Rattle.machine.specs.Codes.{trees_code, places_code}
 use Rattle.machine.specs.Machine.{Machine, trees_now, last_number}
 use Rattle.machine.specs.Steps.{Step}
 use Rattle.machine.specs.Transactions.{Places}
+use Rattle.machine.specs.declared.bounds.Bounds.{Bounds}
+use Rattle.machine.specs.contracts.bounds.Bounds as bounds
 use Rattle.machine.specs.declared.event.Event.{Event}
 use Rattle.machine.specs.declared.event.Event.TheVariants as event
 use Rattle.machine.specs.declared.event.Reply.{Reply}
@@ -22,8 +23,8 @@ failures_of true = 1
 failures_of false = 0
 
 -- the machine that a store shows
-abbrev pub store_of : List TreeMap → ℕ → List Element → List ℕ → Table → ℕ → ℕ → Bool → Machine
-store_of opened before accepted sessions table durable room faulted = record {
+abbrev pub store_of : List TreeMap → ℕ → List Element → List ℕ → Table → ℕ → ℕ → Bool → Bounds → Machine
+store_of opened before accepted sessions table durable room faulted bounds = record {
   opened = opened;
   before = before;
   accepted = accepted;
@@ -34,6 +35,7 @@ store_of opened before accepted sessions table durable room faulted = record {
   room = room;
   failures = failures_of faulted;
   faulted = faulted;
+  bounds = bounds;
 }
 
 -- the machine, the number above which its changes are at hand, and for how many changes more there is place
@@ -48,7 +50,7 @@ pub record IsTied (table : Table) (machine : Machine) : Type 0 where
   pub trees : table.trees ≡ trees_now machine
   pub number : table.number ≡ last_number machine
   pub durable : machine.durable ≤ last_number machine
-  pub few : length machine.accepted ≤ MOST_HISTORY
+  pub few : length machine.accepted ≤ machine.bounds.changes
 
 -- an event's answer, or why it was refused, is a step of the machine
 abbrev pub Answers : Machine → Event → Result Reply Refusal → Machine → Type 0
@@ -69,10 +71,10 @@ needs_device _ = false
 -- how machines are told apart: by their parts
 abbrev pub machine_code : Coded Machine
 machine_code =
-    code_by (List TreeMap × (ℕ × (List Element × (List ℕ × (Places × (ℕ × (ℕ × (ℕ × (ℕ × Bool)))))))))
-    (coded× trees_code (coded× coded_ℕ (coded× (coded_list element.the_row.coded) (coded× (coded_list coded_ℕ) (coded× places_code (coded× coded_ℕ (coded× coded_ℕ (coded× coded_ℕ (coded× coded_ℕ coded_bool)))))))))
-    (λ m. (m.opened, (m.before, (m.accepted, (m.sessions, (m.places, (m.begun, (m.durable, (m.room, (m.failures, m.faulted))))))))))
-    (λ p. record { opened = p.0; before = p.1.0; accepted = p.1.1.0; sessions = p.1.1.1.0; places = p.1.1.1.1.0; begun = p.1.1.1.1.1.0; durable = p.1.1.1.1.1.1.0; room = p.1.1.1.1.1.1.1.0; failures = p.1.1.1.1.1.1.1.1.0; faulted = p.1.1.1.1.1.1.1.1.1 })
+    code_by (List TreeMap × (ℕ × (List Element × (List ℕ × (Places × (ℕ × (ℕ × (ℕ × (ℕ × (Bool × Bounds))))))))))
+    (coded× trees_code (coded× coded_ℕ (coded× (coded_list element.the_row.coded) (coded× (coded_list coded_ℕ) (coded× places_code (coded× coded_ℕ (coded× coded_ℕ (coded× coded_ℕ (coded× coded_ℕ (coded× coded_bool bounds.the_row.coded))))))))))
+    (λ m. (m.opened, (m.before, (m.accepted, (m.sessions, (m.places, (m.begun, (m.durable, (m.room, (m.failures, (m.faulted, m.bounds)))))))))))
+    (λ p. record { opened = p.0; before = p.1.0; accepted = p.1.1.0; sessions = p.1.1.1.0; places = p.1.1.1.1.0; begun = p.1.1.1.1.1.0; durable = p.1.1.1.1.1.1.0; room = p.1.1.1.1.1.1.1.0; failures = p.1.1.1.1.1.1.1.1.0; faulted = p.1.1.1.1.1.1.1.1.1.0; bounds = p.1.1.1.1.1.1.1.1.1.1 })
     (λ _. refl)
 
 abbrev pub store_code : Coded StoreView

@@ -1,12 +1,13 @@
 -- What a table of transactions shows.
 use Rattle.std.specs.Prelude.{◌≡◌, ℕ, ◌+◌, ◌==◌, Bool, false, if◌then◌else◌, List, Option, Some, None, ◌⊎◌}
-use Rattle.std.specs.List.{list_any}
+use Rattle.std.specs.List.{AllByRecursion, list_any}
 use Rattle.refusals.specs.declared.refusal.Refusal.{Refusal}
 use Rattle.refusals.specs.declared.refusal.Refusal.TheVariants.{NoMemory}
 use Rattle.reg_tree.specs.Maps.{TreeMap}
 use Rattle.reg_tree.specs.Texts.{element_text_len}
 use Rattle.reg_tree.specs.declared.op.Op.{Op}
 use Rattle.claims_law.specs.Skeleton.{Claim}
+use Rattle.conflicts.specs.Claims.{claim_of}
 use Rattle.machine.specs.Ends.{refusal_of}
 use Rattle.machine.specs.Machine.{seat_refusal}
 use Rattle.machine.specs.Acts.{Starts, Adds, Opens, Finishes}
@@ -33,6 +34,10 @@ Denies old wanted refusal new = ((wanted ≡ Some refusal) ⊎ (refusal ≡ NoMe
 abbrev pub holds_if : Claim → Option Transaction → Bool
 holds_if claim None = false
 holds_if claim (Some one) = holds claim one
+
+-- no operation meets a claim of a place's transaction
+abbrev pub MeetNone : List Op → Option Transaction → Type 0
+MeetNone ops there = AllByRecursion (λ op. holds_if (claim_of op) there ≡ false) ops
 
 -- whether a place is listed
 abbrev pub is_listed : List ℕ → ℕ → Bool

@@ -1,17 +1,16 @@
 //! One transaction as a table keeps it: its operations, and the trees that it sees.
-ghost use Rattle.std.specs.Prelude.{◌≡◌, ◌⊎◌, ◌+◌, ◌≤◌, ◌==◌, ◌&&◌, ◌<◌, ◌-◌, ◌^◌, ◌∷◌, [], ℕ, IfOk, IfSome, OnErr, OnOk, Some, None, Ok, Err, IfErr, slice_get};
+ghost use Rattle.std.specs.Prelude.{◌≡◌, true, false, ◌⊎◌, ◌+◌, ◌≤◌, ◌==◌, ◌&&◌, ◌<◌, ◌-◌, ◌^◌, ◌∷◌, [], ℕ, IfOk, IfSome, OnErr, OnOk, Some, None, Ok, Err, IfErr, slice_get};
 ghost use Rattle.refusals.specs.declared.limits.TheConstants.{MOST_ELEMENT_BYTES};
-ghost use Rattle.refusals.specs.declared.refusal.Refusal.TheVariants.{NoMemory, NotFound};
+ghost use Rattle.refusals.specs.declared.refusal.Refusal.TheVariants.{NoMemory, NotFound, TooLarge};
 ghost use Rattle.reg_tree.specs.Texts.{op_text_len, ops_text_len};
 ghost use Rattle.reg_names.specs.Names.{folded_path};
-ghost use Rattle.reg_tree.specs.Judgement.{legal, applied, applied_one};
+ghost use Rattle.reg_tree.specs.Judgement.{legal, applied, any_outweighs};
 ghost use Rattle.reg_tree.specs.Maps.{TreeMap, IsTree};
 ghost use Rattle.reg_tree.specs.Sequences.{AreTrees};
-ghost use Rattle.reg_tree.specs.declared.op.Legality.TheVariants.{Legal};
 ghost use Rattle.conflicts.specs.Skeletons.{AreCarriedOut, AreApart};
 ghost use Rattle.reg_tree.specs.Reads.{IsMissingOrNoMemory};
 ghost use Rattle.reg_tree.specs.TreeLists.{info_in};
-ghost use Rattle.transactions.specs.Entries.{transaction_of, IsViewed, IsFresh, HasView, HasViewAt, Tells, TellsInfo, WritesView, MovesView, IsJudged, IsSameEntry, HasRoom};
+ghost use Rattle.transactions.specs.Entries.{transaction_of, AreAfter, IsCommitted, StaysView, IsViewed, IsFresh, HasView, HasViewAt, Tells, TellsInfo, WritesView, MovesView, IsJudged, IsSameEntry, HasRoom, HasTwoSpare};
 ghost use Rattle.machine.specs.Machine.{looked_up, read_refusal, too_long};
 ghost use Rattle.machine.specs.Transactions.{view, with_op, ended, is_active, fresh_transaction};
 
@@ -23,6 +22,11 @@ use reg_tree::{CHANGE_BYTES, Info, Op, Trees};
 use std::alloc::{AllocError, Global};
 use std::mem;
 use uuid::Uuid;
+
+/// Operations that whoever takes those of a commit may add without memory.
+const SPARE_OPS: usize = 2;
+
+const _: () = prove!(SPARE_OPS == 2);
 
 /// The trees that a transaction sees, but for the times of keys, when the last accepted change had a number.
 #[derive(Drop)]
@@ -37,14 +41,14 @@ pub(crate) struct View {
     /// Whether each operation is known to be one that could be carried out where it was applied: then a change that
     /// meets no claim of theirs may be applied after them.
     pub(crate) carried: bool,
-    /// How many changes were applied since the view was last asked.
+    /// How many operations of others were applied since the view was last asked.
     pub(crate) unasked: usize,
 }
 
 /// A transaction, how long it is as journal text, and its view, where one was made. The view's moment may be an
 /// earlier one than the transaction's: what a write or a read asks of it depends on no moment, but for the time that a
-/// key tells. So a write costs one operation, whatever moments the writes have. A change accepted by itself that meets
-/// no claim of the transaction is applied to its view too.
+/// key tells. So a write costs one operation, whatever moments the writes have. A change of others that meets no claim of
+/// the transaction is applied to its view too.
 #[derive(Drop)]
 pub(crate) struct Entry {
     pub(crate) session: u32,
@@ -55,6 +59,14 @@ pub(crate) struct Entry {
     pub(crate) moment: u64,
     pub(crate) length: u64,
     pub(crate) view: Option<View>,
+}
+
+/// The trees after a transaction's operations.
+#[derive(Drop)]
+pub(crate) struct Committed {
+    pub(crate) trees: Trees,
+    /// Whether each operation is known to be one that could be carried out.
+    pub(crate) carried: bool,
 }
 
 /// What an operation that is legal would do.
@@ -175,6 +187,47 @@ impl View {
             _ => Ok(None),
         }
     }
+
+    /// The view after the change of this number, none of whose operations meets a claim of the view's: each is applied to it
+    /// in turn. The trees of now go along, for how many keys an operation makes there at its turn. A change of one
+    /// operation needs no such trees.
+    fn moved_past(
+        &self,
+        alloc: Global,
+        now: &Trees,
+        change: &[Op],
+        moment: u64,
+        number: u64,
+    ) -> Result<Option<View>, AllocError>
+        requires { AreCarriedOut now.now change.now moment }
+        ensures { IfOk result (λ moved. IfSome moved (λ after.
+            StaysView now.now change.now moment self.now after × (after.number ≡ number))) }
+    {
+        conflicts::laws::either_order();
+        conflicts::laws::stay_legal();
+        let mut trees = now.try_clone(alloc)?;
+        let mut seen = View {
+            trees: self.trees.try_clone(alloc)?,
+            moment: self.moment,
+            number,
+            carried: self.carried,
+            unasked: self.unasked,
+        };
+        for op in change {
+            let Some(moved) = seen.moved(alloc, &trees, op, number)? else {
+                return Ok(None);
+            };
+            seen = moved;
+            if change.len() > 1 {
+                trees = match trees.write(alloc, op, moment) {
+                    Ok(Some(made)) => made,
+                    Err(Refusal::NoMemory) => return Err(AllocError),
+                    _ => return Ok(None),
+                };
+            }
+        }
+        Ok(Some(seen))
+    }
 }
 
 // the trees after operations, where each can be carried out on those after the ones before it
@@ -184,9 +237,7 @@ fn carry_out(
     ops: &[Op],
     moment: u64,
 ) -> Result<Option<Trees>, AllocError>
-    ensures { IfOk result (λ made. IfSome made (λ trees.
-        (trees ≡ applied now.now ops.now moment)
-        × AreCarriedOut now.now ops.now moment)) }
+    ensures { IfOk result (λ made. IfSome made (AreAfter now.now ops.now moment)) }
 {
     let mut trees = now.try_clone(alloc)?;
     for op in ops {
@@ -197,6 +248,25 @@ fn carry_out(
         }
     }
     Ok(Some(trees))
+}
+
+// the trees after operations that are made for them
+fn commit_anew(alloc: Global, now: &Trees, ops: &[Op], moment: u64) -> Result<Committed, Refusal>
+    ensures ok { IfOk result (IsCommitted now.now ops.now moment) }
+    ensures refused { IfErr result (λ refusal.
+        ((any_outweighs now.now ops.now moment ≡ true) × (refusal ≡ TooLarge))
+        ⊎ (refusal ≡ NoMemory)) }
+{
+    if let Some(trees) = carry_out(alloc, now, ops, moment)? {
+        return Ok(Committed {
+            trees,
+            carried: true,
+        });
+    }
+    Ok(Committed {
+        trees: now.apply_within(alloc, ops, moment)?,
+        carried: false,
+    })
 }
 
 // trees have their roots, and with a key its parent; no others are ever made
@@ -373,30 +443,67 @@ impl Entry {
         view.trees.query_info(hive, path)
     }
 
-    /// The view after the change of this number, which meets no claim of the transaction; nothing where none of now is at
-    /// hand, or it is to be made again. One that was not asked for as many changes as there are operations is not
-    /// worth more: to make it again costs no more than they did.
+    /// Whether there is a view of now that is worth moving past so many operations. One that was not asked for as many of them as
+    /// the transaction has is not: to make it again costs no more than they did.
+    pub(crate) fn may_move(&self, number: u64, count: usize) -> bool
+        ensures { result ≡ true → IfSome self.now.view (λ view. view.number ≡ number) }
+    {
+        match &self.view {
+            Some(view) => {
+                view.number == number && view.unasked.saturating_add(count) <= self.ops.len()
+            }
+            None => false,
+        }
+    }
+
+    /// The view after the change of this number, none of whose operations meets a claim of the transaction; nothing where none
+    /// of now is at hand, or it is to be made again.
     pub(crate) fn moved(
         &self,
         alloc: Global,
         now: &Trees,
-        op: &Op,
+        change: &[Op],
+        moment: u64,
         number: u64,
     ) -> Result<Option<View>, AllocError>
         requires viewed { IsViewed now.now number self.now.ops.items self.now.view }
-        requires legal { legal now.now op.now ≡ Ok Legal }
-        requires apart { AreApart self.now.ops.items (op.now ∷ []) }
+        requires carried { AreCarriedOut now.now change.now moment }
+        requires apart { AreApart self.now.ops.items change.now }
         requires below { number < 2 ^ 64 - 1 }
-        ensures { IfOk result (λ moved. (moment : ℕ) →
-            IsViewed (applied_one now.now op.now moment) (number + 1) self.now.ops.items moved) }
+        ensures { IfOk result
+            (IsViewed (applied now.now change.now moment) (number + 1) self.now.ops.items) }
     {
-        conflicts::laws::either_order();
-        conflicts::laws::stay_legal();
         match &self.view {
-            Some(view) if view.number == number && view.unasked < self.ops.len() => {
-                view.moved(alloc, now, op, number + 1)
+            Some(view) if self.may_move(number, change.len()) => {
+                view.moved_past(alloc, now, change, moment, number + 1)
             }
             _ => Ok(None),
+        }
+    }
+
+    /// The trees after the operations at a moment: those of the view, where that is of now and of this moment, and each
+    /// operation is known to be one that could be carried out.
+    pub(crate) fn commit_trees(
+        &self,
+        alloc: Global,
+        now: &Trees,
+        number: u64,
+        moment: u64,
+    ) -> Result<Committed, Refusal>
+        requires { IsViewed now.now number self.now.ops.items self.now.view }
+        ensures ok { IfOk result (IsCommitted now.now self.now.ops.items moment) }
+        ensures refused { IfErr result (λ refusal.
+            ((any_outweighs now.now self.now.ops.items moment ≡ true) × (refusal ≡ TooLarge))
+            ⊎ (refusal ≡ NoMemory)) }
+    {
+        match &self.view {
+            Some(view) if view.number == number && view.moment == Some(moment) && view.carried => {
+                Ok(Committed {
+                    trees: view.trees.try_clone(alloc)?,
+                    carried: true,
+                })
+            }
+            _ => commit_anew(alloc, now, &self.ops, moment),
         }
     }
 
@@ -409,12 +516,12 @@ impl Entry {
         self.length.saturating_add(op.text_len()) > MOST_ELEMENT_BYTES
     }
 
-    /// Makes room for one operation more.
+    /// Makes room for one operation more, and for two besides that whoever takes them may add.
     pub(crate) fn reserve(&mut self) -> Result<(), AllocError>
         ensures same { IsSameEntry self.old self.new }
         ensures room { OnOk result (HasRoom self.new) }
     {
-        self.ops.reserve(1)
+        self.ops.reserve(1 + SPARE_OPS)
     }
 
     /// Adds an operation, for which there is room, and whose change is not too long with it.
@@ -423,6 +530,7 @@ impl Entry {
         requires short { self.old.length + op_text_len op ≤ MOST_ELEMENT_BYTES }
         ensures kept { transaction_of self.new ≡ with_op (transaction_of self.old) op moment }
         ensures length { self.new.length ≡ self.old.length + op_text_len op }
+        ensures spare { HasTwoSpare self.new }
         ensures seen { self.new.view ≡ Some made }
     {
         self.length = self.length.saturating_add(op.text_len());
@@ -441,7 +549,7 @@ impl Entry {
 
     /// Ends it, and hands out its operations.
     pub(crate) fn end(&mut self, alloc: Global, outcome: Outcome) -> Vec<Op>
-        ensures ops { result.items ≡ self.old.ops.items }
+        ensures ops { result ≡ self.old.ops }
         ensures kept { transaction_of self.new ≡ ended outcome (transaction_of self.old) }
         ensures length { self.new.length ≡ 16 }
         ensures unseen { self.new.view ≡ None }

@@ -58,6 +58,8 @@ pub(crate) struct ReadyCommit {
     pub moment: u64,
     /// The trees after it.
     pub trees: Trees,
+    /// What the others see then, by their places; nothing where it is to be made again.
+    pub moved: Vec<Option<View>>,
     /// The room that the journal has used then.
     pub room: u64,
 }

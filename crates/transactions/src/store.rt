@@ -4,7 +4,7 @@ ghost use Rattle.std.specs.List.{AllByRecursion, list_any};
 ghost use Rattle.refusals.specs.declared.refusal.Refusal.TheVariants.{NoMemory, NoSuchHandle};
 ghost use Rattle.machine.specs.declared.event.Reply.TheVariants as reply;
 ghost use Rattle.machine.specs.Steps.{Step, is_step};
-ghost use Rattle.machine.specs.Machine.{opened_machine, last_number, fault, trees_now, room_refusal};
+ghost use Rattle.machine.specs.Machine.{opened_machine, last_number, fault, trees_now, room_refusal, unnamed_refusal};
 ghost use Rattle.transactions.specs.Histories.{IsShort};
 ghost use Rattle.transactions.specs.Stores.{Answers, needs_device};
 ghost use Rattle.transactions.specs.Prepared.{IsPrepared, IsReady, IsReadyCommit, IsReadyNothing, IsReadyWrite, Readies, ReadiesWrite, Shows, may_accept, shown_by, will_show};
@@ -14,9 +14,9 @@ use crate::prepared::{Prepared, Ready, ReadyCommit, ReadyWrite};
 use crate::short::change_is_short;
 use crate::table::{TxTable, Written};
 use machine::room::CHANGE_START;
-use machine::{Event, Question, Reply, Sessions, Tx, levels_made, look_up};
+use machine::{Bounds, Event, Question, Reply, Sessions, Tx, levels_made, look_up};
 use refusals::Refusal;
-use refusals::limits::{GREATEST_NUMBER, MOST_HISTORY, MOST_JOURNAL_BYTES};
+use refusals::limits::{GREATEST_NUMBER, MOST_JOURNAL_BYTES};
 use reg_names::Path;
 use reg_tree::{CHANGE_BYTES, Element, Op, Ops, Trees};
 use std::alloc::{AllocError, Global};
@@ -43,6 +43,7 @@ pub struct Store {
     durable: u64,
     room: u64,
     faulted: bool,
+    bounds: Bounds,
 }
 
 impl Model for Store {
@@ -56,14 +57,14 @@ impl Model for Store {
     ghost view = { λ inside. record {
       machine =
           store_of inside.opened.value inside.before inside.history.changes inside.sessions
-          inside.table inside.durable inside.room inside.faulted;
+          inside.table inside.durable inside.room inside.faulted inside.bounds;
       at_hand = inside.before + inside.history.let_go;
       spare = inside.history.spare;
     } };
 
     ghost invariant = { λ inside. IsTied inside.table
         (store_of inside.opened.value inside.before inside.history.changes inside.sessions
-        inside.table inside.durable inside.room inside.faulted) };
+        inside.table inside.durable inside.room inside.faulted inside.bounds) };
 }
 
 impl Store {
@@ -71,6 +72,22 @@ impl Store {
     pub fn new(alloc: Global, trees: Trees, number: u64, room: u64) -> Result<Store, AllocError>
         ensures machine { IfOk result (λ store. store.machine
             ≡ record (opened_machine trees number [] 0) { room = room }) }
+        ensures at_hand { IfOk result (λ store. store.at_hand ≡ number) }
+    {
+        let bounds = Bounds::of(&trees);
+        Store::within(alloc, bounds, trees, number, room)
+    }
+
+    /// The same, within these bounds.
+    pub fn within(
+        alloc: Global,
+        bounds: Bounds,
+        trees: Trees,
+        number: u64,
+        room: u64,
+    ) -> Result<Store, AllocError>
+        ensures machine { IfOk result (λ store. store.machine
+            ≡ record (opened_machine trees number [] 0) { room = room; bounds = bounds }) }
         ensures at_hand { IfOk result (λ store. store.at_hand ≡ number) }
     {
         Ok(Store {
@@ -83,6 +100,7 @@ impl Store {
             durable: number,
             room,
             faulted: false,
+            bounds,
         })
     }
 
@@ -345,6 +363,7 @@ impl Store {
         ensures { Answers self.now.machine (Event.Read session hive path.now question) result self.now.machine }
     {
         open(&self.sessions, session)?;
+        self.check_named(hive)?;
         let found = look_up(self.alloc, self.table.trees(), hive, path, question)?;
         Ok(Reply::Read { found })
     }
@@ -374,6 +393,7 @@ impl Store {
         ensures at_hand { self.new.at_hand ≡ self.old.at_hand }
     {
         open(&self.sessions, session)?;
+        self.check_named(op.hive())?;
         let Some(made) = self.table.trees().write(self.alloc, &op, moment)? else {
             return Ok(None);
         };
@@ -381,8 +401,8 @@ impl Store {
         let levels = levels_made(self.table.trees(), &op);
         change_is_short(&op);
         let holders = self.table.holders(&op)?;
-        let moved = self.table.move_views(&op, &holders)?;
         let ops = Ops::one(self.alloc, op)?;
+        let moved = self.table.move_views(ops.list(), moment, &holders)?;
         self.history.reserve()?;
         Ok(Some(ReadyWrite {
             element: Element { moment, ops },
@@ -425,6 +445,19 @@ impl Store {
         }
     }
 
+    // refuses a hive that calls may not name
+    fn check_named(&self, hive: u8) -> Result<(), Refusal>
+        ensures ok { OnOk result (unnamed_refusal self.now.machine hive ≡ None) }
+        ensures refused { IfErr result (λ refusal.
+            unnamed_refusal self.now.machine hive ≡ Some refusal) }
+    {
+        if usize::from(hive) < self.bounds.hives {
+            Ok(())
+        } else {
+            Err(Refusal::NotFound)
+        }
+    }
+
     // the room that the journal has used with one change more, of so many bytes
     fn room_with(&self, length: u64) -> Result<u64, Refusal>
         ensures ok { IfOk result (λ room. (room_refusal self.now.machine length ≡ None)
@@ -432,7 +465,9 @@ impl Store {
         ensures refused { IfErr result (λ refusal.
             room_refusal self.now.machine length ≡ Some refusal) }
     {
-        if self.history.len() as u64 >= MOST_HISTORY || self.table.number() >= GREATEST_NUMBER {
+        if self.history.len() as u64 >= self.bounds.changes
+            || self.table.number() >= GREATEST_NUMBER
+        {
             return Err(Refusal::HistoryFull);
         }
         let room = self
@@ -467,6 +502,8 @@ impl Store {
         ensures at_hand { self.new.at_hand ≡ self.old.at_hand }
     {
         open(&self.sessions, session)?;
+        self.table.check_active(session, tx)?;
+        self.check_named(hive)?;
         let found = self.table.view_read(session, tx, hive, path, question)?;
         Ok(Reply::Read { found })
     }
@@ -477,6 +514,8 @@ impl Store {
         ensures at_hand { self.new.at_hand ≡ self.old.at_hand }
     {
         open(&self.sessions, session)?;
+        self.table.check_active(session, tx)?;
+        self.check_named(op.hive())?;
         match self.table.write(session, tx, moment, op)? {
             Written::Added { levels } => Ok(Reply::Added { levels }),
             Written::Opened => Ok(Reply::Opened),
@@ -505,17 +544,20 @@ impl Store {
         if pending.ops.is_empty() {
             return Ok(Ready::Nothing(session, tx));
         }
-        let trees = self
-            .table
-            .trees()
-            .apply_within(self.alloc, pending.ops, moment)?;
+        let made = self.table.commit_trees(session, tx, moment)?;
         let room = self.room_with(pending.text_len)?;
+        let moved = if made.carried {
+            self.table.move_others(tx.place, pending.ops, moment)?
+        } else {
+            Vec::new(self.alloc)
+        };
         self.history.reserve()?;
         Ok(Ready::Commit(ReadyCommit {
             session,
             tx,
             moment,
-            trees,
+            trees: made.trees,
+            moved,
             room,
         }))
     }
@@ -567,8 +609,11 @@ impl Store {
             tx,
             moment,
             trees,
+            moved,
             room,
         } = commit;
+        self.table.accept(trees);
+        self.table.take_views(moved);
         let Ok(ops) = self.table.commit(session, tx) else {
             unreachable!();
         };
@@ -576,7 +621,6 @@ impl Store {
             unreachable!();
         };
         self.history.push_reserved(Element { moment, ops });
-        self.table.accept(trees);
         self.room = room;
         Reply::Awaits {
             number: self.table.number(),

@@ -1,20 +1,21 @@
 //! The transactions of a store.
-ghost use Rattle.std.specs.Prelude.{◌≡◌, ◌⊎◌, ◌+◌, ◌<◌, ◌≤◌, ◌^◌, ◌-◌, ◌||◌, ◌==◌, [], ℕ, nat_le, IfOk, IfSome, OnOk, OnErr, Some, None, Ok, true, false, IfErr};
+ghost use Rattle.std.specs.Prelude.{◌≡◌, ◌⊎◌, ◌+◌, ◌<◌, ◌≤◌, ◌^◌, ◌-◌, ◌||◌, ◌==◌, [], ℕ, nat_le, length, vec_capacity, IfOk, IfSome, OnOk, OnErr, Some, None, Ok, true, false, IfErr};
 ghost use Rattle.std.specs.Option.{option_map, option_copied};
 ghost use Rattle.refusals.specs.declared.limits.TheConstants.{MOST_ELEMENT_BYTES, MOST_TRANSACTIONS};
-ghost use Rattle.refusals.specs.declared.refusal.Refusal.TheVariants.{NoMemory, NoSeat};
+ghost use Rattle.refusals.specs.declared.refusal.Refusal.TheVariants.{NoMemory, NoSeat, TooLarge};
 ghost use Rattle.reg_tree.specs.Texts.{ops_text_len};
-ghost use Rattle.reg_tree.specs.Judgement.{legal, applied_one};
+ghost use Rattle.reg_tree.specs.Judgement.{legal, applied, any_outweighs};
 ghost use Rattle.reg_tree.specs.declared.op.Legality.TheVariants.{Legal};
 ghost use Rattle.conflicts.specs.Claims.{claim_of};
+ghost use Rattle.conflicts.specs.Skeletons.{AreCarriedOut};
 ghost use Rattle.machine.specs.Ends.{refusal_of};
-ghost use Rattle.transactions.specs.Entries.{transaction_of, MayAdd, IsAdded, IsJudgedOf, judge_refusal, IsMovedTo, AreMoved};
+ghost use Rattle.transactions.specs.Entries.{transaction_of, IsViewed, IsCommitted, MayAdd, IsAdded, IsJudgedOf, judge_refusal, IsMovedTo, AreMoved};
 ghost use Rattle.machine.specs.Acts.{Finishes, Closes};
 ghost use Rattle.machine.specs.Machine.{refused_if, first_of, read_refusal, seen, seat_refusal, added_refusal_if, too_long};
-ghost use Rattle.transactions.specs.Tables.{Denies, Begins, ChangesPlaces, Writes, EndsWith, IsNotEnded, IsPending, is_of, holds_if, is_listed, rolled_back_if};
+ghost use Rattle.transactions.specs.Tables.{Denies, Begins, ChangesPlaces, Writes, EndsWith, IsNotEnded, IsPending, is_of, holds_if, is_listed, MeetNone, rolled_back_if};
 ghost use Rattle.machine.specs.Transactions.{Transaction, at, own, is_claimed, is_active_outcome, Becomes, Puts, gone_with, count_held, missing_refusal, inactive_refusal};
 
-use crate::entry::{Entry, Judged, View};
+use crate::entry::{Committed, Entry, Judged, View};
 use conflicts::{ClaimTable, Owner, claims};
 use machine::{Found, NoSuchTransaction, NotEnded, Outcome, Question, Tx};
 use refusals::Refusal;
@@ -282,6 +283,8 @@ impl TxTable {
         ensures counted { IfSome result (λ entry. entry.now.length
             ≡ 16 + ops_text_len entry.now.ops.items) }
         ensures short { IfSome result (λ entry. entry.now.length ≤ MOST_ELEMENT_BYTES) }
+        ensures viewed { IfSome result (λ entry. IsViewed self.now.trees self.now.number
+            entry.now.ops.items entry.now.view) }
     {
         match self.places.get(tx.place) {
             Some(entry) if entry.is_own(session, tx.generation) => Some(entry),
@@ -289,8 +292,8 @@ impl TxTable {
         }
     }
 
-    // refuses a handle that is none of the session's, then one whose transaction isn't active
-    fn check_active(&self, session: u32, tx: Tx) -> Result<(), NotEnded>
+    /// Refuses a handle that is none of the session's, then one whose transaction isn't active.
+    pub(crate) fn check_active(&self, session: u32, tx: Tx) -> Result<(), NotEnded>
         ensures ok { OnOk result (inactive_refusal (own self.now.places session tx) ≡ None) }
         ensures refused { IfErr result (λ why.
             inactive_refusal (own self.now.places session tx) ≡ Some (refusal_of why)) }
@@ -332,10 +335,34 @@ impl TxTable {
         }
     }
 
-    /// Ends an active transaction as committed, and hands out its operations. Takes no memory.
+    /// The trees after an active transaction's operations at a moment. Refused with `TooLarge` exactly where one of them
+    /// leaves its hive's tree too heavy; and with `NoMemory`.
+    pub(crate) fn commit_trees(
+        &self,
+        session: u32,
+        tx: Tx,
+        moment: u64,
+    ) -> Result<Committed, Refusal>
+        requires { inactive_refusal (own self.now.places session tx) ≡ None }
+        ensures ok { IfOk result (λ made. IfSome (own self.now.places session tx) (λ one.
+            IsCommitted self.now.trees one.ops moment made)) }
+        ensures refused { IfErr result (λ refusal. IfSome (own self.now.places session tx) (λ one.
+            ((any_outweighs self.now.trees one.ops moment ≡ true) × (refusal ≡ TooLarge))
+            ⊎ (refusal ≡ NoMemory))) }
+    {
+        let Some(entry) = self.own(session, tx) else {
+            unreachable!();
+        };
+        entry.commit_trees(self.alloc, &self.trees, self.number, moment)
+    }
+
+    /// Ends an active transaction as committed, and hands out its operations, with room for two more where there are any: that was
+    /// made as they were added. Takes no memory.
     pub fn commit(&mut self, session: u32, tx: Tx) -> Result<Vec<Op>, NotEnded>
         ensures ok { IfOk result (λ ops.
             EndsWith self.old session tx Outcome.Committed ops.items self.new) }
+        ensures spare { IfOk result (λ ops.
+            0 < length ops.items → length ops.items + 2 ≤ vec_capacity ops) }
         ensures refused { IfErr result (λ why. IsNotEnded self.old session tx why self.new) }
     {
         self.end(session, tx, Outcome::Committed)
@@ -357,6 +384,8 @@ impl TxTable {
     fn end(&mut self, session: u32, tx: Tx, outcome: Outcome) -> Result<Vec<Op>, NotEnded>
         requires { is_active_outcome outcome ≡ false }
         ensures ok { IfOk result (λ ops. EndsWith self.old session tx outcome ops.items self.new) }
+        ensures spare { IfOk result (λ ops.
+            0 < length ops.items → length ops.items + 2 ≤ vec_capacity ops) }
         ensures refused { IfErr result (λ why. IsNotEnded self.old session tx why self.new) }
     {
         let alloc = self.alloc;
@@ -452,45 +481,97 @@ impl TxTable {
         }
     }
 
-    /// The views after a change by itself, by their places: it is applied to that of each active transaction whose
-    /// claims it does not meet. Nothing where there is none, or it is to be made again when it is asked for.
+    /// The views after a change, by their places: it is applied to that of each active transaction whose claims it does not
+    /// meet. Nothing where there is none, or it is to be made again when it is asked for.
     pub(crate) fn move_views(
         &self,
-        op: &Op,
+        change: &[Op],
+        moment: u64,
         holders: &Holders,
     ) -> Result<Vec<Option<View>>, AllocError>
-        requires legal { legal self.now.trees op.now ≡ Ok Legal }
+        requires carried { AreCarriedOut self.now.trees change.now moment }
         requires below { self.now.number < 2 ^ 64 - 1 }
-        requires holders { (place : ℕ) → is_listed holders.now place
-            ≡ holds_if (claim_of op.now) (at self.now.places place) }
-        ensures { IfOk result (λ moved. (moment : ℕ) →
-            AreMoved (applied_one self.now.trees op.now moment) (self.now.number + 1) self.now.places
+        requires holders { (place : ℕ) → is_listed holders.now place ≡ false →
+            MeetNone change.now (at self.now.places place) }
+        ensures { IfOk result (λ moved.
+            AreMoved (applied self.now.trees change.now moment) (self.now.number + 1) self.now.places
             moved.items) }
     {
         let mut moved = Vec::new(self.alloc);
         for place in 0..self.places.capacity() {
-            moved.push(self.moved_at(place, op, holders)?)?;
+            moved.push(self.moved_at(place, change, moment, holders)?)?;
         }
         Ok(moved)
     }
 
-    // the view after a change by itself of the transaction at a place
-    fn moved_at(&self, place: usize, op: &Op, holders: &Holders) -> Result<Option<View>, AllocError>
-        requires legal { legal self.now.trees op.now ≡ Ok Legal }
+    // the view after a change of the transaction at a place
+    fn moved_at(
+        &self,
+        place: usize,
+        change: &[Op],
+        moment: u64,
+        holders: &Holders,
+    ) -> Result<Option<View>, AllocError>
+        requires carried { AreCarriedOut self.now.trees change.now moment }
         requires below { self.now.number < 2 ^ 64 - 1 }
-        requires holders { is_listed holders.now place
-            ≡ holds_if (claim_of op.now) (at self.now.places place) }
-        ensures { IfOk result (λ moved. (moment : ℕ) →
-            IsMovedTo (applied_one self.now.trees op.now moment) (self.now.number + 1) (at
-            self.now.places place)
-            moved) }
+        requires holders { is_listed holders.now place ≡ false →
+            MeetNone change.now (at self.now.places place) }
+        ensures { IfOk result
+            (IsMovedTo (applied self.now.trees change.now moment) (self.now.number + 1) (at
+            self.now.places place)) }
     {
         match self.places.get(place) {
             Some(entry) if entry.is_active() && !holders.has(place) => {
-                entry.moved(self.alloc, &self.trees, op, self.number)
+                entry.moved(self.alloc, &self.trees, change, moment, self.number)
             }
             _ => Ok(None),
         }
+    }
+
+    /// The views after the commit of the transaction at a place, by their places. Its claims conflict with nobody's, so each
+    /// view may be moved; where one were to, none is.
+    pub(crate) fn move_others(
+        &self,
+        place: usize,
+        change: &[Op],
+        moment: u64,
+    ) -> Result<Vec<Option<View>>, AllocError>
+        requires carried { AreCarriedOut self.now.trees change.now moment }
+        requires below { self.now.number < 2 ^ 64 - 1 }
+        ensures { IfOk result (λ moved.
+            AreMoved (applied self.now.trees change.now moment) (self.now.number + 1) self.now.places
+            moved.items) }
+    {
+        if !self.may_move_others(place, change.len()) || self.is_any_claimed(place, change)? {
+            return Ok(Vec::new(self.alloc));
+        }
+        let mut owners = Vec::new(self.alloc);
+        owners.push(Owner(place as u64))?;
+        self.move_views(change, moment, &Holders { owners })
+    }
+
+    // whether some view beside that of a place is worth moving past so many operations: else claims need not be looked up
+    fn may_move_others(&self, place: usize, count: usize) -> bool {
+        for other in 0..self.places.capacity() {
+            match self.places.get(other) {
+                Some(entry) if other != place && entry.may_move(self.number, count) => return true,
+                _ => {}
+            }
+        }
+        false
+    }
+
+    // whether a transaction beside that of a place holds a claim which conflicts with that of some operation
+    fn is_any_claimed(&self, place: usize, change: &[Op]) -> Result<bool, AllocError>
+        ensures { IfOk result (λ claimed. claimed ≡ false → (other : ℕ) → (other ≡ place → ⊥) →
+            MeetNone change.now (at self.now.places other)) }
+    {
+        for op in change {
+            if self.is_claimed(place, op)? {
+                return Ok(true);
+            }
+        }
+        Ok(false)
     }
 
     /// Takes the views after the change that was just accepted. Takes no memory.

@@ -1,7 +1,6 @@
-use Rattle.std.proofs.Common.{◌≡◌, take}
-use Rattle.reg_tree.specs.Judgement.{applied}
-use Rattle.conflicts.specs.Skeletons.{AreCarriedOut}
+use Rattle.std.proofs.Common.{take}
+use Rattle.transactions.specs.Entries.{AreAfter}
 use Rattle.transactions.proofs.entry.carry_out.Given as goal
 
 abbrev pub invariant-loop-op : goal.invariant-loop-op
-invariant-loop-op l = (l.trees ≡ applied l.now (take l.op-index l.ops) l.moment) × AreCarriedOut l.now (take l.op-index l.ops) l.moment
+invariant-loop-op l = AreAfter l.now (take l.op-index l.ops) l.moment l.trees

@@ -1,4 +1,5 @@
-use Rattle.std.proofs.Common.{Some, subst}
+use Rattle.std.proofs.Common.{◌≡◌, Some, subst}
+use Rattle.std.specs.Prelude.{IfSome}
 use Rattle.transactions.specs.Entries.{IsViewed}
 use Rattle.transactions.proofs.Views.{moved_any}
 use Rattle.transactions.proofs.entry.Entry.moved.Goals as goal
@@ -6,5 +7,7 @@ use Rattle.transactions.proofs.entry.Entry.moved.Goals as goal
 pub returns-in-Some : goal.returns-in-Some
 returns-in-Some c =
     let ops = c.args.self.now.ops.items in
-    let viewed : IsViewed c.args.now.now c.args.number ops (Some c.in-Some.view) = subst (IsViewed c.args.now.now c.args.number ops) c.in-Some.is c.requires.viewed in
-    moved_any c.either_order.ensures.but_for_times c.stay_legal.ensures c.args.now.now c.args.number ops c.in-Some.view c.args.op.now c.moved.result (viewed.made c.if-view-number.true) c.requires.apart c.requires.legal c.moved.ensures
+    let now = c.args.now.now in
+    let viewed : IsViewed now c.args.number ops (Some c.in-Some.view) = subst (IsViewed now c.args.number ops) c.in-Some.is c.requires.viewed in
+    let numbered : c.in-Some.view.number ≡ c.args.number = subst (λ o. IfSome o (λ view. view.number ≡ c.args.number)) c.in-Some.is (c.may_move.ensures c.if-may_move.true) in
+    moved_any now c.args.number c.args.moment ops c.args.change.now c.in-Some.view c.moved_past.result (viewed.made numbered) c.requires.apart c.moved_past.ensures

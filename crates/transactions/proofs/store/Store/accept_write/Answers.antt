@@ -13,7 +13,7 @@ use Rattle.transactions.proofs.Stored.{accepts, below_most, tied_more}
 use Rattle.transactions.proofs.store.Store.accept_write.Goals as goal
 
 abbrev old_store : (c : goal.After-drop-holders-inside) → Machine
-old_store c = store_of c.self.inside.opened.value c.self.inside.before c.self.inside.history.changes c.self.inside.sessions c.self.inside.table c.self.inside.durable c.self.inside.room c.self.inside.faulted
+old_store c = store_of c.self.inside.opened.value c.self.inside.before c.self.inside.history.changes c.self.inside.sessions c.self.inside.table c.self.inside.durable c.self.inside.room c.self.inside.faulted c.self.inside.bounds
 
 seen : (c : goal.After-drop-holders-inside) (session moment : ℕ) (op : Op) → IsReadyWrite c.args.self.now.machine session moment op c.args.write → IsReadyWrite (old_store c) session moment op c.args.write
 seen c session moment op ready = subst (λ (v : StoreView). IsReadyWrite v.machine session moment op c.args.write) (sym c.self.view_is) ready
@@ -21,13 +21,13 @@ seen c session moment op ready = subst (λ (v : StoreView). IsReadyWrite v.machi
 added : (c : goal.After-drop-holders-inside) (session moment : ℕ) (op : Op) → IsReadyWrite (old_store c) session moment op c.args.write → c.push_reserved.new.self.changes ≡ c.self.inside.history.changes ++ change moment op ∷ []
 added c session moment op ready = c.push_reserved.ensures.changes ∙ ap (λ (e : Element). c.self.inside.history.changes ++ e ∷ []) ready.element
 
-tied : (c : goal.After-drop-holders-inside) → IsTied c.roll_back_all.new.self (store_of c.self.inside.opened.value c.self.inside.before c.push_reserved.new.self.changes c.self.inside.sessions c.roll_back_all.new.self c.self.inside.durable c.args.write.room c.self.inside.faulted)
+tied : (c : goal.After-drop-holders-inside) → IsTied c.roll_back_all.new.self (store_of c.self.inside.opened.value c.self.inside.before c.push_reserved.new.self.changes c.self.inside.sessions c.roll_back_all.new.self c.self.inside.durable c.args.write.room c.self.inside.faulted c.self.inside.bounds)
 tied c =
     let session = c.requires.ready.0 in
     let moment = c.requires.ready.1 in
     let op = c.requires.ready.2 in
     let ready = seen c session moment op c.requires.ready.3 in
-    tied_more c.self.inside.opened.value c.self.inside.before c.self.inside.history.changes c.push_reserved.new.self.changes c.self.inside.sessions c.self.inside.table c.roll_back_all.new.self c.self.inside.durable c.self.inside.room c.args.write.room c.self.inside.faulted
+    tied_more c.self.inside.opened.value c.self.inside.before c.self.inside.history.changes c.push_reserved.new.self.changes c.self.inside.sessions c.self.inside.table c.roll_back_all.new.self c.self.inside.durable c.self.inside.room c.args.write.room c.self.inside.faulted c.self.inside.bounds
     (change moment op) c.self.invariant (below_most (old_store c) (element_text_len (change moment op)) ready.roomy) (added c session moment op ready)
     (ap (λ (t : Table). t.trees) c.roll_back_all.ensures.rest ∙ ap (λ (t : Table). t.trees) (c.take_views.ensures ∙ c.accept.ensures) ∙ ready.trees ∙ ap (λ x. applied_one x op moment) (sym c.self.invariant.trees))
     (ap (λ (t : Table). t.number) c.roll_back_all.ensures.rest ∙ ap (λ (t : Table). t.number) (c.take_views.ensures ∙ c.accept.ensures))
@@ -39,9 +39,9 @@ pub returns-clause-step : goal.returns-clause-step
 returns-clause-step c = λ session moment op told.
     let ready = seen c session moment op told in
     subst (λ (v : StoreView). Accepts v.machine session moment op c.args.write.levels c.number.result
-    (store_of c.self.inside.opened.value c.self.inside.before c.push_reserved.new.self.changes c.self.inside.sessions c.roll_back_all.new.self c.self.inside.durable c.args.write.room c.self.inside.faulted)) c.self.view_is
-    (accepts c.self.inside.opened.value c.self.inside.before c.self.inside.history.changes c.push_reserved.new.self.changes c.self.inside.sessions c.self.inside.table c.take_views.new.self c.roll_back_all.new.self c.self.inside.durable c.self.inside.room c.args.write.room c.self.inside.faulted
-    ready.free session moment c.number.result op c.args.write.levels c.args.write.trees c.args.write.holders c.self.invariant ready.there
+    (store_of c.self.inside.opened.value c.self.inside.before c.push_reserved.new.self.changes c.self.inside.sessions c.roll_back_all.new.self c.self.inside.durable c.args.write.room c.self.inside.faulted c.self.inside.bounds)) c.self.view_is
+    (accepts c.self.inside.opened.value c.self.inside.before c.self.inside.history.changes c.push_reserved.new.self.changes c.self.inside.sessions c.self.inside.table c.take_views.new.self c.roll_back_all.new.self c.self.inside.durable c.self.inside.room c.args.write.room c.self.inside.faulted c.self.inside.bounds
+    ready.free session moment c.number.result op c.args.write.levels c.args.write.trees c.args.write.holders c.self.invariant ready.there ready.named
     (ap (λ x. legal x op) c.self.invariant.trees ∙ ready.is_legal) ready.roomy (ready.levels ∙ ap (λ x. levels_made x op) (sym c.self.invariant.trees)) c.number.ensures (added c session moment op ready) ready.room
     (c.take_views.ensures ∙ c.accept.ensures) c.roll_back_all.ensures.rest c.roll_back_all.ensures.rolled_back ready.holders)
 

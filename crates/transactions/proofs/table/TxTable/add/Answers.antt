@@ -33,10 +33,10 @@ returns-in_err-reserve-clause-err c =
     on_err c.from_residual.result _ (ap (λ places. record { trees = c.self.inside.trees; number = c.self.inside.number; places = places; begun = c.self.inside.begun }) (same c) ∙ c.self.view_is)
 
 -- the same where the claim could not be added
-there_2 : (c : goal.Joined-op-2) → slot c.self.inside.places.slots c.args.place ≡ Some c.in-Some.entry.now
+there_2 : (c : goal.Joined-op-5) → slot c.self.inside.places.slots c.args.place ≡ Some c.in-Some.entry.now
 there_2 c = sym c.in-Some.ensures.value
 
-same_2 : (c : goal.Joined-op-2) → places_of (with_value c.self.inside.places c.args.place c.reserve.new.self).slots ≡ places_of c.self.inside.places.slots
+same_2 : (c : goal.Joined-op-5) → places_of (with_value c.self.inside.places c.args.place c.reserve.new.self).slots ≡ places_of c.self.inside.places.slots
 same_2 c = same_places c.self.inside.places.slots c.args.place c.in-Some.entry.now c.reserve.new.self (there_2 c) (reserved_same c.in-Some.entry.now c.reserve.new.self c.reserve.ensures.same)
 
 pub invariant_of-self-in_err-add : goal.invariant_of-self-in_err-add
@@ -69,7 +69,7 @@ entry c =
     (c.add-2.ensures.length ∙ ap (λ (e : Entry). e.length + op_text_len c.args.op) c.reserve.ensures.same.0) c.add-2.ensures.seen
     (subst (λ one. too_long one c.args.op ≡ false) (one c) c.requires.short) (c.requires.numbered ∙ sym (ap (λ (t : Table). t.number) c.self.view_is))
     (subst (λ (one : Transaction). IsViewNow c.self.inside.trees (one.ops ++ c.args.op ∷ []) c.args.made) (one c)
-    (subst (λ (t : Table). IsViewNow t.trees (c.requires.one.ops ++ c.args.op ∷ []) c.args.made) (sym c.self.view_is) c.requires.seen))
+    (subst (λ (t : Table). IsViewNow t.trees (c.requires.one.ops ++ c.args.op ∷ []) c.args.made) (sym c.self.view_is) c.requires.seen)) c.add-2.ensures.spare
 
 pub invariant_of-self-2 : goal.invariant_of-self-2
 invariant_of-self-2 c =

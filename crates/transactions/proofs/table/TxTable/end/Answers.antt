@@ -1,8 +1,10 @@
 use Rattle.std.proofs.Common.{◌≡◌, ◌==◌, ◌&&◌, true, Some, None}
 use Rattle.transactions.specs.Entries.{transaction_of, places_of}
 use Rattle.transactions.specs.Tables.{EndsWith}
-use Rattle.std.proofs.Common.{refl, sym, ◌∙◌, ap, subst}
-use Rattle.std.specs.Prelude.{IsSome}
+use Rattle.std.proofs.Common.{◌+◌, ◌<◌, ◌≤◌, length, refl, sym, ◌∙◌, ap, subst}
+use Rattle.std.specs.Prelude.{IsSome, vec_capacity}
+use Rattle.std.specs.Global.{Vec}
+use Rattle.reg_tree.specs.declared.op.Op.{Op}
 use Rattle.machine.specs.Transactions.{own, is_active, inactive_refusal}
 use Rattle.slab.specs.Slab.{Updates, with_value}
 use Rattle.slab.proofs.SlabLemmas.{Updates-with_value}
@@ -36,4 +38,7 @@ returns-clause-ok c =
     subst (λ (t : Table). EndsWith t c.args.session c.args.tx c.args.outcome c.end.result.items
     (shown c.self.inside.trees c.self.inside.number c.self.inside.begun (with_value c.self.inside.places c.args.tx.place c.end.new.self).slots)) c.self.view_is
     (ends c.self.inside.trees c.self.inside.number c.self.inside.begun c.self.inside.places (with_value c.self.inside.places c.args.tx.place c.end.new.self) c.args.session c.args.tx c.args.outcome c.end.result.items
-    c.in-Some.entry.now c.end.new.self (there c) (its c).0 (its c).1 (changed c) c.end.ensures.kept c.end.ensures.ops)
+    c.in-Some.entry.now c.end.new.self (there c) (its c).0 (its c).1 (changed c) c.end.ensures.kept (ap (λ (ops : Vec Op). ops.items) c.end.ensures.ops))
+
+pub returns-clause-spare : goal.returns-clause-spare
+returns-clause-spare c = subst (λ (ops : Vec Op). 0 < length ops.items → length ops.items + 2 ≤ vec_capacity ops) (sym c.end.ensures.ops) (c.self.invariant.entries c.args.tx.place c.in-Some.entry.now (there c)).spare

@@ -1,5 +1,5 @@
 use Rattle.std.proofs.Common.{◌≡◌, ◌+◌, ◌++◌, ◌∷◌, [], arith, sym, ap, subst, length, length-append}
-use Rattle.reg_tree.specs.Judgement.{applied_one}
+use Rattle.reg_tree.specs.Judgement.{applied}
 use Rattle.transactions.specs.Entries.{AreMoved}
 use Rattle.transactions.proofs.Views.{moved_more}
 use Rattle.transactions.proofs.table.TxTable.move_views.Goals as goal
@@ -8,8 +8,9 @@ pub loop-place-preserved : goal.loop-place-preserved
 loop-place-preserved c =
     let before = c.loop-place.moved.items in
     let one = c.in_ok-moved_at.field-0 in
+    let now = applied c.args.self.now.trees c.args.change.now c.args.moment in
     let grown : c.push.new.self.items ≡ before ++ one ∷ [] = c.in_ok-push.ensures.items in (
       omega (arith, ap length grown, length-append before (one ∷ []), c.loop-place.invariant.0),
-      λ moment. subst (AreMoved (applied_one c.args.self.now.trees c.args.op.now moment) (c.args.self.now.number + 1) c.args.self.now.places) (sym grown)
-          (moved_more (applied_one c.args.self.now.trees c.args.op.now moment) (c.args.self.now.number + 1) c.args.self.now.places before one c.loop-place.place c.loop-place.invariant.0 (c.loop-place.invariant.1 moment) (c.in_ok-moved_at.ensures moment)),
+      subst (AreMoved now (c.args.self.now.number + 1) c.args.self.now.places) (sym grown)
+          (moved_more now (c.args.self.now.number + 1) c.args.self.now.places before one c.loop-place.place c.loop-place.invariant.0 c.loop-place.invariant.1 c.in_ok-moved_at.ensures),
     )
