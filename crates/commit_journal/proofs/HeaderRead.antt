@@ -81,3 +81,9 @@ at_first file store is begin = record {
   is = sym (take-append-drop 64 file) ∙ ap (λ (l : List ℕ). l ++ drop 64 file) begin;
   stands = stands_empty (texts store) (header_length store is.id_is_whole);
 }
+
+-- a store whose journal spells something is the one whose header bytes begin with
+pub only_one : (file : List ℕ) (a b : Store) (x : Spelled TimedOp) → IsStore a → IsStore b → spelled (texts a) file ≡ Some x → take 64 file ≡ header_text b → a ≡ b
+only_one file a b x a_is b_is ax begin =
+    let first = header_there a a_is file x ax in
+    same_store a b (id_there file a a_is first ∙ sym (id_there file b b_is begin)) (hives_there file a a_is first ∙ sym (hives_there file b b_is begin))

@@ -43,6 +43,7 @@ all_push P (y ∷ xs) x all here = (all.0, all_push P xs x all.1 here)
 -- one element more is kept
 pub keeps_more : (hives : ℕ) (now : Standing) (start : ℕ) (es xs : List Element) (e : Element) → KeepsElements hives now (take start es) es → start ≤ length es → Fits hives e → xs ≡ es ++ e ∷ [] → KeepsElements hives now (take start xs) xs
 keeps_more hives now start es xs e keeps inside fits is = subst (λ (l : List Element). KeepsElements hives now (take start l) l) (sym is) (record {
+  are = keeps.are ∙ sym (take-append-le start es (e ∷ []) inside);
   told = keeps.told ∙ ap timed_elements (sym (take-append-le start es (e ∷ []) inside));
   fit = all_push (Fits hives) es e keeps.fit fits;
   last = keeps.last;

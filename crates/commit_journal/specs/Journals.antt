@@ -9,7 +9,7 @@ use Rattle.commit_journal.specs.Store.{Store, texts}
 use Rattle.commit_journal.specs.OnDisk.{Value, value_at, longer}
 use Rattle.commit_journal.specs.Handed.{IsLongestFront}
 use Rattle.commit_journal.specs.OnDisk as phase
-use Rattle.commit_journal.specs.Told.{spelled_told}
+use Rattle.commit_journal.specs.Told.{changes_told, spelled_told}
 use Rattle.commit_journal.specs.declared.standing.Standing.{Standing}
 use Rattle.commit_journal.specs.declared.journal.Phase.{Phase}
 use Rattle.commit_journal.specs.declared.journal.Phase.TheVariants.{Quiet, BodyWritten, BodySynced, GateWritten, TrimWritten, Broken}
@@ -33,6 +33,10 @@ value_of j = value_in j.stands j.phase
 -- what surely stands in the file, and what is on its way there
 abbrev pub choice_of : Journal → Choice (Spelled TimedOp)
 choice_of j = (value_of j).choice
+
+-- the changes that stand
+abbrev pub changes_of : Journal → List Element
+changes_of j = changes_told j.stands.told
 
 -- the store that the journal is of
 abbrev pub store_of : Journal → Store

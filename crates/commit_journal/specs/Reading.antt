@@ -15,7 +15,9 @@ use Rattle.commit_journal.specs.declared.layout.TheConstants.{OPEN_GATE, MOST_BO
 use Rattle.commit_journal.specs.Text.{Texts, Body, read_elements, read_body, Stands, spelled}
 use Rattle.commit_journal.specs.Store.{texts}
 use Rattle.commit_journal.specs.OnDisk.{is_on, value_at, Phase.Quiet}
-use Rattle.commit_journal.specs.Told.{elements_told}
+use Rattle.commit_journal.specs.Lacking.{IsKeeping}
+use Rattle.commit_journal.specs.Told.{changes_told, elements_told}
+use Rattle.commit_journal.specs.declared.keeping.Keeping.{Keeping}
 use Rattle.commit_journal.specs.Journals.{spelled_by}
 use Rattle.commit_journal.specs.declared.standing.Standing.{Standing}
 use Rattle.commit_journal.specs.declared.reader.Part.{Part}
@@ -64,12 +66,16 @@ reading_at t file now es (Size part) rest = in_part t file now es part rest
 reading_at t file now es (Text part len) rest = in_part t file now es part rest × (little_number 4 rest ≡ len)
 reading_at t file now es Done rest = IsFound t file now
 
+-- the elements that were read
+abbrev pub read_by : Reader → List Element
+read_by r = changes_told r.keeping.read
+
 abbrev pub texts_for : List ℕ → Reader → Texts TimedOp
 texts_for id r = texts (record { id = id; hives = r.hives })
 
 -- The reading of this file, as the journal of a store with this id, has come so far that these bytes are still to be read.
 abbrev pub IsReading : List ℕ → List ℕ → Reader → List ℕ → Type 0
-IsReading id file r rest = reading_at (texts_for id r) file r.stands r.elements.items r.next rest
+IsReading id file r rest = reading_at (texts_for id r) file r.stands (read_by r) r.next rest
 
 -- A body with so many elements from this number on may stand behind what stands.
 pub record GoesOn {Op : Type 0} (most : ℕ) (now : Spelled Op) (first count : ℕ) : Type 0 where
@@ -82,6 +88,7 @@ pub record GoesOn {Op : Type 0} (most : ℕ) (now : Spelled Op) (first count : �
 
 -- what stands is these elements, and each of all that were read fits
 pub record KeepsElements (hives : ℕ) (now : Standing) (stood es : List Element) : Type 0 where
+  pub are : changes_told now.told ≡ stood
   pub told : elements_told now.told ≡ timed_elements stood
   pub fit : AllByRecursion (Fits hives) es
   pub last : now.last ≤ GREATEST_NUMBER
@@ -104,7 +111,30 @@ keeps_at hives now es (Text part len) = KeepsElements hives now (take part.start
 keeps_at hives now es Done = KeepsElements hives now es es
 
 abbrev pub Keeps : Reader → Type 0
-Keeps r = keeps_at r.hives r.stands r.elements.items r.next
+Keeps r = keeps_at r.hives r.stands (read_by r) r.next
+
+-- the number of the last element that was read of a body, or that below its first
+abbrev pub IsInPart : ℕ → List Element → Part → Type 0
+IsInPart last es part = last + 1 ≡ part.first + length (drop part.start es)
+
+abbrev pub tied_at : ℕ → Standing → List Element → Next → Type 0
+tied_at last now es Gate = last ≡ now.last
+tied_at last now es Head = last ≡ now.last
+tied_at last now es (Size part) = IsInPart last es part
+tied_at last now es (Text part len) = IsInPart last es part
+tied_at last now es Done = last ≡ now.last
+
+-- those that were read are kept as the hives' own numbers say
+abbrev pub IsKept : Keeping → Type 0
+IsKept k = IsKeeping k.numbers.items k.last (changes_told k.read) k.below k.elements.items k.naming.last.items
+
+-- the numbers of what is kept go on with what stands, and with what was read of a body
+abbrev pub IsTied : Reader → Type 0
+IsTied r = tied_at r.keeping.last r.stands (read_by r) r.next
+
+-- what is kept is judged by the same numbers, and the last changes are those that name as many hives
+abbrev pub IsOf : Keeping → Keeping → Type 0
+IsOf old new = (new.numbers ≡ old.numbers) × (length new.naming.last.items ≡ length old.naming.last.items)
 
 -- ---- what is wanted
 

@@ -9,7 +9,7 @@ ghost use Rattle.refusals.specs.declared.limits.TheConstants.{MOST_HIVES};
 ghost use Rattle.engine_words.specs.Changes.{TimedOp, timed_elements};
 ghost use Rattle.engine_words.specs.Steps.{Says};
 ghost use Rattle.commit_journal.specs.OnDisk.{is_on, longer, value_at};
-ghost use Rattle.commit_journal.specs.Told.{elements_told};
+ghost use Rattle.commit_journal.specs.Told.{changes_told, elements_told};
 ghost use Rattle.commit_journal.specs.OnDisk as phase;
 ghost use Rattle.commit_journal.specs.Store.{texts, room_of};
 ghost use Rattle.commit_journal.specs.Handed.{IsHanded, IsLongestFront};
@@ -66,13 +66,14 @@ pub struct Journal {
 }
 
 impl Journal {
-    ghost use Rattle.commit_journal.specs.Journals.{spelled_by, value_in, value_of, choice_of, store_of, texts_of, IsReady, BeginsLongest, IsTrimming, IsBroken, steps_left, ComesNearer};
+    ghost use Rattle.commit_journal.specs.Journals.{spelled_by, changes_of, value_in, value_of, choice_of, store_of, texts_of, IsReady, BeginsLongest, IsTrimming, IsBroken, steps_left, ComesNearer};
 
     /// The journal of what stands in a file that is at rest.
     pub(crate) fn found(alloc: Global, id: Uuid, hives: u8, stands: Standing) -> Journal
         ensures store { store_of result ≡ record { id = id; hives = hives } }
         ensures value { value_of result ≡ value_at (spelled_by stands) nothing stands.gate stands.gate
             phase.Phase.Quiet }
+        ensures changes { changes_of result ≡ changes_told stands.told }
     {
         Journal {
             alloc,

@@ -1,20 +1,21 @@
 //! A reading of a journal's bytes behind the header, from left to right: what it has found, and how many bytes it needs next.
 //!
 //! It sees no device. Bytes are handed to it as they come, each time as many as it wants at least; where the file has
-//! fewer, it is no journal. Each element is kept as it is complete, so that the reading never holds bytes of its own.
-ghost use Rattle.std.specs.Prelude.{◌≡◌, ◌+◌, ◌-◌, ◌*◌, ◌<◌, ◌≤◌, ◌^◌, ◌++◌, ◌↔◌, ℕ, List, length, take, drop, true, None, IfOk, IfErr, OnOk};
+//! fewer, it is no journal. Each element is handed on as it is complete, so that the reading never holds bytes of its own.
+ghost use Rattle.std.specs.Prelude.{◌≡◌, ◌+◌, ◌-◌, ◌*◌, ◌<◌, ◌≤◌, ◌^◌, ◌++◌, ◌↔◌, ℕ, List, [], length, take, drop, true, None, IfOk, IfErr, OnOk};
 ghost use Rattle.refusals.specs.Answers.{RefusedFor};
 ghost use Rattle.refusals.specs.declared.refusal.Refusal.TheVariants.{JournalDamaged};
 ghost use Rattle.prefix_law.specs.Promises.{nothing};
 ghost use Rattle.commit_journal.specs.Text.{spelled};
 ghost use Rattle.commit_journal.specs.Store.{texts};
+ghost use Rattle.commit_journal.specs.Told.{changes_told};
 
+use crate::keeping::Keeping;
 use crate::layout::{MOST_BODY_BYTES, OPEN_GATE};
 use crate::standing::Standing;
 use byteorder::{ByteOrder, LittleEndian};
 use refusals::Refusal;
 use refusals::limits::GREATEST_NUMBER;
-use reg_tree::Element;
 use std::alloc::Global;
 
 /// The bytes of a body before its elements.
@@ -30,15 +31,15 @@ const MOST_ROOM: u64 = 1 << 63;
 #[derive(Clone, Copy)]
 pub(crate) struct Part {
     /// The number of its first element.
-    first: u64,
+    pub first: u64,
     /// Its bytes, with its head.
-    size: u64,
+    pub size: u64,
     /// The bytes of it that are still to be read.
     left: u64,
     /// The elements of it that are still to be read.
     count: u64,
     /// How many elements were read before it.
-    start: usize,
+    pub start: u64,
 }
 
 /// What comes next in the file.
@@ -63,19 +64,23 @@ pub(crate) struct Reader {
     hives: u8,
     /// What the bodies spell that were read whole.
     pub stands: Standing,
-    /// All elements that were read, in their order.
-    pub elements: Vec<Element>,
+    /// The elements that were read, in their order.
+    pub keeping: Keeping,
     next: Next,
     ghost few: { hives ≤ 256 },
 }
 
 impl Reader {
     ghost use Rattle.commit_journal.specs.Journals.{spelled_by};
-    ghost use Rattle.commit_journal.specs.Reading.{AtGate, in_part, reading_at, texts_for, IsReading, GoesOn, KeepsElements, KeepsPart, keeps_at, Keeps, wanted_by, waits};
+    ghost use Rattle.commit_journal.specs.Reading.{AtGate, in_part, reading_at, texts_for, IsReading, GoesOn, KeepsElements, KeepsPart, keeps_at, Keeps, IsTied, wanted_by, waits, read_by, tied_at, IsInPart, IsKept, IsOf};
 
     /// Nothing was read: the first gate comes next.
-    pub fn new(alloc: Global, hives: u8) -> Reader
+    pub fn new(alloc: Global, hives: u8, keeping: Keeping) -> Reader
+        requires none { changes_told keeping.read ≡ [] }
+        requires zero { keeping.last ≡ 0 }
         ensures keeps { Keeps result }
+        ensures tied { IsTied result }
+        ensures keeping { result.keeping ≡ keeping }
         ensures hives { result.hives ≡ hives }
         ensures begins { (id file rest : List ℕ) →
             AtGate (texts (record { id = id; hives = hives })) file nothing 64 rest →
@@ -85,7 +90,7 @@ impl Reader {
             alloc,
             hives,
             stands: Standing::nothing(),
-            elements: Vec::new(alloc),
+            keeping,
             next: Next::Gate,
         }
     }
@@ -120,8 +125,13 @@ impl Reader {
         requires goes_on { ¬ (self.old.next ≡ Next.Done) }
         requires there { wanted_by self.old.next ≤ length bytes.now }
         requires keeps { Keeps self.old }
+        requires tied { IsTied self.old }
+        requires kept { IsKept self.old.keeping }
         ensures keeps { OnOk result (Keeps self.new) }
+        ensures tied { OnOk result (IsTied self.new) }
+        ensures kept { OnOk result (IsKept self.new.keeping) }
         ensures hives { self.new.hives ≡ self.old.hives }
+        ensures numbers { IsOf self.old.keeping self.new.keeping }
         ensures within { IfOk result (λ n. n ≤ length bytes.now) }
         ensures falls { IfOk result (λ n. waits self.new.next < waits self.old.next + 2 * n) }
         ensures reads { IfOk result (λ n. (id file behind : List ℕ) → left ≡ length bytes.now + length behind →
@@ -156,12 +166,17 @@ impl Reader {
     /// A gate: behind an open one a body comes.
     fn gate(&mut self, bytes: &[u8])
         requires there { 1 ≤ length bytes.now }
-        requires keeps { keeps_at self.old.hives self.old.stands self.old.elements.items Next.Gate }
+        requires keeps { keeps_at self.old.hives self.old.stands (read_by self.old) Next.Gate }
+        requires tied { tied_at self.old.keeping.last self.old.stands (read_by self.old) Next.Gate }
+        requires kept { IsKept self.old.keeping }
         ensures keeps { Keeps self.new }
+        ensures tied { IsTied self.new }
+        ensures kept { IsKept self.new.keeping }
         ensures hives { self.new.hives ≡ self.old.hives }
+        ensures numbers { IsOf self.old.keeping self.new.keeping }
         ensures falls { waits self.new.next < 2 }
         ensures reads { (id file behind : List ℕ) →
-            reading_at (texts_for id self.old) file self.old.stands self.old.elements.items Next.Gate
+            reading_at (texts_for id self.old) file self.old.stands (read_by self.old) Next.Gate
             (bytes.now ++ behind) →
             IsReading id file self.new (drop 1 bytes.now ++ behind) }
     {
@@ -175,17 +190,22 @@ impl Reader {
     /// The head of a body: its length, the number of its first element, and how many elements it has.
     fn head(&mut self, bytes: &[u8], left: u64) -> Result<(), Refusal>
         requires there { 16 ≤ length bytes.now }
-        requires keeps { keeps_at self.old.hives self.old.stands self.old.elements.items Next.Head }
+        requires keeps { keeps_at self.old.hives self.old.stands (read_by self.old) Next.Head }
+        requires tied { tied_at self.old.keeping.last self.old.stands (read_by self.old) Next.Head }
+        requires kept { IsKept self.old.keeping }
         ensures keeps { OnOk result (Keeps self.new) }
+        ensures tied { OnOk result (IsTied self.new) }
+        ensures kept { OnOk result (IsKept self.new.keeping) }
         ensures hives { self.new.hives ≡ self.old.hives }
+        ensures numbers { IsOf self.old.keeping self.new.keeping }
         ensures falls { OnOk result (waits self.new.next < 32) }
         ensures reads { OnOk result ((id file behind : List ℕ) → left ≡ length bytes.now + length behind →
-            reading_at (texts_for id self.old) file self.old.stands self.old.elements.items Next.Head
+            reading_at (texts_for id self.old) file self.old.stands (read_by self.old) Next.Head
             (bytes.now ++ behind) →
             IsReading id file self.new (drop 16 bytes.now ++ behind)) }
         ensures refused { IfErr result (RefusedFor JournalDamaged ((id file behind : List ℕ) →
             left ≡ length bytes.now + length behind →
-            reading_at (texts_for id self.old) file self.old.stands self.old.elements.items Next.Head
+            reading_at (texts_for id self.old) file self.old.stands (read_by self.old) Next.Head
             (bytes.now ++ behind) →
             spelled (texts_for id self.old) file ≡ None)) }
     {
@@ -198,7 +218,8 @@ impl Reader {
         if !self.may_follow(first, count) {
             return Err(Refusal::JournalDamaged);
         }
-        let start = self.elements.len();
+        let start = self.stands.count();
+        self.keeping.follow(first);
         self.part(Part {
             first,
             size,
@@ -223,16 +244,21 @@ impl Reader {
     /// What comes next in a body: an element, or the gate behind it.
     fn part(&mut self, part: Part) -> Result<(), Refusal>
         requires elements { KeepsElements self.old.hives self.old.stands
-            (take part.start self.old.elements.items) self.old.elements.items }
-        requires part { KeepsPart self.old.stands self.old.elements.items part }
+            (take part.start (read_by self.old)) (read_by self.old) }
+        requires part { KeepsPart self.old.stands (read_by self.old) part }
+        requires tied { IsInPart self.old.keeping.last (read_by self.old) part }
+        requires kept { IsKept self.old.keeping }
         ensures keeps { OnOk result (Keeps self.new) }
+        ensures tied { OnOk result (IsTied self.new) }
+        ensures kept { OnOk result (IsKept self.new.keeping) }
         ensures hives { self.new.hives ≡ self.old.hives }
+        ensures numbers { IsOf self.old.keeping self.new.keeping }
         ensures falls { OnOk result (waits self.new.next < 2) }
         ensures reads { OnOk result ((id file rest : List ℕ) →
-            in_part (texts_for id self.old) file self.old.stands self.old.elements.items part rest →
+            in_part (texts_for id self.old) file self.old.stands (read_by self.old) part rest →
             IsReading id file self.new rest) }
         ensures refused { IfErr result (RefusedFor JournalDamaged ((id file rest : List ℕ) →
-            in_part (texts_for id self.old) file self.old.stands self.old.elements.items part rest →
+            in_part (texts_for id self.old) file self.old.stands (read_by self.old) part rest →
             spelled (texts_for id self.old) file ≡ None)) }
     {
         if part.count == 0 {
@@ -251,27 +277,32 @@ impl Reader {
     fn end(&mut self, part: Part) -> Result<(), Refusal>
         requires none { part.count ≡ 0 }
         requires elements { KeepsElements self.old.hives self.old.stands
-            (take part.start self.old.elements.items) self.old.elements.items }
-        requires part { KeepsPart self.old.stands self.old.elements.items part }
+            (take part.start (read_by self.old)) (read_by self.old) }
+        requires part { KeepsPart self.old.stands (read_by self.old) part }
+        requires tied { IsInPart self.old.keeping.last (read_by self.old) part }
+        requires kept { IsKept self.old.keeping }
         ensures keeps { OnOk result (Keeps self.new) }
+        ensures tied { OnOk result (IsTied self.new) }
+        ensures kept { OnOk result (IsKept self.new.keeping) }
         ensures hives { self.new.hives ≡ self.old.hives }
+        ensures numbers { IsOf self.old.keeping self.new.keeping }
         ensures falls { OnOk result (waits self.new.next < 2) }
         ensures reads { OnOk result ((id file rest : List ℕ) →
-            in_part (texts_for id self.old) file self.old.stands self.old.elements.items part rest →
+            in_part (texts_for id self.old) file self.old.stands (read_by self.old) part rest →
             IsReading id file self.new rest) }
         ensures refused { IfErr result (RefusedFor JournalDamaged ((id file rest : List ℕ) →
-            in_part (texts_for id self.old) file self.old.stands self.old.elements.items part rest →
+            in_part (texts_for id self.old) file self.old.stands (read_by self.old) part rest →
             spelled (texts_for id self.old) file ≡ None)) }
     {
         if part.left > 0 {
             return Err(Refusal::JournalDamaged);
         }
-        let elements = &self.elements[part.start..];
-        let room = 17 * elements.len() as u64 + (part.size - HEAD_BYTES);
+        let count = self.keeping.last + 1 - part.first;
+        let room = 17 * count + (part.size - HEAD_BYTES);
         if self.stands.used >= MOST_ROOM || room >= MOST_ROOM - self.stands.used {
             return Err(Refusal::NoMemory);
         }
-        self.stands = self.stands.longer(part.first, part.size, elements);
+        self.stands = self.stands.with_body(part, count, self.keeping.told());
         self.next = Next::Gate;
         Ok(())
     }
@@ -279,16 +310,21 @@ impl Reader {
     /// The length of an element, which is read again with it.
     fn size(&mut self, part: Part, bytes: &[u8]) -> Result<(), Refusal>
         requires there { 4 ≤ length bytes.now }
-        requires keeps { keeps_at self.old.hives self.old.stands self.old.elements.items (Next.Size part) }
+        requires keeps { keeps_at self.old.hives self.old.stands (read_by self.old) (Next.Size part) }
+        requires tied { tied_at self.old.keeping.last self.old.stands (read_by self.old) (Next.Size part) }
+        requires kept { IsKept self.old.keeping }
         ensures keeps { OnOk result (Keeps self.new) }
+        ensures tied { OnOk result (IsTied self.new) }
+        ensures kept { OnOk result (IsKept self.new.keeping) }
         ensures hives { self.new.hives ≡ self.old.hives }
+        ensures numbers { IsOf self.old.keeping self.new.keeping }
         ensures falls { OnOk result (waits self.new.next < 1) }
         ensures reads { OnOk result ((id file behind : List ℕ) →
-            reading_at (texts_for id self.old) file self.old.stands self.old.elements.items
+            reading_at (texts_for id self.old) file self.old.stands (read_by self.old)
             (Next.Size part) (bytes.now ++ behind) →
             IsReading id file self.new (bytes.now ++ behind)) }
         ensures refused { IfErr result (RefusedFor JournalDamaged ((id file behind : List ℕ) →
-            reading_at (texts_for id self.old) file self.old.stands self.old.elements.items
+            reading_at (texts_for id self.old) file self.old.stands (read_by self.old)
             (Next.Size part) (bytes.now ++ behind) →
             spelled (texts_for id self.old) file ≡ None)) }
     {
@@ -300,20 +336,26 @@ impl Reader {
         Ok(())
     }
 
-    /// An element, which is kept.
+    /// An element.
     fn text(&mut self, part: Part, len: usize, bytes: &[u8]) -> Result<(), Refusal>
         requires there { len ≤ length bytes.now }
-        requires keeps { keeps_at self.old.hives self.old.stands self.old.elements.items
+        requires keeps { keeps_at self.old.hives self.old.stands (read_by self.old)
             (Next.Text part len) }
+        requires tied { tied_at self.old.keeping.last self.old.stands (read_by self.old)
+            (Next.Text part len) }
+        requires kept { IsKept self.old.keeping }
         ensures keeps { OnOk result (Keeps self.new) }
+        ensures tied { OnOk result (IsTied self.new) }
+        ensures kept { OnOk result (IsKept self.new.keeping) }
         ensures hives { self.new.hives ≡ self.old.hives }
+        ensures numbers { IsOf self.old.keeping self.new.keeping }
         ensures falls { OnOk result (waits self.new.next < 2 * len) }
         ensures reads { OnOk result ((id file behind : List ℕ) →
-            reading_at (texts_for id self.old) file self.old.stands self.old.elements.items
+            reading_at (texts_for id self.old) file self.old.stands (read_by self.old)
             (Next.Text part len) (bytes.now ++ behind) →
             IsReading id file self.new (drop len bytes.now ++ behind)) }
         ensures refused { IfErr result (RefusedFor JournalDamaged ((id file behind : List ℕ) →
-            reading_at (texts_for id self.old) file self.old.stands self.old.elements.items
+            reading_at (texts_for id self.old) file self.old.stands (read_by self.old)
             (Next.Text part len) (bytes.now ++ behind) →
             spelled (texts_for id self.old) file ≡ None)) }
     {
@@ -326,7 +368,7 @@ impl Reader {
             count: part.count - 1,
             ..part
         };
-        self.elements.push(element)?;
+        self.keeping.push(element)?;
         self.part(next)
     }
 }

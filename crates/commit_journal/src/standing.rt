@@ -1,10 +1,11 @@
 //! What a journal keeps of what stands in its file, or will.
-ghost use Rattle.std.specs.Prelude.{◌≡◌, ◌+◌, ◌-◌, ◌*◌, ◌<◌, ◌≤◌, ◌^◌, ℕ, length, [], sum_by};
+ghost use Rattle.std.specs.Prelude.{◌≡◌, ◌+◌, ◌-◌, ◌*◌, ◌<◌, ◌≤◌, ◌^◌, ℕ, List, length, take, drop, [], sum_by};
 ghost use Rattle.prefix_law.specs.Promises.{nothing, top, floor};
 ghost use Rattle.reg_tree.specs.Texts.{element_text_len};
-ghost use Rattle.commit_journal.specs.Told.{spelled_told};
+ghost use Rattle.commit_journal.specs.Told.{changes_told, elements_told, spelled_told};
 ghost use Rattle.commit_journal.specs.Standing.{IsStanding};
 
+use crate::reader::Part;
 use crate::told::Told;
 use reg_tree::Element;
 
@@ -68,6 +69,41 @@ impl Standing {
             },
             last: first - 1 + count,
             used: self.used + 17 * count + (size - 16),
+            told,
+        }
+    }
+
+    /// How many elements stand.
+    pub fn count(&self) -> u64
+        ensures { result ≡ length (elements_told self.now.told) }
+    {
+        self.last.saturating_sub(self.below)
+    }
+
+    /// What stands once a body that was read does: these are its elements, so many, behind those that stand.
+    pub fn with_body(&self, part: Part, count: u64, told: Told) -> Standing
+        requires before { elements_told self.now.told ≡ timed_elements (take part.start (changes_told told)) }
+        requires count { count ≡ length (drop part.start (changes_told told)) }
+        requires some { 0 < count }
+        requires number { 1 ≤ part.first }
+        requires ends { top (part.first - 1) (spelled_by self.now) ≡ part.first - 1 }
+        requires size { part.size ≡ 16 + sum_by element_text_len (drop part.start (changes_told told)) }
+        requires room { self.now.used + (17 * count + (part.size - 16)) < 2 ^ 63 }
+        requires numbers { part.first + count < 2 ^ 64 }
+        ensures spells { spelled_by result ≡ longer (spelled_by self.now) (part.first - 1)
+            (timed_elements (drop part.start (changes_told told))) }
+        ensures gate { result.gate ≡ self.now.gate + 1 + part.size }
+        ensures told { changes_told result.told ≡ changes_told told }
+    {
+        Standing {
+            gate: self.gate + 1 + part.size,
+            below: if self.last == 0 {
+                part.first - 1
+            } else {
+                self.below
+            },
+            last: part.first - 1 + count,
+            used: self.used + 17 * count + (part.size - 16),
             told,
         }
     }

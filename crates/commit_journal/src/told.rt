@@ -16,19 +16,21 @@ pub(crate) enum Told {
 }
 
 impl Told {
-    ghost use Rattle.commit_journal.specs.Told.{elements_told};
+    ghost use Rattle.commit_journal.specs.Told.{changes_told, elements_told};
     ghost use Rattle.engine_words.specs.Changes.{timed_element, timed_elements};
 
     /// One more.
-    fn then(&mut self, element: &Element)
-        ensures { elements_told self.new ≡ elements_told self.old ++ timed_element element.now ∷ [] }
+    pub fn then(&mut self, element: &Element)
+        ensures told { elements_told self.new ≡ elements_told self.old ++ timed_element element.now ∷ [] }
+        ensures changes { changes_told self.new ≡ changes_told self.old ++ element.now ∷ [] }
     {
         *self = Told::Then(Snapshot::of(self), Snapshot::of(element));
     }
 
     /// The same elements.
     pub fn same(&self) -> Told
-        ensures { elements_told result ≡ elements_told self.now }
+        ensures told { elements_told result ≡ elements_told self.now }
+        ensures changes { changes_told result ≡ changes_told self.now }
     {
         Told::Same(Snapshot::of(self))
     }

@@ -20,7 +20,7 @@ use Rattle.engine_words.specs.Changes.{TimedOp}
 use Rattle.engine_words.specs.Steps.{Says}
 use Rattle.engine_words.specs.declared.Progress.{Progress}
 use Rattle.engine_words.specs.declared.Progress.TheVariants as progress
-use Rattle.commit_journal.specs.Journals.{choice_of, steps_in, steps_left, value_in}
+use Rattle.commit_journal.specs.Journals.{changes_of, choice_of, steps_in, steps_left, value_in}
 use Rattle.commit_journal.specs.Journals as journals
 use Rattle.commit_journal.specs.OnDisk as phase
 use Rattle.commit_journal.specs.declared.standing.Standing.{Standing}
@@ -38,7 +38,7 @@ use Rattle.hive_flush.specs.HiveStates as states
 use Rattle.hive_flush.specs.declared.hive.HiveFile.{HiveFile}
 use Rattle.engine.specs.Events.{ComesOn}
 use Rattle.engine.specs.Parts.{IsSound}
-use Rattle.engine.specs.declared.naming.Naming.{Naming}
+use Rattle.commit_journal.specs.declared.naming.Naming.{Naming}
 use Rattle.engine.specs.declared.parts.Parts.{Parts}
 use Rattle.engine.proofs.Idling.{told_some}
 use Rattle.engine.proofs.Sound.{same_hive}
@@ -161,10 +161,10 @@ module _ {D : Type 0} (s : Parts D) (sound : IsSound s) (free : s.store.machine.
 
   ends_trim : Ends (choice_of s.journal) (choice_of new) ⊎ (come ≡ Ok progress.Done → ⊥) → IsMade (reply_to come) → IsTrimming (choice_of s.journal) → HasTrimmed s.store.machine (reply_to come) store.machine (choice_of new)
   ends_trim said made trims =
-      let done = made_done s.store.machine s.base s.spelled.value.items s.journal new (map view_of s.hives.items) sound.holds.kept works come (ends (trims_at s.journal works trims)) made in
+      let done = made_done s.store.machine s.base (changes_of s.spelled.value) s.journal new (map view_of s.hives.items) sound.holds.kept works come (ends (trims_at s.journal works trims)) made in
       subst (λ (t : Machine). HasTrimmed s.store.machine (reply_to come) t (choice_of new)) (sym told)
       (elim (said) [
-        | inl ended ↦ trimmed_by s.store.machine s.base s.spelled.value.items s.journal new (map view_of s.hives.items) sound.holds.kept works frees come done ended trims
+        | inl ended ↦ trimmed_by s.store.machine s.base (changes_of s.spelled.value) s.journal new (map view_of s.hives.items) sound.holds.kept works frees come done ended trims
         | inr not ↦ absurd (not done)
       ])
 
@@ -172,7 +172,7 @@ module _ {D : Type 0} (s : Parts D) (sound : IsSound s) (free : s.store.machine.
       → s.store.machine.durable ≤ (after_step s.store.machine (choice_of s.journal) (choice_of new) come).durable → ComesOn event.JournalStep (reply_to come) s (record s { disk = disk; journal = new; store = store; naming = naming })
   journal_comes_on settles first handed says nearer rises = record {
     nears = λ _ made some. subst (λ (t : Machine). NearsDurable s.store.machine (steps_left s.journal) t (steps_left new)) (sym told)
-        (nears_by s.store.machine s.base s.spelled.value.items s.journal new (map view_of s.hives.items) sound.holds.kept works settles some first handed come says (nearer some) rises made);
+        (nears_by s.store.machine s.base (changes_of s.spelled.value) s.journal new (map view_of s.hives.items) sound.holds.kept works settles some first handed come says (nearer some) rises made);
     begins_trim = λ is _ _ _. absurd (not_trim is);
     ends_trim = λ _ made trims. ends_trim (said come says) made trims;
     flushes = λ i was then is _ _ _ _. absurd (not_flush i is);
@@ -190,7 +190,7 @@ module _ {D : Type 0} (s : Parts D) (sound : IsSound s) (free : s.store.machine.
       said (Ok progress.More) other = inr (λ e. cc)
       said (Err why) other = inr (λ e. cc)
 
-  pub trim_comes_on : MayTrim s.store.machine s.base s.spelled.value.items (choice_of s.journal) (map view_of s.hives.items) → Says TrimSays come (choice_of s.journal) (choice_of new)
+  pub trim_comes_on : MayTrim s.store.machine s.base (changes_of s.spelled.value) (choice_of s.journal) (map view_of s.hives.items) → Says TrimSays come (choice_of s.journal) (choice_of new)
       → ComesOn event.TrimStep (reply_to come) s (record s { disk = disk; journal = new; store = store; naming = naming })
   trim_comes_on may says = record {
     nears = λ is _ _. absurd (not_journal is);
@@ -221,7 +221,7 @@ module _ {D : Type 0} (s : Parts D) (sound : IsSound s) (free : s.store.machine.
       said (Err why) other = inr (λ e. cc)
 
 -- a trim that may not be made is none that is halfway
-pub idle_comes_on : {D : Type 0} (s : Parts D) → IsTrimmed s.store.machine s.base s.spelled.value.items (choice_of s.journal) (map view_of s.hives.items) → ComesOn event.TrimStep (reply_to (Ok progress.Idle)) s s
+pub idle_comes_on : {D : Type 0} (s : Parts D) → IsTrimmed s.store.machine s.base (changes_of s.spelled.value) (choice_of s.journal) (map view_of s.hives.items) → ComesOn event.TrimStep (reply_to (Ok progress.Idle)) s s
 idle_comes_on s none = record {
   nears = λ is _ _. absurd (not_journal is);
   begins_trim = λ _ _ busy _. absurd (busy refl);

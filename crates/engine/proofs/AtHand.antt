@@ -2,7 +2,7 @@
 use Rattle.std.proofs.Common.{◌≡◌, ◌⊎◌, inl, inr, ℕ, ◌+◌, ◌-◌, ◌≤◌, min, max, List, [], ◌++◌, length, get_or, take, drop, refl, sym, ◌∙◌, ap, subst, arith, Some, Result, Ok, Err, slice_get}
 use Rattle.std.specs.Prelude.{slice_set, OnOk, OnErr}
 use Rattle.std.proofs.lemmas.Option.{slice_get_within, slice_get-get_or}
-use Rattle.std.proofs.lemmas.List.{drop-drop, length-drop}
+use Rattle.std.proofs.lemmas.List.{drop-drop, length-drop, length-map, take-append-le}
 use Rattle.std.proofs.Math.ListN.{drop_of_length-le}
 use Rattle.reg_tree.specs.declared.element.Element.{Element}
 use Rattle.prefix_law.specs.Changes as law
@@ -15,7 +15,7 @@ use Rattle.reg_tree.specs.Maps.{TreeMap}
 use Rattle.machine.specs.Machine.{Machine, last_number}
 use Rattle.machine.specs.Kept.{Stays, Grows}
 use Rattle.transactions.specs.Stores.{StoreView}
-use Rattle.engine_words.specs.Changes.{TimedOp, timed_elements}
+use Rattle.engine_words.specs.Changes.{TimedOp, timed_element, timed_elements}
 use Rattle.hive_flush.specs.HiveStates.{memory_of}
 use Rattle.hive_flush.specs.declared.hive.HiveFile.{HiveFile}
 use Rattle.engine_law.specs.States.{life_of}
@@ -23,21 +23,25 @@ use Rattle.engine_law.specs.Answers.{after_flush, refused_by}
 use Rattle.engine_words.specs.declared.Progress.{Progress}
 use Rattle.refusals.specs.declared.refusal.Refusal.{Refusal}
 use Rattle.refusals.specs.declared.refusal.Refusal.TheVariants.{DiskFault}
+use Rattle.recovery.specs.Kept as opening
 use Rattle.engine.proofs.Sound.{flush_before, refused_accepted}
 use Rattle.engine_law.proofs.HiveLists.{each_hive}
 use Rattle.engine.specs.AtHand.{AreAtHand, HaveUpTo}
 use Rattle.engine.specs.Naming.{AreLastNaming}
 use Rattle.engine.proofs.Namings.{known_stays}
 
--- an opening: all are at hand
-pub hand_opens : (store : StoreView) (base : ℕ) (spelled : List Element) (hives : List HiveFile) → store.machine.before ≡ base + length spelled → store.machine.durable ≡ store.machine.before → store.at_hand ≡ store.machine.before → AreAtHand store base spelled spelled hives
-hand_opens store base spelled hives begun durable hand = record {
-  gone = base;
-  low = omega arith;
-  high = omega (arith, begun, durable);
-  opened_are = let none : 0 ≡ base - base = omega arith in ap (λ n. drop n spelled) none;
-  accepted_are = omega (arith, hand, begun);
-  lacked = λ i hive is. let none : base - base ≤ (memory_of hive).1 - base = omega arith in ap (ops_on i) (seg_none (known_elements (life_of store.machine base spelled)) ((memory_of hive).1 - base) (base - base) none);
+-- an opening: those are at hand that it kept
+pub hand_opens : (store : StoreView) (base below : ℕ) (spelled kept : List Element) (hives : List HiveFile) → store.machine.before ≡ base + length spelled → store.machine.durable ≡ store.machine.before → store.at_hand ≡ store.machine.before
+    → opening.AreAtHand base spelled below kept hives → AreAtHand store base spelled kept hives
+hand_opens store base below spelled kept hives begun durable hand found = record {
+  gone = below;
+  low = found.low;
+  high = omega (arith, begun, durable, found.high);
+  opened_are = found.are;
+  accepted_are = omega (arith, hand, begun, found.high);
+  lacked = λ i hive is.
+      ap (λ (es : List (law.Element TimedOp)). ops_on i (drop ((memory_of hive).1 - base) es)) (take-append-le (below - base) (timed_elements spelled) (timed_elements store.machine.accepted) (omega (arith, found.high, length-map spelled timed_element)))
+      ∙ found.held i hive is;
 }
 
 -- where what is known stays, so does what is at hand

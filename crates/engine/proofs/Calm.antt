@@ -11,7 +11,7 @@ use Rattle.machine.specs.declared.event.Reply.{Reply}
 use Rattle.transactions.specs.Prepared.{may_accept}
 use Rattle.transactions.specs.Stores.{StoreView}
 use Rattle.engine_words.specs.Changes.{TimedOp}
-use Rattle.commit_journal.specs.Journals.{choice_of}
+use Rattle.commit_journal.specs.Journals.{changes_of, choice_of}
 use Rattle.engine_law.specs.States.{HiveView, IsConsistent}
 use Rattle.engine_law.specs.Prefixes.{view_of}
 use Rattle.engine.specs.Naming.{AreLastNaming}
@@ -35,19 +35,19 @@ calm_keeps keep settle s t e r sound calm step hand =
     let kept = sound.holds.kept in
     let how = settle s.store.machine t.machine e r kept.kept calm step in
     record {
-      holds = calm_sound s.store t s.base s.spelled.value.items s.journal s.hives.items sound.holds (keep s.store.machine t.machine s.base s.spelled.value.items (choice_of s.journal) (map view_of s.hives.items) e r kept calm step) how;
-      naming = naming_calm s.store.machine t.machine s.base s.spelled.value.items s.naming.last.items kept.begun kept.kept.within.opened kept.kept.within.known how sound.naming;
+      holds = calm_sound s.store t s.base (changes_of s.spelled.value) s.journal s.hives.items sound.holds (keep s.store.machine t.machine s.base (changes_of s.spelled.value) (choice_of s.journal) (map view_of s.hives.items) e r kept calm step) how;
+      naming = naming_calm s.store.machine t.machine s.base (changes_of s.spelled.value) s.naming.last.items kept.begun kept.kept.within.opened kept.kept.within.known how sound.naming;
       named = sound.named;
-      at_hand = hand_calms s.store t s.base s.spelled.value.items s.opened.items s.hives.items kept.begun kept.kept.within.known how hand sound.at_hand;
+      at_hand = hand_calms s.store t s.base (changes_of s.spelled.value) s.opened.items s.hives.items kept.begun kept.kept.within.known how hand sound.at_hand;
     }
 
 -- the store is told nothing of what an engine keeps
 pub told_keeps : {D : Type 0} (s : Parts D) (t : StoreView) → IsSound s → t.machine ≡ s.store.machine → t.at_hand ≡ s.store.at_hand → IsSound (record s { store = t })
 told_keeps s t sound same hand = record {
-  holds = told_sound s.store t s.base s.spelled.value.items s.journal s.hives.items same sound.holds;
-  naming = subst (λ (m : Machine). AreLastNaming m s.base s.spelled.value.items s.naming.last.items) (sym same) sound.naming;
+  holds = told_sound s.store t s.base (changes_of s.spelled.value) s.journal s.hives.items same sound.holds;
+  naming = subst (λ (m : Machine). AreLastNaming m s.base (changes_of s.spelled.value) s.naming.last.items) (sym same) sound.naming;
   named = sound.named;
-  at_hand = hand_steps s.store t s.base s.spelled.value.items s.opened.items s.hives.items (ap (λ (m : Machine). m.before) same) (ap (λ (m : Machine). m.accepted) same) (omega (arith, ap (λ (m : Machine). m.durable) same)) hand sound.at_hand;
+  at_hand = hand_steps s.store t s.base (changes_of s.spelled.value) s.opened.items s.hives.items (ap (λ (m : Machine). m.before) same) (ap (λ (m : Machine). m.accepted) same) (omega (arith, ap (λ (m : Machine). m.durable) same)) hand sound.at_hand;
 }
 
 -- an event that may accept a change makes no step

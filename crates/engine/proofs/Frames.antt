@@ -11,7 +11,7 @@ use Rattle.machine.specs.declared.event.Event.TheVariants.{FlusherStep}
 use Rattle.machine.specs.declared.event.Reply.{Reply}
 use Rattle.machine.specs.declared.event.Reply.TheVariants.{Refused}
 use Rattle.engine_words.specs.declared.Progress.{Progress}
-use Rattle.commit_journal.specs.Journals.{store_of}
+use Rattle.commit_journal.specs.Journals.{changes_of, store_of}
 use Rattle.commit_journal.specs.declared.journal.Journal.{Journal}
 use Rattle.engine_law.specs.Answers.{reply_to}
 use Rattle.engine_law.specs.Prefixes.{AnyFile, AreOnDisk}
@@ -63,7 +63,7 @@ module _ {D : Type 0} (states : D → ℕ → ℕ → FileState) (clock failures
         call = subst (λ (d : D). OneCall AnyFile (states d) (states new.disk) (clock d) (clock new.disk)) disk on.call;
         failed = λ e. subst (λ (d : D). failures d < failures new.disk) disk (on.failed e);
         faithful = λ f. subst is_faithful disk (on.faithful f);
-        life = (on.life.0 ∙ ap (λ (p : Parts D). p.base) rest, on.life.1 ∙ ap (λ (p : Parts D). p.spelled.value.items) rest);
+        life = (on.life.0 ∙ ap (λ (p : Parts D). p.base) rest, on.life.1 ∙ ap (λ (p : Parts D). (changes_of p.spelled.value)) rest);
         journal_stays = λ nj nt. on.journal_stays nj nt ∙ journal;
         hives_stay = λ i no. on.hives_stay i no ∙ others i no;
       }

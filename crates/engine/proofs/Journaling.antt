@@ -23,7 +23,7 @@ use Rattle.engine_words.specs.declared.Progress.TheVariants as progress
 use Rattle.commit_journal.specs.Store.{room_of}
 use Rattle.commit_journal.specs.Handed.{IsHanded, IsShort}
 use Rattle.commit_journal.specs.OnDisk.{is_on}
-use Rattle.commit_journal.specs.Journals.{choice_of, store_of, texts_of, value_of}
+use Rattle.commit_journal.specs.Journals.{changes_of, choice_of, store_of, texts_of, value_of}
 use Rattle.commit_journal.specs.Journals as journals
 use Rattle.commit_journal.specs.declared.journal.Journal.{Journal}
 use Rattle.hive_flush.specs.HiveStates.{files_of}
@@ -32,8 +32,9 @@ use Rattle.engine_law.specs.States.{HiveView, IsConsistent}
 use Rattle.engine_law.specs.Answers.{reply_to, after_step, MayTrim}
 use Rattle.engine_law.specs.Prefixes.{view_of}
 use Rattle.engine_law.specs.Runs.{IsHeld}
-use Rattle.engine.specs.Naming.{AreLastNaming, HasCounted}
-use Rattle.engine.specs.declared.naming.Naming.{Naming}
+use Rattle.commit_journal.specs.Naming.{HasCounted}
+use Rattle.engine.specs.Naming.{AreLastNaming}
+use Rattle.commit_journal.specs.declared.naming.Naming.{Naming}
 use Rattle.engine_law.proofs.HiveLists.{viewed}
 use Rattle.engine.specs.Parts.{AreSound, IsSound, settled_by}
 use Rattle.engine.specs.Events.{GoesOn}
@@ -114,7 +115,7 @@ settled_within m t base opened old new hives result kept is = omega (arith, kept
 module _ {D : Type 0} (states : D → ℕ → ℕ → FileState) (clock failures : D → ℕ) (is_faithful : D → Type 0) (e : Event) (steps : (e ≡ event.JournalStep) ⊎ (e ≡ event.TrimStep)) where
   pub journal_goes_on : (s : Parts D) (new : Journal) (disk : D) (store : StoreView) (naming : Naming) (come : Result Progress Refusal) (used : ℕ) → IsSound s → s.store.machine.faulted ≡ false
       → Step s.store.machine e (reply_to come) (after_step s.store.machine (choice_of s.journal) (choice_of new) come)
-      × IsConsistent (after_step s.store.machine (choice_of s.journal) (choice_of new) come) s.base s.spelled.value.items (choice_of new) (map view_of s.hives.items)
+      × IsConsistent (after_step s.store.machine (choice_of s.journal) (choice_of new) come) s.base (changes_of s.spelled.value) (choice_of new) (map view_of s.hives.items)
       → used ≡ 65 + room_of (choice_of s.journal).now.elements → store.machine ≡ settled_by s.store.machine (choice_of new).now used come → store.at_hand ≡ s.store.at_hand → Rises
       → HasCounted s.naming.last.items s.store.machine.durable (take (store.machine.durable - s.store.machine.durable) (pending s.store.machine)) naming.last.items
       → store_of new ≡ store_of s.journal → (journals.IsBroken new → journals.IsBroken s.journal ⊎ (come ≡ Err DiskFault))
@@ -126,13 +127,13 @@ module _ {D : Type 0} (states : D → ℕ → ℕ → FileState) (clock failures
       record {
         step = subst (λ (m : Machine). Step s.store.machine e (reply_to come) m) (sym is) goes.0;
         sound = record {
-          holds = journal_sound s.store store s.base s.spelled.value.items s.journal new s.hives.items come sound.holds free goes.1 same broken is;
-          naming = naming_settles s.store.machine store.machine s.base s.spelled.value.items s.naming.last.items naming.last.items sound.holds.kept.begun sound.holds.kept.kept.within.opened sound.holds.kept.kept.within.known
+          holds = journal_sound s.store store s.base (changes_of s.spelled.value) s.journal new s.hives.items come sound.holds free goes.1 same broken is;
+          naming = naming_settles s.store.machine store.machine s.base (changes_of s.spelled.value) s.naming.last.items naming.last.items sound.holds.kept.begun sound.holds.kept.kept.within.opened sound.holds.kept.kept.within.known
               (subst (λ (m : Machine). s.store.machine.durable ≤ m.durable) (sym is) (rises s.store.machine (after_step s.store.machine (choice_of s.journal) (choice_of new) come) e (reply_to come) sound.holds.kept.kept goes.0))
-              (settled_within s.store.machine store.machine s.base s.spelled.value.items (choice_of s.journal) (choice_of new) (map view_of s.hives.items) come goes.1 is)
+              (settled_within s.store.machine store.machine s.base (changes_of s.spelled.value) (choice_of s.journal) (choice_of new) (map view_of s.hives.items) come goes.1 is)
               (ap (λ (m : Machine). m.accepted) is ∙ step_accepted s.store.machine (choice_of s.journal) (choice_of new) come) sound.naming counted.last;
           named = counted.many ∙ sound.named;
-          at_hand = hand_steps s.store store s.base s.spelled.value.items s.opened.items s.hives.items
+          at_hand = hand_steps s.store store s.base (changes_of s.spelled.value) s.opened.items s.hives.items
               (ap (λ (m : Machine). m.before) is ∙ step_before s.store.machine (choice_of s.journal) (choice_of new) come)
               (ap (λ (m : Machine). m.accepted) is ∙ step_accepted s.store.machine (choice_of s.journal) (choice_of new) come)
               (subst (λ (m : Machine). s.store.machine.durable ≤ m.durable) (sym is) (rises s.store.machine (after_step s.store.machine (choice_of s.journal) (choice_of new) come) e (reply_to come) sound.holds.kept.kept goes.0)) hand sound.at_hand;

@@ -10,7 +10,7 @@ use Rattle.machine.specs.declared.event.Reply.{Reply}
 use Rattle.machine.specs.declared.event.Progress.TheVariants.{Idle, More}
 use Rattle.machine.specs.declared.event.Reply.TheVariants.{Refused, Stepped}
 use Rattle.prefix_law.specs.Promises.{BeginsTrim}
-use Rattle.commit_journal.specs.Journals.{choice_of, steps_left, store_of}
+use Rattle.commit_journal.specs.Journals.{changes_of, choice_of, steps_left, store_of}
 use Rattle.hive_flush.specs.declared.hive.HiveFile.{HiveFile}
 use Rattle.engine_law.specs.Prefixes.{AnyFile, AreOnDisk, view_of}
 use Rattle.engine_law.specs.Progress.{FlushesOn, flush_of, HasPending, HasTrimmed, IsMade, IsTrimming, NearsDurable}
@@ -31,7 +31,7 @@ pub record GoesOn {D : Type 0} (states : D → ℕ → ℕ → FileState) (clock
   pub call : OneCall AnyFile (states old.disk) (states new.disk) (clock old.disk) (clock new.disk)
   pub failed : answer ≡ Refused DiskFault → failures old.disk < failures new.disk
   pub faithful : is_faithful new.disk → is_faithful old.disk
-  pub life : (new.base ≡ old.base) × (new.spelled.value.items ≡ old.spelled.value.items)
+  pub life : (new.base ≡ old.base) × (changes_of new.spelled.value ≡ changes_of old.spelled.value)
   pub journal_stays : ¬ (event ≡ events.JournalStep) → ¬ (event ≡ events.TrimStep) → new.journal ≡ old.journal
   pub hives_stay : (i : ℕ) → ¬ (event ≡ events.FlusherStep i) → slice_get new.hives.items i ≡ slice_get old.hives.items i
 

@@ -10,7 +10,7 @@ use Rattle.commit_journal.specs.Store.{room_of}
 use Rattle.engine_law.specs.Answers.{refused_by}
 use Rattle.machine.specs.Machine.{Machine}
 use Rattle.transactions.specs.Stores.{StoreView}
-use Rattle.commit_journal.specs.Journals.{choice_of, store_of}
+use Rattle.commit_journal.specs.Journals.{changes_of, choice_of, store_of}
 use Rattle.commit_journal.specs.Journals as journals
 use Rattle.commit_journal.specs.declared.journal.Journal.{Journal}
 use Rattle.hive_flush.specs.HiveStates.{IsWhole, IsBroken}
@@ -34,10 +34,10 @@ pub record AreSound (store : StoreView) (base : ℕ) (opened : List Element) (jo
 -- An engine's parts are sound; of each hive it is known which durable change names it last; and each change that is pending or
 -- that a hive lacks is at hand.
 pub record IsSound {D : Type 0} (parts : Parts D) : Type 0 where
-  pub holds : AreSound parts.store parts.base parts.spelled.value.items parts.journal parts.hives.items
-  pub naming : AreLastNaming parts.store.machine parts.base parts.spelled.value.items parts.naming.last.items
+  pub holds : AreSound parts.store parts.base (changes_of parts.spelled.value) parts.journal parts.hives.items
+  pub naming : AreLastNaming parts.store.machine parts.base (changes_of parts.spelled.value) parts.naming.last.items
   pub named : length parts.naming.last.items ≡ length parts.hives.items
-  pub at_hand : AreAtHand parts.store parts.base parts.spelled.value.items parts.opened.items parts.hives.items
+  pub at_hand : AreAtHand parts.store parts.base (changes_of parts.spelled.value) parts.opened.items parts.hives.items
 
 -- The machine after a step of the journal or of a trim, behind which the journal spells this, and before which it had used so
 -- much room: once it is done, what the journal carries is durable, and the room that it no longer uses is free.

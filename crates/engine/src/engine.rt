@@ -4,7 +4,7 @@ ghost use Rattle.refusals.specs.declared.refusal.Refusal.TheVariants.{DiskFault,
 ghost use Rattle.disk_model.specs.Call.{OneCall};
 ghost use Rattle.machine.specs.Machine.{opened_machine, trees_now};
 ghost use Rattle.commit_journal.specs.Store.{room_of};
-ghost use Rattle.commit_journal.specs.Journals.{choice_of};
+ghost use Rattle.commit_journal.specs.Journals.{changes_of, choice_of};
 ghost use Rattle.commit_journal.specs.Journals as journals;
 ghost use Rattle.recovery.specs.Shown.{IsWhole, store_of};
 ghost use Rattle.engine_law.specs.Idle.{IdlesExactly, IsTrimmed};
@@ -17,11 +17,10 @@ ghost use Rattle.machine.specs.declared.event.Reply.TheVariants as reply;
 ghost use Rattle.engine_law.specs.Prefixes.{AnyFile, IsSafeAt, view_of};
 ghost use Rattle.engine_law.specs.Runs.{IsHeld, RunsSafely};
 ghost use Rattle.std.specs.List.{AllByRecursion};
-ghost use Rattle.engine.specs.Naming.{HasCounted};
+ghost use Rattle.commit_journal.specs.Naming.{HasCounted};
 ghost use Rattle.engine.specs.Work.{AreFlushed, IsNextAround};
 ghost use Rattle.transactions.specs.Prepared.{Shows, may_accept};
 
-use crate::naming::Naming;
 use crate::parts::Parts;
 use disk_model::Disk;
 use engine_law::laws::{crashes_leave_prefixes, openings_begin, receipts_are_durable};
@@ -51,7 +50,7 @@ impl<D: Disk> Model for Engine<D> {
     ghost use Rattle.std.specs.Prelude.{map, IfSome};
     ghost use Rattle.std.specs.Option.{option_map};
     ghost use Rattle.transactions.specs.Prepared.{IsPrepared};
-    ghost use Rattle.commit_journal.specs.Journals.{choice_of, steps_left, store_of};
+    ghost use Rattle.commit_journal.specs.Journals.{changes_of, choice_of, steps_left, store_of};
     ghost use Rattle.engine_law.specs.Prefixes.{AnyFile, AreOnDisk, view_of};
     ghost use Rattle.engine_law.specs.Progress.{flush_of};
     ghost use Rattle.engine.specs.Parts.{IsSound};
@@ -66,7 +65,7 @@ impl<D: Disk> Model for Engine<D> {
       disk = inside.parts.disk;
       store = store_of inside.parts.journal;
       base = inside.parts.base;
-      opened = inside.parts.spelled.value.items;
+      opened = changes_of inside.parts.spelled.value;
       journal = choice_of inside.parts.journal;
       hives = map view_of inside.parts.hives.items;
       left = steps_left inside.parts.journal;
@@ -96,18 +95,18 @@ impl<D: Disk> Engine<D> {
         ensures store { IfOk result (λ engine. engine.store ≡ store_of opened) }
         ensures prepared { IfOk result (λ engine. engine.prepared ≡ None) }
         ensures goes_on { IfOk result (λ engine. (engine.base ≡ opened.found.base)
-            × (engine.opened ≡ opened.found.opened.items)
+            × (engine.opened ≡ changes_of opened.found.journal)
             × (engine.journal ≡ choice_of opened.found.journal)
             × (engine.hives ≡ map view_of opened.found.hives.items)) }
         ensures refused { IfErr result (λ back. (back.0 ≡ NoMemory) × (back.1 ≡ opened)) }
     {
         openings_begin();
         let (disk, found) = opened.into_parts();
-        let Ok((store, naming)) = begun(alloc, &found) else {
+        let Ok(store) = begun(alloc, &found) else {
             return Err((Refusal::NoMemory, Opened::from_parts(disk, found)));
         };
-        let spelled = Snapshot::of(&found.opened);
-        let mut parts = Parts {
+        let spelled = Snapshot::of(&found.journal);
+        let parts = Parts {
             alloc,
             disk,
             journal: found.journal,
@@ -116,10 +115,8 @@ impl<D: Disk> Engine<D> {
             spelled,
             base: found.base,
             opened: found.opened,
-            naming,
+            naming: found.naming,
         };
-        // what all hives hold isn't kept in memory
-        parts.let_go();
         Ok(Engine {
             parts,
             prepared: None,
@@ -316,20 +313,13 @@ impl<D: Disk> Engine<D> {
     }
 }
 
-// the store in memory of what was found, and of each hive the last change that names it
-fn begun(alloc: Global, found: &Found) -> Result<(Store, Naming), AllocError>
-    requires numbers { found.now.base + length found.now.opened.items < 2 ^ 64 }
-    ensures machine { IfOk result (λ it. it.0.machine
+// the store in memory of what was found
+fn begun(alloc: Global, found: &Found) -> Result<Store, AllocError>
+    ensures machine { IfOk result (λ it. it.machine
         ≡ record (opened_machine found.now.trees found.now.number [] 0)
         { room = 65 + room_of (choice_of found.now.journal).now.elements }) }
-    ensures at_hand { IfOk result (λ it. it.0.at_hand ≡ found.now.number) }
-    ensures counted { IfOk result (λ it. HasCounted
-        (replicate (journals.store_of found.now.journal).hives 0) found.now.base found.now.opened.items
-        it.1.last.items) }
+    ensures at_hand { IfOk result (λ it. it.at_hand ≡ found.now.number) }
 {
     let trees = found.trees.try_clone(alloc)?;
-    let store = Store::new(alloc, trees, found.number, found.journal.used())?;
-    let mut naming = Naming::new(alloc, usize::from(found.journal.hives()))?;
-    naming.count_in(found.base, &found.opened);
-    Ok((store, naming))
+    Store::new(alloc, trees, found.number, found.journal.used())
 }

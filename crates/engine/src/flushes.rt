@@ -4,6 +4,7 @@ ghost use Rattle.refusals.specs.declared.refusal.Refusal.TheVariants.{NoMemory};
 ghost use Rattle.disk_model.specs.FileState.{FileState};
 ghost use Rattle.hive_flush.specs.HiveStates.{files_of, memory_of};
 ghost use Rattle.hive_flush.specs.declared.hive.HiveFile.{HiveFile};
+ghost use Rattle.commit_journal.specs.Journals.{changes_of};
 ghost use Rattle.engine_law.specs.Answers.{reply_to};
 ghost use Rattle.engine_law.specs.Idle.{HasAll, IsFlushed};
 ghost use Rattle.engine_law.specs.Prefixes.{AreOnDisk, view_of};
@@ -30,7 +31,7 @@ impl<D: Disk> Parts<D> {
             (Event.FlusherStep hive) (reply_to result) self.old self.new }
         ensures comes_on { ComesOn (Event.FlusherStep hive) (reply_to result) self.old self.new }
         ensures idle { self.old.store.machine.faulted ≡ false → (result ≡ Ok Progress.Idle) ↔
-            IsFlushed self.old.store.machine self.old.base self.old.spelled.value.items
+            IsFlushed self.old.store.machine self.old.base (changes_of self.old.spelled.value)
             (map view_of self.old.hives.items) hive }
     {
         self.working()?;
@@ -56,7 +57,7 @@ impl<D: Disk> Parts<D> {
         ensures comes_on { ComesOn (Event.FlusherStep place) (reply_to result) self.old self.new }
         ensures idle { (hive : HiveFile) → slice_get self.old.hives.items place ≡ Some hive →
             (result ≡ Ok Progress.Idle) ↔ HasAll self.old.store.machine self.old.base
-            self.old.spelled.value.items place (view_of hive) }
+            (changes_of self.old.spelled.value) place (view_of hive) }
     {
         if self.hives[place].applied() >= self.naming.last[place] {
             return Ok(Progress::Idle);

@@ -8,7 +8,6 @@
 mod engine;
 mod flushes;
 pub mod laws;
-mod naming;
 mod parts;
 mod running;
 mod steps;

@@ -1,8 +1,7 @@
 //! The parts of an engine.
 ghost use Rattle.std.specs.Prelude.{◌≡◌};
 
-use crate::naming::Naming;
-use commit_journal::Journal;
+use commit_journal::{Journal, Naming};
 use hive_flush::HiveFile;
 use reg_tree::Element;
 use std::alloc::Global;
@@ -22,8 +21,9 @@ pub(crate) struct Parts<D> {
     pub hives: Vec<HiveFile>,
     /// What answers each event that makes no step.
     pub store: Store,
-    /// The changes that the journal spelled at the opening, which are numbered from `base` + 1 on: known to contracts alone.
-    pub spelled: Snapshot<Vec<Element>>,
+    /// The journal as it was opened, with the changes that it spelled, which are numbered from `base` + 1 on: known to contracts
+    /// alone.
+    pub spelled: Snapshot<Journal>,
     /// The number below the first of them.
     pub base: u64,
     /// Those of them that are at hand: the last ones.

@@ -6,7 +6,7 @@ ghost use Rattle.machine.specs.Machine.{last_number, pending};
 ghost use Rattle.machine.specs.Steps.{Step, is_step};
 ghost use Rattle.machine.specs.declared.event.Reply.TheVariants as reply;
 ghost use Rattle.transactions.specs.Prepared.{IsPrepared, Shows, may_accept, will_show};
-ghost use Rattle.commit_journal.specs.Journals.{choice_of};
+ghost use Rattle.commit_journal.specs.Journals.{changes_of, choice_of};
 ghost use Rattle.hive_flush.specs.HiveStates.{files_of};
 ghost use Rattle.engine_words.specs.declared.Progress.TheVariants as Progress;
 ghost use Rattle.hive_flush.specs.declared.hive.HiveFile.{HiveFile};
@@ -14,7 +14,7 @@ ghost use Rattle.engine_law.specs.Answers.{MayTrim, after_flush, reply_to};
 ghost use Rattle.engine_law.specs.Idle.{IdlesExactly, IsSettled, IsTrimmed};
 ghost use Rattle.engine_law.specs.Prefixes.{view_of};
 ghost use Rattle.engine.specs.Events.{ComesOn, GoesOn};
-ghost use Rattle.engine.specs.Naming.{HasCounted};
+ghost use Rattle.commit_journal.specs.Naming.{HasCounted};
 ghost use Rattle.engine.specs.Parts.{IsSound, settled_by};
 
 use crate::parts::Parts;
@@ -38,7 +38,7 @@ impl<D: Disk> Parts<D> {
             event result self.old self.new }
         ensures comes_on { ComesOn event result self.old self.new }
         ensures idle { self.old.store.machine.faulted ≡ false → IdlesExactly event result
-            self.old.store.machine self.old.base self.old.spelled.value.items
+            self.old.store.machine self.old.base (changes_of self.old.spelled.value)
             (choice_of self.old.journal) (map view_of self.old.hives.items) }
     {
         match event {
@@ -57,7 +57,7 @@ impl<D: Disk> Parts<D> {
             event result self.old self.new }
         ensures comes_on { ComesOn event result self.old self.new }
         ensures idle { IdlesExactly event result
-            self.old.store.machine self.old.base self.old.spelled.value.items
+            self.old.store.machine self.old.base (changes_of self.old.spelled.value)
             (choice_of self.old.journal) (map view_of self.old.hives.items) }
     {
         events_keep();
@@ -136,7 +136,7 @@ impl<D: Disk> Parts<D> {
             Event.TrimStep (reply_to result) self.old self.new }
         ensures comes_on { ComesOn Event.TrimStep (reply_to result) self.old self.new }
         ensures idle { self.old.store.machine.faulted ≡ false → (result ≡ Ok Progress.Idle) ↔
-            IsTrimmed self.old.store.machine self.old.base self.old.spelled.value.items
+            IsTrimmed self.old.store.machine self.old.base (changes_of self.old.spelled.value)
             (choice_of self.old.journal) (map view_of self.old.hives.items) }
     {
         self.working()?;
@@ -157,10 +157,10 @@ impl<D: Disk> Parts<D> {
         requires sound { IsSound self.now }
         requires works { self.now.store.machine.faulted ≡ false }
         ensures yes { result ≡ true → MayTrim self.now.store.machine self.now.base
-            self.now.spelled.value.items (choice_of self.now.journal)
+            (changes_of self.now.spelled.value) (choice_of self.now.journal)
             (map view_of self.now.hives.items) }
         ensures no { result ≡ false → IsTrimmed self.now.store.machine self.now.base
-            self.now.spelled.value.items (choice_of self.now.journal)
+            (changes_of self.now.spelled.value) (choice_of self.now.journal)
             (map view_of self.now.hives.items) }
     {
         if self.journal.is_trimming() {

@@ -12,7 +12,7 @@ use Rattle.disk_model.specs.StoreFiles.{IsPrimary}
 use Rattle.machine.specs.Machine.{Machine, opened_machine}
 use Rattle.engine_words.specs.Changes.{TimedOp}
 use Rattle.commit_journal.specs.Store.{Store, room_of}
-use Rattle.commit_journal.specs.Journals.{choice_of, store_of}
+use Rattle.commit_journal.specs.Journals.{changes_of, choice_of, store_of}
 use Rattle.commit_journal.specs.declared.journal.Journal.{Journal}
 use Rattle.hive_flush.specs.declared.hive.HiveFile.{HiveFile}
 use Rattle.engine_law.specs.States.{HiveView, IsConsistent}
@@ -39,8 +39,8 @@ Safe = (store : Store) (machine : Machine) (base : ℕ) (opened : List Element) 
 pub still_recovered : Begins → Safe → (found : Found) → IsKept found → (states : ℕ → ℕ → FileState) (moment : ℕ) → AreOnDisk found.journal found.hives.items (states moment)
     → (files : ℕ → List ℕ) → LeavesHonest IsPrimary (states moment) files → IsRecovered files (store_of found.journal) found.number found.trees
 still_recovered begins safe found kept states moment on files left =
-    let begun = begins found.trees found.number 0 found.base found.opened.items (choice_of found.journal) (map view_of found.hives.items) kept.recovers in
-    let p = safe (store_of found.journal) _ found.base found.opened.items found.journal found.hives.items states moment begun refl kept.placed on files left in
+    let begun = begins found.trees found.number 0 found.base (changes_of found.journal) (choice_of found.journal) (map view_of found.hives.items) kept.recovers in
+    let p = safe (store_of found.journal) _ found.base (changes_of found.journal) found.journal found.hives.items states moment begun refl kept.placed on files left in
     let long : length found.trees ≡ (store_of found.journal).hives = sym begun.all ∙ length-map found.hives.items view_of ∙ kept.many in
     let number : p.0 ≡ found.number = omega (arith, p.1, p.2) in
     record {

@@ -1,5 +1,6 @@
 pub mod Replays
 mod Together
+pub mod AtHand
 mod Hives
 mod Openings
 mod Refused

@@ -1,33 +1,35 @@
 -- What an opening has read of a store's files, and what they recover.
-use Rattle.std.proofs.Common.{◌≡◌, inl, inr, ℕ, List, sym, subst, arith, Some}
+use Rattle.std.proofs.Common.{◌≡◌, inl, inr, ℕ, zero, suc, ◌-◌, List, [], ◌∷◌, length, take, drop, map, get_or, sym, ◌∙◌, ap, subst, arith, Some, slice_get}
+use Rattle.std.specs.List.{AllByRecursion}
+use Rattle.std.proofs.lemmas.Option.{same_Some}
 use Rattle.refusals.specs.declared.refusal.Refusal.{Refusal}
 use Rattle.refusals.specs.declared.refusal.Refusal.TheVariants as refusal
 use Rattle.reg_tree.specs.Maps.{TreeMap}
-use Rattle.prefix_law.specs.Promises.{Spelled}
+use Rattle.reg_tree.specs.declared.element.Element.{Element}
+use Rattle.prefix_law.specs.Changes as law
+use Rattle.prefix_law.specs.Changes.{ops_on}
+use Rattle.prefix_law.specs.Promises.{Choice, Spelled, floor}
 use Rattle.disk_model.specs.FileState.{FileState}
 use Rattle.disk_model.specs.StoreFiles.{IsJournal, primary_file, log_file, journal_file}
-use Rattle.engine_words.specs.Changes.{TimedOp}
+use Rattle.disk_model.specs.Unwritten.{IsSyncedOrSame}
+use Rattle.disk_model.proofs.Unwritten.{seen_same}
+use Rattle.engine_words.specs.Changes.{TimedOp, timed_elements}
+use Rattle.element_text.specs.Text.{Fits}
 use Rattle.commit_journal.specs.Text.{spelled}
-use Rattle.commit_journal.specs.OnDisk.{is_on}
-use Rattle.commit_journal.specs.Store.{IsStore, SpellsNothing}
-use Rattle.commit_journal.specs.Journals.{choice_of, store_of, texts_of, value_of}
+use Rattle.commit_journal.specs.Naming.{AreLastIn}
+use Rattle.commit_journal.specs.Store.{Store, IsStore, SpellsNothing, texts}
+use Rattle.commit_journal.specs.Journals.{changes_of, choice_of, texts_of}
 use Rattle.commit_journal.specs.Windows as journals
-use Rattle.commit_journal.specs.declared.journal.Journal.{Journal}
+use Rattle.commit_journal.specs.declared.scanning.Opened.{Opened}
 use Rattle.hive_files.specs.Frames.{FailsBy}
 use Rattle.hive_flush.specs.Standing.{HoldsUnder, IsOfHive}
-use Rattle.hive_flush.specs.HiveStates.{memory_of}
+use Rattle.hive_flush.specs.HiveStates.{IsOn, files_of, memory_of}
 use Rattle.hive_flush.specs.declared.hive.HiveFile.{HiveFile}
 use Rattle.engine_law.specs.Prefixes.{AreOnDisk}
-use Rattle.recovery.specs.Reading.{AreOf, AreOpened, IsNoHive}
+use Rattle.recovery.specs.Kept.{AreAtHand}
+use Rattle.recovery.specs.Reading.{AreAtRest, AreOf, AreOpened, IsNoHive, IsOpened, IsRead}
 use Rattle.recovery.specs.Recovered.{IsNoStore, TellsOfFiles, seen_in}
 use Rattle.recovery.specs.Refused.{HoldsNothing, IsWrong}
-
--- bytes that hold something hold it at a moment at which they are seen as before
-holds_on : (store : List ℕ) (old mid : ℕ → FileState) → ((f : ℕ) → ¬ (IsJournal f) → mid f ≡ old f) → (i : ℕ) (held : TreeMap × ℕ) → HoldsUnder store (old (primary_file i)).seen (old (log_file i)).seen held
-    → HoldsUnder store (mid (primary_file i)).seen (mid (log_file i)).seen held
-holds_on store old mid others i held h =
-    subst (λ (p : FileState). HoldsUnder store p.seen (mid (log_file i)).seen held) (sym (others (primary_file i) (λ e. omega (arith, e))))
-    (subst (λ (l : FileState). HoldsUnder store (old (primary_file i)).seen l.seen held) (sym (others (log_file i) (λ e. omega (arith, e)))) h)
 
 tells : (i : ℕ) (why : Refusal) → IsOfHive i why → TellsOfFiles why
 tells i (refusal.HiveDamaged hive cause) e = tt
@@ -40,20 +42,28 @@ wrong files i (refusal.HiveDamaged hive cause) e none = inl (subst (HoldsNothing
 wrong files i refusal.Unsupported e none = (i, none)
 wrong files i _ e none = absurd e
 
--- a refusal of a hive, as one of the store
-pub refused_hives : (faithful before : Type 0) → (faithful → before) → (rose risen : Type 0) → (rose → risen) → (journal : Journal) → IsStore (store_of journal) → (now : Spelled TimedOp) (old mid : ℕ → FileState)
-    → (before → spelled (texts_of journal) (old journal_file).seen ≡ Some now) → ((f : ℕ) → ¬ (IsJournal f) → mid f ≡ old f) → (why : Refusal)
-    → FailsBy rose (IsNoHive faithful (store_of journal).id (store_of journal).hives mid) why → FailsBy risen (IsNoStore faithful (seen_in old)) why
-refused_hives faithful before back rose risen up journal is now old mid spells others why (inl hungry) = inl hungry
-refused_hives faithful before back rose risen up journal is now old mid spells others why (inr (inl (fault, r))) = inr (inl (fault, up r))
-refused_hives faithful before back rose risen up journal is now old mid spells others why (inr (inr (i, lt, (of, none)))) =
+-- a refusal of a hive, as one of the store whose journal was read behind it
+pub refused_hives : (read faithful : Type 0) → (faithful → read) → (rose risen : Type 0) → (rose → risen) → (store : Store) → IsStore store → (now : Spelled TimedOp) (old : ℕ → FileState) → (faithful → spelled (texts store) (old journal_file).seen ≡ Some now)
+    → (why : Refusal) → FailsBy rose (IsNoHive read store.id store.hives old) why → FailsBy risen (IsNoStore faithful (seen_in old)) why
+refused_hives read faithful back rose risen up store is now old spells why (inl hungry) = inl hungry
+refused_hives read faithful back rose risen up store is now old spells why (inr (inl (fault, r))) = inr (inl (fault, up r))
+refused_hives read faithful back rose risen up store is now old spells why (inr (inr (i, lt, (of, none)))) =
     inr (inr (
       tells i why of,
-      λ f. wrong (seen_in old) i why of (
-        record { store = store_of journal; journal = now; store_is = is; spells = spells (back f); there = lt },
-        λ held h. none f held (holds_on (store_of journal).id old mid others i held h),
-      ),
+      λ f. wrong (seen_in old) i why of (record { store = store; journal = now; store_is = is; spells = spells f; there = lt }, λ held h. none (back f) held h),
     ))
+
+-- a refusal that tells of no hive
+pub refused_beside : (read faithful : Type 0) (rose : Type 0) (store : List ℕ) (count : ℕ) (old : ℕ → FileState) (why : Refusal) → ((i : ℕ) → IsOfHive i why → ⊥) → FailsBy rose (IsNoHive read store count old) why → FailsBy rose (IsNoStore faithful (seen_in old)) why
+refused_beside read faithful rose store count old why none (inl hungry) = inl hungry
+refused_beside read faithful rose store count old why none (inr (inl fault)) = inr (inl fault)
+refused_beside read faithful rose store count old why none (inr (inr (i, lt, (of, nothing)))) = absurd (none i of)
+
+-- a refusal of files that were read as they had been before
+pub refused_still : (rose risen faithful : Type 0) → (rose → risen) → (old mid : ℕ → FileState) → mid ≡ old → (why : Refusal) → FailsBy rose (IsNoStore faithful (seen_in mid)) why → FailsBy risen (IsNoStore faithful (seen_in old)) why
+refused_still rose risen faithful up old mid same why (inl hungry) = inl hungry
+refused_still rose risen faithful up old mid same why (inr (inl (fault, r))) = inr (inl (fault, up r))
+refused_still rose risen faithful up old mid same why (inr (inr told)) = inr (inr (subst (λ (s : ℕ → FileState). IsNoStore faithful (seen_in s) why) same told))
 
 -- a refusal of the journal, as one of the store
 pub refused_journal : (fault faithful : Type 0) (files : ℕ → List ℕ) (why : Refusal) → journals.FailsBy fault (faithful → SpellsNothing (files journal_file)) why → FailsBy fault (IsNoStore faithful files) why
@@ -61,16 +71,74 @@ refused_journal fault faithful files why (inl hungry) = inl hungry
 refused_journal fault faithful files why (inr (inl failed)) = inr (inl failed)
 refused_journal fault faithful files why (inr (inr (damaged, none))) = rw damaged (inr (inr (tt, λ f. inl (none f))))
 
--- what was read is of the files as they were seen
-pub are_of : (faithful : Type 0) (journal : Journal) (id : List ℕ) → id ≡ (store_of journal).id → (hives : List HiveFile) (old mid new : ℕ → FileState) → spelled (texts_of journal) (old journal_file).seen ≡ Some (choice_of journal).now → ((f : ℕ) → ¬ (IsJournal f) → mid f ≡ old f)
-    → AreOpened faithful id mid new hives → faithful → AreOf (seen_in old) journal hives
-are_of faithful journal id own hives old mid new spells others opened f = record {
-  spells = spells;
-  holds = λ i h is. holds_on (store_of journal).id mid old (λ g none. sym (others g none)) i (memory_of h) (subst (λ (s : List ℕ). HoldsUnder s (mid (primary_file i)).seen (mid (log_file i)).seen (memory_of h)) own ((opened.each i h is).held f));
-}
+-- hives stay as they were opened while the journal is read
+pub opened_still : (read faithful : Type 0) → (faithful → read) → (store : List ℕ) (old mid new : ℕ → FileState) (hives : List HiveFile) → AreOpened read store old mid hives → ((f : ℕ) → ¬ (IsJournal f) → new f ≡ mid f)
+    → (i : ℕ) (hive : HiveFile) → slice_get hives i ≡ Some hive → IsOpened faithful store old new i hive
+opened_still read faithful back store old mid new hives opened others i hive is =
+    let o = opened.each i hive is in
+    record {
+      rests = o.rests;
+      place = o.place;
+      owner = o.owner;
+      works = o.works;
+      held = λ f. o.held (back f);
+      on = λ f. subst (λ (p : FileState). IsOn hive p (new (log_file i))) (sym (others (primary_file i) (λ e. omega (arith, e))))
+          (subst (λ (l : FileState). IsOn hive (mid (primary_file i)) l) (sym (others (log_file i) (λ e. omega (arith, e)))) (o.on (back f)));
+    }
 
-pub are_on : (faithful : Type 0) (journal : Journal) (id : List ℕ) (hives : List HiveFile) (mid new : ℕ → FileState) → is_on (texts_of journal) (value_of journal) (mid journal_file) → AreOpened faithful id mid new hives → faithful → AreOnDisk journal hives new
-are_on faithful journal id hives mid new on opened f = record {
-  spells = subst (is_on (texts_of journal) (value_of journal)) (sym opened.journal) on;
-  each = λ i h is. (opened.each i h is).on f;
-}
+-- a hive's own number, by its place
+own_number : (hives : List HiveFile) (i : ℕ) (hive : HiveFile) → slice_get hives i ≡ Some hive → get_or (map (λ (h : HiveFile). (files_of h).now.1) hives) i 0 ≡ (files_of hive).now.1
+own_number [] i hive is = absurd cc
+own_number (h ∷ hives) zero hive is = ap (λ (x : HiveFile). (files_of x).now.1) (same_Some h hive is)
+own_number (h ∷ hives) (suc i) hive is = own_number hives i hive is
+
+-- What was read of a store: its journal, and its hives.
+module _ (faithful : Type 0) (store : Store) (then now : ℕ → FileState) (read : Opened) (hives : List HiveFile) (is : IsRead faithful store (map (λ (h : HiveFile). (files_of h).now.1) hives) then now read) (many : length hives ≡ store.hives)
+    (opened : (i : ℕ) (hive : HiveFile) → slice_get hives i ≡ Some hive → IsOpened faithful store.id then now i hive) where
+  abbrev changes : List Element
+  changes = changes_of read.journal
+
+  pub at_rest : AreAtRest read.journal read.base changes hives
+  at_rest = record {
+    store = subst IsStore (sym is.of) is.store_is;
+    choice = is.choice;
+    fit = subst (λ (s : Store). AllByRecursion (Fits s.hives) changes) (sym is.of) is.fit;
+    numbers = is.numbers_fit;
+    many = many ∙ ap (λ (s : Store). s.hives) (sym is.of);
+    rest = λ i h at. (opened i h at).rests;
+    place = λ i h at. (opened i h at).place;
+    owner = λ i h at. (opened i h at).owner ∙ ap (λ (s : Store). s.id) (sym is.of);
+  }
+
+  pub at_hand : AreAtHand (floor read.below (choice_of read.journal).now) changes read.below read.elements.items hives
+  at_hand = record {
+    low = is.kept.low;
+    high = is.kept.high;
+    are = is.kept.are;
+    held = λ i h at.
+        let own = own_number hives i h at ∙ ap (λ (c : Choice (TreeMap × ℕ)). c.now.1) (opened i h at).rests in
+        subst (λ n. ops_on i (drop (n - floor read.below (choice_of read.journal).now) (take (read.below - floor read.below (choice_of read.journal).now) (timed_elements changes))) ≡ []) own (is.kept.held i);
+    first = is.kept.first;
+  }
+
+  pub all_named : length read.naming.last.items ≡ length hives
+  all_named = is.named ∙ sym many
+
+  pub last_named : AreLastIn (floor read.below (choice_of read.journal).now) (timed_elements changes) read.naming.last.items
+  last_named = subst (λ (es : List (law.Element TimedOp)). AreLastIn (floor read.below (choice_of read.journal).now) es read.naming.last.items) (ap (λ (c : Choice (Spelled TimedOp)). c.now.elements) is.choice) is.names
+
+  -- it is of the files as they were seen
+  pub are_of : faithful → AreOf (seen_in then) read.journal hives
+  are_of f = record {
+    spells = is.spells f;
+    holds = λ i h at. subst (λ (s : Store). HoldsUnder s.id (then (primary_file i)).seen (then (log_file i)).seen (memory_of h)) (sym is.of) ((opened i h at).held f);
+  }
+
+  pub are_on : faithful → AreOnDisk read.journal hives now
+  are_on f = record { spells = is.on f; each = λ i h at. (opened i h at).on f }
+
+-- what the journal spells it spelled before the hives were read
+pub spelled_before : (faithful : Type 0) (store : Store) (numbers : List ℕ) (old then now : ℕ → FileState) (read : Opened) → IsRead faithful store numbers then now read → (faithful → (f : ℕ) → IsSyncedOrSame (old f) (then f))
+    → faithful → spelled (texts store) (old journal_file).seen ≡ Some (choice_of read.journal).now
+spelled_before faithful store numbers old then now read is synced f =
+    ap (λ (s : Store). spelled (texts s) (old journal_file).seen) (sym is.of) ∙ ap (spelled (texts_of read.journal)) (sym (seen_same (old journal_file) (then journal_file) (synced f journal_file))) ∙ is.spells f

@@ -1,5 +1,5 @@
 -- A step of a hive's repair keeps what an opened store keeps.
-use Rattle.std.proofs.Common.{◌≡◌, ◌⊎◌, inl, inr, ℕ, ◌<◌, List, length, map, refl, sym, ◌∙◌, ap, subst, Some, slice_get, get_or, Result, Ok, Err}
+use Rattle.std.proofs.Common.{◌≡◌, ◌⊎◌, inl, inr, ℕ, ◌+◌, ◌-◌, ◌<◌, List, [], length, take, drop, map, refl, sym, ◌∙◌, ap, subst, Some, slice_get, get_or, Result, Ok, Err}
 use Rattle.std.specs.Prelude.{slice_set, IfErr, OnOk}
 use Rattle.std.specs.Global.{Vec}
 use Rattle.std.proofs.lemmas.Option.{slice_get_read}
@@ -7,8 +7,13 @@ use Rattle.std.proofs.lemmas.List.{length-set}
 use Rattle.std.proofs.Math.Seq.{map-set_same}
 use Rattle.refusals.specs.declared.refusal.Refusal.{Refusal}
 use Rattle.refusals.specs.declared.refusal.Refusal.TheVariants as refusal
+use Rattle.reg_tree.specs.Maps.{TreeMap}
+use Rattle.prefix_law.specs.Changes.{ops_on}
+use Rattle.prefix_law.specs.Promises.{Choice}
+use Rattle.commit_journal.specs.Lacking.{Lacks}
+use Rattle.engine_words.specs.Changes.{TimedOp, timed_elements}
 use Rattle.engine_words.specs.declared.Progress.{Progress}
-use Rattle.commit_journal.specs.Journals.{choice_of, store_of}
+use Rattle.commit_journal.specs.Journals.{changes_of, choice_of, store_of}
 use Rattle.hive_flush.specs.HiveStates.{IsBroken, files_of, memory_of, place_of}
 use Rattle.hive_flush.specs.HiveStates as states
 use Rattle.hive_flush.specs.declared.hive.HiveFile.{HiveFile}
@@ -16,7 +21,7 @@ use Rattle.engine_law.specs.States.{HiveView}
 use Rattle.engine_law.specs.Openings.{IsFound}
 use Rattle.engine_law.specs.Prefixes.{ArePlaced, view_of}
 use Rattle.engine_law.proofs.HiveLists.{each_hive}
-use Rattle.recovery.specs.Kept.{AllWork, IsKept}
+use Rattle.recovery.specs.Kept.{AllWork, IsKept, own_numbers}
 use Rattle.recovery.specs.declared.found.Found.{Found}
 
 pub views_on : (hives : List HiveFile) (k : ℕ) (old new : HiveFile) → old ≡ get_or hives k old → files_of new ≡ files_of old → memory_of new ≡ memory_of old → map view_of (slice_set hives k new) ≡ map view_of hives
@@ -24,12 +29,19 @@ views_on hives k old new is files memory =
     let same : view_of new ≡ view_of old = λ i. record { files = files i; memory = memory i } in
     map-set_same view_of hives k new old (same ∙ ap view_of is)
 
+-- the operations on a hive that it lacks with this number, of the changes that were let go
+abbrev lacked : Found → ℕ → ℕ → List TimedOp
+lacked found i number = ops_on i (drop (number - found.base) (take (found.below - found.base) (timed_elements (changes_of found.journal))))
+
+abbrev LacksNone : Found → ℕ → HiveFile → Type 0
+LacksNone found i hive = lacked found i (memory_of hive).1 ≡ []
+
 pub kept_on : (found : Found) (k : ℕ) (old new : HiveFile) (then : Vec HiveFile) → then.items ≡ slice_set found.hives.items k new → IsKept found → k < length found.hives.items → old ≡ get_or found.hives.items k old
     → files_of new ≡ files_of old → memory_of new ≡ memory_of old → place_of new ≡ place_of old → states.store_of new ≡ states.store_of old → IsKept (record found { hives = then })
 kept_on found k old new then are kept lt value files memory place owner =
     let is = slice_get_read found.hives.items (length found.hives.items) k old refl lt value in
     record {
-      recovers = subst (λ (v : List HiveView). IsFound found.trees found.number found.base found.opened.items (choice_of found.journal) v) (sym (ap (map view_of) are ∙ views_on found.hives.items k old new value files memory)) kept.recovers;
+      recovers = subst (λ (v : List HiveView). IsFound found.trees found.number found.base (changes_of found.journal) (choice_of found.journal) v) (sym (ap (map view_of) are ∙ views_on found.hives.items k old new value files memory)) kept.recovers;
       store = kept.store;
       placed = subst (λ (hs : List HiveFile). ArePlaced (store_of found.journal) hs) (sym are) (record {
         place = each_hive found.hives.items k old new is (λ j h. place_of h ≡ j) (place ∙ kept.placed.place k old is) (λ j h ne at. kept.placed.place j h at);
@@ -37,6 +49,17 @@ kept_on found k old new then are kept lt value files memory place owner =
       });
       many = ap (λ (hs : List HiveFile). length hs) are ∙ length-set found.hives.items k new ∙ kept.many;
       works = kept.works;
+      opened = record {
+        low = kept.opened.low;
+        high = kept.opened.high;
+        are = kept.opened.are;
+        held = subst (λ (hs : List HiveFile). (j : ℕ) (h : HiveFile) → slice_get hs j ≡ Some h → LacksNone found j h) (sym are)
+            (each_hive found.hives.items k old new is (LacksNone found) (ap (λ (m : TreeMap × ℕ). lacked found k m.1) memory ∙ kept.opened.held k old is) (λ j h ne at. kept.opened.held j h at));
+        first = λ e es made. subst (λ (numbers : List ℕ). Lacks numbers (found.below + 1) e)
+            (sym (ap own_numbers are ∙ map-set_same (λ (h : HiveFile). (files_of h).now.1) found.hives.items k new old (ap (λ (c : Choice (TreeMap × ℕ)). c.now.1) files ∙ ap (λ (h : HiveFile). (files_of h).now.1) value))) (kept.opened.first e es made);
+      };
+      named = kept.named ∙ sym (ap (λ (hs : List HiveFile). length hs) are ∙ length-set found.hives.items k new);
+      names = kept.names;
     }
 
 pub works_on : (hives : List HiveFile) (k : ℕ) (old new : HiveFile) → slice_get hives k ≡ Some old → (result : Result Progress Refusal) → AllWork hives → (IsBroken new → IsBroken old ⊎ (result ≡ Err refusal.DiskFault)) → OnOk result (AllWork (slice_set hives k new))

@@ -22,7 +22,7 @@ use Rattle.engine_words.specs.Changes.{TimedOp, rules, timed, timed_element, tim
 use Rattle.element_text.specs.Text.{Fits, OpFits}
 use Rattle.commit_journal.specs.Text.{spelled}
 use Rattle.commit_journal.specs.Store.{Store, IsStore, texts}
-use Rattle.commit_journal.specs.Journals.{IsBroken, choice_of, store_of, value_in}
+use Rattle.commit_journal.specs.Journals.{IsBroken, changes_of, choice_of, store_of, value_in}
 use Rattle.commit_journal.specs.OnDisk as phase
 use Rattle.commit_journal.specs.declared.journal.Phase.{Phase}
 use Rattle.commit_journal.specs.declared.journal.Phase.TheVariants.{Quiet, BodyWritten, BodySynced, GateWritten, TrimWritten, Broken}
@@ -36,7 +36,8 @@ use Rattle.engine_law.specs.Prefixes.{Holds, Recover, Spells, view_of}
 use Rattle.engine_law.proofs.HiveLists.{at_slot, each_pushed, view_at, viewed}
 use Rattle.engine_law.proofs.Bridge.{all_allowed}
 use Rattle.recovery.specs.Reading.{AreAtRest, AreOf, IsNumber, LeadTo, SomeLeadsNowhere, greatest, replayed_on}
-use Rattle.recovery.specs.Kept.{IsKept}
+use Rattle.commit_journal.specs.Naming.{AreLastIn}
+use Rattle.recovery.specs.Kept.{AreAtHand, IsKept}
 use Rattle.recovery.specs.Recovered.{IsRecovered}
 use Rattle.recovery.specs.Refused.{IsAhead, IsInStore, LeadsNowhere}
 use Rattle.recovery.specs.declared.found.Found.{Found}
@@ -236,8 +237,12 @@ settled_works journal now is = by_phase journal.phase (ap (λ (c : Choice (Spell
     by_phase TrimWritten none e = absurd cc
     by_phase (Broken ahead) none e = absurd cc
 
-pub kept_is : (found : Found) (below : ℕ) → AreAtRest found.journal below found.opened.items found.hives.items → IsFound found.trees found.number found.base found.opened.items (choice_of found.journal) (map view_of found.hives.items) → IsKept found
-kept_is found below rest recovers = record {
+pub kept_is : (found : Found) (below : ℕ) → AreAtRest found.journal below (changes_of found.journal) found.hives.items → IsFound found.trees found.number found.base (changes_of found.journal) (choice_of found.journal) (map view_of found.hives.items)
+    → AreAtHand found.base (changes_of found.journal) found.below found.opened.items found.hives.items → length found.naming.last.items ≡ length found.hives.items → AreLastIn found.base (timed_elements (changes_of found.journal)) found.naming.last.items → IsKept found
+kept_is found below rest recovers hand many last = record {
+  opened = hand;
+  named = many;
+  names = last;
   recovers = recovers;
   store = rest.store;
   placed = record { place = rest.place; owner = rest.owner };

@@ -6,16 +6,20 @@ use Rattle.refusals.specs.declared.limits.TheConstants.{GREATEST_NUMBER}
 use Rattle.reg_tree.specs.Maps.{TreeMap}
 use Rattle.reg_tree.specs.declared.element.Element.{Element}
 use Rattle.prefix_law.specs.Changes.{ops_on, replay}
-use Rattle.prefix_law.specs.Promises.{Spelled, settled, top}
+use Rattle.prefix_law.specs.Promises.{Spelled, floor, settled, top}
 use Rattle.prefix_law.specs.Recovery.{above}
 use Rattle.disk_model.specs.FileState.{FileState}
 use Rattle.disk_model.specs.StoreFiles.{primary_file, log_file, journal_file}
 use Rattle.engine_words.specs.Changes.{TimedOp, rules, timed_elements}
 use Rattle.element_text.specs.Text.{Fits}
 use Rattle.commit_journal.specs.Text.{spelled}
-use Rattle.commit_journal.specs.Store.{IsStore}
-use Rattle.commit_journal.specs.Journals.{choice_of, store_of, texts_of}
+use Rattle.commit_journal.specs.Store.{Store, IsStore, texts}
+use Rattle.commit_journal.specs.Lacking.{AreKept}
+use Rattle.commit_journal.specs.Naming.{AreLastIn}
+use Rattle.commit_journal.specs.OnDisk.{is_on}
+use Rattle.commit_journal.specs.Journals.{changes_of, choice_of, store_of, texts_of, value_of}
 use Rattle.commit_journal.specs.declared.journal.Journal.{Journal}
+use Rattle.commit_journal.specs.declared.scanning.Opened.{Opened}
 use Rattle.disk_model.specs.Unwritten.{IsSyncedOrSame}
 use Rattle.hive_flush.specs.Standing.{HoldsUnder, NothingHeld}
 use Rattle.hive_flush.specs.HiveStates.{IsBroken, IsOn, files_of, memory_of, place_of}
@@ -84,3 +88,21 @@ LeadTo journal hives trees = (i : ℕ) (hive : HiveFile) (tree : TreeMap) → sl
 -- from what some hive has in memory the journal leads nowhere, since a change isn't legal there
 abbrev pub SomeLeadsNowhere : Spelled TimedOp → List HiveFile → Type 0
 SomeLeadsNowhere journal hives = (i : ℕ) × (hive : HiveFile) × (slice_get hives i ≡ Some hive) × (replayed_on journal i (memory_of hive) ≡ None)
+
+-- where bytes spell changes as the journal of a store, it is this one
+abbrev pub IsOnlyStore : List ℕ → Store → Type 0
+IsOnlyStore bytes store = (other : Store) (s : Spelled TimedOp) → IsStore other → spelled (texts other) bytes ≡ Some s → other ≡ store
+
+-- The journal of a store is opened, which has nothing on its way. It spells what its file spelled at one moment, and is as it says at a
+-- later one. Of its changes those are kept from the first one on that some hive lacks, by the hives' own numbers.
+pub record IsRead (faithful : Type 0) (store : Store) (numbers : List ℕ) (then now : ℕ → FileState) (read : Opened) : Type 0 where
+  pub store_is : IsStore store
+  pub of : store_of read.journal ≡ store
+  pub choice : choice_of read.journal ≡ settled (record { below = read.base; elements = timed_elements (changes_of read.journal) })
+  pub kept : AreKept numbers (floor read.below (choice_of read.journal).now) (changes_of read.journal) read.below read.elements.items
+  pub names : AreLastIn (floor read.below (choice_of read.journal).now) (choice_of read.journal).now.elements read.naming.last.items
+  pub named : length read.naming.last.items ≡ store.hives
+  pub fit : AllByRecursion (Fits store.hives) (changes_of read.journal)
+  pub numbers_fit : top 0 (choice_of read.journal).now ≤ GREATEST_NUMBER
+  pub spells : faithful → spelled (texts_of read.journal) (then journal_file).seen ≡ Some (choice_of read.journal).now
+  pub on : faithful → is_on (texts_of read.journal) (value_of read.journal) (now journal_file)

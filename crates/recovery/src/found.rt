@@ -1,13 +1,13 @@
 //! What an opening found of a store.
 
-use commit_journal::Journal;
+use commit_journal::{Journal, Naming};
 use hive_flush::HiveFile;
 use reg_tree::{Element, Trees};
 
 /// What an opening found of a store: its journal and hives, and what they recover together.
 #[derive(Drop)]
 pub struct Found {
-    /// The journal, with nothing on its way.
+    /// The journal as it was opened, with nothing on its way.
     pub journal: Journal,
     /// The hives in their order, with nothing on its way.
     pub hives: Vec<HiveFile>,
@@ -15,8 +15,12 @@ pub struct Found {
     pub trees: Trees,
     /// The number that is recovered.
     pub number: u64,
-    /// The changes that the journal spells.
+    /// Of the changes that the journal spells those from the first one on that some hive lacks.
     pub opened: Vec<Element>,
-    /// The number below the first of them, or the recovered number where there is none.
+    /// The number below the first of all that it spells, or the recovered number where there is none.
     pub base: u64,
+    /// The number below the first of those that are kept, or the recovered number where none is.
+    pub below: u64,
+    /// Of each hive the last of all changes of the journal that names it.
+    pub naming: Naming,
 }

@@ -1,10 +1,11 @@
 //! The number of a store: that of the journal's last change, or else the greatest of a hive.
-ghost use Rattle.std.specs.Prelude.{◌≡◌, ℕ, ◌<◌, ◌≤◌, None, Some, length, slice_get};
+ghost use Rattle.std.specs.Prelude.{◌≡◌, ℕ, ◌<◌, ◌≤◌, None, Some, length, map, slice_get, IfOk};
 ghost use Rattle.hive_flush.specs.HiveStates.{files_of};
 ghost use Rattle.hive_flush.specs.declared.hive.HiveFile.{HiveFile};
 ghost use Rattle.recovery.specs.Reading.{IsNumber, greatest};
 
 use hive_flush::HiveFile;
+use std::alloc::{AllocError, Global};
 
 /// The number of a store whose journal's last change has this number, where it is above 0.
 pub(crate) fn number_of(last: u64, hives: &[HiveFile]) -> u64
@@ -26,6 +27,17 @@ fn greatest_number(hives: &[HiveFile]) -> u64
         greatest = hive.applied().max(greatest);
     }
     greatest
+}
+
+/// Each hive's own number, in their order.
+pub(crate) fn numbers_of(alloc: Global, hives: &[HiveFile]) -> Result<Vec<u64>, AllocError>
+    ensures { IfOk result (λ numbers. numbers.items ≡ map (λ hive. (files_of hive).now.1) hives.now) }
+{
+    let mut numbers = Vec::with_capacity(alloc, hives.len())?;
+    for hive in hives {
+        numbers.push_reserved(hive.applied());
+    }
+    Ok(numbers)
 }
 
 /// The first hive with a number above a limit.

@@ -63,7 +63,8 @@ impl<D: Disk> Model for Opened<D> {
 /// power went are to be repaired before anything else, by [`Opened::repair_step`]: of `h` unclean hives, in whose logs `p` pages are
 /// marked, that takes at most `p + 3 h` steps, where none is refused.
 ///
-/// Each file that is read is synced first, so that nothing which was found is lost at the next crash. At each moment of the call each
+/// What is found is read behind the sync of its file, so that nothing of it is lost at the next crash; the journal's header alone is
+/// looked at before too, for whose the files are. At each moment of the call each
 /// file is as it was, or synced: so whatever a crash leaves within might have been left before
 /// ([`laws::openings_lose_nothing`](crate::laws::openings_lose_nothing)).
 ///

@@ -5,10 +5,12 @@ ghost use Rattle.refusals.specs.declared.limits.TheConstants.{GREATEST_NUMBER};
 ghost use Rattle.refusals.specs.declared.refusal.Refusal.TheVariants.{JournalDamaged, NoMemory};
 ghost use Rattle.reg_tree.specs.Maps.{IsTree};
 ghost use Rattle.reg_tree.specs.Sequences.{AreTrees};
-ghost use Rattle.prefix_law.specs.Promises.{floor};
+ghost use Rattle.prefix_law.specs.Promises.{floor, top};
+ghost use Rattle.commit_journal.specs.Journals.{changes_of, choice_of};
+ghost use Rattle.commit_journal.specs.Naming.{AreLastIn};
 ghost use Rattle.engine_words.specs.Changes.{timed_elements};
 ghost use Rattle.hive_flush.specs.HiveStates.{memory_of};
-ghost use Rattle.recovery.specs.Kept.{IsKept};
+ghost use Rattle.recovery.specs.Kept.{AreAtHand, IsKept};
 ghost use Rattle.recovery.specs.Reading.{AreAtRest, AreOf, LeadTo, SomeLeadsNowhere, greatest, replayed_on};
 ghost use Rattle.recovery.specs.Recovered.{TellsOfFiles};
 ghost use Rattle.recovery.specs.Refused.{IsWrong};
@@ -16,7 +18,7 @@ ghost use Rattle.recovery.specs.Refused.{IsWrong};
 use crate::found::Found;
 use crate::numbers::{first_above, number_of};
 use crate::replaying::replayed;
-use commit_journal::Opened;
+use commit_journal::{Journal, Opened};
 use hive_flush::HiveFile;
 use refusals::limits::GREATEST_NUMBER;
 use refusals::{Cause, Refusal};
@@ -28,7 +30,12 @@ use std::alloc::Global;
 /// Refused with `HiveDamaged` of a hive whose number is above that of the journal's last change or above the limit, with
 /// `JournalDamaged` where a change isn't legal in its turn, and with `NoMemory`.
 pub(crate) fn recovered(alloc: Global, read: Opened, hives: Vec<HiveFile>) -> Result<Found, Refusal>
-    requires rest { AreAtRest read.journal read.below read.elements.items hives.items }
+    requires rest { AreAtRest read.journal read.base (changes_of read.journal) hives.items }
+    requires at_hand { AreAtHand (floor read.below (choice_of read.journal).now) (changes_of read.journal)
+        read.below read.elements.items hives.items }
+    requires named { length read.naming.last.items ≡ length hives.items }
+    requires names { AreLastIn (floor read.below (choice_of read.journal).now)
+        (timed_elements (changes_of read.journal)) read.naming.last.items }
     ensures kept { IfOk result IsKept }
     ensures journal { IfOk result (λ found. found.journal ≡ read.journal) }
     ensures hives { IfOk result (λ found. found.hives.items ≡ hives.items) }
@@ -44,7 +51,8 @@ pub(crate) fn recovered(alloc: Global, read: Opened, hives: Vec<HiveFile>) -> Re
     }
     let count = read.journal.hives();
     let trees = trees_after(alloc, &hives, count, read.below, &read.elements)?;
-    let base = base_of(read.below, number, &read.elements);
+    let base = begun_at(&read.journal, read.base, number);
+    let below = begun_at(&read.journal, read.below, number);
     Ok(Found {
         journal: read.journal,
         hives,
@@ -52,15 +60,21 @@ pub(crate) fn recovered(alloc: Global, read: Opened, hives: Vec<HiveFile>) -> Re
         number,
         opened: read.elements,
         base,
+        below,
+        naming: read.naming,
     })
 }
 
-// the number below that of the first of some changes, or the recovered number where there is none
-fn base_of(below: u64, number: u64, elements: &[Element]) -> u64
-    ensures { result
-        ≡ floor number (record { below = below; elements = timed_elements elements.now }) }
+// where changes begin that a journal spells, or else another number
+fn begun_at(journal: &Journal, place: u64, number: u64) -> u64
+    ensures some { 0 < top 0 (choice_of journal.now).now → result ≡ place }
+    ensures none { top 0 (choice_of journal.now).now ≡ 0 → result ≡ number }
 {
-    if elements.is_empty() { number } else { below }
+    if journal.last_number() > 0 {
+        place
+    } else {
+        number
+    }
 }
 
 // the trees to which changes lead from what so many hives have, which are numbered from `below` + 1 on

@@ -4,7 +4,7 @@ use Rattle.prefix_law.specs.Changes as law
 use Rattle.prefix_law.specs.Recovery.{IsLastNumber}
 use Rattle.engine_words.specs.Changes.{TimedOp, timed_elements}
 use Rattle.commit_journal.specs.Store.{room_of}
-use Rattle.commit_journal.specs.Journals.{choice_of}
+use Rattle.commit_journal.specs.Journals.{changes_of, choice_of}
 use Rattle.engine_law.specs.Openings.{held_by}
 use Rattle.engine_law.specs.Prefixes.{view_of}
 use Rattle.recovery.specs.Kept.{IsKept}
@@ -21,7 +21,7 @@ none_at_0 : (found : Found) → IsKept found → found.number ≡ 0 → (choice_
 none_at_0 found kept zero =
     let one = kept.recovers in
     ap (λ journal. journal.now.elements) one.journal_is
-    ∙ none_numbered (length found.trees) (λ i. (held_by (map view_of found.hives.items) i).1) one.below (timed_elements found.opened.items) found.number one.recovers.last zero
+    ∙ none_numbered (length found.trees) (λ i. (held_by (map view_of found.hives.items) i).1) one.below (timed_elements (changes_of found.journal)) found.number one.recovers.last zero
 
 -- so its machine has the room of an empty journal
 pub is_at_0 : (machine : Machine) (found : Found) → machine ≡ record (opened_machine found.trees found.number [] 0) { room = 65 + room_of (choice_of found.journal).now.elements } → IsKept found → found.number ≡ 0 → machine ≡ opened_machine found.trees 0 [] 0

@@ -41,9 +41,10 @@ script_at machine = record { machine = machine; moment = 0; session = 0; labels 
 abbrev pub fresh_script : ℕ → Script
 fresh_script hives = script_at (with_session (fresh_machine hives) 0)
 
--- what was read as a reply
+-- what was read as a reply; no line asks for a subkey by its index
 abbrev pub found_reply : Found → ReplyLine
 found_reply (found.Value value) = reply.Value value.kind value.«data»
+found_reply (found.Key name) = reply.Done
 found_reply (found.Keys names) = reply.Keys names
 found_reply (found.ValueNames names) = reply.Values names
 found_reply (found.Counts info) = reply.Info info.subkeys info.values info.time

@@ -7,7 +7,7 @@ use reg_script::ReplyLine;
 use reg_tree::Value;
 
 /// The reply to the line that asked. What is to be waited for is told as accepted, for the lines that wait have replies of
-/// their own. A receipt is no line's reply.
+/// their own. A receipt is no line's reply, and no line asks for a subkey by its index.
 pub(crate) fn reply_of(answer: Reply) -> ReplyLine
     ensures { result ≡ reply_of answer }
 {
@@ -62,6 +62,7 @@ fn found_reply(found: Found) -> ReplyLine
             let Value { kind, data, .. } = value;
             ReplyLine::Value { kind, data }
         }
+        Found::Key { .. } => ReplyLine::Done,
         Found::Keys { names } => ReplyLine::Keys { names },
         Found::ValueNames { names } => ReplyLine::Values { names },
         Found::Counts { info } => ReplyLine::Info {

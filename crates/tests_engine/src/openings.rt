@@ -265,3 +265,46 @@ fn an_opening_in_which_one_call_fails_loses_nothing(rt: HostRuntime) -> Result<(
     }
     Ok(())
 }
+
+// how many changes are at hand of an opened store, and the number below the first of them
+fn at_hand(alloc: Global, disk: MemDisk) -> Result<(usize, u64), Refusal> {
+    let (_, found) = opened(alloc, disk)?.into_parts();
+    Ok((found.opened.len(), found.below))
+}
+
+// what a crash leaves of a store with changes of the keys A of hive 0 and B of hive 1, one by one, of which the hives in these
+// places were flushed then; and of a change of A's neighbour in hive 0 behind them
+fn flushed(alloc: Global, places: &[u8]) -> Result<MemDisk, Refusal> {
+    let mut store = fresh(alloc, 2)?;
+    create(&mut store, alloc, 0, b'A')?;
+    create(&mut store, alloc, 1, b'B')?;
+    journal(&mut store, MANY);
+    for place in places {
+        flush(&mut store, *place, MANY);
+    }
+    create(&mut store, alloc, 0, b'C')?;
+    journal(&mut store, MANY);
+    Ok(left(alloc, store.disk(), Tear::Old)?)
+}
+
+// what is opened of it
+const THREE: Found = (3, *b"A-C--", *b"-B---");
+
+#[test]
+fn changes_that_all_hives_hold_are_let_go(rt: HostRuntime) -> Result<(), Fail> {
+    let alloc = rt.alloc();
+    assert_eq!(&rt; found(alloc, flushed(alloc, &[0, 1])?)?, THREE);
+    assert_eq!(&rt; at_hand(alloc, flushed(alloc, &[0, 1])?)?, (1, 2));
+    Ok(())
+}
+
+#[test]
+fn changes_from_the_first_one_on_that_a_hive_lacks_are_kept(rt: HostRuntime) -> Result<(), Fail> {
+    let alloc = rt.alloc();
+    // the second hive lags behind: it lacks the second change
+    assert_eq!(&rt; found(alloc, flushed(alloc, &[0])?)?, THREE);
+    assert_eq!(&rt; at_hand(alloc, flushed(alloc, &[0])?)?, (2, 1));
+    assert_eq!(&rt; found(alloc, flushed(alloc, &[1])?)?, THREE);
+    assert_eq!(&rt; at_hand(alloc, flushed(alloc, &[1])?)?, (3, 0));
+    Ok(())
+}

@@ -50,6 +50,7 @@ impl Desk {
                     journal,
                     below,
                     elements,
+                    ..
                 },
             ) => {
                 let numbers = [u64::from(journal.hives()), below, journal.used()];
@@ -63,10 +64,10 @@ impl Desk {
 
     fn reopened(&mut self) -> Result<Result<Opened, Refusal>, Fault> {
         let before = self.look()?;
-        match Journal::open(self.alloc, &mut self.disk) {
+        match Journal::open(self.alloc, &mut self.disk, Vec::new(self.alloc)) {
             Err(Refusal::NoMemory) => {
                 self.sees_no_change(before)?;
-                Ok(Journal::open(self.alloc, &mut self.disk))
+                Ok(Journal::open(self.alloc, &mut self.disk, Vec::new(self.alloc)))
             }
             made => Ok(made),
         }

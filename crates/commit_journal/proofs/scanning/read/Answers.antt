@@ -1,13 +1,19 @@
-use Rattle.std.proofs.Common.{◌≡◌, ◌∙◌, ◌<◌, List, ℕ, length, take, sym, ap, subst, arith, Some, None}
-use Rattle.prefix_law.specs.Promises.{nothing}
+use Rattle.std.proofs.Common.{◌≡◌, ◌∙◌, ◌<◌, ◌-◌, List, ℕ, length, take, sym, ap, subst, arith, Some, None}
+use Rattle.prefix_law.specs.Promises.{floor, nothing}
+use Rattle.prefix_law.specs.Changes as law
+use Rattle.reg_tree.specs.declared.element.Element.{Element}
+use Rattle.commit_journal.specs.Lacking.{AreKept}
+use Rattle.commit_journal.specs.Naming.{AreLastIn}
+use Rattle.commit_journal.specs.declared.keeping.Keeping.{Keeping}
+use Rattle.commit_journal.proofs.Keepings.{base_is}
 use Rattle.disk_model.proofs.Unwritten.{still}
 use Rattle.disk_model.specs.FileState.{FileState, at_rest}
 use Rattle.engine_words.specs.Changes.{TimedOp}
 use Rattle.commit_journal.specs.Text.{Texts, spelled}
 use Rattle.commit_journal.specs.Store.{Store, texts}
 use Rattle.commit_journal.specs.OnDisk.{Value, is_on}
-use Rattle.commit_journal.specs.Journals.{value_of}
-use Rattle.commit_journal.specs.Reading.{AtGate, IsFound, IsReading, reading_at, texts_for}
+use Rattle.commit_journal.specs.Journals.{changes_of, choice_of, value_of}
+use Rattle.commit_journal.specs.Reading.{AtGate, IsFound, IsReading, keeps_at, tied_at, read_by, reading_at, texts_for}
 use Rattle.commit_journal.specs.Windows.{seen_at, rest_of}
 use Rattle.commit_journal.specs.declared.reader.Next.{Next}
 use Rattle.commit_journal.proofs.HeaderRead.{none_short, none_without, none_for, at_first}
@@ -81,7 +87,7 @@ returns-clause-spells g c = λ faithful.
     let all : skipped.end ≡ length file → (id : List ℕ) → IsReading id file reader (rest_of file skipped) → IsReading id file read (rest_of file c.scan.new.window)
     = subst (λ (l : List ℕ). skipped.end ≡ length l → (id : List ℕ) → IsReading id l reader (rest_of l skipped) → IsReading id l read (rest_of l c.scan.new.window)) later (c.in-Ok-scan.ensures.reads faithful) in
     let found : IsFound (texts_for store.id read) file read.stands
-    = subst (λ (n : Next). reading_at (texts_for store.id read) file read.stands read.elements.items n (rest_of file c.scan.new.window)) c.in-Ok-scan.ensures.done (all (c.skip.ensures.end ∙ c.in-Ok.ensures.end ∙ end) store.id here) in
+    = subst (λ (n : Next). reading_at (texts_for store.id read) file read.stands (read_by read) n (rest_of file c.scan.new.window)) c.in-Ok-scan.ensures.done (all (c.skip.ensures.end ∙ c.in-Ok.ensures.end ∙ end) store.id here) in
     let texts_are = ap (λ (h : ℕ). texts (record { id = store.id; hives = h })) (c.in-Ok-scan.ensures.hives ∙ c.new-reader.ensures.hives) in
     let made = ap texts c.found-journal.ensures.store ∙ sym texts_are in
     ap (λ (t : Texts TimedOp). spelled t file) made ∙ found.spells ∙ sym (ap (λ (v : Value TimedOp). Some v.choice.now) c.found-journal.ensures.value)
@@ -108,8 +114,36 @@ returns-clause-on g c = λ faithful.
     let all : skipped.end ≡ length file → (id : List ℕ) → IsReading id file reader (rest_of file skipped) → IsReading id file read (rest_of file c.scan.new.window)
     = subst (λ (l : List ℕ). skipped.end ≡ length l → (id : List ℕ) → IsReading id l reader (rest_of l skipped) → IsReading id l read (rest_of l c.scan.new.window)) later (c.in-Ok-scan.ensures.reads faithful) in
     let found : IsFound (texts_for store.id read) file read.stands
-    = subst (λ (n : Next). reading_at (texts_for store.id read) file read.stands read.elements.items n (rest_of file c.scan.new.window)) c.in-Ok-scan.ensures.done (all (c.skip.ensures.end ∙ c.in-Ok.ensures.end ∙ end) store.id here) in
+    = subst (λ (n : Next). reading_at (texts_for store.id read) file read.stands (read_by read) n (rest_of file c.scan.new.window)) c.in-Ok-scan.ensures.done (all (c.skip.ensures.end ∙ c.in-Ok.ensures.end ∙ end) store.id here) in
     let texts_are = ap (λ (h : ℕ). texts (record { id = store.id; hives = h })) (c.in-Ok-scan.ensures.hives ∙ c.new-reader.ensures.hives) in
     let made = ap texts c.found-journal.ensures.store ∙ sym texts_are in
     subst (λ (t : Texts TimedOp). is_on t (value_of c.found-journal.result) (at_rest file)) (sym made)
     (subst (λ (v : Value TimedOp). is_on (texts_for store.id read) v (at_rest file)) (sym c.found-journal.ensures.value) found.on)
+
+pub returns-clause-kept : goal.returns-clause-kept
+returns-clause-kept g c =
+    let read = c.scan.new.reader in
+    let it = read.keeping in
+    let es = (read_by read) in
+    let keeps = subst (λ (n : Next). keeps_at read.hives read.stands es n) c.in-Ok-scan.ensures.done c.in-Ok-scan.ensures.keeps in
+    let tied = subst (λ (n : Next). tied_at it.last read.stands es n) c.in-Ok-scan.ensures.done c.in-Ok-scan.ensures.tied in
+    let kept = c.in-Ok-scan.ensures.kept in
+    let numbers = ap (λ v. v.items) (c.in-Ok-scan.ensures.numbers.0 ∙ ap (λ (k : Keeping). k.numbers) c.new-reader.ensures.keeping ∙ c.in_ok-keeping.ensures.numbers) in
+    let base = ap (λ (v : Value TimedOp). floor it.below v.choice.now) c.found-journal.ensures.value ∙ base_is read.stands es it.last it.below keeps.told tied kept.keeps.low kept.keeps.high in
+    let are = c.found-journal.ensures.changes ∙ keeps.are in
+    subst (λ (ns : List ℕ). AreKept ns (floor it.below (choice_of c.found-journal.result).now) (changes_of c.found-journal.result) it.below it.elements.items) numbers
+    (subst (λ b. AreKept it.numbers.items b (changes_of c.found-journal.result) it.below it.elements.items) (sym base)
+    (subst (λ (l : List Element). AreKept it.numbers.items (it.last - length es) l it.below it.elements.items) (sym are) kept.keeps))
+
+pub returns-clause-names : goal.returns-clause-names
+returns-clause-names g c =
+    let read = c.scan.new.reader in
+    let it = read.keeping in
+    let es = (read_by read) in
+    let keeps = subst (λ (n : Next). keeps_at read.hives read.stands es n) c.in-Ok-scan.ensures.done c.in-Ok-scan.ensures.keeps in
+    let tied = subst (λ (n : Next). tied_at it.last read.stands es n) c.in-Ok-scan.ensures.done c.in-Ok-scan.ensures.tied in
+    let kept = c.in-Ok-scan.ensures.kept in
+    let base = ap (λ (v : Value TimedOp). floor it.below v.choice.now) c.found-journal.ensures.value ∙ base_is read.stands es it.last it.below keeps.told tied kept.keeps.low kept.keeps.high in
+    let are = ap (λ (v : Value TimedOp). v.choice.now.elements) c.found-journal.ensures.value ∙ keeps.told in
+    subst (λ b. AreLastIn b (choice_of c.found-journal.result).now.elements it.naming.last.items) (sym base)
+    (subst (λ (l : List (law.Element TimedOp)). AreLastIn (it.last - length es) l it.naming.last.items) (sym are) kept.names)

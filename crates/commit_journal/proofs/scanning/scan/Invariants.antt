@@ -1,6 +1,6 @@
 use Rattle.std.proofs.Common.{◌≡◌, ◌+◌, ◌*◌, ◌≤◌, List, ℕ, length}
 use Rattle.disk_model.specs.Unwritten.{OnlyReads}
-use Rattle.commit_journal.specs.Reading.{Keeps, IsReading, waits}
+use Rattle.commit_journal.specs.Reading.{Keeps, IsKept, IsOf, IsTied, IsReading, waits}
 use Rattle.commit_journal.specs.Windows.{seen_at, rest_of, left_of}
 use Rattle.commit_journal.proofs.scanning.scan.Given as goal
 
@@ -9,6 +9,9 @@ invariant-reading g l =
     let file = seen_at (g.D.Disk.state_at l.fn.disk) (g.D.Disk.clock l.fn.disk) in
     record {
       keeps : Keeps l.reader;
+      tied : IsTied l.reader;
+      kept : IsKept l.reader.keeping;
+      numbers : IsOf l.fn.reader.keeping l.reader.keeping;
       hives : l.reader.hives ≡ l.fn.reader.hives;
       end : l.window.end ≡ l.fn.window.end;
       reads : g.D.Disk.faithful l.disk → l.fn.window.end ≡ length file → (id : List ℕ) → IsReading id file l.fn.reader (rest_of file l.fn.window) → IsReading id file l.reader (rest_of file l.window);

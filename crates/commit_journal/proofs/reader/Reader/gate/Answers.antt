@@ -1,5 +1,5 @@
 use Rattle.std.proofs.Common.{◌++◌, drop, get_or, sym, subst}
-use Rattle.commit_journal.specs.Reading.{reading_at, texts_for}
+use Rattle.commit_journal.specs.Reading.{reading_at, read_by, texts_for}
 use Rattle.commit_journal.specs.declared.reader.Next.{Next}
 use Rattle.commit_journal.proofs.Transitions.{gate_front, gate_shut, gate_open}
 use Rattle.commit_journal.proofs.reader.Reader.gate.Goals as goal
@@ -11,8 +11,8 @@ returns-clause-reads c = λ id file behind here.
     let bytes = c.args.bytes.now in
     let front = gate_front bytes c.requires.there in
     elim c.if-bytes.branch [
-      | then-bytes w ↦ subst (λ (n : Next). reading_at (texts_for id r) file r.stands r.elements.items n (drop 1 bytes ++ behind)) (sym w.self-is)
+      | then-bytes w ↦ subst (λ (n : Next). reading_at (texts_for id r) file r.stands (read_by r) n (drop 1 bytes ++ behind)) (sym w.self-is)
           (gate_open id r.hives r.few file r.stands bytes behind (get_or bytes 0 0) (drop 1 bytes) front w.if-bytes.true here)
-      | else-bytes w ↦ subst (λ (n : Next). reading_at (texts_for id r) file r.stands r.elements.items n (drop 1 bytes ++ behind)) (sym w.self-is)
+      | else-bytes w ↦ subst (λ (n : Next). reading_at (texts_for id r) file r.stands (read_by r) n (drop 1 bytes ++ behind)) (sym w.self-is)
           (gate_shut id r.hives r.few file r.stands bytes behind (get_or bytes 0 0) (drop 1 bytes) front w.if-bytes.false here)
     ]

@@ -25,7 +25,7 @@ invariant_of-result c =
       | then-self-eq0 w ↦ w.result-is ∙ sym (floor_none d me.last me.gate me.used s me.kept w.if-self-eq0.true)
       | else-self-eq0 w ↦ w.result-is ∙ sym (floor_here d me.last me.gate me.used s me.kept (omega (arith, w.if-self-eq0.false)))
     ] in
-    let told : elements_told c.then_all.new.self ≡ elements_told me.told ++ timed_elements es = c.then_all.ensures ∙ ap (λ (l : List (law.Element TimedOp)). l ++ timed_elements es) c.same-told.ensures in
+    let told : elements_told c.then_all.new.self ≡ elements_told me.told ++ timed_elements es = c.then_all.ensures ∙ ap (λ (l : List (law.Element TimedOp)). l ++ timed_elements es) c.same-told.ensures.told in
     let same : longer s d (timed_elements es) ≡ spelled_told c.if-self-eq0.result c.then_all.new.self = λ i. record { below = sym below i; elements = sym told i } in
     record {
       kept = subst (λ (x : Spelled TimedOp). IsStanding (me.gate + 1 + c.args.size) (d + length es) (me.used + 17 * length es + (c.args.size - 16)) x) same

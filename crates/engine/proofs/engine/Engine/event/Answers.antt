@@ -3,7 +3,7 @@ use Rattle.machine.specs.declared.event.Event.TheVariants as event
 use Rattle.machine.specs.declared.event.Progress.TheVariants.{Idle, More}
 use Rattle.machine.specs.declared.event.Reply.TheVariants.{Stepped}
 use Rattle.prefix_law.specs.Promises.{BeginsTrim}
-use Rattle.commit_journal.specs.Journals.{choice_of, steps_left}
+use Rattle.commit_journal.specs.Journals.{changes_of, choice_of, steps_left}
 use Rattle.commit_journal.specs.declared.journal.Journal.{Journal}
 use Rattle.engine_law.specs.States.{HiveView}
 use Rattle.engine_law.specs.Progress.{FlushView, FlushesOn, flush_of, HasPending, HasTrimmed, IsMade, IsTrimming, NearsDurable}
@@ -21,7 +21,7 @@ returns-clause-before g c =
     let p = c.self.inside.parts in
     subst (λ (s : Shown _). g.D.Disk.faithful c.event.new.self.disk → IsSafeAt s.store (g.D.Disk.state_at c.event.new.self.disk) (g.D.Disk.clock s.disk) s.machine) c.self.view_is
     (λ f. c.crashes_leave_prefixes.ensures.past (store_of p.journal) (g.D.Disk.state_at p.disk) (g.D.Disk.state_at c.event.new.self.disk) (g.D.Disk.clock p.disk) c.event.ensures.goes_on.call.past (g.D.Disk.clock p.disk) p.store.machine (omega arith)
-    (c.crashes_leave_prefixes.ensures.safe (store_of p.journal) p.store.machine p.base p.spelled.value.items p.journal p.hives.items (g.D.Disk.state_at p.disk) (g.D.Disk.clock p.disk) c.self.invariant.sound.holds.kept refl c.self.invariant.sound.holds.placed (c.self.invariant.on_disk (c.event.ensures.goes_on.faithful f))))
+    (c.crashes_leave_prefixes.ensures.safe (store_of p.journal) p.store.machine p.base (changes_of p.spelled.value) p.journal p.hives.items (g.D.Disk.state_at p.disk) (g.D.Disk.clock p.disk) c.self.invariant.sound.holds.kept refl c.self.invariant.sound.holds.placed (c.self.invariant.on_disk (c.event.ensures.goes_on.faithful f))))
 
 pub returns-clause-after : goal.returns-clause-after
 returns-clause-after g c =
@@ -29,7 +29,7 @@ returns-clause-after g c =
     let n = c.event.new.self in
     subst (λ (s : Shown _). g.D.Disk.faithful n.disk → IsSafeAt s.store (g.D.Disk.state_at n.disk) (g.D.Disk.clock n.disk) n.store.machine) c.self.view_is
     (λ f. subst (λ (s : Store). IsSafeAt s (g.D.Disk.state_at n.disk) (g.D.Disk.clock n.disk) n.store.machine) c.event.ensures.goes_on.store
-    (c.crashes_leave_prefixes.ensures.safe (store_of n.journal) n.store.machine n.base n.spelled.value.items n.journal n.hives.items (g.D.Disk.state_at n.disk) (g.D.Disk.clock n.disk) c.event.ensures.goes_on.sound.holds.kept refl c.event.ensures.goes_on.sound.holds.placed
+    (c.crashes_leave_prefixes.ensures.safe (store_of n.journal) n.store.machine n.base (changes_of n.spelled.value) n.journal n.hives.items (g.D.Disk.state_at n.disk) (g.D.Disk.clock n.disk) c.event.ensures.goes_on.sound.holds.kept refl c.event.ensures.goes_on.sound.holds.placed
     (c.event.ensures.goes_on.on_disk f (c.self.invariant.on_disk (c.event.ensures.goes_on.faithful f)))))
 
 pub returns-clause-idle : goal.returns-clause-idle
@@ -53,7 +53,7 @@ returns-clause-ends_trim g c =
 pub returns-clause-life : goal.returns-clause-life
 returns-clause-life g c =
     let n = c.event.new.self in
-    subst (λ (s : Shown _). (n.base ≡ s.base) × (n.spelled.value.items ≡ s.opened)) c.self.view_is
+    subst (λ (s : Shown _). (n.base ≡ s.base) × (changes_of n.spelled.value ≡ s.opened)) c.self.view_is
     c.event.ensures.goes_on.life
 
 pub returns-clause-journal_stays : goal.returns-clause-journal_stays

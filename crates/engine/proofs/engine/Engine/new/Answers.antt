@@ -1,36 +1,26 @@
-use Rattle.std.proofs.Common.{◌≡◌, ◌∙◌, sym, ap, subst, map, arith, List, []}
-use Rattle.std.proofs.lemmas.List.{length-replicate}
+use Rattle.std.proofs.Common.{◌≡◌, ◌∙◌, sym, ap, subst, map, arith, List}
 use Rattle.reg_tree.specs.declared.element.Element.{Element}
-use Rattle.commit_journal.specs.Journals.{choice_of, store_of}
+use Rattle.commit_journal.specs.Journals.{changes_of, choice_of}
 use Rattle.machine.specs.Machine.{Machine}
 use Rattle.engine_law.specs.States.{IsConsistent}
-use Rattle.engine_law.specs.Prefixes.{AreOnDisk, view_of}
+use Rattle.engine_law.specs.Prefixes.{view_of}
 use Rattle.recovery.specs.Kept.{AreWhole}
 use Rattle.recovery.specs.declared.found.Found.{Found}
 use Rattle.engine.specs.AtHand.{AreAtHand}
 use Rattle.engine.specs.Naming.{AreLastNaming}
 use Rattle.engine.specs.Parts.{AreSound}
-use Rattle.engine.specs.declared.parts.Parts.{Parts}
 use Rattle.engine.proofs.AtHand.{hand_opens}
-use Rattle.engine.proofs.Namings.{naming_opens, none_named}
+use Rattle.engine.proofs.Namings.{naming_opens}
 use Rattle.engine.proofs.engine.Engine.new.Goals as goal
 
-pub begun-requires : goal.begun-requires
-begun-requires g c =
-    let f = c.into_parts-disk.result.1 in
-    let k = c.into_parts-disk.ensures.kept in
-    let kept = c.openings_begin.ensures f.trees f.number 0 f.base f.opened.items (choice_of f.journal) (map view_of f.hives.items) k.recovers in
-    record { numbers = omega (arith, kept.begun, k.recovers.recovers.limit) }
-
-pub let_go-requires : goal.let_go-requires
-let_go-requires g c =
+pub invariant_of-result : goal.invariant_of-result
+invariant_of-result g c =
     let f = c.into_parts-disk.result.1 in
     let e = c.into_parts-disk.ensures in
     let told = c.in-Ok.ensures.machine in
-    let counted = c.in-Ok.ensures.counted in
-    let kept = subst (λ (m : Machine). IsConsistent m f.base f.opened.items (choice_of f.journal) (map view_of f.hives.items)) (sym told)
-    (c.openings_begin.ensures f.trees f.number 0 f.base f.opened.items (choice_of f.journal) (map view_of f.hives.items) e.kept.recovers) in
-    let spelled : c.of-spelled.result.value.items ≡ f.opened.items = ap (λ v. v.items) c.of-spelled.ensures in
+    let all = changes_of f.journal in
+    let kept = subst (λ (m : Machine). IsConsistent m f.base all (choice_of f.journal) (map view_of f.hives.items)) (sym told) (c.openings_begin.ensures f.trees f.number 0 f.base all (choice_of f.journal) (map view_of f.hives.items) e.kept.recovers) in
+    let spelled : changes_of c.of-spelled.result.value ≡ all = ap changes_of c.of-spelled.ensures in
     let store = c.in-Ok.store in
     let durable : store.machine.durable ≡ store.machine.before = ap (λ (m : Machine). m.durable) told ∙ sym (ap (λ (m : Machine). m.before) told) in
     record {
@@ -43,17 +33,11 @@ let_go-requires g c =
           journal_works = λ _. e.kept.works;
           hives_work = λ _. e.works c.requires.whole.1;
         });
-        naming = subst (λ (l : List Element). AreLastNaming store.machine f.base l c.in-Ok.naming.last.items) (sym spelled) (naming_opens store.machine f.base f.opened.items c.in-Ok.naming.last.items kept.begun
-            durable (ap (λ (m : Machine). m.accepted) told) (counted.last f.base [] (omega arith) (none_named f.base (store_of f.journal).hives)));
-        named = counted.many ∙ length-replicate (store_of f.journal).hives 0 ∙ sym e.kept.many;
-        at_hand = subst (λ (l : List Element). AreAtHand store f.base l f.opened.items f.hives.items) (sym spelled) (hand_opens store f.base f.opened.items f.hives.items kept.begun durable
-            (omega (arith, c.in-Ok.ensures.at_hand, ap (λ (m : Machine). m.before) told)));
+        naming = subst (λ (l : List Element). AreLastNaming store.machine f.base l f.naming.last.items) (sym spelled) (naming_opens store.machine f.base all f.naming.last.items kept.begun durable (ap (λ (m : Machine). m.accepted) told) e.kept.names);
+        named = e.kept.named;
+        at_hand = subst (λ (l : List Element). AreAtHand store f.base l f.opened.items f.hives.items) (sym spelled) (hand_opens store f.base f.below all f.opened.items f.hives.items kept.begun durable
+            (omega (arith, c.in-Ok.ensures.at_hand, ap (λ (m : Machine). m.before) told)) e.kept.opened);
       };
+      on_disk = e.on_disk;
+      prepared = tt;
     }
-
-pub invariant_of-result : goal.invariant_of-result
-invariant_of-result g c = record {
-  sound = c.let_go.ensures.sound;
-  on_disk = subst (λ (p : Parts _). g.D.Disk.faithful p.disk → AreOnDisk p.journal p.hives.items (g.D.Disk.state_at p.disk (g.D.Disk.clock p.disk))) (sym c.let_go.ensures.rest) c.into_parts-disk.ensures.on_disk;
-  prepared = tt;
-}

@@ -1,7 +1,7 @@
 use Rattle.std.proofs.Common.{map, ◌∙◌, sym, subst, refl, arith}
 use Rattle.std.proofs.lemmas.Bool.{true≢false}
 use Rattle.machine.specs.Steps.{Step}
-use Rattle.commit_journal.specs.Journals.{choice_of}
+use Rattle.commit_journal.specs.Journals.{changes_of, choice_of}
 use Rattle.engine_law.specs.Prefixes.{view_of}
 use Rattle.engine.proofs.Calm.{calm_keeps}
 use Rattle.engine.proofs.Idling.{calm_idles}
@@ -31,4 +31,4 @@ pub returns-clause-comes_on : goal.returns-clause-comes_on
 returns-clause-comes_on g c = calm_comes_on c.args.event c.event.result c.args.self.now (record c.args.self.now { store = c.event.new.self }) c.requires.calm
 
 pub returns-clause-idle : goal.returns-clause-idle
-returns-clause-idle g c = let s = c.args.self.now in calm_idles c.args.event c.event.result s.store.machine s.base s.spelled.value.items (choice_of s.journal) (map view_of s.hives.items) c.requires.calm
+returns-clause-idle g c = let s = c.args.self.now in calm_idles c.args.event c.event.result s.store.machine s.base (changes_of s.spelled.value) (choice_of s.journal) (map view_of s.hives.items) c.requires.calm

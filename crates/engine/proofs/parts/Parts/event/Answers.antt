@@ -1,6 +1,6 @@
 use Rattle.std.proofs.Common.{sym, subst, map}
 use Rattle.machine.specs.declared.event.Event.{Event}
-use Rattle.commit_journal.specs.Journals.{choice_of}
+use Rattle.commit_journal.specs.Journals.{changes_of, choice_of}
 use Rattle.engine_law.specs.Idle.{IdlesExactly}
 use Rattle.engine_law.specs.Prefixes.{view_of}
 use Rattle.engine.proofs.Idling.{replied_idle}
@@ -9,5 +9,5 @@ use Rattle.engine.proofs.parts.Parts.event.Goals as goal
 pub returns-in-FlusherStep-clause-idle : goal.returns-in-FlusherStep-clause-idle
 returns-in-FlusherStep-clause-idle g c = λ free.
     let s = c.args.self.now in
-    subst (λ (e : Event). IdlesExactly e c.replied-in-FlusherStep.result s.store.machine s.base s.spelled.value.items (choice_of s.journal) (map view_of s.hives.items)) (sym c.in-FlusherStep.is)
+    subst (λ (e : Event). IdlesExactly e c.replied-in-FlusherStep.result s.store.machine s.base (changes_of s.spelled.value) (choice_of s.journal) (map view_of s.hives.items)) (sym c.in-FlusherStep.is)
     (replied_idle c.flusher_step.result c.replied-in-FlusherStep.result c.replied-in-FlusherStep.ensures (c.flusher_step.ensures.idle free))

@@ -9,6 +9,7 @@ use Rattle.machine.specs.declared.event.Event.TheVariants as event
 use Rattle.refusals.specs.declared.refusal.Refusal.TheVariants.{NotFound}
 use Rattle.hive_flush.specs.HiveStates.{files_of, memory_of}
 use Rattle.hive_flush.specs.declared.hive.HiveFile.{HiveFile}
+use Rattle.commit_journal.specs.Journals.{changes_of}
 use Rattle.engine.specs.Events.{ComesOn}
 use Rattle.engine.proofs.Advancing.{flush_comes_on, from_busy, refused_comes_on}
 use Rattle.engine.proofs.Sound.{at_place, same_hive}
@@ -19,14 +20,14 @@ pub returns-then-is_at_rest-clause-idle : goal.returns-then-is_at_rest-clause-id
 returns-then-is_at_rest-clause-idle g c = λ free.
     let s = c.args.self.now in
     let there = at_place s.hives.items c.from-place.result c.index.result.now (omega (arith, c.if-place-len.false, c.len.ensures)) c.index.ensures in
-    subst (λ n. (c.begin.result ≡ Ok progress.Idle) ↔ IsFlushed s.store.machine s.base s.spelled.value.items (map view_of s.hives.items) n) c.from-place.ensures
-    (flush_idles s.store.machine s.base s.spelled.value.items s.naming.last.items c.requires.sound.naming s.hives.items c.from-place.result c.index.result.now there (c.if-is_at_rest.ensures.rest refl) (c.begin.ensures.idle c.index.result.now there))
+    subst (λ n. (c.begin.result ≡ Ok progress.Idle) ↔ IsFlushed s.store.machine s.base (changes_of s.spelled.value) (map view_of s.hives.items) n) c.from-place.ensures
+    (flush_idles s.store.machine s.base (changes_of s.spelled.value) s.naming.last.items c.requires.sound.naming s.hives.items c.from-place.result c.index.result.now there (c.if-is_at_rest.ensures.rest refl) (c.begin.ensures.idle c.index.result.now there))
 
 pub returns-clause-idle : goal.returns-clause-idle
 returns-clause-idle g c = λ free.
     let s = c.args.self.now in
     let there = subst (λ n. slice_get s.hives.items n ≡ Some c.index.result.now) c.from-place.ensures (at_place s.hives.items c.from-place.result c.index.result.now (omega (arith, c.if-place-len.false, c.len.ensures)) c.index.ensures) in
-    flush_goes_on s.store.machine s.base s.spelled.value.items s.hives.items c.args.hive c.index.result.now there
+    flush_goes_on s.store.machine s.base (changes_of s.spelled.value) s.hives.items c.args.hive c.index.result.now there
     (λ rests. true≢false (sym (c.is_at_rest.ensures.busy (c.requires.sound.holds.whole c.args.hive c.index.result.now there) rests) ∙ c.if-is_at_rest.false)) c.flush.ensures.busy
 
 pub returns-in_err-working-clause-comes_on : goal.returns-in_err-working-clause-comes_on

@@ -8,7 +8,7 @@ use Rattle.engine.specs.Events.{ComesOn, GoesOn}
 use Rattle.engine.proofs.Advancing.{journal_comes_on, nearer_where, refused_comes_on}
 use Rattle.engine.proofs.Sound.{settled_is}
 use Rattle.engine.proofs.Journaling.{may_hand, batch_goes, journal_goes_on, rises_by}
-use Rattle.commit_journal.specs.Journals.{choice_of}
+use Rattle.commit_journal.specs.Journals.{changes_of, choice_of}
 use Rattle.engine.proofs.Idling.{journal_idles}
 use Rattle.engine.proofs.parts.Parts.journal_step.Goals as goal
 
@@ -16,7 +16,7 @@ pub step-come-requires : goal.step-come-requires
 step-come-requires g c =
     let s = c.args.self.now in
     record {
-      handed = λ idle. may_hand s.store s.base s.spelled.value.items s.journal s.hives.items c.requires.sound.holds c.durable-durable.result c.above-pending.result.now c.durable-durable.ensures.durable c.above-pending.ensures.changes
+      handed = λ idle. may_hand s.store s.base (changes_of s.spelled.value) s.journal s.hives.items c.requires.sound.holds c.durable-durable.result c.above-pending.result.now c.durable-durable.ensures.durable c.above-pending.ensures.changes
           c.pending_may_be_handed.ensures c.above-pending.ensures.short;
     }
 
@@ -24,7 +24,7 @@ pub returns-clause-goes_on : goal.returns-clause-goes_on
 returns-clause-goes_on g c =
     let s = c.args.self.now in
     let call = c.step-come.ensures in
-    let goes = batch_goes s.store s.base s.spelled.value.items s.journal s.hives.items c.requires.sound.holds c.durable-durable.result c.above-pending.result.now c.durable-durable.ensures.durable c.above-pending.ensures.changes
+    let goes = batch_goes s.store s.base (changes_of s.spelled.value) s.journal s.hives.items c.requires.sound.holds c.durable-durable.result c.above-pending.result.now c.durable-durable.ensures.durable c.above-pending.ensures.changes
     c.journal_steps_keep.ensures.batch c.step-come.new.self c.step-come.result c.in_ok-working.ensures.works call.faulted call.says in
     subst (λ p. GoesOn g.D.Disk.state_at g.D.Disk.clock g.D.Disk.failures g.D.Disk.faithful event.JournalStep (reply_to c.step-come.result) s p) (sym c.settle.ensures.rest)
     (journal_goes_on g.D.Disk.state_at g.D.Disk.clock g.D.Disk.failures g.D.Disk.faithful event.JournalStep (inl refl) s c.step-come.new.self c.step-come.new.disk c.settle.new.self.store c.settle.new.self.naming c.step-come.result c.used-used.result
@@ -47,7 +47,7 @@ returns-clause-comes_on g c =
     let m = s.store.machine in
     let call = c.step-come.ensures in
     let free = c.in_ok-working.ensures.works in
-    let goes = batch_goes s.store s.base s.spelled.value.items s.journal s.hives.items c.requires.sound.holds c.durable-durable.result c.above-pending.result.now c.durable-durable.ensures.durable c.above-pending.ensures.changes
+    let goes = batch_goes s.store s.base (changes_of s.spelled.value) s.journal s.hives.items c.requires.sound.holds c.durable-durable.result c.above-pending.result.now c.durable-durable.ensures.durable c.above-pending.ensures.changes
     c.journal_steps_keep.ensures.batch c.step-come.new.self c.step-come.result free call.faulted call.says in
     let is = c.settle.ensures.machine ∙ settled_is m (choice_of s.journal) (choice_of c.step-come.new.self) c.used-used.result c.step-come.result c.used-used.ensures in
     subst (λ p. ComesOn event.JournalStep (reply_to c.step-come.result) s p) (sym c.settle.ensures.rest)

@@ -1,6 +1,7 @@
 use Rattle.std.proofs.Common.{◌≡◌, ◌∙◌, ◌-◌, ℕ, List, length, drop, min, sym, ap, subst, arith, slice_get}
 use Rattle.hive_flush.specs.declared.hive.HiveFile.{HiveFile}
 use Rattle.machine.specs.Machine.{Machine}
+use Rattle.commit_journal.specs.Journals.{changes_of}
 use Rattle.engine.specs.Naming.{AreLastNaming}
 use Rattle.engine.proofs.Sound.{told_sound}
 use Rattle.engine.proofs.AtHand.{hand_lets_go}
@@ -13,10 +14,10 @@ returns-clause-sound g c =
     let same = c.let_go.ensures.machine in
     let most : c.saturating_sub.result ≡ s.store.machine.before - c.held_by_all-held.result = omega (arith, c.saturating_sub.ensures, c.before-before.ensures, ap (λ (m : Machine). m.before) same) in
     record {
-      holds = told_sound s.store t s.base s.spelled.value.items s.journal s.hives.items same c.requires.sound.holds;
-      naming = subst (λ (m : Machine). AreLastNaming m s.base s.spelled.value.items s.naming.last.items) (sym same) c.requires.sound.naming;
+      holds = told_sound s.store t s.base (changes_of s.spelled.value) s.journal s.hives.items same c.requires.sound.holds;
+      naming = subst (λ (m : Machine). AreLastNaming m s.base (changes_of s.spelled.value) s.naming.last.items) (sym same) c.requires.sound.naming;
       named = c.requires.sound.named;
-      at_hand = hand_lets_go s.store t s.base s.spelled.value.items s.opened.items c.keep_last.new.changes.items s.hives.items s.naming.last.items c.held_by_all-held.result c.requires.sound.holds.kept.begun same c.let_go.ensures.at_hand
+      at_hand = hand_lets_go s.store t s.base (changes_of s.spelled.value) s.opened.items c.keep_last.new.changes.items s.hives.items s.naming.last.items c.held_by_all-held.result c.requires.sound.holds.kept.begun same c.let_go.ensures.at_hand
           (c.keep_last.ensures ∙ ap (λ n. drop (length s.opened.items - min (length s.opened.items) n) s.opened.items) most) (omega (arith, c.held_by_all-held.ensures.high, c.durable-durable.ensures.durable)) c.requires.sound.named c.requires.sound.naming
           (λ i m hive there named. c.held_by_all-held.ensures.held i m hive (ap (λ (l : List HiveFile). slice_get l i) c.deref.ensures.value ∙ there) (ap (λ (l : List ℕ). slice_get l i) c.deref-2.ensures.value ∙ named)) c.requires.sound.at_hand;
     }

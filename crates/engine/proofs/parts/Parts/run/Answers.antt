@@ -3,7 +3,7 @@ use Rattle.machine.specs.Steps.{Run}
 use Rattle.machine.specs.declared.event.Event.{Event}
 use Rattle.machine.specs.declared.event.Reply.{Reply}
 use Rattle.commit_journal.specs.Store.{Store}
-use Rattle.commit_journal.specs.Journals.{store_of}
+use Rattle.commit_journal.specs.Journals.{changes_of, store_of}
 use Rattle.engine_law.specs.Prefixes.{IsSafeAt}
 use Rattle.engine_law.specs.Runs.{RunsSafely}
 use Rattle.engine.proofs.RunLists.{run_on, run_long}
@@ -22,7 +22,7 @@ loop-event-init g c = let s = c.args.self.now in record {
   store = refl;
   run = subst (λ (l : List Reply). Run s.store.machine [] l s.store.machine) (sym c.in_ok-replies.ensures.items) refl;
   safely = λ f. subst (λ (l : List Reply). RunsSafely (IsSafeAt (store_of s.journal) (g.D.Disk.state_at s.disk)) (g.D.Disk.clock s.disk) s.store.machine [] l (g.D.Disk.clock s.disk) s.store.machine) (sym c.in_ok-replies.ensures.items)
-      (refl, refl, c.crashes_leave_prefixes.ensures.safe (store_of s.journal) s.store.machine s.base s.spelled.value.items s.journal s.hives.items (g.D.Disk.state_at s.disk) (g.D.Disk.clock s.disk) c.requires.sound.holds.kept refl c.requires.sound.holds.placed (c.requires.on_disk f));
+      (refl, refl, c.crashes_leave_prefixes.ensures.safe (store_of s.journal) s.store.machine s.base (changes_of s.spelled.value) s.journal s.hives.items (g.D.Disk.state_at s.disk) (g.D.Disk.clock s.disk) c.requires.sound.holds.kept refl c.requires.sound.holds.placed (c.requires.on_disk f));
   faithful = λ f. f;
   parts = c.into_iter-event-iterator.ensures.into_iter_gives.0;
   room = omega (arith, c.in_ok-replies.ensures.capacity, c.len.ensures);
@@ -39,7 +39,7 @@ loop-event-preserved g c = let l = c.loop-event in let i = l.invariant in let e 
       (c.safe_runs_go_on.ensures.goes_on (store_of c.args.self.now.journal) (g.D.Disk.state_at l.self.disk) (g.D.Disk.state_at n.disk) (g.D.Disk.clock c.args.self.now.disk) (g.D.Disk.clock l.self.disk) (g.D.Disk.clock n.disk)
       c.args.self.now.store.machine l.self.store.machine n.store.machine l.yielded l.replies.items c.in-Some.event c.event-reply.result (i.safely (e.faithful f)) e.call.past e.call.later e.call.one e.step
       (subst (λ (s : Store). IsSafeAt s (g.D.Disk.state_at n.disk) (g.D.Disk.clock n.disk) n.store.machine) (e.store ∙ i.store)
-      (c.crashes_leave_prefixes.ensures.safe (store_of n.journal) n.store.machine n.base n.spelled.value.items n.journal n.hives.items (g.D.Disk.state_at n.disk) (g.D.Disk.clock n.disk) e.sound.holds.kept refl e.sound.holds.placed (e.on_disk f (i.on_disk (e.faithful f))))));
+      (c.crashes_leave_prefixes.ensures.safe (store_of n.journal) n.store.machine n.base (changes_of n.spelled.value) n.journal n.hives.items (g.D.Disk.state_at n.disk) (g.D.Disk.clock n.disk) e.sound.holds.kept refl e.sound.holds.placed (e.on_disk f (i.on_disk (e.faithful f))))));
   faithful = λ f. i.faithful (e.faithful f);
   parts = append_assoc l.yielded (c.in-Some.event ∷ []) _ ∙ ap (λ (x : List Event). l.yielded ++ x) (sym c.in-Some.ensures.steps.0) ∙ i.parts;
   room = omega (arith, c.loop-event.invariant.room, c.push_reserved.ensures.capacity);

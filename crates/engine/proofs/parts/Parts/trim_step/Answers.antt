@@ -6,7 +6,7 @@ use Rattle.engine.specs.Events.{ComesOn, GoesOn}
 use Rattle.engine.proofs.Advancing.{idle_comes_on, refused_comes_on, trim_comes_on}
 use Rattle.engine.proofs.Sound.{settled_is}
 use Rattle.engine.proofs.Journaling.{trim_goes, journal_goes_on, rises_by}
-use Rattle.commit_journal.specs.Journals.{choice_of}
+use Rattle.commit_journal.specs.Journals.{changes_of, choice_of}
 use Rattle.engine_law.specs.Prefixes.{view_of}
 use Rattle.engine.proofs.Idling.{trim_idles}
 use Rattle.engine.proofs.parts.Parts.trim_step.Goals as goal
@@ -15,7 +15,7 @@ pub returns-clause-goes_on : goal.returns-clause-goes_on
 returns-clause-goes_on g c =
     let s = c.args.self.now in
     let call = c.trim_step-come.ensures in
-    let goes = trim_goes s.store s.base s.spelled.value.items s.journal s.hives.items c.requires.sound.holds c.journal_steps_keep.ensures.trim c.trim_step-come.new.self c.trim_step-come.result c.in_ok-working.ensures.works
+    let goes = trim_goes s.store s.base (changes_of s.spelled.value) s.journal s.hives.items c.requires.sound.holds c.journal_steps_keep.ensures.trim c.trim_step-come.new.self c.trim_step-come.result c.in_ok-working.ensures.works
     (c.may_trim.ensures.yes c.if-not-may_trim.false) call.faulted call.says in
     subst (λ p. GoesOn g.D.Disk.state_at g.D.Disk.clock g.D.Disk.failures g.D.Disk.faithful event.TrimStep (reply_to c.trim_step-come.result) s p) (sym c.settle.ensures.rest)
     (journal_goes_on g.D.Disk.state_at g.D.Disk.clock g.D.Disk.failures g.D.Disk.faithful event.TrimStep (inr refl) s c.trim_step-come.new.self c.trim_step-come.new.disk c.settle.new.self.store c.settle.new.self.naming c.trim_step-come.result c.used-used.result
@@ -24,7 +24,7 @@ returns-clause-goes_on g c =
 pub returns-clause-idle : goal.returns-clause-idle
 returns-clause-idle g c = λ free.
     let s = c.args.self.now in
-    trim_idles s.store.machine s.base s.spelled.value.items (choice_of s.journal) (choice_of c.trim_step-come.new.self) (map view_of s.hives.items) c.trim_step-come.result (c.may_trim.ensures.yes c.if-not-may_trim.false) c.trim_step-come.ensures.says
+    trim_idles s.store.machine s.base (changes_of s.spelled.value) (choice_of s.journal) (choice_of c.trim_step-come.new.self) (map view_of s.hives.items) c.trim_step-come.result (c.may_trim.ensures.yes c.if-not-may_trim.false) c.trim_step-come.ensures.says
 
 pub returns-in_err-working-clause-comes_on : goal.returns-in_err-working-clause-comes_on
 returns-in_err-working-clause-comes_on g c =

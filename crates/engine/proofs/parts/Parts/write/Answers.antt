@@ -6,6 +6,7 @@ use Rattle.engine_law.specs.Answers.{reply_to}
 use Rattle.hive_flush.specs.HiveStates.{IsOn, place_of}
 use Rattle.disk_model.specs.FileState.{FileState}
 use Rattle.disk_model.specs.StoreFiles.{IsOfHive, primary_file, log_file}
+use Rattle.commit_journal.specs.Journals.{changes_of}
 use Rattle.engine.specs.Events.{GoesOn}
 use Rattle.engine.proofs.Sound.{at_place, flush_sound}
 use Rattle.engine.proofs.Frames.{any_call, has_failed}
@@ -25,18 +26,18 @@ returns-clause-goes_on g c =
     let call = c.step-come.ensures in
     let is = at_place s.hives.items c.args.place c.index_mut.result.now c.requires.there c.index_mut.ensures.value in
     let its : place_of c.index_mut.result.now ≡ c.args.place = c.requires.sound.holds.placed.place c.args.place c.index_mut.result.now is in
-    let goes = flush_goes s.store s.base s.spelled.value.items s.journal s.hives.items c.requires.sound.holds c.requires.works c.args.place c.index_mut.result.now is c.hive_steps_keep.ensures.step c.step-come.new.self c.step-come.result
+    let goes = flush_goes s.store s.base (changes_of s.spelled.value) s.journal s.hives.items c.requires.sound.holds c.requires.works c.args.place c.index_mut.result.now is c.hive_steps_keep.ensures.step c.step-come.new.self c.step-come.result
     call.memory call.faulted call.says in
     let old : ℕ → FileState = g.D.Disk.state_at s.disk (g.D.Disk.clock s.disk) in
     let new : ℕ → FileState = g.D.Disk.state_at c.step-come.new.disk (g.D.Disk.clock c.step-come.new.disk) in
     subst (λ p. GoesOn g.D.Disk.state_at g.D.Disk.clock g.D.Disk.failures g.D.Disk.faithful (event.FlusherStep c.args.place) (reply_to c.step-come.result) s p) (sym c.mark.ensures.rest) (record {
       step = subst (λ (m : Machine). Step s.store.machine (event.FlusherStep c.args.place) (reply_to c.step-come.result) m) (sym c.mark.ensures.machine) goes.0;
       sound = record {
-        holds = flush_sound s.store c.mark.new.self.store s.base s.spelled.value.items s.journal s.hives.items c.args.place c.index_mut.result.now c.step-come.new.self c.step-come.result c.requires.sound.holds c.requires.works is goes.1
+        holds = flush_sound s.store c.mark.new.self.store s.base (changes_of s.spelled.value) s.journal s.hives.items c.args.place c.index_mut.result.now c.step-come.new.self c.step-come.result c.requires.sound.holds c.requires.works is goes.1
             call.place call.store call.whole call.broken.0 c.mark.ensures.machine;
-        naming = naming_flushes s.store.machine c.mark.new.self.store.machine s.base s.spelled.value.items s.naming.last.items c.step-come.result c.mark.ensures.machine c.requires.sound.naming;
+        naming = naming_flushes s.store.machine c.mark.new.self.store.machine s.base (changes_of s.spelled.value) s.naming.last.items c.step-come.result c.mark.ensures.machine c.requires.sound.naming;
         named = c.requires.sound.named ∙ sym (length-set s.hives.items c.args.place c.step-come.new.self);
-        at_hand = hand_flushes s.store c.mark.new.self.store s.base s.spelled.value.items s.opened.items s.hives.items c.args.place c.index_mut.result.now c.step-come.new.self c.step-come.result is call.memory c.mark.ensures.machine c.mark.ensures.at_hand c.requires.sound.at_hand;
+        at_hand = hand_flushes s.store c.mark.new.self.store s.base (changes_of s.spelled.value) s.opened.items s.hives.items c.args.place c.index_mut.result.now c.step-come.new.self c.step-come.result is call.memory c.mark.ensures.machine c.mark.ensures.at_hand c.requires.sound.at_hand;
       };
       on_disk = λ f on. hive_writes s.journal s.hives.items c.args.place c.index_mut.result.now c.step-come.new.self old new is on
           (λ file none. call.call.others file (λ own. none (subst (λ n. IsOfHive n file) its own)))

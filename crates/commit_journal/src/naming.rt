@@ -1,14 +1,14 @@
 //! Of each hive the last change that names it.
 ghost use Rattle.std.specs.Prelude.{◌≡◌, ◌+◌, ◌<◌, ◌^◌, ℕ, if◌then◌else◌, IfOk, length, replicate, slice_get};
 ghost use Rattle.std.specs.Option.{option_map};
-ghost use Rattle.engine.specs.Naming.{HasCounted, names};
+ghost use Rattle.commit_journal.specs.Naming.{HasCounted, names};
 
 use reg_tree::{Element, Op};
 use std::alloc::{AllocError, Global};
 
 /// For each hive the number of the last change counted in that has an operation on it, or 0 where none has.
 #[derive(Drop)]
-pub(crate) struct Naming {
+pub struct Naming {
     /// The numbers, in the hives' order.
     pub last: Vec<u64>,
 }
@@ -20,6 +20,15 @@ impl Naming {
     {
         let last = vec![in alloc; 0; hives]?;
         Ok(Naming { last })
+    }
+
+    /// Each hive that one of these operations is on has this number.
+    pub(crate) fn count_one(&mut self, ops: &[Op], number: u64)
+        ensures named { (i : ℕ) → slice_get self.new.last.items i ≡
+            option_map (λ m. if names i ops.now then number else m) (slice_get self.old.last.items i) }
+        ensures many { length self.new.last.items ≡ length self.old.last.items }
+    {
+        name(&mut self.last, ops, number);
     }
 
     /// Counts changes in, the first of which has the number behind this one.

@@ -1,6 +1,6 @@
 use Rattle.std.proofs.Common.{◌≡◌, ℕ, cond, length, take, option_map, slice_get}
-use Rattle.engine.specs.Naming.{names}
-use Rattle.engine.proofs.naming.name.Given as goal
+use Rattle.commit_journal.specs.Naming.{names}
+use Rattle.commit_journal.proofs.naming.name.Given as goal
 
 abbrev pub invariant-loop-op : goal.invariant-loop-op
 invariant-loop-op l = record {

@@ -2,11 +2,11 @@ use Rattle.std.proofs.Common.{◌≡◌, ◌∙◌, ◌+◌, ◌||◌, ℕ, suc,
 use Rattle.std.specs.Prelude.{eqb}
 use Rattle.std.proofs.lemmas.List.{length-set}
 use Rattle.reg_tree.specs.Operations.{hive_of}
-use Rattle.engine.specs.Naming.{names}
-use Rattle.engine.proofs.Sound.{at_place}
-use Rattle.engine.proofs.Namings.{names_more, named_past, one_named}
-use Rattle.engine.proofs.naming.name.Goals as goal
-use Rattle.engine.proofs.naming.name.Goals.{then-hive-last, else-hive-last}
+use Rattle.commit_journal.specs.Naming.{names}
+use Rattle.commit_journal.proofs.Namings.{at_place}
+use Rattle.commit_journal.proofs.Namings.{names_more, named_past, one_named}
+use Rattle.commit_journal.proofs.naming.name.Goals as goal
+use Rattle.commit_journal.proofs.naming.name.Goals.{then-hive-last, else-hive-last}
 
 pub loop-op-preserved : goal.loop-op-preserved
 loop-op-preserved c =

@@ -4,10 +4,10 @@ use Rattle.reg_tree.specs.declared.op.Op.{Op}
 use Rattle.reg_tree.specs.declared.element.Element.{Element}
 use Rattle.prefix_law.specs.Changes as law
 use Rattle.engine_words.specs.Changes.{TimedOp, timed_element, timed_elements}
-use Rattle.engine.specs.Naming.{names, AreLastIn}
-use Rattle.engine.proofs.Sound.{at_place}
-use Rattle.engine.proofs.Namings.{one_counted, take_more, written_back}
-use Rattle.engine.proofs.naming.Naming.count_in.Goals as goal
+use Rattle.commit_journal.specs.Naming.{names, AreLastIn}
+use Rattle.commit_journal.proofs.Namings.{at_place}
+use Rattle.commit_journal.proofs.Namings.{one_counted, take_more, written_back}
+use Rattle.commit_journal.proofs.naming.Naming.count_in.Goals as goal
 
 pub loop-change-preserved : goal.loop-change-preserved
 loop-change-preserved c =

@@ -1,8 +1,8 @@
 use Rattle.std.proofs.Common.{◌≡◌, ◌+◌, ◌++◌, ℕ, List, length, take}
 use Rattle.prefix_law.specs.Changes as law
 use Rattle.engine_words.specs.Changes.{TimedOp, timed_elements}
-use Rattle.engine.specs.Naming.{AreLastIn}
-use Rattle.engine.proofs.naming.Naming.count_in.Given as goal
+use Rattle.commit_journal.specs.Naming.{AreLastIn}
+use Rattle.commit_journal.proofs.naming.Naming.count_in.Given as goal
 
 abbrev pub invariant-loop-change : goal.invariant-loop-change
 invariant-loop-change l = record {
