@@ -18,11 +18,21 @@ use regtx_parts::{Player, begin_on};
 use std::alloc::{AllocError, Global};
 
 /// A script over a disk in memory, and what was asked of that disk's device.
-#[derive(Drop)]
 pub(crate) struct Laboratory {
     alloc: Global,
     player: Player<MemDisk>,
     device: Device,
+}
+
+impl Drop for Laboratory {
+    // one drop for all that own a laboratory, whose proofs see no more of it than that
+    fn drop(self) {
+        let Laboratory {
+            alloc: _,
+            player: _,
+            device: _,
+        } = self;
+    }
 }
 
 impl Laboratory {

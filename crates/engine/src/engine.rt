@@ -40,10 +40,19 @@ use transactions::{Prepared, Store};
 ///
 /// An event that may accept a change may be made in two parts: [`prepare`](Engine::prepare) makes all that it grows, and
 /// [`finish`](Engine::finish) is the event and takes no memory. Any other event drops what stands prepared.
-#[derive(Drop)]
 pub struct Engine<D: Disk> {
     parts: Parts<D>,
     prepared: Option<Prepared>,
+}
+
+impl<D: Disk + Drop> Drop for Engine<D> {
+    // one drop for all that own an engine, whose proofs see no more of it than that
+    fn drop(self) {
+        let Engine {
+            parts: _,
+            prepared: _,
+        } = self;
+    }
 }
 
 impl<D: Disk> Model for Engine<D> {
@@ -309,7 +318,8 @@ impl<D: Disk> Engine<D> {
     pub fn into_disk(self) -> D
         ensures { result ≡ self.disk }
     {
-        self.parts.into_disk()
+        let Engine { parts, prepared: _ } = self;
+        parts.into_disk()
     }
 }
 

@@ -15,7 +15,6 @@ use std::io::Write;
 use std::sync::Arc;
 
 /// A run of a script, and the table of what opens behind each of its device calls.
-#[derive(Drop)]
 pub(crate) struct Run {
     alloc: Global,
     player: Player<Watched>,
@@ -24,6 +23,21 @@ pub(crate) struct Run {
     seen: u64,
     table: Table,
     has_refusal: bool,
+}
+
+impl Drop for Run {
+    // one drop for all that own a run, whose proofs see no more of it than that
+    fn drop(self) {
+        let Run {
+            alloc: _,
+            player: _,
+            history: _,
+            acknowledged: _,
+            seen: _,
+            table: _,
+            has_refusal: _,
+        } = self;
+    }
 }
 
 /// The run of the script whose first line these bytes are, or nothing where they are no such line. The calls that make its store are

@@ -28,11 +28,21 @@ use uuid::Uuid;
 ///
 /// Where the disk is faithful, whatever a crash leaves of the files, with honest first sectors of the primary files, recovers the
 /// same number and trees.
-#[derive(Drop)]
 pub struct Opened<D: Disk> {
     disk: D,
     found: Found,
     failed: bool,
+}
+
+impl<D: Disk + Drop> Drop for Opened<D> {
+    // one drop for all that own a store, whose proofs see no more of it than that
+    fn drop(self) {
+        let Opened {
+            disk: _,
+            found: _,
+            failed: _,
+        } = self;
+    }
 }
 
 impl<D: Disk> Model for Opened<D> {
@@ -196,7 +206,12 @@ impl<D: Disk> Opened<D> {
     pub fn into_disk(self) -> D
         ensures { result ≡ self.disk }
     {
-        self.disk
+        let Opened {
+            disk,
+            found: _,
+            failed: _,
+        } = self;
+        disk
     }
 
     /// The disk, and what was found on it.
@@ -208,7 +223,12 @@ impl<D: Disk> Opened<D> {
         ensures on_disk { D.faithful result.0 → AreOnDisk result.1.journal result.1.hives.items
             (D.state_at result.0 (D.clock result.0)) }
     {
-        (self.disk, self.found)
+        let Opened {
+            disk,
+            found,
+            failed: _,
+        } = self;
+        (disk, found)
     }
 
     /// A store of its parts again, where the device hasn't failed.

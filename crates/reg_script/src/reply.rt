@@ -11,7 +11,6 @@ use std::io;
 use std::io::Write;
 
 /// What a line of a script is answered.
-#[derive(Drop)]
 pub enum ReplyLine {
     /// `ok`: what was asked for is done.
     Done,
@@ -87,6 +86,38 @@ pub enum ReplyLine {
         /// Why the line was refused.
         refusal: Refusal,
     },
+}
+
+impl Drop for ReplyLine {
+    // one drop for all that own a reply, whose proofs see no more of it than that
+    fn drop(self) {
+        match self {
+            ReplyLine::Value { kind: _, data: _ } => {}
+            ReplyLine::Keys { names: _ } | ReplyLine::Values { names: _ } => {}
+            ReplyLine::Created {
+                levels: _,
+                number: _,
+            } => {}
+            ReplyLine::CreatedInside { levels: _ } => {}
+            ReplyLine::Info {
+                subkeys: _,
+                values: _,
+                time: _,
+            } => {}
+            ReplyLine::Accepted { number: _ }
+            | ReplyLine::Committed { number: _ }
+            | ReplyLine::Flushed { number: _ } => {}
+            ReplyLine::Refused { refusal: _ } => {}
+            ReplyLine::Done
+            | ReplyLine::Opened
+            | ReplyLine::StepIdle
+            | ReplyLine::StepMore
+            | ReplyLine::StepDone
+            | ReplyLine::StillActive
+            | ReplyLine::HasCommitted
+            | ReplyLine::RolledBack => {}
+        }
+    }
 }
 
 impl ReplyLine {

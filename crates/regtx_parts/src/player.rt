@@ -24,12 +24,23 @@ use std::alloc::{AllocError, Global};
 use uuid::Uuid;
 
 /// A script between two lines: its store, the moment and the session of what follows, and the transaction that each label names.
-#[derive(Drop)]
 pub struct Player<D: Disk> {
     engine: Engine<D>,
     moment: u64,
     session: u32,
     labels: Labels,
+}
+
+impl<D: Disk + Drop> Drop for Player<D> {
+    // one drop for all that own a player, whose proofs see no more of it than that
+    fn drop(self) {
+        let Player {
+            engine: _,
+            moment: _,
+            session: _,
+            labels: _,
+        } = self;
+    }
 }
 
 impl<D: Disk> Player<D> {
@@ -67,7 +78,13 @@ impl<D: Disk> Player<D> {
     pub fn into_engine(self) -> Engine<D>
         ensures { result ≡ engine_of self }
     {
-        self.engine
+        let Player {
+            engine,
+            moment: _,
+            session: _,
+            labels: _,
+        } = self;
+        engine
     }
 
     /// Answers a further line of the script, or nothing where the bytes are no such line. Memory is refused only for
