@@ -25,7 +25,7 @@ fn written(
 ) -> Result<([Option<[u8; 5]>; 3], u64), Refusal> {
     let prepared = prepare_write(store, creation(alloc, 0, b'A')?)?;
     let before = keys(alloc, store.trees(), 0)?;
-    let number = accepted(&finish(store))?;
+    let number = accepted(finish(store))?;
     let after = keys(alloc, store.trees(), 0)?;
     Ok(([shown(alloc, prepared)?, Some(before), Some(after)], number))
 }
@@ -42,7 +42,7 @@ fn a_write_shows_its_trees_and_is_accepted_as_it_is_finished(rt: HostRuntime) ->
 // what is awaited once a write was prepared, and the number of the same write behind that
 fn dropped(alloc: Global, store: &mut Engine<MemDisk>) -> Result<(u64, u64), Refusal> {
     prepare_write(store, creation(alloc, 0, b'A')?)?;
-    let awaited = accepted(&ask(store, Event::FlushAsk))?;
+    let awaited = accepted(ask(store, Event::FlushAsk))?;
     Ok((awaited, create(store, alloc, 0, b'A')?))
 }
 
@@ -62,7 +62,7 @@ fn committed(
     let tx = begun(store)?;
     write_in(store, tx, creation(alloc, 0, b'A')?)?;
     let prepared = prepare_commit(store, tx)?;
-    let number = accepted(&finish(store))?;
+    let number = accepted(finish(store))?;
     Ok((shown(alloc, prepared)?, number))
 }
 
@@ -81,7 +81,7 @@ fn refused(
 ) -> Result<(Option<[u8; 5]>, Option<Refusal>), Refusal> {
     let path = path(alloc, b'A')?;
     let prepared = prepare_write(store, Op::DeleteKey { hive: 0, path })?;
-    let why = accepted(&finish(store)).err();
+    let why = accepted(finish(store)).err();
     Ok((shown(alloc, prepared)?, why))
 }
 

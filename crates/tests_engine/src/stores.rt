@@ -87,23 +87,22 @@ pub fn creation(alloc: Global, hive: u8, letter: u8) -> Result<Op, Refusal> {
 
 /// Carries out an operation by itself: the change's number, or 0 where none was needed.
 pub fn write(engine: &mut Engine<MemDisk>, op: Op) -> Result<u64, Refusal> {
-    let reply = ask(
+    accepted(ask(
         engine,
         Event::Write {
             session: SESSION,
             moment: MOMENT,
             op,
         },
-    );
-    accepted(&reply)
+    ))
 }
 
 /// The number that an event was answered which may accept a change, or why it was refused.
-pub fn accepted(reply: &Reply) -> Result<u64, Refusal> {
+pub fn accepted(reply: Reply) -> Result<u64, Refusal> {
     match reply {
-        Reply::Accepted { number, .. } => Ok(*number),
-        Reply::Awaits { number } => Ok(*number),
-        Reply::Refused { refusal } => Err(*refusal),
+        Reply::Accepted { number, .. } => Ok(number),
+        Reply::Awaits { number } => Ok(number),
+        Reply::Refused { refusal } => Err(refusal),
         _ => Ok(0),
     }
 }
@@ -133,16 +132,13 @@ pub fn begun(engine: &mut Engine<MemDisk>) -> Result<Tx, Refusal> {
 
 /// Adds an operation to a transaction.
 pub fn write_in(engine: &mut Engine<MemDisk>, tx: Tx, op: Op) -> Result<(), Refusal> {
-    let reply = ask(
-        engine,
-        Event::TxWrite {
-            session: SESSION,
-            tx,
-            moment: MOMENT,
-            op,
-        },
-    );
-    match accepted(&reply) {
+    let write = Event::TxWrite {
+        session: SESSION,
+        tx,
+        moment: MOMENT,
+        op,
+    };
+    match accepted(ask(engine, write)) {
         Ok(_) => Ok(()),
         Err(why) => Err(why),
     }
@@ -150,15 +146,14 @@ pub fn write_in(engine: &mut Engine<MemDisk>, tx: Tx, op: Op) -> Result<(), Refu
 
 /// Commits a transaction: the change's number, or 0 where there is none.
 pub fn commit(engine: &mut Engine<MemDisk>, tx: Tx) -> Result<u64, Refusal> {
-    let reply = ask(
+    accepted(ask(
         engine,
         Event::CommitAccept {
             session: SESSION,
             tx,
             moment: MOMENT,
         },
-    );
-    accepted(&reply)
+    ))
 }
 
 /// Makes one change of the creation of keys, of a letter in each hive from 0 on: its number.
@@ -179,7 +174,7 @@ pub fn create_all(
 /// Makes steps of the journal, at most so many, until one is idle or refused.
 pub fn journal(engine: &mut Engine<MemDisk>, most: u32) {
     for _step in 0..most {
-        if is_over(&ask(engine, Event::JournalStep)) {
+        if is_over(ask(engine, Event::JournalStep)) {
             return;
         }
     }
@@ -188,7 +183,7 @@ pub fn journal(engine: &mut Engine<MemDisk>, most: u32) {
 /// Makes steps of a hive's flush, at most so many, until one is idle or refused.
 pub fn flush(engine: &mut Engine<MemDisk>, hive: u8, most: u32) {
     for _step in 0..most {
-        if is_over(&ask(engine, Event::FlusherStep { hive })) {
+        if is_over(ask(engine, Event::FlusherStep { hive })) {
             return;
         }
     }
@@ -197,14 +192,14 @@ pub fn flush(engine: &mut Engine<MemDisk>, hive: u8, most: u32) {
 /// Makes steps of a trim until one is idle or refused.
 pub fn trim(engine: &mut Engine<MemDisk>) {
     for _step in 0..MANY {
-        if is_over(&ask(engine, Event::TrimStep)) {
+        if is_over(ask(engine, Event::TrimStep)) {
             return;
         }
     }
 }
 
 // whether a step was idle, or refused
-fn is_over(reply: &Reply) -> bool {
+fn is_over(reply: Reply) -> bool {
     !matches!(
         reply,
         Reply::Stepped {
