@@ -5,3 +5,4 @@ pub mod Lengths
 pub mod Elements
 pub mod May
 pub mod Taken
+pub mod Skipped

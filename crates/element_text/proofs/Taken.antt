@@ -1,5 +1,5 @@
 -- What a loop over the bytes has read so far, and what a number's bytes are read as.
-use Rattle.std.proofs.Common.{◌≡◌, ℕ, zero, suc, ◌+◌, ◌*◌, ◌<◌, ◌≤◌, Bool, true, List, [], ◌∷◌, ◌++◌, length, take, drop, get_or, refl, sym, ap, subst, ◌∙◌, arith, append_assoc, Option, Some, None}
+use Rattle.std.proofs.Common.{◌≡◌, ℕ, zero, suc, ◌+◌, ◌*◌, ◌<◌, ◌≤◌, Bool, true, List, [], ◌∷◌, ◌++◌, length, take, drop, get_or, refl, sym, ap, subst, ◌∙◌, arith, append_assoc, length-append, Option, Some, None}
 use Rattle.std.specs.Prelude.{option_map}
 use Rattle.std.specs.Option.{option_and_then}
 use Rattle.std.specs.List.{AllByRecursion, list_all}
@@ -7,7 +7,8 @@ use Rattle.std.proofs.lemmas.List.{append-nil, take_more, take_all}
 use Rattle.std.proofs.lemmas.Bool.{and_from, and_parts}
 use Rattle.byteorder.specs.Endian.{little_number}
 use Rattle.byteorder.specs.Numbers.{little_from-cons}
-use Rattle.element_text.specs.Readers.{Reader, give, then_by, repeat, number_at}
+use Rattle.element_text.specs.Readers.{Reader, give, then_by, both, repeat, number_at}
+use Rattle.element_text.specs.Changes.{SkipsMany}
 use Rattle.element_text.proofs.Numbers.{step}
 
 -- what reading goes on to give, with these values in front
@@ -37,6 +38,25 @@ module _ {A : Type 0} (r : Reader A) where
   pub ends : (front : List A) (left : ℕ) (rest : List ℕ) → left ≡ 0 → behind front (repeat left r rest) ≡ Some (front, rest)
   ends front left rest is = ap (λ (n : ℕ). behind front (repeat n r rest)) is ∙ ap (λ (l : List A). Some (l, rest)) (append-nil front)
 
+-- of so many values that bytes begin with some were read, and so many are left
+abbrev pub HasSkipped : {A : Type 0} → Reader A → ℕ → List ℕ → ℕ → List ℕ → Type 0
+HasSkipped {A = A} r count bytes left rest = (front : List A) × (repeat count r bytes ≡ behind front (repeat left r rest)) × (left + length front ≡ count)
+
+module _ {A : Type 0} (r : Reader A) where
+  -- none was read yet
+  pub nothing_yet : (count left : ℕ) (bytes : List ℕ) → left ≡ count → HasSkipped r count bytes left bytes
+  nothing_yet count left bytes is = ([], ap (λ (n : ℕ). repeat n r bytes) (sym is) ∙ behind_none (repeat left r bytes), omega (arith, is))
+
+  pub skips_on : (count left more : ℕ) (bytes rest next : List ℕ) (x : A) → HasSkipped r count bytes left rest → left ≡ suc more → r rest ≡ Some (x, next) → HasSkipped r count bytes more next
+  skips_on count left more bytes rest next x (front, so_far, many) is one =
+      (front ++ x ∷ [], so_far ∙ goes_on r front left more x rest next is one, omega (arith, is, many, length-append front (x ∷ [])))
+
+  pub skips_no_more : (count left more : ℕ) (bytes rest : List ℕ) → HasSkipped r count bytes left rest → left ≡ suc more → r rest ≡ None → repeat count r bytes ≡ None
+  skips_no_more count left more bytes rest (front, so_far, many) is none = so_far ∙ stops r front left more rest is none
+
+  pub skips_all : (count left : ℕ) (bytes rest : List ℕ) → HasSkipped r count bytes left rest → left ≡ 0 → SkipsMany (repeat count r bytes) count rest
+  skips_all count left bytes rest (front, so_far, many) is = (front, so_far ∙ ends r front left rest is, omega (arith, is, many))
+
 -- one reader, and behind it another: what is then read, and where nothing is
 module _ {A B : Type 0} (r : Reader A) (f : A → Reader B) where
   pub then_some : (bytes : List ℕ) (a : A) (rest : List ℕ) → r bytes ≡ Some (a, rest) → then_by r f bytes ≡ f a rest
@@ -44,6 +64,10 @@ module _ {A B : Type 0} (r : Reader A) (f : A → Reader B) where
 
   pub then_none : (bytes : List ℕ) → r bytes ≡ None → then_by r f bytes ≡ None
   then_none bytes none = ap (λ (o : Option (A × List ℕ)). option_and_then (λ one. f one.0 one.1) o) none
+
+-- two values that are read one behind the other
+pub both_some : {A B : Type 0} (r : Reader A) (s : Reader B) (bytes : List ℕ) (a : A) (rest : List ℕ) (b : B) (more : List ℕ) → r bytes ≡ Some (a, rest) → s rest ≡ Some (b, more) → both r s bytes ≡ Some ((a, b), more)
+both_some r s bytes a rest b more one two = then_some r (λ x. then_by s (λ y. give (x, y))) bytes a rest one ∙ then_some s (λ y. give (a, y)) rest b more two
 
 -- a number's bytes, where there are enough
 pub number_whole : (n : ℕ) (bytes : List ℕ) → n ≤ length bytes → ((k : ℕ) → k < length bytes → get_or bytes k 0 < 256) → number_at n bytes ≡ Some (little_number n bytes, drop n bytes)

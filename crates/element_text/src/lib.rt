@@ -12,6 +12,7 @@
 mod fields;
 pub mod laws;
 mod reading;
+mod skipping;
 mod writing;
 
 pub use fields::{put_u8, put_u16, put_u32, put_u64};

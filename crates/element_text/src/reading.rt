@@ -17,8 +17,20 @@ use std::alloc::Global;
 /// The change on one of so many hives that bytes begin with, and the bytes behind it.
 ///
 /// Refused with `JournalDamaged` exactly where the bytes begin with no text of such a change, and with `NoMemory`.
-#[tactic(auto, unfolding(crate::specs::Text::element_at))]
 pub fn read(alloc: Global, hives: u8, bytes: &[u8]) -> Result<(Element, &[u8]), Refusal>
+    ensures { MatchResult result (λ got. element_at hives bytes.now ≡ Some (got.0, got.1.now))
+        (RefusedFor JournalDamaged (element_at hives bytes.now ≡ None)) }
+{
+    take_change(alloc, u16::from(hives), bytes)
+}
+
+/// The same, on one of so many hives as a byte can tell apart, or fewer.
+#[tactic(auto, unfolding(crate::specs::Text::element_at))]
+pub(crate) fn take_change(
+    alloc: Global,
+    hives: u16,
+    bytes: &[u8],
+) -> Result<(Element, &[u8]), Refusal>
     ensures { MatchResult result (λ got. element_at hives bytes.now ≡ Some (got.0, got.1.now))
         (RefusedFor JournalDamaged (element_at hives bytes.now ≡ None)) }
 {
@@ -44,7 +56,7 @@ struct Fields {
     ops: Vec<Op>,
 }
 
-fn take_fields(alloc: Global, hives: u8, bytes: &[u8]) -> Result<(Fields, &[u8]), Refusal>
+fn take_fields(alloc: Global, hives: u16, bytes: &[u8]) -> Result<(Fields, &[u8]), Refusal>
     ensures { MatchResult result
         (λ got. fields_at hives bytes.now ≡ Some (
           (got.0.len, (got.0.moment, got.0.ops.items)),
@@ -60,7 +72,7 @@ fn take_fields(alloc: Global, hives: u8, bytes: &[u8]) -> Result<(Fields, &[u8])
 }
 
 /// So many operations, one after another, and the bytes behind them.
-fn take_ops(alloc: Global, hives: u8, count: u32, bytes: &[u8]) -> Result<(Vec<Op>, &[u8]), Refusal>
+fn take_ops(alloc: Global, hives: u16, count: u32, bytes: &[u8]) -> Result<(Vec<Op>, &[u8]), Refusal>
     ensures { MatchResult result (λ got. repeat count (op_at hives) bytes.now ≡ Some (
       got.0.items,
       got.1.now,
@@ -78,7 +90,7 @@ fn take_ops(alloc: Global, hives: u8, count: u32, bytes: &[u8]) -> Result<(Vec<O
     Ok((ops, rest))
 }
 
-fn take_op(alloc: Global, hives: u8, bytes: &[u8]) -> Result<(Op, &[u8]), Refusal>
+fn take_op(alloc: Global, hives: u16, bytes: &[u8]) -> Result<(Op, &[u8]), Refusal>
     ensures { MatchResult result (λ got. op_at hives bytes.now ≡ Some (got.0, got.1.now))
         (RefusedFor JournalDamaged (op_at hives bytes.now ≡ None)) }
 {
@@ -95,12 +107,12 @@ fn take_op(alloc: Global, hives: u8, bytes: &[u8]) -> Result<(Op, &[u8]), Refusa
 }
 
 /// A hive that is one of so many.
-fn take_hive(hives: u8, bytes: &[u8]) -> Result<(u8, &[u8]), Refusal>
+fn take_hive(hives: u16, bytes: &[u8]) -> Result<(u8, &[u8]), Refusal>
     ensures { MatchResult result (λ got. hive_at hives bytes.now ≡ Some (got.0, got.1.now))
         (RefusedFor JournalDamaged (hive_at hives bytes.now ≡ None)) }
 {
     let (hive, rest) = take_u8(bytes)?;
-    if hive < hives {
+    if u16::from(hive) < hives {
         Ok((hive, rest))
     } else {
         Err(Refusal::JournalDamaged)

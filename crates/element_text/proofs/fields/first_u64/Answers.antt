@@ -1,7 +1,7 @@
 use Rattle.std.proofs.Common.{◌-◌, ◌≡◌, ℕ, ◌<◌, List, length, take, drop, get_or, Some, sym, ap, ◌∙◌, arith, length-drop}
 use Rattle.std.proofs.lemmas.List.{take_all}
 use Rattle.element_text.proofs.Taken.{number_whole}
-use Rattle.element_text.proofs.fields.take_u64.Goals as goal
+use Rattle.element_text.proofs.fields.first_u64.Goals as goal
 
 pub returns : goal.returns
 returns c =
