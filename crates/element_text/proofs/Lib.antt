@@ -6,3 +6,4 @@ pub mod Elements
 pub mod May
 pub mod Taken
 pub mod Skipped
+pub mod Kept

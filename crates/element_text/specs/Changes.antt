@@ -32,13 +32,22 @@ abbrev pub change_in : List ℕ → Element
 change_in bytes = change_or_none (element_at 256 bytes)
 
 -- bytes are the text of a change, and no more
-abbrev pub IsText : List ℕ → Type 0
-IsText bytes = element_at 256 bytes ≡ Some (change_in bytes, [])
+abbrev pub IsChange : List ℕ → Type 0
+IsChange bytes = element_at 256 bytes ≡ Some (change_in bytes, [])
 
--- the hives of so many operations that bytes begin with
+-- the hives of a change's operations, one after another
+abbrev pub hives_of : Element → List ℕ
+hives_of e = map hive_of e.ops
+
+-- bytes begin with so many operations
+abbrev pub AreOps : ℕ → List ℕ → Type 0
+AreOps count bytes = ¬ (repeat count (op_at 256) bytes ≡ None)
+
+-- the hives of those that were read
 abbrev pub hives_read : Option (List Op × List ℕ) → List ℕ
 hives_read None = []
 hives_read (Some got) = map hive_of got.0
 
+-- the hives of so many operations that bytes begin with
 abbrev pub hives_in : ℕ → List ℕ → List ℕ
 hives_in count bytes = hives_read (repeat count (op_at 256) bytes)

@@ -76,6 +76,7 @@ pub record Fits (hives : ℕ) (e : Element) : Type 0 where
 
 -- what an operation in memory has of this by its types and its length
 pub record HasText (op : Op) : Type 0 where
+  pub hive : hive_of op < 256
   pub path : is_path (spelled_path op) ≡ true
   pub tail : TailFits op
 

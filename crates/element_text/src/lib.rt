@@ -9,12 +9,16 @@
 //! here, and a reader sees all of the bytes at once: reading in pieces is the journal's.
 #![tactic(auto)]
 
+mod change_text;
 mod fields;
+mod hives;
 pub mod laws;
 mod reading;
 mod skipping;
 mod writing;
 
+pub use change_text::ChangeText;
 pub use fields::{put_u8, put_u16, put_u32, put_u64};
+pub use hives::Hives;
 pub use reading::read;
 pub use writing::write;

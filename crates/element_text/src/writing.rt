@@ -1,5 +1,5 @@
 //! Changes to bytes, in the layout of `specs/Text`.
-ghost use Rattle.std.specs.Prelude.{◌≡◌, ◌++◌, ◌<◌, ◌^◌, length, All, true, ℕ, OnOk};
+ghost use Rattle.std.specs.Prelude.{◌≡◌, ◌+◌, ◌++◌, ◌<◌, ◌^◌, length, All, true, ℕ, OnOk};
 ghost use Rattle.std.specs.List.{AllByRecursion, flat_map, list_all};
 ghost use Rattle.reg_tree.specs.Operations.{hive_of};
 ghost use Rattle.reg_tree.specs.Texts.{op_text_len, ops_text_len, element_text_len};
@@ -21,9 +21,26 @@ pub fn write(element: &Element, bytes: &mut Vec<u8>) -> Result<(), AllocError>
     ensures fits { OnOk result ((hives : ℕ) →
         AllByRecursion (λ op. hive_of op < hives) element.now.ops → Fits hives element.now) }
 {
-    let moment = element.moment;
-    let ops = element.ops.list();
-    put_u32(bytes, element.text_len() as u32)?;
+    let len = element.text_len() as u32;
+    write_change(element.moment, element.ops.list(), len, bytes)
+}
+
+/// Puts the text of the change that these operations make at a moment behind some bytes: so many.
+pub(crate) fn write_change(
+    moment: u64,
+    ops: &[Op],
+    len: u32,
+    bytes: &mut Vec<u8>,
+) -> Result<(), AllocError>
+    requires some { 0 < length ops.now }
+    requires len { len ≡ 16 + ops_text_len ops.now }
+    ensures text { OnOk result (bytes.new.items
+        ≡ bytes.old.items ++ element_text (record { moment = moment; ops = ops.now })) }
+    ensures fits { OnOk result ((hives : ℕ) → AllByRecursion (λ op. hive_of op < hives) ops.now →
+        Fits hives (record { moment = moment; ops = ops.now })) }
+    ensures all { OnOk result (Fits 256 (record { moment = moment; ops = ops.now })) }
+{
+    put_u32(bytes, len)?;
     put_u64(bytes, moment)?;
     put_u32(bytes, ops.len() as u32)?;
     write_ops(ops, bytes)

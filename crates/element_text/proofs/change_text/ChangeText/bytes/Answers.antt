@@ -1,0 +1,16 @@
+use Rattle.std.proofs.Common.{◌∙◌, ap, subst, ◌<◌, ℕ}
+use Rattle.std.specs.List.{AllByRecursion}
+use Rattle.reg_tree.specs.Operations.{hive_of}
+use Rattle.reg_tree.specs.declared.element.Element.{Element}
+use Rattle.element_text.specs.Text.{element_text, Fits}
+use Rattle.element_text.specs.Kept.{bytes_of}
+use Rattle.element_text.proofs.Kept.{is_text, fits_within}
+use Rattle.element_text.proofs.change_text.ChangeText.bytes.Goals as goal
+
+pub returns-clause-text : goal.returns-clause-text
+returns-clause-text c = c.bytes.ensures ∙ (is_text (bytes_of c.self.inside.held) c.self.invariant.1).0 ∙ ap element_text c.self.view_is
+
+pub returns-clause-fits : goal.returns-clause-fits
+returns-clause-fits c = λ hives there.
+    let fits : Fits 256 c.args.self.now = subst (Fits 256) c.self.view_is (is_text (bytes_of c.self.inside.held) c.self.invariant.1).1 in
+    fits_within hives 256 c.args.self.now fits there
