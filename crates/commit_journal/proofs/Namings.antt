@@ -1,9 +1,11 @@
 -- The last change that names a hive, as changes are counted in.
-use Rattle.std.proofs.Common.{◌≡◌, ◌≢◌, inl, inr, ℕ, zero, suc, ◌+◌, ◌-◌, ◌<◌, ◌≤◌, ◌||◌, Bool, true, false, cond, List, [], ◌∷◌, ◌++◌, length, map, take, drop, refl, sym, ◌∙◌, ap, subst, arith, Option, Some, None, get_or, slice_get, option_map}
+use Rattle.std.proofs.Common.{◌≡◌, ◌≢◌, inl, inr, ℕ, zero, suc, ◌+◌, ◌-◌, ◌<◌, ◌≤◌, ◌||◌, Bool, true, false, cond, List, [], ◌∷◌, ◌++◌, length, map, take, drop, refl, sym, ◌∙◌, ap, subst, append_assoc, arith, Option, Some, None, get_or, slice_get, option_map}
 use Rattle.std.specs.Prelude.{eqb, replicate, slice_set}
+use Rattle.std.specs.List.{list_any}
 use Rattle.std.proofs.lemmas.Bool.Decides.{nat_tests}
-use Rattle.std.proofs.lemmas.Bool.{eqb-true, true≢false}
-use Rattle.std.proofs.lemmas.List.{length-append, take-append-le, take_all}
+use Rattle.std.proofs.lemmas.Bool.{eqb-true, eq-eqb, true≢false}
+use Rattle.std.proofs.lemmas.List.Folds.{list_any-append}
+use Rattle.std.proofs.lemmas.List.{append-nil, length-append, length-set, take-append-le, take_all}
 use Rattle.std.proofs.lemmas.Option.{none-some, same_Some, slice_get_read, slice_get-get_or}
 use Rattle.std.proofs.Math.ListN.{drop_of_length-le}
 use Rattle.reg_tree.specs.Operations.{hive_of}
@@ -125,10 +127,17 @@ or_yes : (c : Bool) → (c || true) ≡ true
 or_yes true = refl
 or_yes false = refl
 
-pub names_more : (i k : ℕ) (ops : List Op) (op : Op) → slice_get ops k ≡ Some op → names i (take (suc k) ops) ≡ (names i (take k ops) || eqb (hive_of op) i)
-names_more i k [] op e = absurd (none-some op e)
-names_more i zero (x ∷ xs) op e = or_no (eqb (hive_of x) i) ∙ ap (λ (o : Op). eqb (hive_of o) i) (same_Some x op e)
-names_more i (suc k) (x ∷ xs) op e = ap (λ b. eqb (hive_of x) i || b) (names_more i k xs op e) ∙ or_again (eqb (hive_of x) i) (names i (take k xs)) (eqb (hive_of op) i)
+-- whether a hive is among some
+abbrev pub among : ℕ → List ℕ → Bool
+among i hives = list_any (λ h. eqb h i) hives
+
+-- operations name the hives that they are on
+names_among : (i : ℕ) (ops : List Op) → names i ops ≡ among i (map hive_of ops)
+names_among i [] = refl
+names_among i (op ∷ ops) = ap (λ b. eqb (hive_of op) i || b) (names_among i ops)
+
+among_more : (i : ℕ) (front : List ℕ) (h : ℕ) → among i (front ++ h ∷ []) ≡ (among i front || eqb h i)
+among_more i front h = list_any-append (λ k. eqb k i) front (h ∷ []) ∙ ap (λ b. among i front || b) (or_no (eqb h i))
 
 pub one_named : (xs ys : List ℕ) (i h number : ℕ) (b : Bool) → h < length ys → slice_get ys i ≡ option_map (λ m. cond b number m) (slice_get xs i)
     → slice_get (slice_set ys h number) i ≡ option_map (λ m. cond (b || eqb h i) number m) (slice_get xs i)
@@ -177,3 +186,62 @@ named_past xs ys i h number b past is = by_test (eqb h i) refl
         let same : h ≡ i = eqb-true h i e in
         none (slice_get xs i) (slice_get ys i) (slice_get_past ys i (omega (arith, past, same))) is ∙ ap (λ c. option_map (λ m. cond c number m) (slice_get xs i)) (sym (or_yes b))
     by_test false e = is ∙ ap (λ c. option_map (λ m. cond c number m) (slice_get xs i)) (sym (or_no b))
+
+-- Of a change's hives these are left, and the others have the number.
+abbrev pub HasNamed : List ℕ → ℕ → List ℕ → List ℕ → List ℕ → Type 0
+HasNamed was number hives is left = (front : List ℕ) × (hives ≡ front ++ left) × ((i : ℕ) → slice_get is i ≡ option_map (λ m. cond (among i front) number m) (slice_get was i)) × (length is ≡ length was)
+
+module _ (was : List ℕ) (number : ℕ) (hives : List ℕ) where
+  untouched : (o : Option ℕ) → o ≡ option_map (λ m. m) o
+  untouched None = refl
+  untouched (Some m) = refl
+
+  pub none_named_yet : HasNamed was number hives was hives
+  none_named_yet = ([], refl, λ i. untouched (slice_get was i), refl)
+
+  pub next_named : (is : List ℕ) (h : ℕ) (left : List ℕ) → HasNamed was number hives is (h ∷ left) → h < length is → HasNamed was number hives (slice_set is h number) left
+  next_named is h left (front, are, named, many) lt = (
+    front ++ h ∷ [],
+    are ∙ sym (append_assoc front (h ∷ []) left),
+    λ i. one_named was is i h number (among i front) lt (named i) ∙ ap (λ b. option_map (λ m. cond b number m) (slice_get was i)) (sym (among_more i front h)),
+    length-set is h number ∙ many,
+  )
+
+  pub next_past : (is : List ℕ) (h : ℕ) (left : List ℕ) → HasNamed was number hives is (h ∷ left) → length is ≤ h → HasNamed was number hives is left
+  next_past is h left (front, are, named, many) past = (
+    front ++ h ∷ [],
+    are ∙ sym (append_assoc front (h ∷ []) left),
+    λ i. named_past was is i h number (among i front) past (named i) ∙ ap (λ b. option_map (λ m. cond b number m) (slice_get was i)) (sym (among_more i front h)),
+    many,
+  )
+
+pub all_named : (was : List ℕ) (number : ℕ) (ops : List Op) (is : List ℕ) → HasNamed was number (map hive_of ops) is [] → (i : ℕ) → slice_get is i ≡ option_map (λ m. cond (names i ops) number m) (slice_get was i)
+all_named was number ops is (front, are, named, many) i =
+    named i ∙ ap (λ b. option_map (λ m. cond b number m) (slice_get was i)) (sym (names_among i ops ∙ ap (among i) (are ∙ append-nil front)))
+
+-- Of a change's hives these are left, and each of the others holds the change of this number, by its own.
+abbrev pub HaveHeld : List ℕ → ℕ → List ℕ → List ℕ → Type 0
+HaveHeld numbers number hives left = (front : List ℕ) × (hives ≡ front ++ left) × ((i : ℕ) → get_or numbers i 0 < number → among i front ≡ false)
+
+module _ (numbers : List ℕ) (number : ℕ) where
+  pub none_held_yet : (hives : List ℕ) → HaveHeld numbers number hives hives
+  none_held_yet hives = ([], refl, λ i lacks. refl)
+
+  pub next_held : (hives : List ℕ) (h : ℕ) (left : List ℕ) → HaveHeld numbers number hives (h ∷ left) → number ≤ get_or numbers h 0 → HaveHeld numbers number hives left
+  next_held hives h left (front, are, held) le = (front ++ h ∷ [], are ∙ sym (append_assoc front (h ∷ []) left), λ i lacks. among_more i front h ∙ ap (λ b. b || eqb h i) (held i lacks) ∙ other i lacks (eqb h i) refl)
+    where
+      other : (i : ℕ) → get_or numbers i 0 < number → (b : Bool) → eqb h i ≡ b → b ≡ false
+      other i lacks true e = absurd (omega (arith, le, lacks, ap (λ k. get_or numbers k 0) (eqb-true h i e)))
+      other i lacks false e = refl
+
+  pub all_held : (ops : List Op) → HaveHeld numbers number (map hive_of ops) [] → (i : ℕ) → get_or numbers i 0 < number → names i ops ≡ false
+  all_held ops (front, are, held) i lacks = names_among i ops ∙ ap (among i) (are ∙ append-nil front) ∙ held i lacks
+
+  -- the next hive is one of the change's
+  pub next_is_named : (ops : List Op) (h : ℕ) (left : List ℕ) → HaveHeld numbers number (map hive_of ops) (h ∷ left) → names h ops ≡ true
+  next_is_named ops h left (front, are, held) =
+      names_among h ops ∙ ap (among h) are ∙ list_any-append (λ k. eqb k h) front (h ∷ left) ∙ ap (λ b. among h front || (b || among h left)) (eq-eqb h h refl) ∙ or_true (among h front)
+    where
+      or_true : (b : Bool) → (b || true) ≡ true
+      or_true true = refl
+      or_true false = refl

@@ -8,8 +8,7 @@ ghost use Rattle.commit_journal.specs.Handed.{IsShort, FitsIfThere, body_len, Is
 ghost use Rattle.commit_journal.specs.declared.layout.TheConstants.{MOST_BODY_BYTES};
 
 use crate::layout::MOST_BODY_BYTES;
-use element_text::{put_u32, put_u64};
-use reg_tree::Element;
+use element_text::{ChangeText, put_u32, put_u64};
 use std::alloc::{AllocError, Global};
 
 /// So many of the first elements, and the bytes of the body that they make.
@@ -20,7 +19,7 @@ pub(crate) struct Front {
 }
 
 /// As many of the first elements as fit a body.
-pub(crate) fn longest_front(handed: &[Element]) -> Front
+pub(crate) fn longest_front(handed: &[ChangeText]) -> Front
     requires { AllByRecursion IsShort handed.now }
     ensures front { IsLongestFront result.count handed.now }
     ensures size { result.size ≡ body_len (take result.count handed.now) }
@@ -45,7 +44,7 @@ pub(crate) fn longest_front(handed: &[Element]) -> Front
 pub(crate) fn encode(
     alloc: Global,
     first: u64,
-    elements: &[Element],
+    elements: &[ChangeText],
     size: u64,
 ) -> Result<Vec<u8>, AllocError>
     requires size { size ≡ body_len elements.now }
@@ -63,14 +62,14 @@ pub(crate) fn encode(
 }
 
 /// Puts the texts of elements behind some bytes.
-fn write_all(elements: &[Element], bytes: &mut Vec<u8>) -> Result<(), AllocError>
+fn write_all(elements: &[ChangeText], bytes: &mut Vec<u8>) -> Result<(), AllocError>
     requires { sum_by element_text_len elements.now < 2 ^ 32 }
     ensures text { OnOk result (bytes.new.items
         ≡ bytes.old.items ++ flat_map element_text elements.now) }
     ensures fit { OnOk result (AllByRecursion FitsIfThere elements.now) }
 {
     for element in elements {
-        element_text::write(element, bytes)?;
+        bytes.extend_from_slice(element.bytes())?;
     }
     Ok(())
 }

@@ -18,9 +18,9 @@ use crate::layout::{CLOSED_GATE, FIRST_GATE, OPEN_GATE};
 use crate::standing::Standing;
 use crate::{body, device};
 use disk_model::Disk;
+use element_text::ChangeText;
 use engine_words::Progress;
 use refusals::Refusal;
-use reg_tree::Element;
 use std::alloc::Global;
 use std::mem;
 use std::snapshot::Snapshot;
@@ -144,7 +144,7 @@ impl Journal {
         &mut self,
         disk: &mut D,
         first: u64,
-        handed: &[Element],
+        handed: &[ChangeText],
     ) -> Result<Progress, Refusal>
         requires handed { (choice_of self.old).next ≡ None →
             IsHanded (store_of self.old).hives (65 + room_of (choice_of self.old).now.elements) first handed.now (choice_of self.old).now }
@@ -364,7 +364,7 @@ impl Journal {
     }
 
     /// The body of a batch of as many elements as fit, with the next gate behind it, and what will stand with it.
-    fn prepare(&self, first: u64, handed: &[Element]) -> Result<(Vec<u8>, Batch), Refusal>
+    fn prepare(&self, first: u64, handed: &[ChangeText]) -> Result<(Vec<u8>, Batch), Refusal>
         requires some { 0 < length handed.now }
         requires handed { IsHanded self.now.hives self.now.stands.used first handed.now
             (spelled_by self.now.stands) }
@@ -385,7 +385,7 @@ impl Journal {
         &mut self,
         disk: &mut D,
         first: u64,
-        handed: &[Element],
+        handed: &[ChangeText],
     ) -> Result<Progress, Refusal>
         requires quiet { self.old.phase ≡ Phase.Quiet }
         requires some { 0 < length handed.now }

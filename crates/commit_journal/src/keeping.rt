@@ -7,7 +7,7 @@ ghost use Rattle.commit_journal.specs.Told.{changes_told};
 
 use crate::naming::Naming;
 use crate::told::Told;
-use reg_tree::{Element, Op};
+use element_text::ChangeText;
 use std::alloc::{AllocError, Global};
 
 /// The changes that were read so far.
@@ -22,7 +22,7 @@ pub(crate) struct Keeping {
     /// The number below that of the first that is kept, or that of the last one where none is.
     pub below: u64,
     /// Those that are kept.
-    pub elements: Vec<Element>,
+    pub elements: Vec<ChangeText>,
     /// Of each hive the last one that names it.
     pub naming: Naming,
 }
@@ -74,7 +74,7 @@ impl Keeping {
     }
 
     /// One more. It is let go where none was kept, and no hive lacks it.
-    pub fn push(&mut self, element: Element) -> Result<(), AllocError>
+    pub fn push(&mut self, element: ChangeText) -> Result<(), AllocError>
         requires kept { IsKept self.old }
         requires room { self.old.last + 1 < 2 ^ 64 }
         ensures kept { OnOk result (IsKept self.new) }
@@ -91,7 +91,7 @@ impl Keeping {
     }
 
     // whether a next one is let go
-    fn is_held(&self, element: &Element) -> bool
+    fn is_held(&self, element: &ChangeText) -> bool
         requires room { self.now.last + 1 < 2 ^ 64 }
         ensures none { result ≡ true → length self.now.elements.items ≡ 0 }
         ensures yes { result ≡ true → (i : ℕ) → get_or self.now.numbers.items i 0 < self.now.last + 1 →
@@ -102,11 +102,11 @@ impl Keeping {
         if self.elements.len() > 0 {
             return false;
         }
-        all_hold(&self.numbers, self.last + 1, element.ops.list())
+        all_hold(&self.numbers, self.last + 1, element)
     }
 
     // a next one is let go
-    fn pass(&mut self, element: &Element)
+    fn pass(&mut self, element: &ChangeText)
         requires kept { IsKept self.old }
         requires room { self.old.last + 1 < 2 ^ 64 }
         requires none { length self.old.elements.items ≡ 0 }
@@ -119,14 +119,14 @@ impl Keeping {
         ensures hives { length self.new.naming.last.items ≡ length self.old.naming.last.items }
     {
         let number = self.last + 1;
-        self.naming.count_one(element.ops.list(), number);
+        self.naming.count_one(element, number);
         self.read.then(element);
         self.last = number;
         self.below = number;
     }
 
     // a next one is kept
-    fn keep(&mut self, element: Element) -> Result<(), AllocError>
+    fn keep(&mut self, element: ChangeText) -> Result<(), AllocError>
         requires kept { IsKept self.old }
         requires room { self.old.last + 1 < 2 ^ 64 }
         requires why { (0 < length self.old.elements.items)
@@ -138,7 +138,7 @@ impl Keeping {
         ensures hives { length self.new.naming.last.items ≡ length self.old.naming.last.items }
     {
         let number = self.last + 1;
-        self.naming.count_one(element.ops.list(), number);
+        self.naming.count_one(&element, number);
         self.read.then(&element);
         self.last = number;
         self.elements.push(element)?;
@@ -147,12 +147,13 @@ impl Keeping {
 }
 
 // whether each hive that one of the operations of a change is on holds it, by the change's number and the hives' own
-fn all_hold(numbers: &[u64], number: u64, ops: &[Op]) -> bool
-    ensures yes { result ≡ true → (i : ℕ) → get_or numbers.now i 0 < number → names i ops.now ≡ false }
-    ensures no { result ≡ false → (i : ℕ) × (get_or numbers.now i 0 < number) × (names i ops.now ≡ true) }
+fn all_hold(numbers: &[u64], number: u64, change: &ChangeText) -> bool
+    ensures yes { result ≡ true → (i : ℕ) → get_or numbers.now i 0 < number → names i change.now.ops ≡ false }
+    ensures no { result ≡ false → (i : ℕ) × (get_or numbers.now i 0 < number) × (names i change.now.ops ≡ true) }
 {
-    for op in ops {
-        if number_of(numbers, op.hive()) < number {
+    let mut hives = change.hives();
+    while let Some(hive) = hives.next() {
+        if number_of(numbers, hive) < number {
             return false;
         }
     }

@@ -3,7 +3,7 @@ ghost use Rattle.std.specs.Prelude.{◌≡◌, ◌+◌, ◌<◌, ◌^◌, ℕ, i
 ghost use Rattle.std.specs.Option.{option_map};
 ghost use Rattle.commit_journal.specs.Naming.{HasCounted, names};
 
-use reg_tree::{Element, Op};
+use element_text::ChangeText;
 use std::alloc::{AllocError, Global};
 
 /// For each hive the number of the last change counted in that has an operation on it, or 0 where none has.
@@ -22,38 +22,39 @@ impl Naming {
         Ok(Naming { last })
     }
 
-    /// Each hive that one of these operations is on has this number.
-    pub(crate) fn count_one(&mut self, ops: &[Op], number: u64)
+    /// Each hive that one of a change's operations is on has this number.
+    pub(crate) fn count_one(&mut self, change: &ChangeText, number: u64)
         ensures named { (i : ℕ) → slice_get self.new.last.items i ≡
-            option_map (λ m. if names i ops.now then number else m) (slice_get self.old.last.items i) }
+            option_map (λ m. if names i change.now.ops then number else m) (slice_get self.old.last.items i) }
         ensures many { length self.new.last.items ≡ length self.old.last.items }
     {
-        name(&mut self.last, ops, number);
+        name(&mut self.last, change, number);
     }
 
     /// Counts changes in, the first of which has the number behind this one.
-    pub fn count_in(&mut self, below: u64, changes: &[Element])
+    pub fn count_in(&mut self, below: u64, changes: &[ChangeText])
         requires numbers { below + length changes.now < 2 ^ 64 }
         ensures { HasCounted self.old.last.items below changes.now self.new.last.items }
     {
         let mut number = below;
         for change in changes {
             number += 1;
-            name(&mut self.last, change.ops.list(), number);
+            name(&mut self.last, change, number);
         }
     }
 }
 
-// each hive on which one of these operations is has this number
-fn name(last: &mut [u64], ops: &[Op], number: u64)
+// each hive that one of a change's operations is on has this number
+fn name(last: &mut [u64], change: &ChangeText, number: u64)
     ensures named { (i : ℕ) → slice_get last.new i ≡
-        option_map (λ m. if names i ops.now then number else m) (slice_get last.old i) }
+        option_map (λ m. if names i change.now.ops then number else m) (slice_get last.old i) }
     ensures many { length last.new ≡ length last.old }
 {
-    for op in ops {
-        let hive = usize::from(op.hive());
-        if hive < last.len() {
-            last[hive] = number;
+    let mut hives = change.hives();
+    while let Some(hive) = hives.next() {
+        let place = usize::from(hive);
+        if place < last.len() {
+            last[place] = number;
         }
     }
 }

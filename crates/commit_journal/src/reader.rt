@@ -14,6 +14,7 @@ use crate::keeping::Keeping;
 use crate::layout::{MOST_BODY_BYTES, OPEN_GATE};
 use crate::standing::Standing;
 use byteorder::{ByteOrder, LittleEndian};
+use element_text::ChangeText;
 use refusals::Refusal;
 use refusals::limits::GREATEST_NUMBER;
 use std::alloc::Global;
@@ -359,7 +360,7 @@ impl Reader {
             (Next.Text part len) (bytes.now ++ behind) →
             spelled (texts_for id self.old) file ≡ None)) }
     {
-        let (element, behind) = match element_text::read(self.alloc, self.hives, &bytes[..len]) {
+        let (element, behind) = match ChangeText::take(self.alloc, self.hives, &bytes[..len]) {
             Ok(read) => read,
             Err(why) => return Err(why),
         };

@@ -26,8 +26,8 @@ use crate::reader::Reader;
 use crate::window::Window;
 use crate::{device, header};
 use disk_model::Disk;
+use element_text::ChangeText;
 use refusals::Refusal;
-use reg_tree::Element;
 use std::alloc::Global;
 use uuid::Uuid;
 
@@ -41,7 +41,7 @@ pub struct Opened {
     /// The number below that of the first change that is kept.
     pub below: u64,
     /// The changes from there on, numbered without a gap.
-    pub elements: Vec<Element>,
+    pub elements: Vec<ChangeText>,
     /// Of each hive the last of all changes that names it.
     pub naming: Naming,
 }

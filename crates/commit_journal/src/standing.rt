@@ -7,7 +7,7 @@ ghost use Rattle.commit_journal.specs.Standing.{IsStanding};
 
 use crate::reader::Part;
 use crate::told::Told;
-use reg_tree::Element;
+use element_text::ChangeText;
 
 /// The place and the numbers of what stands, or of what will.
 #[derive(Drop)]
@@ -45,7 +45,7 @@ impl Standing {
     }
 
     /// What stands once a body of so many bytes with these elements does, the first of which has the number `first`.
-    pub fn longer(&self, first: u64, size: u64, elements: &[Element]) -> Standing
+    pub fn longer(&self, first: u64, size: u64, elements: &[ChangeText]) -> Standing
         requires some { 0 < length elements.now }
         requires number { 1 ≤ first }
         requires ends { top (first - 1) (spelled_by self.now) ≡ first - 1 }

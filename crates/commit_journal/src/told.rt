@@ -1,7 +1,7 @@
 //! The elements that a journal was told. Only contracts read them, and they take no memory.
 ghost use Rattle.std.specs.Prelude.{◌≡◌, ◌++◌, ◌∷◌, []};
 
-use reg_tree::Element;
+use element_text::ChangeText;
 use std::snapshot::Snapshot;
 
 /// The elements that a journal was told, the last one outermost.
@@ -10,7 +10,7 @@ pub(crate) enum Told {
     /// None.
     Nothing,
     /// One more.
-    Then(Snapshot<Told>, Snapshot<Element>),
+    Then(Snapshot<Told>, Snapshot<ChangeText>),
     /// The same.
     Same(Snapshot<Told>),
 }
@@ -20,7 +20,7 @@ impl Told {
     ghost use Rattle.engine_words.specs.Changes.{timed_element, timed_elements};
 
     /// One more.
-    pub fn then(&mut self, element: &Element)
+    pub fn then(&mut self, element: &ChangeText)
         ensures told { elements_told self.new ≡ elements_told self.old ++ timed_element element.now ∷ [] }
         ensures changes { changes_told self.new ≡ changes_told self.old ++ element.now ∷ [] }
     {
@@ -36,7 +36,7 @@ impl Told {
     }
 
     /// All of these, in their order.
-    pub fn then_all(&mut self, elements: &[Element])
+    pub fn then_all(&mut self, elements: &[ChangeText])
         ensures { elements_told self.new ≡ elements_told self.old ++ timed_elements elements.now }
     {
         for element in elements {

@@ -1,5 +1,5 @@
 -- What is known of the bytes that a change is kept as.
-use Rattle.std.proofs.Common.{◌≡◌, ℕ, ◌+◌, ◌-◌, ◌<◌, ◌≤◌, List, [], ◌∷◌, ◌++◌, length, take, refl, sym, ap, subst, ◌∙◌, arith, length-append, Option, Some, None}
+use Rattle.std.proofs.Common.{◌≡◌, ℕ, suc, ◌+◌, ◌-◌, ◌<◌, ◌≤◌, List, [], ◌∷◌, ◌++◌, length, take, refl, sym, ap, subst, ◌∙◌, arith, length-append, Option, Some, None}
 use Rattle.std.specs.Prelude.{map}
 use Rattle.std.specs.Option.{option_and_then}
 use Rattle.std.specs.List.{AllByRecursion}
@@ -10,7 +10,7 @@ use Rattle.reg_tree.specs.declared.element.Element.{Element}
 use Rattle.reg_tree.specs.Operations.{hive_of}
 use Rattle.element_text.specs.Readers.{Reader, give, then_by, both, repeat, number_at, counted_at}
 use Rattle.element_text.specs.Text.{element_text, OpFits, Fits, op_at, fields_at, made, whole, element_at}
-use Rattle.element_text.specs.Changes.{change_in, change_or_none, IsChange}
+use Rattle.element_text.specs.Changes.{change_in, change_or_none, IsChange, AreOps, hives_read, hives_in}
 use Rattle.element_text.proofs.Elements.{element_law}
 use Rattle.element_text.proofs.Numbers.{let_through}
 
@@ -76,6 +76,7 @@ pub record Fields (bytes : List ℕ) : Type 0 where
   pub third : List ℕ
   pub texts : List ℕ
   pub behind : List ℕ
+  pub of_moment : moment ≡ (change_in bytes).moment
   pub is_len : number_at 4 bytes ≡ Some (len, second)
   pub is_moment : number_at 8 second ≡ Some (moment, third)
   pub is_count : number_at 4 third ≡ Some (count, texts)
@@ -91,6 +92,22 @@ fields_of bytes is = option_and_then_some (whole bytes) (fields_at 256 bytes) (c
     let ops : got.0.1.1 ≡ (change_in bytes).ops = ap (λ (x : Element × List ℕ). x.0.ops) (same_Some (made got.0, got.1) (change_in bytes, []) t.1) in
     record {
       len = got.0.0; moment = got.0.1.0; count = h.0; second = f.0; third = g.0; texts = h.1; behind = got.1;
+      of_moment = ap (λ (x : Element × List ℕ). x.0.moment) (same_Some (made got.0, got.1) (change_in bytes, []) t.1);
       is_len = f.1; is_moment = g.1; is_count = h.2;
       are_ops = h.3 ∙ ap (λ (ops : List Op). Some (ops, got.1)) ops;
     })
+
+-- the hives of operations, the first of which was read
+module _ (op : Op) where
+  abbrev before : Option (List Op × List ℕ) → Option (List Op × List ℕ)
+  before got = option_and_then (λ more. Some (op ∷ more.0, more.1)) got
+
+  first_hive : (got : Option (List Op × List ℕ)) → ¬ (before got ≡ None) → hives_read (before got) ≡ hive_of op ∷ hives_read got
+  first_hive None some = absurd (some refl)
+  first_hive (Some got) some = refl
+
+  pub one_hive : (left more : ℕ) (bytes rest : List ℕ) → left ≡ suc more → op_at 256 bytes ≡ Some (op, rest) → AreOps left bytes → hives_in left bytes ≡ hive_of op ∷ hives_in more rest
+  one_hive left more bytes rest is got some =
+      let read : repeat left (op_at 256) bytes ≡ before (repeat more (op_at 256) rest) = ap (λ (n : ℕ). repeat n (op_at 256) bytes) is
+          ∙ ap (λ (o : Option (Op × List ℕ)). option_and_then (λ one. then_by (repeat more (op_at 256)) (λ ops. give (one.0 ∷ ops)) one.1) o) got in
+      ap hives_read read ∙ first_hive (repeat more (op_at 256) rest) (λ none. some (read ∙ none))

@@ -1,18 +1,17 @@
 //! An accepted change as it is kept until it is applied: by its text.
-ghost use Rattle.std.specs.Prelude.{◌≡◌, ◌+◌, ◌<◌, ◌≤◌, ◌^◌, ℕ, List, length, Some, None, IfOk, MatchResult};
-ghost use Rattle.std.specs.List.{AllByRecursion};
+ghost use Rattle.std.specs.Prelude.{◌≡◌, ◌==◌, ◌+◌, ◌<◌, ◌≤◌, ◌^◌, ℕ, List, length, Some, None, IfOk, MatchResult};
+ghost use Rattle.std.specs.List.{AllByRecursion, list_any};
 ghost use Rattle.refusals.specs.Answers.{RefusedFor};
 ghost use Rattle.refusals.specs.declared.refusal.Refusal.TheVariants.{JournalDamaged};
 ghost use Rattle.reg_tree.specs.declared.element.Element.{Element as Change};
 ghost use Rattle.reg_tree.specs.Operations.{hive_of};
 ghost use Rattle.reg_tree.specs.Texts.{ops_text_len, element_text_len};
 ghost use Rattle.element_text.specs.Changes.{IsChange, change_in, hives_of};
-ghost use Rattle.element_text.specs.Hives.{hives_left};
 ghost use Rattle.element_text.specs.Kept.{bytes_of, FitsHere};
 ghost use Rattle.element_text.specs.Text.{element_at, element_text, Fits};
 ghost use Rattle.element_text.specs.declared.change_text.TheConstants.{MOST_HERE};
 
-use crate::hives::Hives;
+use crate::hives::{Hives, are_any, moment_in};
 use crate::reading::take_change;
 use crate::skipping::skip_change;
 use crate::writing::write_change;
@@ -27,7 +26,7 @@ const MOST_HERE: usize = 38;
 const _: () = prove!(MOST_HERE == 38);
 
 /// Hives that a byte can tell apart.
-const ALL_HIVES: u16 = 256;
+pub(crate) const ALL_HIVES: u16 = 256;
 
 const _: () = prove!(ALL_HIVES == 256);
 
@@ -173,9 +172,23 @@ impl ChangeText {
         }
     }
 
+    /// The moment of the change.
+    pub fn moment(&self) -> u64
+        ensures { result ≡ self.now.moment }
+    {
+        moment_in(self.held.bytes())
+    }
+
+    /// Whether one of its operations is on a hive.
+    pub fn is_on(&self, hive: u8) -> bool
+        ensures { result ≡ list_any (λ one. one == hive) (hives_of self.now) }
+    {
+        are_any(self.hives(), hive)
+    }
+
     /// The hives of its operations, one after another.
     pub fn hives(&self) -> Hives<'_>
-        ensures { hives_left result ≡ hives_of self.now }
+        ensures { result ≡ hives_of self.now }
     {
         Hives::of(self.held.bytes())
     }

@@ -1,9 +1,15 @@
 //! The hives that a change's operations are on, told from its text.
-ghost use Rattle.std.specs.Prelude.{◌≡◌, ◌∷◌, [], MatchOption};
-ghost use Rattle.element_text.specs.Changes.{AreOps, IsChange, change_in, hives_of};
+ghost use Rattle.std.specs.Prelude.{◌≡◌, ◌==◌, ◌∷◌, [], ℕ, List, Some, None, MatchOption};
+ghost use Rattle.std.specs.List.{list_any};
+ghost use Rattle.reg_tree.specs.declared.op.Op.{Op};
+ghost use Rattle.reg_tree.specs.Operations.{hive_of};
+ghost use Rattle.element_text.specs.Text.{op_at};
+ghost use Rattle.element_text.specs.Changes.{IsChange, change_in, hives_of};
 
+use crate::change_text::ALL_HIVES;
 use crate::fields::{first_u8, first_u32, first_u64};
-use crate::skipping::skip_op;
+use crate::skipping::{first_hive, skip_op};
+use std::marker::Model;
 
 /// The hives of operations that are left, one after another: each hive as often as there is an operation on it.
 #[derive(Drop)]
@@ -12,16 +18,24 @@ pub struct Hives<'a> {
     left: u32,
     /// Their texts; of the last one's nothing is skipped.
     bytes: &'a [u8],
-    ghost ops: { AreOps left bytes.now },
+}
+
+impl<'a> Model for Hives<'a> {
+    ghost use Rattle.std.specs.Prelude.{List, ℕ};
+    ghost use Rattle.element_text.specs.Changes.{AreOps, hives_in};
+
+    ghost Value = { List ℕ };
+
+    ghost view = { λ inside. hives_in inside.left inside.bytes.now };
+
+    ghost invariant = { λ inside. AreOps inside.left inside.bytes.now };
 }
 
 impl<'a> Hives<'a> {
-    ghost use Rattle.element_text.specs.Hives.{hives_left};
-
     /// Those of a change's operations, by its text.
     pub(crate) fn of(text: &'a [u8]) -> Hives<'a>
         requires { IsChange text.now }
-        ensures { hives_left result ≡ hives_of (change_in text.now) }
+        ensures { result ≡ hives_of (change_in text.now) }
     {
         let Some((_, rest)) = first_u32(text) else {
             unreachable!();
@@ -37,17 +51,63 @@ impl<'a> Hives<'a> {
 
     /// The next one.
     pub fn next(&mut self) -> Option<u8>
-        ensures { MatchOption result (hives_left self.old ≡ [])
-            (λ hive. hives_left self.old ≡ hive ∷ hives_left self.new) }
+        ensures { MatchOption result (self.old ≡ [])
+            (λ hive. self.old ≡ hive ∷ self.new) }
     {
         if self.left == 0 {
             return None;
         }
-        let Some((hive, rest)) = skip_op(256, self.bytes) else {
+        // most changes have one operation, of which the hive alone is read
+        if self.left == 1 {
+            self.left = 0;
+            return Some(hive_in(self.bytes));
+        }
+        let Some((hive, rest)) = skip_op(ALL_HIVES, self.bytes) else {
             unreachable!();
         };
         self.left -= 1;
         self.bytes = rest;
         Some(hive)
     }
+}
+
+// the hive of the operation that bytes begin with
+fn hive_in(bytes: &[u8]) -> u8
+    requires { ¬ (op_at 256 bytes.now ≡ None) }
+    ensures { (op : Op) (rest : List ℕ) → op_at 256 bytes.now ≡ Some (op, rest) → result ≡ hive_of op }
+{
+    let Some((_, rest)) = first_u8(bytes) else {
+        unreachable!();
+    };
+    let Some((hive, _)) = first_hive(ALL_HIVES, rest) else {
+        unreachable!();
+    };
+    hive
+}
+
+/// The moment of the change that bytes are the text of.
+pub(crate) fn moment_in(text: &[u8]) -> u64
+    requires { IsChange text.now }
+    ensures { result ≡ (change_in text.now).moment }
+{
+    let Some((_, rest)) = first_u32(text) else {
+        unreachable!();
+    };
+    let Some((moment, _)) = first_u64(rest) else {
+        unreachable!();
+    };
+    moment
+}
+
+/// Whether a hive is among those that are left.
+pub(crate) fn are_any(hives: Hives<'_>, hive: u8) -> bool
+    ensures { result ≡ list_any (λ one. one == hive) hives }
+{
+    let mut left = hives;
+    while let Some(one) = left.next() {
+        if one == hive {
+            return true;
+        }
+    }
+    false
 }

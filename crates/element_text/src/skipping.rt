@@ -78,7 +78,7 @@ fn skip_tail(kind: u8, bytes: &[u8]) -> Option<&[u8]>
 }
 
 /// A hive that is one of so many, and the bytes behind it.
-fn first_hive(hives: u16, bytes: &[u8]) -> Option<(u8, &[u8])>
+pub(crate) fn first_hive(hives: u16, bytes: &[u8]) -> Option<(u8, &[u8])>
     ensures { MatchOption result (hive_at hives bytes.now ≡ None)
         (λ got. hive_at hives bytes.now ≡ Some (got.0, got.1.now)) }
 {

@@ -15,7 +15,7 @@ loop-element-preserved c =
     let lt : i < length xs = omega arith in
     let upto = ap (λ (y : Element). take i xs ++ y ∷ []) c.element-item.is ∙ sym (take_more xs i x lt) in
     record {
-      text = c.in_ok-write.ensures.text ∙ ap (λ (b : List ℕ). b ++ element_text x) c.loop-element.invariant.text
+      text = c.in_ok-extend_from_slice.ensures.items ∙ ap (λ (t : List ℕ). c.loop-element.bytes.items ++ t) c.bytes.ensures.text ∙ ap (λ (b : List ℕ). b ++ element_text x) c.loop-element.invariant.text
           ∙ flat_map_more element_text c.args.bytes.now.items (take i xs) x ∙ ap (λ (l : List Element). c.args.bytes.now.items ++ flat_map element_text l) upto;
-      fit = all_more FitsIfThere xs i x lt c.element-item.is c.loop-element.invariant.fit (record { fits = c.in_ok-write.ensures.fits });
+      fit = all_more FitsIfThere xs i x lt c.element-item.is c.loop-element.invariant.fit (record { fits = c.bytes.ensures.fits });
     }

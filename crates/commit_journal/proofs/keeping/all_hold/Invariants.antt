@@ -1,6 +1,10 @@
-use Rattle.std.proofs.Common.{◌≡◌, ◌<◌, ℕ, false, get_or, take}
-use Rattle.commit_journal.specs.Naming.{names}
+use Rattle.std.proofs.Common.{length}
+use Rattle.element_text.specs.Changes.{hives_of}
+use Rattle.commit_journal.proofs.Namings.{HaveHeld}
 use Rattle.commit_journal.proofs.keeping.all_hold.Given as goal
 
-abbrev pub invariant-loop-op : goal.invariant-loop-op
-invariant-loop-op l = (i : ℕ) → get_or l.numbers i 0 < l.number → names i (take l.op-index l.ops) ≡ false
+abbrev pub invariant-loop-hive : goal.invariant-loop-hive
+invariant-loop-hive l = HaveHeld l.numbers l.number (hives_of l.change) l.hives
+
+abbrev pub decreases-loop-hive : goal.decreases-loop-hive
+decreases-loop-hive l = length l.hives

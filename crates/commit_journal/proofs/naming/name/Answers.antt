@@ -1,30 +1,28 @@
-use Rattle.std.proofs.Common.{◌≡◌, ◌∙◌, ◌+◌, ◌||◌, ℕ, suc, cond, length, take, sym, ap, arith, option_map, slice_get}
-use Rattle.std.specs.Prelude.{eqb}
-use Rattle.std.proofs.lemmas.List.{length-set}
-use Rattle.reg_tree.specs.Operations.{hive_of}
-use Rattle.commit_journal.specs.Naming.{names}
-use Rattle.commit_journal.proofs.Namings.{at_place}
-use Rattle.commit_journal.proofs.Namings.{names_more, named_past, one_named}
+use Rattle.std.proofs.Common.{◌∷◌, ℕ, sym, subst}
+use Rattle.element_text.specs.Changes.{hives_of}
+use Rattle.commit_journal.proofs.Namings.{HasNamed, next_named, next_past, all_named}
 use Rattle.commit_journal.proofs.naming.name.Goals as goal
-use Rattle.commit_journal.proofs.naming.name.Goals.{then-hive-last, else-hive-last}
 
-pub loop-op-preserved : goal.loop-op-preserved
-loop-op-preserved c =
-    let l = c.loop-op in
-    let ops = c.args.ops.now in
-    let xs = c.args.last.now in
-    let h = c.from-hive.result in
-    let there = at_place ops l.op-index c.op-item.result (omega (arith, c.loop-op-test.true)) c.op-item.is in
-    let next : l.op-index + 1 ≡ suc l.op-index = omega arith in
-    let h_is : h ≡ hive_of c.op-item.result = c.from-hive.ensures ∙ c.hive.ensures in
-    let more : (i : ℕ) → names i (take (l.op-index + 1) ops) ≡ (names i (take l.op-index ops) || eqb h i) = λ i. ap (λ n. names i (take n ops)) next ∙ names_more i l.op-index ops c.op-item.result there ∙ ap (λ n. names i (take l.op-index ops) || eqb n i) (sym h_is) in
-    elim c.if-hive-last.branch [
-      | then-hive-last w ↦ record {
-        named = λ i. ap (λ ys. slice_get ys i) w.last-is ∙ one_named xs l.last i h c.args.number (names i (take l.op-index ops)) w.if-hive-last.true (l.invariant.named i) ∙ ap (λ b. option_map (λ m. cond b c.args.number m) (slice_get xs i)) (sym (more i));
-        many = ap length w.last-is ∙ length-set l.last h c.args.number ∙ l.invariant.many;
-      }
-      | else-hive-last w ↦ record {
-        named = λ i. ap (λ ys. slice_get ys i) w.last-is ∙ named_past xs l.last i h c.args.number (names i (take l.op-index ops)) w.if-hive-last.false (l.invariant.named i) ∙ ap (λ b. option_map (λ m. cond b c.args.number m) (slice_get xs i)) (sym (more i));
-        many = ap length w.last-is ∙ l.invariant.many;
-      }
-    ]
+pub loop-hive-preserved-then-place-last : goal.loop-hive-preserved-then-place-last
+loop-hive-preserved-then-place-last c =
+    let l = c.loop-hive in
+    let was = c.args.last.now in
+    let hives = hives_of c.args.change.now in
+    let here = subst (HasNamed was c.args.number hives l.last) c.in-Some.ensures l.invariant in
+    let there = subst (λ (h : ℕ). HasNamed was c.args.number hives l.last (h ∷ c.next.new.self)) (sym c.from-place.ensures) here in
+    next_named was c.args.number hives l.last c.from-place.result c.next.new.self there c.if-place-last.true
+
+pub loop-hive-preserved : goal.loop-hive-preserved
+loop-hive-preserved c =
+    let l = c.loop-hive in
+    let was = c.args.last.now in
+    let hives = hives_of c.args.change.now in
+    let here = subst (HasNamed was c.args.number hives l.last) c.in-Some.ensures l.invariant in
+    let there = subst (λ (h : ℕ). HasNamed was c.args.number hives l.last (h ∷ c.next.new.self)) (sym c.from-place.ensures) here in
+    next_past was c.args.number hives l.last c.from-place.result c.next.new.self there c.if-place-last.false
+
+pub returns-clause-named : goal.returns-clause-named
+returns-clause-named c =
+    let l = c.loop-hive in
+    let change = c.args.change.now in
+    all_named c.args.last.now c.args.number change.ops l.last (subst (HasNamed c.args.last.now c.args.number (hives_of change) l.last) c.in_default.ensures l.invariant)

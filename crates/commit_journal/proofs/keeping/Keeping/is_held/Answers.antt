@@ -1,6 +1,4 @@
-use Rattle.std.proofs.Common.{inr, subst, get_or, ℕ, List, true, ◌≡◌, ◌<◌, ◌+◌}
-use Rattle.reg_tree.specs.declared.op.Op.{Op}
-use Rattle.commit_journal.specs.Naming.{names}
+use Rattle.std.proofs.Common.{inr, subst, get_or, ℕ, List, ◌<◌, ◌+◌}
 use Rattle.commit_journal.proofs.Keepings.{lacks_one}
 use Rattle.commit_journal.proofs.keeping.Keeping.is_held.Goals as goal
 
@@ -11,5 +9,5 @@ returns-clause-no c = λ e.
     inr (lacks_one k.numbers.items (k.last + 1) c.args.element.now (
       n.0,
       subst (λ (l : List ℕ). get_or l n.0 0 < k.last + 1) c.deref.ensures.value n.1,
-      subst (λ (ops : List Op). names n.0 ops ≡ true) c.list.ensures.all n.2,
+      n.2,
     ))

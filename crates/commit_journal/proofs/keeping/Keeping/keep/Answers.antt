@@ -1,5 +1,4 @@
 use Rattle.std.proofs.Common.{◌≡◌, ◌∙◌, ◌+◌, ◌++◌, ◌∷◌, [], List, ℕ, cond, sym, ap, subst, option_map, slice_get}
-use Rattle.reg_tree.specs.declared.op.Op.{Op}
 use Rattle.reg_tree.specs.declared.element.Element.{Element}
 use Rattle.commit_journal.specs.Lacking.{IsKeeping}
 use Rattle.commit_journal.specs.Naming.{names}
@@ -11,7 +10,7 @@ pub returns-clause-kept : goal.returns-clause-kept
 returns-clause-kept c =
     let k = c.args.self.now in
     let each : (i : ℕ) → slice_get c.count_one.new.self.last.items i ≡ option_map (λ m. cond (names i c.args.element.ops) (k.last + 1) m) (slice_get k.naming.last.items i)
-    = λ i. c.count_one.ensures.named i ∙ ap (λ (ops : List Op). option_map (λ m. cond (names i ops) (k.last + 1) m) (slice_get k.naming.last.items i)) c.list.ensures.all in
+    = c.count_one.ensures.named in
     subst (λ (l : List Element). IsKeeping k.numbers.items (k.last + 1) (changes_told c.then.new.self) k.below l c.count_one.new.self.last.items) (sym c.in_ok-push.ensures.items)
     (subst (λ (l : List Element). IsKeeping k.numbers.items (k.last + 1) l k.below (k.elements.items ++ c.args.element ∷ []) c.count_one.new.self.last.items) (sym c.then.ensures.changes)
     (one_kept k.numbers.items k.last (changes_told k.read) k.elements.items k.below c.count_one.new.self.last.items k.naming.last.items c.args.element c.requires.kept each c.requires.why))

@@ -1,5 +1,4 @@
 use Rattle.std.proofs.Common.{◌≡◌, ◌∙◌, ◌+◌, List, ℕ, cond, sym, ap, subst, option_map, slice_get}
-use Rattle.reg_tree.specs.declared.op.Op.{Op}
 use Rattle.reg_tree.specs.declared.element.Element.{Element}
 use Rattle.commit_journal.specs.Lacking.{IsKeeping}
 use Rattle.commit_journal.specs.Naming.{names}
@@ -11,6 +10,6 @@ pub returns-clause-kept : goal.returns-clause-kept
 returns-clause-kept c =
     let k = c.args.self.now in
     let each : (i : ℕ) → slice_get c.count_one.new.self.last.items i ≡ option_map (λ m. cond (names i c.args.element.now.ops) (k.last + 1) m) (slice_get k.naming.last.items i)
-    = λ i. c.count_one.ensures.named i ∙ ap (λ (ops : List Op). option_map (λ m. cond (names i ops) (k.last + 1) m) (slice_get k.naming.last.items i)) c.list.ensures.all in
+    = c.count_one.ensures.named in
     subst (λ (l : List Element). IsKeeping k.numbers.items (k.last + 1) l (k.last + 1) k.elements.items c.count_one.new.self.last.items) (sym c.then.ensures.changes)
     (one_gone k.numbers.items k.last (changes_told k.read) k.elements.items k.below c.count_one.new.self.last.items k.naming.last.items c.args.element.now c.requires.kept each (no_changes k.elements.items c.requires.none) c.requires.held)

@@ -1,6 +1,5 @@
 use Rattle.std.proofs.Common.{◌≡◌, ◌∙◌, ◌+◌, ◌++◌, ◌∷◌, [], ℕ, suc, List, append_assoc, cond, length, take, drop, sym, ap, subst, arith, option_map, slice_get}
 use Rattle.std.proofs.lemmas.List.{length-append, length-map, length-take, map-append, take_all}
-use Rattle.reg_tree.specs.declared.op.Op.{Op}
 use Rattle.reg_tree.specs.declared.element.Element.{Element}
 use Rattle.prefix_law.specs.Changes as law
 use Rattle.engine_words.specs.Changes.{TimedOp, timed_element, timed_elements}
@@ -21,7 +20,7 @@ loop-change-preserved c =
     let back : take l.self.last.len (is ++ drop (length is) was) ≡ is = written_back l.self.last.len is was long in
     let next : l.change-index + 1 ≡ suc l.change-index = omega arith in
     let more : take (l.change-index + 1) changes ≡ take l.change-index changes ++ change ∷ [] = ap (λ n. take n changes) next ∙ take_more l.change-index changes change there in
-    let each : (i : ℕ) → slice_get is i ≡ option_map (λ m. cond (names i change.ops) (l.number + 1) m) (slice_get was i) = λ i. c.name.ensures.named i ∙ ap (λ (ops : List Op). option_map (λ m. cond (names i ops) (l.number + 1) m) (slice_get c.deref_mut.result.now i)) c.list.ensures.all
+    let each : (i : ℕ) → slice_get is i ≡ option_map (λ m. cond (names i change.ops) (l.number + 1) m) (slice_get was i) = λ i. c.name.ensures.named i
     ∙ ap (λ (xs : List ℕ). option_map (λ m. cond (names i change.ops) (l.number + 1) m) (slice_get xs i)) c.deref_mut.ensures.value in
     record {
       number = omega (arith, l.invariant.number);

@@ -9,7 +9,7 @@ returns-clause-named c = λ i.
     let is = c.name.new.last in
     let back : take c.args.self.now.last.len (is ++ drop (length is) was) ≡ is = written_back c.args.self.now.last.len is was (c.name.ensures.many ∙ c.deref_mut.ensures.len) in
     ap (λ (xs : List ℕ). slice_get xs i) back ∙ c.name.ensures.named i
-    ∙ ap (λ (xs : List ℕ). option_map (λ m. cond (names i c.args.ops.now) c.args.number m) (slice_get xs i)) c.deref_mut.ensures.value
+    ∙ ap (λ (xs : List ℕ). option_map (λ m. cond (names i c.args.change.now.ops) c.args.number m) (slice_get xs i)) c.deref_mut.ensures.value
 
 pub returns-clause-many : goal.returns-clause-many
 returns-clause-many c =

@@ -34,7 +34,7 @@ read bytes f x y z one two three =
 pub invariant_of-result : goal.invariant_of-result
 invariant_of-result c =
     let f = fields_of c.args.text.now c.requires in
-    record { ops = λ none. none-some _ (sym none ∙ read c.args.text.now f _ _ _ c.in-Some.ensures c.in-Some-first_u64.ensures c.in-Some-first_u32.ensures) }
+    λ none. none-some _ (sym none ∙ read c.args.text.now f _ _ _ c.in-Some.ensures c.in-Some-first_u64.ensures c.in-Some-first_u32.ensures)
 
 pub returns : goal.returns
 returns c =
