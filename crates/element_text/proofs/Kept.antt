@@ -13,6 +13,7 @@ use Rattle.element_text.specs.Text.{element_text, OpFits, Fits, op_at, fields_at
 use Rattle.element_text.specs.Changes.{change_in, change_or_none, IsChange, AreOps, hives_read, hives_in}
 use Rattle.element_text.proofs.Elements.{element_law}
 use Rattle.element_text.proofs.Numbers.{let_through}
+use Rattle.element_text.proofs.Taken.{then_none}
 
 -- bytes that are the text of a change that fits stand for that change
 pub stands_for : (e : Element) (bytes : List ℕ) → Fits 256 e → bytes ≡ element_text e → (IsChange bytes) × (change_in bytes ≡ e)
@@ -111,3 +112,11 @@ module _ (op : Op) where
       let read : repeat left (op_at 256) bytes ≡ before (repeat more (op_at 256) rest) = ap (λ (n : ℕ). repeat n (op_at 256) bytes) is
           ∙ ap (λ (o : Option (Op × List ℕ)). option_and_then (λ one. then_by (repeat more (op_at 256)) (λ ops. give (one.0 ∷ ops)) one.1) o) got in
       ap hives_read read ∙ first_hive (repeat more (op_at 256) rest) (λ none. some (read ∙ none))
+
+-- the hive of the last operation
+pub last_hive : (left : ℕ) (bytes : List ℕ) (hive : ℕ) → left ≡ 1 → AreOps left bytes → ((op : Op) (rest : List ℕ) → op_at 256 bytes ≡ Some (op, rest) → hive ≡ hive_of op) → hives_in left bytes ≡ hive ∷ []
+last_hive left bytes hive is some told = by_read (op_at 256 bytes) refl
+  where
+    by_read : (o : Option (Op × List ℕ)) → op_at 256 bytes ≡ o → hives_in left bytes ≡ hive ∷ []
+    by_read None e = absurd (some (ap (λ (n : ℕ). repeat n (op_at 256) bytes) is ∙ then_none (op_at 256) (λ x. then_by (repeat 0 (op_at 256)) (λ xs. give (x ∷ xs))) bytes e))
+    by_read (Some got) e = one_hive got.0 left 0 bytes got.1 is e some ∙ ap (λ (h : ℕ). h ∷ []) (sym (told got.0 got.1 e))

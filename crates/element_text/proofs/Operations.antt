@@ -94,7 +94,7 @@ module _ (k h : ℕ) (p : List (List ℕ)) where
       let b = value_name_law.back bytes x.0 x.1 first in
       subst (Back bytes) (same_Some (DeleteValue h p x.0, x.1) got second) (b.0, (head_is 4 is, b.1)))) (λ e5. absurd (none-some got e5)))))
 
-  kind_law : IsText (by_kind k h p) tail_text (λ op. (head_of op ≡ (k, (h, p))) × TailFits op)
+  pub kind_law : IsText (by_kind k h p) tail_text (λ op. (head_of op ≡ (k, (h, p))) × TailFits op)
   kind_law = record {
     again = λ op rest fits. subst (λ (head : Head). by_kind head.0 head.1.0 head.1.1 (tail_text op ++ rest) ≡ Some (op, rest)) fits.0 (tail_again op rest fits.1);
     back = λ bytes op rest e. tail_back bytes (op, rest) e;

@@ -183,7 +183,8 @@ impl ChangeText {
     pub fn is_on(&self, hive: u8) -> bool
         ensures { result ≡ list_any (λ one. one == hive) (hives_of self.now) }
     {
-        are_any(self.hives(), hive)
+        let mut hives = self.hives();
+        are_any(&mut hives, hive)
     }
 
     /// The hives of its operations, one after another.

@@ -100,10 +100,9 @@ pub(crate) fn moment_in(text: &[u8]) -> u64
 }
 
 /// Whether a hive is among those that are left.
-pub(crate) fn are_any(hives: Hives<'_>, hive: u8) -> bool
-    ensures { result ≡ list_any (λ one. one == hive) hives }
+pub(crate) fn are_any(left: &mut Hives<'_>, hive: u8) -> bool
+    ensures { result ≡ list_any (λ one. one == hive) left.old }
 {
-    let mut left = hives;
     while let Some(one) = left.next() {
         if one == hive {
             return true;

@@ -1,11 +1,15 @@
-use Rattle.std.proofs.Common.{rules, ◌≡◌, ◌==◌, ◌∷◌, [], ℕ, List, Some, None, MatchOption, ◌+◌, ◌-◌, ◌*◌, ◌<◌, ◌≤◌, length, ◌/◌, ◌%◌, Bool, true, false, nat_eq, nat_lt, ◌++◌, slice_index_or, slice_set, bit_and, bit_or, Fits, w8, w32, w64, Bor, MutBor}
-use Rattle.std.specs.List.{list_any}
-use Rattle.reg_tree.specs.declared.op.Op.{Op}
-use Rattle.reg_tree.specs.Operations.{hive_of}
-use Rattle.element_text.specs.Text.{op_at}
-use Rattle.element_text.specs.Changes.{IsChange, change_in, hives_of}
+use Rattle.std.proofs.Common.{◌∙◌, List, ℕ, ap, sym}
+use Rattle.element_text.specs.Readers.{both, number_at}
+use Rattle.element_text.specs.Text.{hive_at, path_at, head_at, by_kind}
+use Rattle.element_text.proofs.Operations.{kind_law}
+use Rattle.element_text.proofs.Kept.{split, both_split, one_reading}
 use Rattle.element_text.proofs.hives.hive_in.Goals as goal
 
--- src/hives.rt:75:1
 pub returns : goal.returns
-returns c = ?
+returns c = λ op rest got.
+    let (head, behind, is_head, is_tail) = split (head_at 256) (λ x. by_kind x.0 x.1.0 x.1.1) c.args.bytes.now (op, rest) got in
+    let kind = both_split (number_at 1) (both (hive_at 256) path_at) c.args.bytes.now (head, behind) is_head in
+    let hive = both_split (hive_at 256) path_at kind.0 (head.1, behind) kind.2 in
+    let there = ap (λ (p : ℕ × List ℕ). hive_at 256 p.1) (one_reading _ _ _ c.in-Some.ensures kind.1) in
+    ap (λ (p : ℕ × List ℕ). p.0) (one_reading _ _ _ c.in-Some-first_hive.ensures (there ∙ hive.1))
+    ∙ sym (ap (λ (x : ℕ × (ℕ × List (List ℕ))). x.1.0) ((kind_law head.0 head.1.0 head.1.1).back behind op rest is_tail).1.0)

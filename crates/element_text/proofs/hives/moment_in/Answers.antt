@@ -1,19 +1,20 @@
-use Rattle.std.proofs.Common.{rules, ◌≡◌, ◌==◌, ◌∷◌, [], ℕ, List, Some, None, MatchOption, ◌+◌, ◌-◌, ◌*◌, ◌<◌, ◌≤◌, length, ◌/◌, ◌%◌, Bool, true, false, nat_eq, nat_lt, ◌++◌, slice_index_or, slice_set, bit_and, bit_or, Fits, w8, w32, w64, Bor, MutBor}
-use Rattle.std.specs.List.{list_any}
-use Rattle.reg_tree.specs.declared.op.Op.{Op}
-use Rattle.reg_tree.specs.Operations.{hive_of}
-use Rattle.element_text.specs.Text.{op_at}
-use Rattle.element_text.specs.Changes.{IsChange, change_in, hives_of}
+use Rattle.std.proofs.Common.{◌∙◌, List, ℕ, ap, sym}
+use Rattle.std.proofs.lemmas.Option.{none-some}
+use Rattle.element_text.specs.Readers.{number_at}
+use Rattle.element_text.proofs.Kept.{fields_of, one_reading}
 use Rattle.element_text.proofs.hives.moment_in.Goals as goal
 
--- src/hives.rt:94:9
 pub unreachable-requires : goal.unreachable-requires
-unreachable-requires c = ?
+unreachable-requires c = let f = fields_of c.args.text.now c.requires in none-some _ (sym c.in_default.ensures ∙ f.is_len)
 
--- src/hives.rt:97:9
 pub unreachable-requires-in_default-first_u64 : goal.unreachable-requires-in_default-first_u64
-unreachable-requires-in_default-first_u64 c = ?
+unreachable-requires-in_default-first_u64 c =
+    let f = fields_of c.args.text.now c.requires in
+    let second = ap (λ (p : ℕ × List ℕ). number_at 8 p.1) (one_reading _ _ _ c.in-Some.ensures f.is_len) in
+    none-some _ (sym c.in_default-first_u64.ensures ∙ second ∙ f.is_moment)
 
--- src/hives.rt:89:1
 pub returns : goal.returns
-returns c = ?
+returns c =
+    let f = fields_of c.args.text.now c.requires in
+    let second = ap (λ (p : ℕ × List ℕ). number_at 8 p.1) (one_reading _ _ _ c.in-Some.ensures f.is_len) in
+    ap (λ (p : ℕ × List ℕ). p.0) (one_reading _ _ _ c.in-Some-first_u64.ensures (second ∙ f.is_moment)) ∙ f.of_moment
