@@ -17,11 +17,11 @@ ghost use Rattle.machine.specs.declared.event.Event.TheVariants as Event;
 
 use crate::parts::Parts;
 use disk_model::Disk;
+use element_text::ChangeText;
 use engine_law::laws::hive_steps_keep;
 use engine_words::Progress;
 use hive_flush::HiveFile;
 use refusals::Refusal;
-use reg_tree::Element;
 
 impl<D: Disk> Parts<D> {
     /// A step of a hive's flush: the next call of one that is on its way, or the first of one of what the hive lacks.
@@ -161,7 +161,7 @@ impl<D: Disk> Parts<D> {
 }
 
 // keeps so many changes, the last ones, or all where there are no more
-fn keep_last(changes: &mut Vec<Element>, most: usize)
+fn keep_last(changes: &mut Vec<ChangeText>, most: usize)
     ensures { changes.new.items ≡ drop (length changes.old.items
         - min (length changes.old.items) most) changes.old.items }
 {

@@ -2,8 +2,8 @@
 ghost use Rattle.std.specs.Prelude.{◌≡◌};
 
 use commit_journal::{Journal, Naming};
+use element_text::ChangeText;
 use hive_flush::HiveFile;
-use reg_tree::Element;
 use std::alloc::Global;
 use std::snapshot::Snapshot;
 use transactions::Store;
@@ -27,7 +27,7 @@ pub(crate) struct Parts<D> {
     /// The number below the first of them.
     pub base: u64,
     /// Those of them that are at hand: the last ones.
-    pub opened: Vec<Element>,
+    pub opened: Vec<ChangeText>,
     /// Of each hive the last durable change that names it.
     pub naming: Naming,
 }

@@ -1,6 +1,7 @@
 -- Changes replayed on one tree, one after another.
-use Rattle.std.proofs.Common.{◌≡◌, ◌≢◌, ℕ, Bool, List, ◌∷◌, map, sym, ap, ◌∙◌}
-use Rattle.std.specs.Prelude.{if◌then◌else◌}
+use Rattle.std.proofs.Common.{◌≡◌, ◌≢◌, ◌||◌, ℕ, Bool, true, false, List, [], ◌∷◌, map, refl, sym, ap, ◌∙◌}
+use Rattle.std.specs.Prelude.{◌==◌, if◌then◌else◌}
+use Rattle.std.specs.List.{list_any}
 use Rattle.std.proofs.lemmas.Bool.{eq-eqb, ne_eqb}
 use Rattle.prefix_law.specs.Changes.{applied, on_hive, ops_on}
 use Rattle.prefix_law.proofs.Replays.{applied-append}
@@ -9,7 +10,7 @@ use Rattle.reg_tree.specs.Operations.{hive_of}
 use Rattle.reg_tree.specs.Judgement.{changed}
 use Rattle.reg_tree.specs.declared.op.Op.{Op}
 use Rattle.reg_tree.specs.declared.element.Element.{Element}
-use Rattle.engine_words.specs.Changes.{rules, timed, timed_element, timed_elements}
+use Rattle.engine_words.specs.Changes.{TimedOp, rules, timed, timed_element, timed_elements}
 
 -- an operation on the hive, and one on another
 pub op_here : (hive moment : ℕ) (op : Op) (rest : List Op) (tree made : TreeMap) → hive_of op ≡ hive → made ≡ changed tree op moment
@@ -30,3 +31,15 @@ pub change_here : (hive : ℕ) (element : Element) (rest : List Element) (tree m
     → applied rules (ops_on hive (timed_elements (element ∷ rest))) tree ≡ applied rules (ops_on hive (timed_elements rest)) made
 change_here hive element rest tree made is =
     applied-append rules (on_hive hive (timed_element element)) (ops_on hive (timed_elements rest)) tree ∙ ap (applied rules (ops_on hive (timed_elements rest))) (sym is)
+
+-- a change that has no operation on the hive
+pub none_here : (hive moment : ℕ) (ops : List Op) → list_any (λ one. one == hive) (map hive_of ops) ≡ false → on_hive hive (map (timed moment) ops) ≡ []
+none_here hive moment [] none = refl
+none_here hive moment (op ∷ ops) none = by_test (hive_of op == hive) (λ e. none_here hive moment ops e) none
+  where
+    behind : List TimedOp
+    behind = on_hive hive (map (timed moment) ops)
+
+    by_test : (b : Bool) → (list_any (λ one. one == hive) (map hive_of ops) ≡ false → behind ≡ []) → (b || list_any (λ one. one == hive) (map hive_of ops)) ≡ false → (if b then (moment, op) ∷ behind else behind) ≡ []
+    by_test true rest e = absurd cc
+    by_test false rest e = rest e

@@ -14,12 +14,13 @@ use crate::hive::HiveFile;
 use crate::planning::plan_fits;
 use crate::replaying::{last_moment, replayed};
 use base_block::{AppliedNumber, BaseBlock};
+use element_text::ChangeText;
 use hive_emit::{Emitted, emit};
 use hive_files::mark_changes;
 use hive_records::one_tree;
 use refusals::Refusal;
 use reg_tree::laws::{trees_stay, weights_stay};
-use reg_tree::{Element, Tree};
+use reg_tree::Tree;
 use std::alloc::Global;
 
 impl HiveFile {
@@ -31,8 +32,8 @@ impl HiveFile {
     pub fn absorb(
         &mut self,
         alloc: Global,
-        first: &[Element],
-        then: &[Element],
+        first: &[ChangeText],
+        then: &[ChangeText],
         upto: u64,
     ) -> Result<(), Refusal>
         requires whole { IsWhole self.old }

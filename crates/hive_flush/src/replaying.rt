@@ -1,9 +1,10 @@
 //! Changes, replayed on one hive's tree.
 ghost use Rattle.std.specs.Prelude.{◌≡◌, map, IfOk};
 ghost use Rattle.prefix_law.specs.Changes.{applied, on_hive, ops_on};
-ghost use Rattle.engine_words.specs.Changes.{rules, timed, timed_elements};
+ghost use Rattle.engine_words.specs.Changes.{rules, timed, timed_element, timed_elements};
 
-use reg_tree::{Element, Op, Tree};
+use element_text::ChangeText;
+use reg_tree::{Op, Tree};
 use std::alloc::{AllocError, Global};
 
 /// The tree after the operations on a hive of some changes, one after another, each at its change's moment.
@@ -11,16 +12,33 @@ pub(crate) fn replayed(
     alloc: Global,
     tree: Tree,
     hive: u8,
-    elements: &[Element],
+    changes: &[ChangeText],
 ) -> Result<Tree, AllocError>
     ensures { IfOk result (λ made. made
-        ≡ applied rules (ops_on hive (timed_elements elements.now)) tree) }
+        ≡ applied rules (ops_on hive (timed_elements changes.now)) tree) }
 {
     let mut made = tree;
-    for element in elements {
-        made = after_ops(alloc, made, hive, element.ops.list(), element.moment)?;
+    for change in changes {
+        made = after_change(alloc, made, hive, change)?;
     }
     Ok(made)
+}
+
+// the tree after the operations on a hive of a change, which is read only where it has one
+fn after_change(
+    alloc: Global,
+    tree: Tree,
+    hive: u8,
+    change: &ChangeText,
+) -> Result<Tree, AllocError>
+    ensures { IfOk result (λ made. made
+        ≡ applied rules (on_hive hive (timed_element change.now)) tree) }
+{
+    if !change.is_on(hive) {
+        return Ok(tree);
+    }
+    let element = change.read(alloc)?;
+    after_ops(alloc, tree, hive, element.ops.list(), element.moment)
 }
 
 // the tree after the operations on a hive among some, at one moment
@@ -44,11 +62,10 @@ fn after_ops(
 }
 
 /// The moment of the last change that has an operation on a hive, or else one that is given.
-pub(crate) fn last_moment(hive: u8, elements: &[Element], otherwise: u64) -> u64 {
-    let names = |element: &&Element| element.ops.list().iter().any(|op| op.hive() == hive);
-    elements
+pub(crate) fn last_moment(hive: u8, changes: &[ChangeText], otherwise: u64) -> u64 {
+    changes
         .iter()
         .rev()
-        .find(names)
-        .map_or(otherwise, |element| element.moment)
+        .find(|change| change.is_on(hive))
+        .map_or(otherwise, |change| change.moment())
 }

@@ -1,8 +1,9 @@
 //! What an opening found of a store.
 
 use commit_journal::{Journal, Naming};
+use element_text::ChangeText;
 use hive_flush::HiveFile;
-use reg_tree::{Element, Trees};
+use reg_tree::Trees;
 
 /// What an opening found of a store: its journal and hives, and what they recover together.
 #[derive(Drop)]
@@ -16,7 +17,7 @@ pub struct Found {
     /// The number that is recovered.
     pub number: u64,
     /// Of the changes that the journal spells those from the first one on that some hive lacks.
-    pub opened: Vec<Element>,
+    pub opened: Vec<ChangeText>,
     /// The number below the first of all that it spells, or the recovered number where there is none.
     pub base: u64,
     /// The number below the first of those that are kept, or the recovered number where none is.

@@ -19,10 +19,11 @@ use crate::found::Found;
 use crate::numbers::{first_above, number_of};
 use crate::replaying::replayed;
 use commit_journal::{Journal, Opened};
+use element_text::ChangeText;
 use hive_flush::HiveFile;
 use refusals::limits::GREATEST_NUMBER;
 use refusals::{Cause, Refusal};
-use reg_tree::{Element, Tree, Trees};
+use reg_tree::{Tree, Trees};
 use std::alloc::Global;
 
 /// What the hives of a store and the changes that its journal spells recover together.
@@ -83,7 +84,7 @@ fn trees_after(
     hives: &[HiveFile],
     count: u8,
     below: u64,
-    elements: &[Element],
+    elements: &[ChangeText],
 ) -> Result<Vec<Tree>, Refusal>
     requires count { count ≡ length hives.now }
     ensures many { IfOk result (λ trees. length trees.items ≡ length hives.now) }
@@ -107,7 +108,7 @@ fn tree_after(
     hive: &HiveFile,
     place: u8,
     below: u64,
-    elements: &[Element],
+    elements: &[ChangeText],
 ) -> Result<Tree, Refusal>
     ensures made { IfOk result (λ made.
         replayed_on (record { below = below; elements = timed_elements elements.now })

@@ -3,10 +3,11 @@ ghost use Rattle.std.specs.Prelude.{◌≡◌, ◌⊎◌, map, true, false, Some
 ghost use Rattle.refusals.specs.Answers.{RefusedFor};
 ghost use Rattle.refusals.specs.declared.refusal.Refusal.TheVariants.{JournalDamaged, NoMemory};
 ghost use Rattle.prefix_law.specs.Changes.{on_hive, ops_on, replay};
-ghost use Rattle.engine_words.specs.Changes.{rules, timed, timed_elements};
+ghost use Rattle.engine_words.specs.Changes.{rules, timed, timed_element, timed_elements};
 
+use element_text::ChangeText;
 use refusals::Refusal;
-use reg_tree::{Element, Op, Tree};
+use reg_tree::{Op, Tree};
 use std::alloc::Global;
 
 /// The tree to which the operations on a hive of some changes lead, one after another, each at its change's moment.
@@ -17,18 +18,37 @@ pub(crate) fn replayed(
     alloc: Global,
     tree: Tree,
     hive: u8,
-    elements: &[Element],
+    changes: &[ChangeText],
 ) -> Result<Tree, Refusal>
     ensures made { IfOk result (λ made.
-        replay rules (ops_on hive (timed_elements elements.now)) tree ≡ Some made) }
+        replay rules (ops_on hive (timed_elements changes.now)) tree ≡ Some made) }
     ensures fails { IfErr result (RefusedFor JournalDamaged
-        (replay rules (ops_on hive (timed_elements elements.now)) tree ≡ None)) }
+        (replay rules (ops_on hive (timed_elements changes.now)) tree ≡ None)) }
 {
     let mut made = tree;
-    for element in elements {
-        made = after_ops(alloc, made, hive, element.ops.list(), element.moment)?;
+    for change in changes {
+        made = after_change(alloc, made, hive, change)?;
     }
     Ok(made)
+}
+
+// the tree after the operations on a hive of a change, which is read only where it has one
+fn after_change(
+    alloc: Global,
+    tree: Tree,
+    hive: u8,
+    change: &ChangeText,
+) -> Result<Tree, Refusal>
+    ensures made { IfOk result (λ made.
+        replay rules (on_hive hive (timed_element change.now)) tree ≡ Some made) }
+    ensures fails { IfErr result (RefusedFor JournalDamaged
+        (replay rules (on_hive hive (timed_element change.now)) tree ≡ None)) }
+{
+    if !change.is_on(hive) {
+        return Ok(tree);
+    }
+    let element = change.read(alloc)?;
+    after_ops(alloc, tree, hive, element.ops.list(), element.moment)
 }
 
 // the tree after the operations on a hive among some, at one moment

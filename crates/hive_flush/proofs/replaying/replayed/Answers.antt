@@ -1,20 +1,18 @@
-use Rattle.std.proofs.Common.{◌≡◌, ◌+◌, List, ◌∷◌, drop, map, sym, ap, ◌∙◌}
+use Rattle.std.proofs.Common.{◌≡◌, ◌+◌, List, ◌∷◌, drop, sym, ap, ◌∙◌}
 use Rattle.std.proofs.lemmas.List.{drop_more}
-use Rattle.prefix_law.specs.Changes.{applied, on_hive, ops_on}
-use Rattle.reg_tree.specs.declared.op.Op.{Op}
+use Rattle.prefix_law.specs.Changes.{applied, ops_on}
 use Rattle.reg_tree.specs.declared.element.Element.{Element}
-use Rattle.engine_words.specs.Changes.{rules, timed, timed_elements}
+use Rattle.engine_words.specs.Changes.{rules, timed_elements}
 use Rattle.hive_flush.proofs.Replayed.{change_here}
 use Rattle.hive_flush.proofs.replaying.replayed.Goals as goal
 
-pub loop-element-preserved : goal.loop-element-preserved
-loop-element-preserved c =
+pub loop-change-preserved : goal.loop-change-preserved
+loop-change-preserved c =
     let hive = c.args.hive in
-    let elements = c.args.elements.now in
-    let element = c.element-item.result in
-    let rest = drop (c.loop-element.element-index + 1) elements in
-    let next : drop c.loop-element.element-index elements ≡ element ∷ rest = drop_more elements c.loop-element.element-index element c.loop-element-test.true ∙ ap (λ (x : Element). x ∷ rest) (sym c.element-item.is) in
-    let before : applied rules (ops_on hive (timed_elements (element ∷ rest))) c.loop-element.made ≡ applied rules (ops_on hive (timed_elements elements)) c.args.tree =
-    sym (ap (λ (l : List Element). applied rules (ops_on hive (timed_elements l)) c.loop-element.made) next) ∙ c.loop-element.invariant in
-    sym (change_here hive element rest c.loop-element.made c.in_ok-made.made
-    (c.in_ok-made.ensures ∙ ap (λ (l : List Op). applied rules (on_hive hive (map (timed element.moment) l)) c.loop-element.made) c.list.ensures.all)) ∙ before
+    let changes = c.args.changes.now in
+    let change = c.change-item.result in
+    let rest = drop (c.loop-change.change-index + 1) changes in
+    let next : drop c.loop-change.change-index changes ≡ change ∷ rest = drop_more changes c.loop-change.change-index change c.loop-change-test.true ∙ ap (λ (x : Element). x ∷ rest) (sym c.change-item.is) in
+    let before : applied rules (ops_on hive (timed_elements (change ∷ rest))) c.loop-change.made ≡ applied rules (ops_on hive (timed_elements changes)) c.args.tree =
+    sym (ap (λ (l : List Element). applied rules (ops_on hive (timed_elements l)) c.loop-change.made) next) ∙ c.loop-change.invariant in
+    sym (change_here hive change rest c.loop-change.made c.in_ok-made.made c.in_ok-made.ensures) ∙ before

@@ -3,5 +3,5 @@ use Rattle.prefix_law.specs.Changes.{replay, ops_on}
 use Rattle.engine_words.specs.Changes.{rules, timed_elements}
 use Rattle.recovery.proofs.replaying.replayed.Given as goal
 
-abbrev pub invariant-loop-element : goal.invariant-loop-element
-invariant-loop-element l = replay rules (ops_on l.hive (timed_elements (drop l.element-index l.elements))) l.made ≡ replay rules (ops_on l.hive (timed_elements l.elements)) l.fn.tree
+abbrev pub invariant-loop-change : goal.invariant-loop-change
+invariant-loop-change l = replay rules (ops_on l.hive (timed_elements (drop l.change-index l.changes))) l.made ≡ replay rules (ops_on l.hive (timed_elements l.changes)) l.fn.tree
