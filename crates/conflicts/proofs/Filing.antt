@@ -191,7 +191,7 @@ apart_from_all n (x ∷ kept) a m h c = elim (first_or_later x kept (m, h) c) [
 ]
 
 -- the claim that is there under a number is looked up
-has_lookup : (kept : List Numbered) → IsStrictlySortedBy nat_cmp (map (λ (e : Numbered). e.0) kept) → (n : ℕ) (k : Kept) → Contains kept (n, k) → lookup (is_at (nat_cmp n)) kept ≡ Some k
+pub has_lookup : (kept : List Numbered) → IsStrictlySortedBy nat_cmp (map (λ (e : Numbered). e.0) kept) → (n : ℕ) (k : Kept) → Contains kept (n, k) → lookup (is_at (nat_cmp n)) kept ≡ Some k
 unfolding IsStrictlySortedBy
 has_lookup [] r n k c = absurd (none_empty (n, k) c)
 has_lookup (x ∷ kept) r n k c = elim (first_or_later x kept (n, k) c) [

@@ -9,6 +9,7 @@ pub mod StaysLegal
 pub mod Members
 pub mod SpotRanges
 pub mod PathSpots
+pub mod Apart
 pub mod Looks
 pub mod Filing
 pub mod Effects

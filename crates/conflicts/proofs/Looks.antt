@@ -1,15 +1,16 @@
 -- Claims that are looked up by rising numbers, among which are all that stand against one, are those of the table as far
 -- as these are concerned.
-use Rattle.std.proofs.Common.{◌≡◌, inl, inr, ℕ, zero, suc, ◌+◌, ◌<◌, ◌≤◌, Bool, true, false, not, ◌||◌, Bor, cond, List, [], ◌∷◌, ◌++◌, map, length, take, get_or, Option, Some, None, refl, sym, ◌∙◌, ap, subst, arith, append-nil}
+use Rattle.std.proofs.Common.{◌≡◌, ◌⊎◌, inl, inr, ℕ, zero, suc, ◌+◌, ◌<◌, ◌≤◌, Bool, true, false, not, ◌||◌, Bor, cond, List, [], ◌∷◌, ◌++◌, map, length, take, get_or, Option, Some, None, refl, sym, ◌∙◌, ap, subst, arith, append-nil}
 use Rattle.std.specs.Prelude.{filter, Contains}
 use Rattle.std.specs.Option.{option_map, option_copied}
 use Rattle.std.specs.List.{filter_map, cons_option, list_any, AllByRecursion}
-use Rattle.std.proofs.lemmas.List.Folds.{list_any-append}
 use Rattle.std.specs.List.Sorted.{IsStrictlySortedBy}
 use Rattle.std.specs.Ordering.{nat_cmp, is_eq}
 use Rattle.std.specs.Cmp.{tied_itself, nat_cmp_is}
 use Rattle.std.specs.Map.{lookup}
 use Rattle.std.specs.BTreeMap.{is_at}
+use Rattle.std.specs.declared.ops.Bound.TheVariants.{Included}
+use Rattle.std.specs.BTreeMap.Range.{range_contains}
 use Rattle.std.specs.declared.cmp.Ordering.TheVariants.{Less, Equal, Greater}
 use Rattle.std.proofs.lemmas.Bool.{cases_lt}
 use Rattle.std.proofs.lemmas.Cmp.{nat_cmp_total}
@@ -17,12 +18,14 @@ use Rattle.std.proofs.lemmas.List.{take_more}
 use Rattle.std.proofs.lemmas.List.Elements.{filter_map-append}
 use Rattle.claims_law.specs.Skeleton.{Claim}
 use Rattle.conflicts.specs.declared.table.Kept.{Kept}
-use Rattle.conflicts.proofs.Meets.{conflict_meets}
-use Rattle.conflicts.specs.Holders.{Held, same_held, is_some_same, stands_against, asks, with_holder, each_once, holders_of}
+use Rattle.claims_law.proofs.Tests.{never}
+use Rattle.conflicts.specs.Holders.{Held, same_held, is_some_that, stands_against, asks, with_holder, each_once, holders_of}
 use Rattle.conflicts.specs.Claims.{meets}
-use Rattle.conflicts.specs.Spots.{Spot, spot_text}
+use Rattle.conflicts.specs.Spots.{Spot, spot_order, spot_text}
 use Rattle.conflicts.specs.Filed.{Numbered, claims_of, IsFiled, AreFiled}
-use Rattle.conflicts.proofs.Members.{held_is, parts, here, later, first_or_later, none_empty}
+use Rattle.conflicts.proofs.Filing.{has_lookup}
+use Rattle.conflicts.proofs.SpotRanges.{at_text}
+use Rattle.conflicts.proofs.Members.{held_is, parts, here, later, first_or_later, none_empty, filter_has}
 use Rattle.conflicts.proofs.Once.{holders-more}
 
 -- the claim of a number, where there is one
@@ -173,55 +176,79 @@ covered next spots owned kept are asker claim numbers complete n k has t =
     let filed : IsFiled next spots owned n k.entry = are.filed n k has in
     subst (λ m. Contains numbers m) filed.numbered (complete filed.spot k.entry.claim filed.listed filed.text (parts (not (asks asker k.entry.owner)) (meets claim k.entry.claim) t).1)
 
--- Whether a claim is among those looked up
+-- Whether some claim passes a test
 
-any_joined : (p : Held → Bool) (xs : List Held) (o : Option Held) (one : Held) → p ≡ same_held one → list_any p (xs ++ cons_option o []) ≡ (list_any p xs || is_some_same one o)
-any_joined p xs None one e = ap (list_any p) (append-nil xs) ∙ sym (or_false (list_any p xs))
-  where
-    or_false : (b : Bool) → (b || false) ≡ b
-    or_false true = refl
-    or_false false = refl
-any_joined p xs (Some h) one e = list_any-append p xs (h ∷ []) ∙ ap (λ b. list_any p xs || b) (or_false (p h) ∙ ap (λ (q : Held → Bool). q h) e)
-  where
-    or_false : (b : Bool) → (b || false) ≡ b
-    or_false true = refl
-    or_false false = refl
+none_passes : (p : Held → Bool) (held : List Held) → ((one : Held) → Contains held one → p one ≡ false) → list_any p held ≡ false
+none_passes p [] h = refl
+none_passes p (one ∷ held) h = ap (λ b. b || list_any p held) (h one (here one held)) ∙ none_passes p held (λ other c. h other (later one held other c))
 
-looked_step : (kept : List Numbered) (numbers : List ℕ) (i : ℕ) (one : Held) → i < length numbers → list_any (same_held one) (looked kept (take (i + 1) numbers)) ≡ (list_any (same_held one) (looked kept (take i numbers)) || is_some_same one (look kept (get_or numbers i 0)))
-looked_step kept numbers i one lt =
-    ap (λ ns. list_any (same_held one) (looked kept ns)) (take_more numbers i 0 lt) ∙ ap (list_any (same_held one)) (filter_map-append (look kept) (take i numbers) (get_or numbers i 0 ∷ []))
-    ∙ any_joined (same_held one) (looked kept (take i numbers)) (look kept (get_or numbers i 0)) one refl
-
-pub has_found : (kept : List Numbered) (numbers : List ℕ) (i : ℕ) (one : Held) (same : Bool) → i < length numbers → same ≡ is_some_same one (look kept (get_or numbers i 0)) → same ≡ true → true ≡ list_any (same_held one) (looked kept (take (i + 1) numbers))
-has_found kept numbers i one same lt is t = or_true (list_any (same_held one) (looked kept (take i numbers))) ∙ ap (λ b. list_any (same_held one) (looked kept (take i numbers)) || b) (sym t ∙ is) ∙ sym (looked_step kept numbers i one lt)
+-- that of a number does
+pub found_one : (p : Held → Bool) (kept : List Numbered) (n : ℕ) → is_some_that p (look kept n) ≡ true → list_any p (claims_of kept) ≡ true
+found_one p [] n t = never t
+found_one p (x ∷ kept) n t = by_case (found_one p kept n) (is_eq (nat_cmp n x.0)) t
   where
-    or_true : (b : Bool) → true ≡ (b || true)
-    or_true true = refl
-    or_true false = refl
+    or_true : (a b : Bool) → b ≡ true → (a || b) ≡ true
+    or_true true b t = refl
+    or_true false b t = t
 
-pub has_not_found : (kept : List Numbered) (numbers : List ℕ) (i : ℕ) (one : Held) (same has : Bool) → i < length numbers → has ≡ list_any (same_held one) (looked kept (take i numbers)) → same ≡ is_some_same one (look kept (get_or numbers i 0)) → same ≡ false → has ≡ list_any (same_held one) (looked kept (take (i + 1) numbers))
-has_not_found kept numbers i one same has lt was is f = or_false has ∙ ap (λ b. b || false) was ∙ ap (λ b. list_any (same_held one) (looked kept (take i numbers)) || b) (sym f ∙ is) ∙ sym (looked_step kept numbers i one lt)
-  where
-    or_false : (b : Bool) → b ≡ (b || false)
-    or_false true = refl
-    or_false false = refl
+    by_case : (is_some_that p (look kept n) ≡ true → list_any p (claims_of kept) ≡ true) → (b : Bool) → is_some_that p (option_map (λ (k : Kept). k.entry) (cond b (Some x.1) (lookup (is_at (nat_cmp n)) kept))) ≡ true → list_any p (x.1.entry ∷ claims_of kept) ≡ true
+    by_case rest true t = ap (λ b. b || list_any p (claims_of kept)) t
+    by_case rest false t = or_true (p x.1.entry) (list_any p (claims_of kept)) (rest t)
 
-any_kept : (p : Held → Bool) (xs : List Held) → list_any p xs ≡ list_any (λ h. true) (filter p xs)
-any_kept p [] = refl
-any_kept p (x ∷ xs) = by_case (any_kept p xs) (p x)
+-- those of no number do
+found_none : (p : Held → Bool) (kept all : List Numbered) → ((n : ℕ) (k : Kept) → Contains kept (n, k) → Contains all (n, k)) → Rises (map (λ (e : Numbered). e.0) all)
+    → ((n : ℕ) (k : Kept) → Contains all (n, k) → p k.entry ≡ true → is_some_that p (look all n) ≡ false) → list_any p (claims_of kept) ≡ false
+found_none p [] all within rises none = refl
+found_none p (x ∷ kept) all within rises none =
+    ap (λ b. b || list_any p (claims_of kept)) (by_case (p x.1.entry) refl)
+    ∙ found_none p kept all (λ n k c. within n k (later x kept (n, k) c)) rises none
   where
-    by_case : list_any p xs ≡ list_any (λ h. true) (filter p xs) → (b : Bool) → (b || list_any p xs) ≡ list_any (λ (h : Held). true) (cond b (x ∷ filter p xs) (filter p xs))
-    by_case rest true = refl
-    by_case rest false = rest
+    there : Contains all (x.0, x.1)
+    there = within x.0 x.1 (here x kept)
 
-pub has_all : (next : ℕ) (spots : List Spot) (owned : List (ℕ × ℕ)) (kept : List Numbered) → AreFiled next spots owned kept → (one : Held) (numbers : List ℕ) → Rises numbers
-    → ((spot : Spot) (held : Claim) → Contains spots spot → spot.0.items ≡ spot_text held → meets one.claim held ≡ true → Contains numbers spot.1)
-    → list_any (same_held one) (looked kept numbers) ≡ list_any (same_held one) (claims_of kept)
-has_all next spots owned kept are one numbers rises complete =
-    any_kept (same_held one) (looked kept numbers) ∙ ap (list_any (λ h. true)) (looked_all (same_held one) (length kept + length numbers) kept numbers (omega arith) are.rises rises covers) ∙ sym (any_kept (same_held one) (claims_of kept))
+    by_case : (b : Bool) → p x.1.entry ≡ b → p x.1.entry ≡ false
+    by_case false e = e
+    by_case true e = ap (is_some_that p) (sym (ap (option_map (λ (k : Kept). k.entry)) (has_lookup all rises x.0 x.1 there))) ∙ none x.0 x.1 there e
+
+-- nor do those of the numbers so far
+pub none_yet : (p : Held → Bool) (kept : List Numbered) (numbers : List ℕ) (i : ℕ) → i < length numbers → ((n : ℕ) → Contains (take i numbers) n → is_some_that p (look kept n) ≡ false) → is_some_that p (look kept (get_or numbers i 0)) ≡ false
+    → (n : ℕ) → Contains (take (i + 1) numbers) n → is_some_that p (look kept n) ≡ false
+none_yet p kept numbers i lt was now n c = by_case (take i numbers) was (subst (λ xs. Contains xs n) (take_more numbers i 0 lt) c)
   where
-    covers : (n : ℕ) (k : Kept) → Contains kept (n, k) → same_held one k.entry ≡ true → Contains numbers n
-    covers n k has t =
-        let filed : IsFiled next spots owned n k.entry = are.filed n k has in
-        let same : one ≡ k.entry = held_is one k.entry t in
-        subst (λ m. Contains numbers m) filed.numbered (complete filed.spot k.entry.claim filed.listed filed.text (conflict_meets one.claim k.entry.claim (inl (ap (λ (h : Held). h.claim.key.hive) same, ap (λ (h : Held). h.claim.key.path) same))))
+    by_case : (xs : List ℕ) → ((m : ℕ) → Contains xs m → is_some_that p (look kept m) ≡ false) → Contains (xs ++ get_or numbers i 0 ∷ []) n → is_some_that p (look kept n) ≡ false
+    by_case [] was c = elim (first_or_later (get_or numbers i 0) [] n c) [ inl e ↦ subst (λ m. is_some_that p (look kept m) ≡ false) e now | inr d ↦ absurd (none_empty n d) ]
+    by_case (x ∷ xs) was c = elim (first_or_later x (xs ++ get_or numbers i 0 ∷ []) n c) [
+      | inl e ↦ was n (subst (λ m. Contains (x ∷ xs) m) e (here x xs))
+      | inr d ↦ by_case xs (λ m h. was m (later x xs m h)) d
+    ]
+
+-- so none conflicts, where those of the numbers near don't
+pub none_met : (next : ℕ) (spots : List Spot) (owned : List (ℕ × ℕ)) (kept : List Numbered) → AreFiled next spots owned kept → (asker : Option ℕ) (claim : Claim) (numbers : List ℕ)
+    → ((spot : Spot) (held : Claim) → Contains spots spot → spot.0.items ≡ spot_text held → meets claim held ≡ true → Contains numbers spot.1)
+    → ((n : ℕ) → Contains numbers n → is_some_that (stands_against asker claim) (look kept n) ≡ false) → list_any (stands_against asker claim) (claims_of kept) ≡ false
+none_met next spots owned kept are asker claim numbers complete none =
+    found_none (stands_against asker claim) kept kept (λ n k c. c) are.rises (λ n k c t. none n (covered next spots owned kept are asker claim numbers complete n k c t))
+
+-- and none is the one asked for, where those of the spots at its text aren't
+pub none_same : (next : ℕ) (spots : List Spot) (owned : List (ℕ × ℕ)) (kept : List Numbered) → AreFiled next spots owned kept → next < 18446744073709551616 → (one : Held) (from to : Spot) → from.0.items ≡ spot_text one.claim → from.1 ≡ 0 → to.0.items ≡ from.0.items → to.1 ≡ 18446744073709551615
+    → ((spot : Spot) → Contains (filter (λ s. range_contains spot_order (Included from) (Included to) s) spots) spot → is_some_that (same_held one) (look kept spot.1) ≡ false) → list_any (same_held one) (claims_of kept) ≡ false
+none_same next spots owned kept are small one from to at least same most none =
+    found_none (same_held one) kept kept (λ n k c. c) are.rises (λ n k c t.
+    let filed : IsFiled next spots owned n k.entry = are.filed n k c in
+    let text : filed.spot.0.items ≡ from.0.items = filed.text ∙ ap (λ (h : Held). spot_text h.claim) (sym (held_is one k.entry t)) ∙ sym at in
+    let below : n < next = filed.below in
+    let numbered : filed.spot.1 ≡ n = filed.numbered in
+    subst (λ m. is_some_that (same_held one) (look kept m) ≡ false) filed.numbered
+    (none filed.spot (filter_has (λ s. range_contains spot_order (Included from) (Included to) s) spots filed.spot filed.listed (at_text from to least same most filed.spot text (omega (arith, below, small, numbered))))))
+
+-- the spots that are still to be gone through
+pub none_before : (p : Held → Bool) (kept : List Numbered) (spots rest : List Spot) (first : Spot) → ((spot : Spot) → Contains spots spot → Contains (first ∷ rest) spot ⊎ (is_some_that p (look kept spot.1) ≡ false)) → is_some_that p (look kept first.1) ≡ false
+    → (spot : Spot) → Contains spots spot → Contains rest spot ⊎ (is_some_that p (look kept spot.1) ≡ false)
+none_before p kept spots rest first was now spot c = elim (was spot c) [
+  | inl d ↦ elim (first_or_later first rest spot d) [ inl e ↦ inr (subst (λ (s : Spot). is_some_that p (look kept s.1) ≡ false) e now) | inr r ↦ inl r ]
+  | inr f ↦ inr f
+]
+
+pub none_left_over : (p : Held → Bool) (kept : List Numbered) (spots rest : List Spot) → ((spot : Spot) → Contains spots spot → Contains rest spot ⊎ (is_some_that p (look kept spot.1) ≡ false)) → rest ≡ []
+    → (spot : Spot) → Contains spots spot → is_some_that p (look kept spot.1) ≡ false
+none_left_over p kept spots rest was none spot c = elim (was spot c) [ inl d ↦ absurd (none_empty spot (subst (λ xs. Contains xs spot) none d)) | inr f ↦ f ]

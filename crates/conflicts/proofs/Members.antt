@@ -171,9 +171,9 @@ held_is a b t =
     let kinds : a.claim.kind ≡ b.claim.kind = kind_is a.claim.kind b.claim.kind second.0 in
     λ i. record { owner = sym owners i; claim = record { kind = kinds i; key = record { hive = key.0 i; path = key.1 i } } }
 
-any_has : (one : Held) (held : List Held) → list_any (same_held one) held ≡ true → Contains held one
-any_has one [] t = never t
-any_has one (h ∷ held) t = by_case (any_has one held) (same_held one h) refl t
+pub same_has : (one : Held) (held : List Held) → list_any (same_held one) held ≡ true → Contains held one
+same_has one [] t = never t
+same_has one (h ∷ held) t = by_case (same_has one held) (same_held one h) refl t
   where
     by_case : (list_any (same_held one) held ≡ true → Contains held one) → (b : Bool) → same_held one h ≡ b → (b || list_any (same_held one) held) ≡ true → Contains (h ∷ held) one
     by_case rest true e t = subst (λ x. Contains (x ∷ held) one) (held_is one h e) (here one held)
@@ -188,7 +188,7 @@ snoc_has (h ∷ held) one other (inl c) = elim (first_or_later h held other c) [
 ]
 snoc_has (h ∷ held) one other (inr e) = later h (held ++ one ∷ []) other (snoc_has held one other (inr e))
 
-has_snoc : (held : List Held) (one other : Held) → Contains (held ++ one ∷ []) other → Contains held other ⊎ (one ≡ other)
+pub has_snoc : (held : List Held) (one other : Held) → Contains (held ++ one ∷ []) other → Contains held other ⊎ (one ≡ other)
 has_snoc [] one other c = elim (first_or_later one [] other c) [ inl e ↦ inr e | inr d ↦ inl d ]
 has_snoc (h ∷ held) one other c = elim (first_or_later h (held ++ one ∷ []) other c) [
   | inl e ↦ inl (subst (λ x. Contains (x ∷ held) other) (sym e) (here other held))
@@ -199,7 +199,7 @@ pub added : (held : List Held) (one other : Held) → Contains (with_claim held 
 added held one other = by_case (holds_claim held one) refl
   where
     by_case : (b : Bool) → list_any (same_held one) held ≡ b → Contains (cond b held (held ++ one ∷ [])) other ↔ (Contains held other ⊎ (one ≡ other))
-    by_case true e = (λ c. inl c, λ c. elim c [ inl k ↦ k | inr same ↦ subst (λ x. Contains held x) same (any_has one held e) ])
+    by_case true e = (λ c. inl c, λ c. elim c [ inl k ↦ k | inr same ↦ subst (λ x. Contains held x) same (same_has one held e) ])
     by_case false e = (has_snoc held one other, snoc_has held one other)
 
 pub dropped : (held : List Held) (owner : ℕ) (other : Held) → Contains (without_owner held owner) other ↔ (Contains held other × (other.owner ≢ owner))

@@ -75,6 +75,40 @@ module _ (from to : Spot) (t : List ℕ) (past : ℕ) (first : from.0.items ≡ 
       map_has (λ (s : Spot). s.1) (filter (λ s. range_contains spot_order (Included from) (Included to) s) spots) spot
       (filter_has (λ s. range_contains spot_order (Included from) (Included to) s) spots spot c (both (is_le (spot_order from spot)) (not (is_lt (spot_order to spot))) (not_below spot g.0 g.1 g.3) (not_above spot g.0 g.1 g.2 g.3)))
 
+-- The spots of one text
+
+same_text : (t : List ℕ) → slice_cmp nat_cmp t t ≡ Equal
+same_text [] = refl
+same_text (a ∷ t) = ap (λ o. ordering_then o (slice_cmp nat_cmp t t)) (tied_itself nat_cmp_total a) ∙ same_text t
+
+module _ (from to : Spot) (least : from.1 ≡ 0) (same : to.0.items ≡ from.0.items) (most : to.1 ≡ 18446744073709551615) where
+  pub forward_text : is_gt (spot_order from to) ≡ false
+  forward_text =
+      ap (λ t. is_gt (ordering_then (slice_cmp nat_cmp from.0.items t) (nat_cmp from.1 to.1))) same ∙ ap (λ o. is_gt (ordering_then o (nat_cmp from.1 to.1))) (same_text from.0.items)
+      ∙ ap (λ n. is_gt (nat_cmp n to.1)) least ∙ ap (λ n. is_gt (nat_cmp 0 n)) most
+
+  -- lie between its first and its last
+  pub at_text : (spot : Spot) → spot.0.items ≡ from.0.items → spot.1 < 18446744073709551616 → range_contains spot_order (Included from) (Included to) spot ≡ true
+  at_text spot at lt = both (is_le (spot_order from spot)) (not (is_lt (spot_order to spot))) not_below not_above
+    where
+      both : (a b : Bool) → a ≡ true → b ≡ true → (a && b) ≡ true
+      both true b e f = f
+      both false b e f = e
+
+      not_below : is_le (spot_order from spot) ≡ true
+      not_below =
+          ap (λ t. is_le (ordering_then (slice_cmp nat_cmp from.0.items t) (nat_cmp from.1 spot.1))) at ∙ ap (λ o. is_le (ordering_then o (nat_cmp from.1 spot.1))) (same_text from.0.items)
+          ∙ ap (λ m. is_le (nat_cmp m spot.1)) least ∙ elim (zero_or_more spot.1) [ inl z ↦ ap (λ m. is_le (nat_cmp 0 m)) z | inr p ↦ ap is_le (nat_less 0 spot.1 p) ]
+
+      not_above : not (is_lt (spot_order to spot)) ≡ true
+      not_above =
+          ap (λ t. not (is_lt (ordering_then (slice_cmp nat_cmp t spot.0.items) (nat_cmp to.1 spot.1)))) same ∙ ap (λ t. not (is_lt (ordering_then (slice_cmp nat_cmp from.0.items t) (nat_cmp to.1 spot.1)))) at
+          ∙ ap (λ o. not (is_lt (ordering_then o (nat_cmp to.1 spot.1)))) (same_text from.0.items)
+          ∙ ap (λ m. not (is_lt (nat_cmp m spot.1))) most ∙ elim (cases_lt spot.1 18446744073709551615) [
+            | inl less ↦ ap (λ o. not (is_lt o)) (nat_greater 18446744073709551615 spot.1 less)
+            | inr ge ↦ let last : spot.1 ≡ 18446744073709551615 = omega (arith, lt, ge) in ap (λ m. not (is_lt (nat_cmp 18446744073709551615 m))) last
+          ]
+
 -- the text of a name, written unit by unit
 pub name_written : (before after text : List ℕ) (name : List ℕ) (n : ℕ) → length name ≤ n → text ≡ before ++ map (λ u. min (fold_unit u) 65534) (take n name) → after ≡ text ++ 92 ∷ [] → after ≡ before ++ name_text (folded name)
 name_written before after text name n le e f =

@@ -5,7 +5,7 @@ use Rattle.std.specs.Map.{lookup, remove_entry}
 use Rattle.std.specs.BTreeMap.{is_at}
 use Rattle.std.specs.Ordering.{nat_cmp}
 use Rattle.std.specs.List.Sorted.{IsStrictlySortedBy}
-use Rattle.conflicts.specs.Holders.{Held}
+use Rattle.conflicts.specs.Holders.{Held, StandApart}
 use Rattle.conflicts.specs.Spots.{Spot, spot_text}
 use Rattle.conflicts.specs.declared.table.Kept.{Kept}
 
@@ -30,6 +30,11 @@ pub record AreFiled (next : ℕ) (spots : List Spot) (owned : List (ℕ × ℕ))
   pub rises : IsStrictlySortedBy nat_cmp (map (λ e. e.0) kept)
   pub filed : (number : ℕ) (one : Kept) → Contains kept (number, one) → IsFiled next spots owned number one.entry
   pub spots_known : (number : ℕ) (one : Kept) → Contains kept (number, one) → one.spot.1 ≡ number
+
+-- the claims are filed, and no transaction's conflicts with another's
+pub record AreHeld (next : ℕ) (spots : List Spot) (owned : List (ℕ × ℕ)) (kept : List Numbered) : Type 0 where
+  pub filed : AreFiled next spots owned kept
+  pub apart : StandApart (claims_of kept)
 
 -- one claim, which was the owner's and had this number, is taken out
 pub record TakesOwn (old new : List Numbered) (owner number : ℕ) (one : Kept) : Type 0 where

@@ -1,5 +1,5 @@
 -- The claims that a table has, and who holds those that conflict with one more.
-use Rattle.std.specs.Prelude.{ℕ, Bool, false, not, ◌&&◌, ◌==◌, if◌then◌else◌, List, [], ◌∷◌, ◌++◌, map, filter, Option, Some, None, Contains, ◌≢◌}
+use Rattle.std.specs.Prelude.{◌≡◌, ℕ, Bool, true, false, not, ◌&&◌, ◌==◌, if◌then◌else◌, List, [], ◌∷◌, ◌++◌, map, filter, Option, Some, None, Contains, ◌≢◌}
 use Rattle.std.specs.List.{list_any}
 use Rattle.claims_law.specs.Skeleton.{Claim, Conflict}
 use Rattle.conflicts.specs.Claims.{same_claim, meets}
@@ -13,10 +13,10 @@ pub record Held : Type 0 where
 abbrev pub same_held : Held → Held → Bool
 same_held a b = b.owner == a.owner && same_claim a.claim b.claim
 
--- whether there is one, and it is another
-abbrev pub is_some_same : Held → Option Held → Bool
-is_some_same one None = false
-is_some_same one (Some held) = same_held one held
+-- whether there is one, and it passes a test
+abbrev pub is_some_that : (Held → Bool) → Option Held → Bool
+is_some_that test None = false
+is_some_that test (Some one) = test one
 
 -- whether a claim of a transaction is among them
 abbrev pub holds_claim : List Held → Held → Bool
@@ -61,3 +61,12 @@ with_holder xs (Some one) asker claim = if stands_against asker claim one then w
 -- a transaction holds a claim that conflicts with the one asked for, and is not the asker
 abbrev pub IsHolder : List Held → Option ℕ → Claim → ℕ → Type 0
 IsHolder held asker claim owner = (one : Claim) × Contains held (record { owner = owner; claim = one }) × Conflict claim one × (asker ≢ Some owner)
+
+-- no claim of one transaction conflicts with one of another
+abbrev pub StandApart : List Held → Type 0
+StandApart held = (one other : Held) → Contains held one → Contains held other → stands_against (Some one.owner) one.claim other ≡ false
+
+-- a transaction asks for a claim: it holds it then exactly where no other holds one that conflicts with it
+abbrev pub AsksFor : List Held → Held → Bool → List Held → Type 0
+AsksFor old one true new = (holders_of old (Some one.owner) one.claim ≡ []) × (new ≡ with_claim old one)
+AsksFor old one false new = (holders_of old (Some one.owner) one.claim ≢ []) × (new ≡ old)

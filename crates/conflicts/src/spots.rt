@@ -48,7 +48,8 @@ pub(crate) fn copy(alloc: Global, text: &[u16]) -> Result<Vec<u16>, AllocError>
 fn with_unit(alloc: Global, text: &[u16], unit: u16) -> Result<Vec<u16>, AllocError>
     ensures { IfOk result (λ made. made.items ≡ text.now ++ unit ∷ []) }
 {
-    let mut made = text.to_vec(alloc)?;
+    let mut made = Vec::with_capacity(alloc, text.len() + 1)?;
+    made.extend_from_slice(text)?;
     made.push(unit)?;
     Ok(made)
 }
@@ -92,11 +93,21 @@ pub(crate) fn spot_of(alloc: Global, claim: &Claim, number: u64) -> Result<Spot,
     ensures text { IfOk result (λ spot. spot.0.items ≡ spot_text claim.now) }
     ensures number { IfOk result (λ spot. spot.1 ≡ number) }
 {
-    let mut text = Vec::new(alloc);
+    let names = claim.path.names();
+    let mut text = Vec::with_capacity(alloc, units_of(names))?;
     text.push(u16::from(claim.hive))?;
-    write_path(&mut text, claim.path.names())?;
+    write_path(&mut text, names)?;
     text.push(PATH_END)?;
     Ok((text, number))
+}
+
+// how many units the text of a claim's spot has
+fn units_of(names: &[Name]) -> usize {
+    let mut units: usize = 2;
+    for name in names {
+        units = units.saturating_add(name.units().len()).saturating_add(1);
+    }
+    units
 }
 
 // adds a path to a text
@@ -120,7 +131,7 @@ pub(crate) fn numbers_near(
         spot.0.items ≡ spot_text held → meets claim.now held ≡ true → Contains found.items spot.1) }
     ensures rises { IfOk result (λ found. IsStrictlySortedBy nat_cmp found.items) }
 {
-    let mut text = Vec::new(alloc);
+    let mut text = Vec::with_capacity(alloc, units_of(claim.path.names()))?;
     text.push(u16::from(claim.hive))?;
     let mut found = numbers_along(alloc, spots, claim.path.names(), &mut text)?;
     let more = gather(alloc, spots, &text, past_of(claim))?;

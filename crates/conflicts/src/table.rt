@@ -1,11 +1,11 @@
 //! The claims of all active transactions, in the order in which they were added.
-ghost use Rattle.std.specs.Prelude.{◌≡◌, ◌==◌, ◌∷◌, ◌++◌, ◌<◌, ◌^◌, [], true, ℕ, map, Contains, OnOk, OnErr, IfOk, IfSome, IfNone, Option};
+ghost use Rattle.std.specs.Prelude.{◌≡◌, ◌==◌, ◌∷◌, ◌++◌, ◌<◌, ◌^◌, [], true, false, ℕ, map, Contains, OnOk, OnErr, IfOk, IfSome, IfNone, Option, Some};
 ghost use Rattle.std.specs.List.{list_any};
 ghost use Rattle.std.specs.Option.{option_map};
 ghost use Rattle.std.specs.BTreeSet.{contains_by};
 ghost use Rattle.conflicts.specs.Spots.{pair_order};
 ghost use Rattle.conflicts.specs.Filed.{TakesOwn, LeavesOthers};
-ghost use Rattle.conflicts.specs.Holders.{Held, same_held, with_claim, without_owner, stands_against, holds_claim, with_number, with_holder, is_some_same, holders_of};
+ghost use Rattle.conflicts.specs.Holders.{Held, same_held, AsksFor, without_owner, stands_against, holds_claim, with_number, with_holder, is_some_that, holders_of};
 
 use crate::claim::{Claim, Kind, conflict, same_claim};
 use crate::spots::{Spot, copy, numbers_near, spot_of};
@@ -96,7 +96,7 @@ struct Kept {
 }
 
 /// The claims of all active transactions, each claim of a transaction once, in the order in which they were first
-/// added.
+/// added. No transaction's conflicts with another's.
 ///
 /// Claims are numbered as they are added. A claim that may conflict with another is found by its key, and a
 /// transaction's claims by the transaction, so that no call goes through the claims of all.
@@ -106,7 +106,7 @@ pub struct ClaimTable {
     kept: BTreeMap<u64, Kept>,
     // their spots
     spots: BTreeSet<Spot>,
-    // each owner with the numbers of its claims; after a refused `add` a number without a claim may stay listed here
+    // each owner with the numbers of its claims; after a refused `claim` a number without a claim may stay listed here
     // until `drop_of`, which changes no answer
     owned: BTreeSet<(u64, u64)>,
     // as long as claims were added; it takes no memory
@@ -120,11 +120,11 @@ impl Model for ClaimTable {
     ghost Value = { List Held };
 
     ghost use Rattle.std.specs.Prelude.{vec_len};
-    ghost use Rattle.conflicts.specs.Filed.{claims_of, AreFiled};
+    ghost use Rattle.conflicts.specs.Filed.{claims_of, AreHeld};
 
     ghost view = { λ inside. claims_of inside.kept.entries };
 
-    ghost invariant = { λ inside. AreFiled (vec_len inside.added) inside.spots.keys
+    ghost invariant = { λ inside. AreHeld (vec_len inside.added) inside.spots.keys
         inside.owned.keys inside.kept.entries };
 }
 
@@ -141,21 +141,27 @@ impl ClaimTable {
         }
     }
 
-    /// Adds a claim of a transaction, at the end; a claim that it has already is not added again. It is refused for
-    /// want of memory alone, and the table is then unchanged.
-    pub fn add(&mut self, owner: Owner, claim: &Claim) -> Result<(), AllocError>
-        ensures ok { OnOk result (self.new
-            ≡ with_claim self.old (record { owner = owner.0; claim = claim.now })) }
+    /// Holds a claim for a transaction, and tells whether it does: not where another transaction holds a claim that conflicts
+    /// with it. It is added at the end, unless the transaction has it already. Refused for want of memory alone, and the
+    /// table is then unchanged.
+    pub fn claim(&mut self, owner: Owner, claim: &Claim) -> Result<bool, AllocError>
+        ensures ok { IfOk result (λ held.
+            AsksFor self.old (record { owner = owner.0; claim = claim.now }) held self.new) }
         ensures err { OnErr result (self.new ≡ self.old) }
     {
         if self.has(owner, claim)? {
-            return Ok(());
+            return Ok(true);
         }
-        self.put(owner, claim)
+        if self.is_met(owner, claim)? {
+            return Ok(false);
+        }
+        self.put(owner, claim)?;
+        Ok(true)
     }
 
-    // adds a claim that the transaction does not have
+    // adds a claim that the transaction does not have, and that no other's conflicts with
     fn put(&mut self, owner: Owner, claim: &Claim) -> Result<(), AllocError>
+        requires { list_any (stands_against (Some owner.0) claim.now) self.old ≡ false }
         ensures ok { OnOk result (self.new
             ≡ self.old ++ record { owner = owner.0; claim = claim.now } ∷ []) }
         ensures err { OnErr result (self.new ≡ self.old) }
@@ -177,19 +183,36 @@ impl ClaimTable {
         }
     }
 
-    // whether the transaction has the claim
+    // whether the transaction has the claim: then no other's conflicts with it
     fn has(&self, owner: Owner, claim: &Claim) -> Result<bool, AllocError>
-        ensures { IfOk result (λ has. has
+        ensures told { IfOk result (λ has. has
             ≡ holds_claim self.now (record { owner = owner.0; claim = claim.now })) }
+        ensures apart { IfOk result (λ has. has ≡ true →
+            list_any (stands_against (Some owner.0) claim.now) self.now ≡ false) }
     {
-        let numbers = numbers_near(*self.added.allocator(), &self.spots, claim)?;
-        let mut has = false;
-        for number in &numbers {
-            if is_kept(self.kept.get(number), owner, claim) {
-                has = true;
+        let alloc = *self.added.allocator();
+        let from = spot_of(alloc, claim, 0)?;
+        let to = (copy(alloc, &from.0)?, u64::MAX);
+        for spot in self.spots.range(&from..=&to) {
+            if is_kept(self.kept.get(&spot.1), owner, claim) {
+                return Ok(true);
             }
         }
-        Ok(has)
+        Ok(false)
+    }
+
+    // whether another transaction holds a claim that conflicts with this one
+    fn is_met(&self, owner: Owner, claim: &Claim) -> Result<bool, AllocError>
+        ensures { IfOk result (λ met. met
+            ≡ list_any (stands_against (Some owner.0) claim.now) self.now) }
+    {
+        let numbers = numbers_near(*self.added.allocator(), &self.spots, claim)?;
+        for number in &numbers {
+            if meets(self.kept.get(number), owner, claim) {
+                return Ok(true);
+            }
+        }
+        Ok(false)
     }
 
     /// Drops all claims of a transaction. Takes no memory.
@@ -253,11 +276,22 @@ fn take_own(kept: &mut BTreeMap<u64, Kept>, owner: Owner, number: u64) -> Option
 
 // whether it is this claim of this transaction
 fn is_kept(kept: Option<&Kept>, owner: Owner, claim: &Claim) -> bool
-    ensures { result ≡ is_some_same (record { owner = owner.0; claim = claim.now }) (option_map (λ
-        k. k.now.entry) kept.entry) }
+    ensures { result ≡ is_some_that (same_held (record { owner = owner.0; claim = claim.now }))
+        (option_map (λ k. k.now.entry) kept.entry) }
 {
     match kept {
         Some(kept) => kept.entry.is(owner, claim),
+        None => false,
+    }
+}
+
+// whether it is another's than this owner's, and conflicts with the claim
+fn meets(kept: Option<&Kept>, owner: Owner, claim: &Claim) -> bool
+    ensures { result ≡ is_some_that (stands_against (Some owner.0) claim.now)
+        (option_map (λ k. k.now.entry) kept.entry) }
+{
+    match kept {
+        Some(kept) => kept.entry.stands_against(Some(owner), claim),
         None => false,
     }
 }

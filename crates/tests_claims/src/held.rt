@@ -17,7 +17,9 @@ fn filled(alloc: Global) -> Result<ClaimTable, Refusal> {
         (9, Step::Set(0, "A\\B")),
     ];
     for (owner, step) in &added {
-        table.add(Owner(*owner), &claims(&step.op(alloc)?))?;
+        if !table.claim(Owner(*owner), &claims(&step.op(alloc)?))? {
+            return Err(Refusal::Conflict);
+        }
     }
     Ok(table)
 }
@@ -50,6 +52,27 @@ fn holders_are_listed_once_in_the_order_of_their_claims(rt: HostRuntime) -> Resu
     let deep = Step::Set(0, "A\\C\\D\\E\\F");
     holders_are(&rt, alloc, &table, None, &deep, &[2])?;
     holders_are(&rt, alloc, &table, None, &Step::Set(0, "A"), &[])?;
+    Ok(())
+}
+
+#[test]
+fn a_claim_is_held_where_no_other_s_conflicts_with_it(rt: HostRuntime) -> Result<(), Fail> {
+    let alloc = rt.alloc();
+    let mut table = filled(alloc)?;
+    let asked = [
+        (2, Step::Set(0, "a\\b"), false),
+        (9, Step::Unset(0, "a\\b"), true),
+        (9, Step::Delete(0, "A"), false),
+        (5, Step::Set(0, "A\\C\\D\\E"), false),
+        (2, Step::Set(0, "A\\C\\D\\E"), true),
+        (5, Step::Set(1, "A\\B"), true),
+    ];
+    for (owner, step, wanted) in &asked {
+        let op = step.op(alloc)?;
+        assert!(&rt; table.claim(Owner(*owner), &claims(&op))? == *wanted);
+    }
+    holders_are(&rt, alloc, &table, None, &Step::Delete(0, "A"), &[9, 2])?;
+    holders_are(&rt, alloc, &table, None, &Step::Delete(0, "A\\B"), &[9])?;
     Ok(())
 }
 

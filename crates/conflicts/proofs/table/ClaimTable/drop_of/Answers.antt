@@ -1,6 +1,7 @@
-use Rattle.std.proofs.Common.{refl, sym, ap, ◌∙◌, vec_len, arith}
-use Rattle.conflicts.specs.Holders.{without_owner}
+use Rattle.std.proofs.Common.{refl, sym, subst, ap, ◌∙◌, vec_len, arith}
+use Rattle.conflicts.specs.Holders.{without_owner, StandApart}
 use Rattle.conflicts.specs.Filed.{claims_of}
+use Rattle.conflicts.proofs.Apart.{fewer_apart}
 use Rattle.conflicts.proofs.Filing.{others_same, none_owned, filed_without, filed_still}
 use Rattle.conflicts.proofs.table.ClaimTable.drop_of.Goals as goal
 
@@ -19,6 +20,14 @@ loop-listed-preserved c =
       filed = filed_still _ c.loop-listed.self-inside.spots.keys c.loop-listed.self-inside.owned.keys c.remove.new.self.keys c.loop-listed.self-inside.kept.entries c.take_own.new.kept.entries c.args.owner.0 c.in-Some.listed.1 c.in-Some.listed (c.in-Some.ensures.some).0 refl c.remove.ensures.keys c.loop-listed.invariant.filed leaves;
       others = ap (λ xs. without_owner (claims_of xs) c.args.owner.0) leaves.same ∙ c.loop-listed.invariant.others;
     }
+
+pub invariant_of-self : goal.invariant_of-self
+invariant_of-self c = record {
+  filed = c.loop-listed.invariant.filed;
+  apart = subst StandApart
+      (sym c.loop-listed.invariant.others ∙ none_owned (vec_len c.loop-listed.self-inside.added) c.loop-listed.self-inside.spots.keys c.loop-listed.self-inside.owned.keys c.loop-listed.self-inside.kept.entries c.args.owner.0 c.loop-listed.invariant.filed (omega (arith, c.loop-listed.self-inside.added.small, c.loop-listed.self-inside.added.ok)) c.in_default.ensures.none)
+      (fewer_apart (claims_of c.self.inside.kept.entries) c.args.owner.0 c.self.invariant.apart);
+}
 
 pub returns : goal.returns
 returns c =
