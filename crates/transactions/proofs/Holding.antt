@@ -140,6 +140,17 @@ module _ (places : Places) (claims : List Held) (all : AreClaimed places claims)
   claimed_is place (o ∷ owners) empty e is =
       ap not (is ∙ suc_is_not (length owners)) ∙ sym (claimed_by place o.0 (subst (λ l. Contains l o.0) e (here o.0 (map (λ (o : Owner). o.0) owners))))
 
+  -- as a claim that was asked for says
+  pub claimed_free : (place : ℕ) → holders_of claims (Some place) claim ≡ [] → is_claimed places place claim ≡ false
+  claimed_free place none = claimed_by_none place none
+
+  pub claimed_met : (place : ℕ) → holders_of claims (Some place) claim ≢ [] → is_claimed places place claim ≡ true
+  claimed_met place some = by_list (holders_of claims (Some place) claim) refl
+    where
+      by_list : (owners : List ℕ) → holders_of claims (Some place) claim ≡ owners → is_claimed places place claim ≡ true
+      by_list [] e = absurd (some e)
+      by_list (o ∷ owners) e = claimed_by place o (subst (λ l. Contains l o) (sym e) (here o owners))
+
 -- where no other place's transaction holds one, none of them does
 pub none_elsewhere : (places : Places) (place : ℕ) (claim : Claim) → is_claimed places place claim ≡ false → (other : ℕ) → (other ≡ place → ⊥) → holds_if claim (at places other) ≡ false
 none_elsewhere places place claim none other apart = by_place (at places other) refl

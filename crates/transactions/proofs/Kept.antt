@@ -1,6 +1,7 @@
 -- What a table keeps, after each way in which it changes.
 use Rattle.std.proofs.Common.{◌≡◌, ℕ, ◌+◌, ◌<◌, length, true, false, arith, List, [], ◌∷◌, ◌++◌, Option, Some, None, Result, Ok, Err, sym, ◌∙◌, ap, subst}
-use Rattle.std.specs.Prelude.{Contains, map, slice_set, OnErr}
+use Rattle.std.specs.Prelude.{Contains, map, slice_set, IfErr, OnErr}
+use Rattle.std.specs.Result.{IsErrAnd}
 use Rattle.std.proofs.lemmas.Bool.{ltb-false}
 use Rattle.std.proofs.lemmas.List.Sums.{sum_by-append}
 use Rattle.refusals.specs.declared.limits.TheConstants.{MOST_ELEMENT_BYTES}
@@ -115,6 +116,11 @@ added_entry trees number begun e after op moment made i kept length view short n
 
     whole : after.length ≡ 16 + ops_text_len after.ops.items
     whole = omega (arith, length, i.counted, sum_by-append op_text_len e.ops.items (op ∷ []), ap (λ (items : List Op). ops_text_len items) items)
+
+-- why a result is an error
+pub if_err : {A E : Type 0} (r : Result A E) (why : E) (P : E → Type 0) → IsErrAnd r (λ e. e ≡ why) → P why → IfErr r P
+if_err (Ok a) why P h p = tt
+if_err (Err e) why P h p = subst P (sym h) p
 
 -- an error leaves all as it was
 pub on_err : {A E : Type 0} (r : Result A E) (P : Type 0) → P → OnErr r P

@@ -17,7 +17,7 @@ use Rattle.reg_tree.specs.declared.op.Legality.TheVariants.{Legal, Opened}
 use Rattle.conflicts.specs.Claims.{claim_of}
 use Rattle.reg_tree.specs.declared.op.Op.{Op}
 use Rattle.machine.specs.Transactions.{Transaction, Places, Puts, view, is_claimed, at, own, own_if, ended, is_active, inactive_refusal, fresh_transaction, count_held}
-use Rattle.machine.specs.Machine.{seat_refusal, refused_if, first_of, refusal_by, too_long, added_refusal_if}
+use Rattle.machine.specs.Machine.{seat_refusal, refused_if, first_of, refusal_by, too_long, added_refusal, added_refusal_if}
 use Rattle.machine.specs.declared.handle.Tx.{Tx}
 use Rattle.machine.specs.declared.handle.Outcome.{Outcome}
 use Rattle.machine.specs.declared.handle.Outcome.TheVariants.{RolledBack}
@@ -163,26 +163,27 @@ judge_ok table session tx op one its active (Ok judged) h =
 judge_ok table session tx op one its active (Err why) h = tt
 
 pub judge_refused : (table : Table) (session : ℕ) (tx : Tx) (op : Op) (one : Transaction) → own table.places session tx ≡ Some one → is_active one ≡ true → (r : Result (Option Judged) Refusal) →
-    IfErr r (λ why. (legal (view table.trees one) op ≡ Err why) ⊎ (why ≡ NoMemory)) →
+    IfErr r (λ why. (illegal table.trees op one ≡ Some why) ⊎ (why ≡ NoMemory)) →
     IfErr r (λ why. (judge_refusal table.trees op (own table.places session tx) ≡ Some why) ⊎ (why ≡ NoMemory))
 judge_refused table session tx op one its active (Ok judged) h = tt
 judge_refused table session tx op one its active (Err why) h = elim h [
-  | inl e ↦ inl (ap (judge_refusal table.trees op) its ∙ ap (λ first. first_of first (illegal table.trees op one)) (may_end one active) ∙ ap (λ l. refusal_by l None) e)
+  | inl e ↦ inl (ap (judge_refusal table.trees op) its ∙ ap (λ first. first_of first (illegal table.trees op one)) (may_end one active) ∙ e)
   | inr m ↦ inr m
 ]
 
--- a handle that doesn't pass its test isn't judged
-pub unjudged : (trees : List TreeMap) (op : Op) (its : Option Transaction) (why : Refusal) → inactive_refusal its ≡ Some why → judge_refusal trees op its ≡ Some why
-unjudged trees op None why e = e
-unjudged trees op (Some one) why e = ap (λ first. first_of first (illegal trees op one)) e
+-- a handle that doesn't pass its test adds nothing
+pub unadded : (trees : List TreeMap) (places : Places) (place : ℕ) (op : Op) (its : Option Transaction) (why : Refusal) → inactive_refusal its ≡ Some why → added_refusal_if trees places place op its ≡ Some why
+unadded trees places place op None why e = e
+unadded trees places place op (Some one) why e = ap (λ first. first_of first (added_refusal trees places place op one)) e
 
-first_same : (first : Option Refusal) (l : Result Legality Refusal) (further : Option Refusal) (why : Refusal) → first_of first (refusal_by l None) ≡ Some why → first_of first (refusal_by l further) ≡ Some why
-first_same (Some x) l further why e = e
-first_same None (Err x) further why e = e
-first_same None (Ok Opened) further why e = absurd (none-some why e)
-first_same None (Ok Legal) further why e = absurd (none-some why e)
+first_same : (first : Option Refusal) (l : Result Legality Refusal) (near further : Option Refusal) (why : Refusal) → first_of first (refusal_by l near) ≡ Some why → first_of first (refusal_by l (first_of near further)) ≡ Some why
+first_same (Some x) l near further why e = e
+first_same None (Err x) near further why e = e
+first_same None (Ok Opened) near further why e = absurd (none-some why e)
+first_same None (Ok Legal) (Some x) further why e = e
+first_same None (Ok Legal) None further why e = absurd (none-some why e)
 
 -- a refusal of the judgement is one of the write
 pub judged_refused : (trees : List TreeMap) (places : Places) (place : ℕ) (op : Op) (there : Option Transaction) (why : Refusal) → judge_refusal trees op there ≡ Some why → added_refusal_if trees places place op there ≡ Some why
 judged_refused trees places place op None why e = e
-judged_refused trees places place op (Some one) why e = first_same (inactive_refusal (Some one)) (legal (view trees one) op) (first_of (refused_if (too_long one op) TooLarge) (refused_if (is_claimed places place (claim_of op)) Conflict)) why e
+judged_refused trees places place op (Some one) why e = first_same (inactive_refusal (Some one)) (legal (view trees one) op) (refused_if (too_long one op) TooLarge) (refused_if (is_claimed places place (claim_of op)) Conflict) why e

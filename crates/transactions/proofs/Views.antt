@@ -30,7 +30,7 @@ use Rattle.conflicts.specs.Claims.{claim_of, meets}
 use Rattle.conflicts.specs.Skeletons.{judged_in, judged_if, AreCarriedOut, AreApart, MakesAlike}
 use Rattle.conflicts.proofs.StaysLegal.{more, one_more, any_moment}
 use Rattle.conflicts.proofs.Meets.{conflict_meets}
-use Rattle.machine.specs.Machine.{levels_made}
+use Rattle.machine.specs.Machine.{levels_made, too_long}
 use Rattle.machine.specs.Transactions.{Transaction, Places, at, is_active, holds, view}
 use Rattle.transactions.specs.Entries.{IsMade, AreCarried, AreAfter, AreLight, IsViewNow, IsViewed, WritesView, MovesView, StaysView, IsLegalIn, IsMovedTo, AreMoved, moment_of}
 use Rattle.transactions.specs.Tables.{holds_if, MeetNone}
@@ -153,9 +153,10 @@ levels_same trees others same (DeleteValue hive path name) = refl
 pub legal_seen : (now : List TreeMap) (one : Transaction) (v : View) (op : Op) → IsViewNow now one.ops v → legal v.trees op ≡ legal (view now one) op
 legal_seen now one v op is = legal_alike v.trees (view now one) (seen_at now one.ops v.moment v.trees one.moment is.made) op
 
-pub judged_seen : (now : List TreeMap) (number : ℕ) (one : Transaction) (v made : View) (op : Op) (levels : Option ℕ) → (v.number ≡ number) × IsViewNow now one.ops v → WritesView v op (Some made) → levels ≡ levels_made v.trees op → IsLegalIn now number one op (record { made = made; levels = levels })
-judged_seen now number one v made op levels has written e = record {
+pub judged_seen : (now : List TreeMap) (number : ℕ) (one : Transaction) (v made : View) (op : Op) (levels : Option ℕ) → (v.number ≡ number) × IsViewNow now one.ops v → WritesView v op (Some made) → levels ≡ levels_made v.trees op → too_long one op ≡ false → IsLegalIn now number one op (record { made = made; levels = levels })
+judged_seen now number one v made op levels has written e short = record {
   is_legal = sym (legal_seen now one v op has.1) ∙ written.0;
+  short = short;
   made = e ∙ levels_same v.trees (view now one) (seen_at now one.ops v.moment v.trees one.moment has.1.made) op;
   numbered = ap (λ (x : View). x.number) written.1 ∙ has.0;
   seen = written_view now one.ops v made op has.1 written.0 written.1;

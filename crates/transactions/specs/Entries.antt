@@ -3,7 +3,7 @@ use Rattle.std.specs.Prelude.{◌≡◌, ◌⊎◌, ℕ, ◌+◌, ◌<◌, ◌�
 use Rattle.std.specs.Option.{option_map}
 use Rattle.refusals.specs.declared.limits.TheConstants.{MOST_ELEMENT_BYTES}
 use Rattle.refusals.specs.declared.refusal.Refusal.{Refusal}
-use Rattle.refusals.specs.declared.refusal.Refusal.TheVariants.{NoSuchHandle}
+use Rattle.refusals.specs.declared.refusal.Refusal.TheVariants.{NoSuchHandle, NoMemory, TooLarge, Conflict}
 use Rattle.reg_tree.specs.Maps.{TreeMap}
 use Rattle.reg_tree.specs.Texts.{ops_text_len}
 use Rattle.reg_tree.specs.Judgement.{applied, applied_one, legal, any_outweighs}
@@ -17,10 +17,12 @@ use Rattle.reg_tree.specs.declared.op.Legality.TheVariants.{Legal, Opened}
 use Rattle.claims_law.specs.Skeleton.{Claim}
 use Rattle.conflicts.specs.Claims.{claim_of}
 use Rattle.conflicts.specs.Holders.{Held}
-use Rattle.machine.specs.Transactions.{Transaction, Places, Puts, at, own, with_op, is_active, inactive_refusal, view}
-use Rattle.machine.specs.Machine.{levels_made, refusal_by, first_of, too_long}
+use Rattle.machine.specs.Transactions.{Transaction, Places, Puts, at, own, with_op, is_active, is_claimed, inactive_refusal, view}
+use Rattle.machine.specs.Machine.{levels_made, refusal_by, refused_if, first_of, too_long}
 use Rattle.machine.specs.declared.handle.Tx.{Tx}
 use Rattle.transactions.specs.Tables.{Table}
+use Rattle.transactions.specs.declared.table.Written.{Written}
+use Rattle.transactions.specs.declared.table.Written.TheVariants.{Added}
 use Rattle.transactions.specs.declared.entry.Entry.{Entry}
 use Rattle.transactions.specs.declared.entry.Committed.{Committed}
 use Rattle.transactions.specs.declared.entry.Judged.{Judged}
@@ -150,9 +152,10 @@ pub record AreKept (now : List TreeMap) (number begun : ℕ) (slots : List (Opti
   pub entries : (place : ℕ) (e : Entry) → slice_index_or slots place None ≡ Some e → IsEntry now number begun e
   pub claimed : (place : ℕ) (claim : Claim) → Contains claims (record { owner = place; claim = claim }) ↔ Claims (places_of slots) place claim
 
--- an operation was judged by the view: it is legal, and this is the view after it, or it opens a key
+-- an operation was judged: it is legal by the view and its change not too long, and this is the view after it, or it opens a key
 pub record IsLegalIn (now : List TreeMap) (number : ℕ) (one : Transaction) (op : Op) (judged : Judged) : Type 0 where
   pub is_legal : legal (view now one) op ≡ Ok Legal
+  pub short : too_long one op ≡ false
   pub made : judged.levels ≡ levels_made (view now one) op
   pub numbered : judged.made.number ≡ number
   pub seen : IsViewNow now (one.ops ++ op ∷ []) judged.made
@@ -169,7 +172,7 @@ IsSameEntry old new = (new ≡ record old { ops = new.ops }) × (new.ops.items �
 abbrev pub HasRoom : Entry → Type 0
 HasRoom e = length e.ops.items + 2 < vec_capacity e.ops
 
--- an operation was judged by the view of a handle's transaction
+-- an operation of a handle's transaction was judged
 pub record IsJudgedBy (trees : List TreeMap) (number : ℕ) (op : Op) (judged : Option Judged) (one : Transaction) : Type 0 where
   pub active : is_active one ≡ true
   pub told : IsJudged trees number one op judged
@@ -177,9 +180,9 @@ pub record IsJudgedBy (trees : List TreeMap) (number : ℕ) (op : Op) (judged : 
 abbrev pub IsJudgedOf : Table → ℕ → Tx → Op → Option Judged → Type 0
 IsJudgedOf table session tx op judged = IfSome (own table.places session tx) (IsJudgedBy table.trees table.number op judged) × IsSome (own table.places session tx)
 
--- why it is not: the transaction is not there or not active, or the operation not legal
+-- why it is not: the transaction is not there or not active, or the operation is not legal or makes its change too long
 abbrev pub illegal : List TreeMap → Op → Transaction → Option Refusal
-illegal trees op one = refusal_by (legal (view trees one) op) None
+illegal trees op one = refusal_by (legal (view trees one) op) (refused_if (too_long one op) TooLarge)
 
 abbrev pub judge_refusal : List TreeMap → Op → Option Transaction → Option Refusal
 judge_refusal trees op None = Some NoSuchHandle
@@ -201,6 +204,13 @@ with_op_if op moment (Some one) = Some (with_op one op moment)
 
 abbrev pub IsAdded : Places → ℕ → Op → ℕ → Places → Type 0
 IsAdded old place op moment new = Puts old new place (with_op_if op moment (at old place))
+
+abbrev pub AddsTo : Table → ℕ → ℕ → Op → Option ℕ → Table → Written → Type 0
+AddsTo old place moment op levels new written = (written ≡ Added levels) × (is_claimed old.places place (claim_of op) ≡ false) × (new ≡ record old { places = new.places }) × IsAdded old.places place op moment new.places
+
+-- or not, since another active transaction's claim conflicts, or for want of memory
+abbrev pub IsNotAdded : Table → ℕ → Op → Refusal → Type 0
+IsNotAdded old place op why = (why ≡ NoMemory) ⊎ ((why ≡ Conflict) × (is_claimed old.places place (claim_of op) ≡ true))
 
 -- the views after a change, by the places of their transactions; nothing where one is to be made again
 abbrev pub IsMovedTo : List TreeMap → ℕ → Option Transaction → Option View → Type 0

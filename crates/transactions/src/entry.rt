@@ -10,7 +10,7 @@ ghost use Rattle.reg_tree.specs.Sequences.{AreTrees};
 ghost use Rattle.conflicts.specs.Skeletons.{AreCarriedOut, AreApart};
 ghost use Rattle.reg_tree.specs.Reads.{IsMissingOrNoMemory};
 ghost use Rattle.reg_tree.specs.TreeLists.{info_in};
-ghost use Rattle.transactions.specs.Entries.{transaction_of, AreAfter, IsCommitted, StaysView, IsViewed, IsFresh, HasView, HasViewAt, Tells, TellsInfo, WritesView, MovesView, IsJudged, IsSameEntry, HasRoom, HasTwoSpare};
+ghost use Rattle.transactions.specs.Entries.{transaction_of, AreAfter, IsCommitted, StaysView, IsViewed, IsFresh, HasView, HasViewAt, Tells, TellsInfo, WritesView, MovesView, IsJudged, illegal, IsSameEntry, HasRoom, HasTwoSpare};
 ghost use Rattle.machine.specs.Machine.{looked_up, read_refusal, too_long};
 ghost use Rattle.machine.specs.Transactions.{view, with_op, ended, is_active, fresh_transaction};
 
@@ -348,7 +348,8 @@ impl Entry {
         Ok(())
     }
 
-    /// Judges an operation by the view, and carries it out on a copy of that; nothing where it opens a key.
+    /// Judges an operation by the view, and carries it out on a copy of that; nothing where it opens a key. Then by the length
+    /// of the change.
     pub(crate) fn judge(
         &mut self,
         alloc: Global,
@@ -356,24 +357,28 @@ impl Entry {
         number: u64,
         op: &Op,
     ) -> Result<Option<Judged>, Refusal>
-        requires { IsViewed now.now number self.old.ops.items self.old.view }
+        requires viewed { IsViewed now.now number self.old.ops.items self.old.view }
+        requires counted { (self.old.length ≡ 16 + ops_text_len self.old.ops.items)
+            × (self.old.length ≤ MOST_ELEMENT_BYTES) }
         ensures rest { self.new ≡ record self.old { view = self.new.view } }
         ensures kept { IsViewed now.now number self.new.ops.items self.new.view }
         ensures ok { IfOk result (IsJudged now.now number (transaction_of self.new) op.now) }
         ensures refused { IfErr result (λ refusal.
-            (legal (view now.now (transaction_of self.new)) op.now ≡ Err refusal)
+            (illegal now.now op.now (transaction_of self.new) ≡ Some refusal)
             ⊎ (refusal ≡ NoMemory)) }
     {
         self.see(alloc, now, number)?;
         let Some(view) = &self.view else {
             unreachable!();
         };
+        let Some(made) = view.write(alloc, op)? else {
+            return Ok(None);
+        };
         let levels = levels_made(&view.trees, op);
-        match view.write(alloc, op) {
-            Ok(Some(made)) => Ok(Some(Judged { made, levels })),
-            Ok(None) => Ok(None),
-            Err(refusal) => Err(refusal),
+        if self.is_too_long(op) {
+            return Err(Refusal::TooLarge);
         }
+        Ok(Some(Judged { made, levels }))
     }
 
     /// What the question asks of a key, as the transaction sees it.
@@ -507,8 +512,8 @@ impl Entry {
         }
     }
 
-    /// Whether its change would be too long with this operation.
-    pub(crate) fn is_too_long(&self, op: &Op) -> bool
+    // whether its change would be too long with this operation
+    fn is_too_long(&self, op: &Op) -> bool
         requires { (self.now.length ≡ 16 + ops_text_len self.now.ops.items)
             × (self.now.length ≤ MOST_ELEMENT_BYTES) }
         ensures { result ≡ too_long (transaction_of self.now) op.now }

@@ -516,7 +516,7 @@ impl Store {
         open(&self.sessions, session)?;
         self.table.check_active(session, tx)?;
         self.check_named(op.hive())?;
-        match self.table.write(session, tx, moment, op)? {
+        match self.table.write_active(session, tx, moment, op)? {
             Written::Added { levels } => Ok(Reply::Added { levels }),
             Written::Opened => Ok(Reply::Opened),
         }

@@ -2,16 +2,17 @@
 ghost use Rattle.std.specs.Prelude.{◌≡◌, ◌⊎◌, ◌+◌, ◌<◌, ◌≤◌, ◌^◌, ◌-◌, ◌||◌, ◌==◌, [], ℕ, nat_le, length, vec_capacity, IfOk, IfSome, OnOk, OnErr, Some, None, Ok, true, false, IfErr};
 ghost use Rattle.std.specs.Option.{option_map, option_copied};
 ghost use Rattle.refusals.specs.declared.limits.TheConstants.{MOST_ELEMENT_BYTES, MOST_TRANSACTIONS};
-ghost use Rattle.refusals.specs.declared.refusal.Refusal.TheVariants.{NoMemory, NoSeat, TooLarge};
+ghost use Rattle.refusals.specs.declared.refusal.Refusal.TheVariants.{NoMemory, NoSeat, TooLarge, Conflict};
 ghost use Rattle.reg_tree.specs.Texts.{ops_text_len};
 ghost use Rattle.reg_tree.specs.Judgement.{legal, applied, any_outweighs};
 ghost use Rattle.reg_tree.specs.declared.op.Legality.TheVariants.{Legal};
 ghost use Rattle.conflicts.specs.Claims.{claim_of};
+ghost use Rattle.conflicts.specs.Holders.{AsksFor};
 ghost use Rattle.conflicts.specs.Skeletons.{AreCarriedOut};
 ghost use Rattle.machine.specs.Ends.{refusal_of};
-ghost use Rattle.transactions.specs.Entries.{transaction_of, IsViewed, IsCommitted, MayAdd, IsAdded, IsJudgedOf, judge_refusal, IsMovedTo, AreMoved};
+ghost use Rattle.transactions.specs.Entries.{transaction_of, IsViewed, IsCommitted, IsSameEntry, HasRoom, MayAdd, AddsTo, IsNotAdded, IsJudgedOf, judge_refusal, IsMovedTo, AreMoved};
 ghost use Rattle.machine.specs.Acts.{Finishes, Closes};
-ghost use Rattle.machine.specs.Machine.{refused_if, first_of, read_refusal, seen, seat_refusal, added_refusal_if, too_long};
+ghost use Rattle.machine.specs.Machine.{refused_if, first_of, read_refusal, seen, seat_refusal, added_refusal_if};
 ghost use Rattle.transactions.specs.Tables.{Denies, Begins, ChangesPlaces, Writes, EndsWith, IsNotEnded, IsPending, is_of, holds_if, is_listed, MeetNone, rolled_back_if};
 ghost use Rattle.machine.specs.Transactions.{Transaction, at, own, is_claimed, is_active_outcome, Becomes, Puts, gone_with, count_held, missing_refusal, inactive_refusal};
 
@@ -173,52 +174,62 @@ impl TxTable {
             (added_refusal_if self.old.trees self.old.places tx.place op (own self.old.places session tx))
             refusal self.new) }
     {
-        let judged = match self.judge(session, tx, &op) {
-            Ok(Some(judged)) => judged,
-            Ok(None) => return Ok(Written::Opened),
-            Err(refusal) => return Err(refusal),
-        };
-        if self.is_too_long(tx.place, &op) {
-            return Err(Refusal::TooLarge);
-        }
-        match self.is_claimed(tx.place, &op) {
-            Ok(false) => {}
-            Ok(true) => return Err(Refusal::Conflict),
-            Err(AllocError) => return Err(Refusal::NoMemory),
-        }
-        match self.add(tx.place, moment, op, judged.made) {
-            Ok(()) => Ok(Written::Added {
-                levels: judged.levels,
-            }),
-            Err(AllocError) => Err(Refusal::NoMemory),
+        self.check_active(session, tx)?;
+        self.write_active(session, tx, moment, op)
+    }
+
+    /// The same of a transaction that is known to be active.
+    pub(crate) fn write_active(
+        &mut self,
+        session: u32,
+        tx: Tx,
+        moment: u64,
+        op: Op,
+    ) -> Result<Written, Refusal>
+        requires { inactive_refusal (own self.old.places session tx) ≡ None }
+        ensures ok { IfOk result (λ written.
+            Writes self.old session tx moment op written self.new) }
+        ensures refused { IfErr result (λ refusal.
+            Denies self.old
+            (added_refusal_if self.old.trees self.old.places tx.place op (own self.old.places session tx))
+            refusal self.new) }
+    {
+        match self.judge(session, tx, &op)? {
+            Some(judged) => self.add(tx.place, moment, op, judged),
+            None => Ok(Written::Opened),
         }
     }
 
-    // judges an operation by what the transaction sees; nothing where it opens a key
+    // judges an operation by what the transaction sees and by its length; nothing where it opens a key
     fn judge(&mut self, session: u32, tx: Tx, op: &Op) -> Result<Option<Judged>, Refusal>
+        requires { inactive_refusal (own self.old.places session tx) ≡ None }
         ensures same { self.new ≡ self.old }
         ensures ok { IfOk result (IsJudgedOf self.old session tx op.now) }
         ensures refused { IfErr result (λ refusal.
             (judge_refusal self.old.trees op.now (own self.old.places session tx) ≡ Some refusal)
             ⊎ (refusal ≡ NoMemory)) }
     {
-        let alloc = self.alloc;
-        self.check_active(session, tx)?;
         let Some(entry) = self.places.get_mut(tx.place) else {
             unreachable!();
         };
-        entry.judge(alloc, &self.trees, self.number, op)
+        entry.judge(self.alloc, &self.trees, self.number, op)
     }
 
-    // whether the change of the transaction at a place would be too long with an operation
-    fn is_too_long(&self, place: usize, op: &Op) -> bool
-        ensures { (one : Transaction) → at self.now.places place ≡ Some one → result
-            ≡ too_long one op.now }
+    // adds an operation that was judged to the transaction at a place, with the view after it, where no other active
+    // transaction holds a claim which conflicts
+    fn add(&mut self, place: usize, moment: u64, op: Op, judged: Judged) -> Result<Written, Refusal>
+        requires { MayAdd self.old place op judged.made }
+        ensures ok { IfOk result (AddsTo self.old place moment op judged.levels self.new) }
+        ensures refused { IfErr result (λ refusal. IsNotAdded self.old place op refusal × (self.new ≡ self.old)) }
     {
-        match self.places.get(place) {
-            Some(entry) => entry.is_too_long(op),
-            None => false,
-        }
+        let Some(entry) = self.places.get_mut(place) else {
+            unreachable!();
+        };
+        hold(entry, &mut self.claims, place, &op)?;
+        entry.add(op, moment, judged.made);
+        Ok(Written::Added {
+            levels: judged.levels,
+        })
     }
 
     // whether another active transaction holds a claim which conflicts with that of an operation
@@ -229,22 +240,6 @@ impl TxTable {
         let owner = Owner(place as u64);
         let holders = self.claims.holders(Some(owner), &claims(op))?;
         Ok(!holders.as_slice().is_empty())
-    }
-
-    // adds an operation to the transaction at a place, with the view after it
-    fn add(&mut self, place: usize, moment: u64, op: Op, made: View) -> Result<(), AllocError>
-        requires { MayAdd self.old place op made }
-        ensures rest { self.new ≡ record self.old { places = self.new.places } }
-        ensures ok { OnOk result (IsAdded self.old.places place op moment self.new.places) }
-        ensures err { OnErr result (self.new ≡ self.old) }
-    {
-        let Some(entry) = self.places.get_mut(place) else {
-            unreachable!();
-        };
-        entry.reserve()?;
-        self.claims.add(Owner(place as u64), &claims(&op))?;
-        entry.add(op, moment, made);
-        Ok(())
     }
 
     /// What the question asks of a key, as the transaction sees it. Refused with `NoSuchHandle`, then `NotActive`, then
@@ -603,5 +598,21 @@ impl TxTable {
     {
         self.trees = trees;
         self.number += 1;
+    }
+}
+
+// makes room for an operation of the transaction at a place, and holds its claim; refused where another's conflicts
+fn hold(entry: &mut Entry, held: &mut ClaimTable, place: usize, op: &Op) -> Result<(), Refusal>
+    ensures same { IsSameEntry entry.old entry.new }
+    ensures ok { OnOk result (HasRoom entry.new
+        × AsksFor held.old (record { owner = place; claim = claim_of op.now }) true held.new) }
+    ensures refused { IfErr result (λ refusal. (held.new ≡ held.old) × ((refusal ≡ NoMemory)
+        ⊎ ((refusal ≡ Conflict) × AsksFor held.old (record { owner = place; claim = claim_of op.now }) false held.new))) }
+{
+    entry.reserve()?;
+    if held.claim(Owner(place as u64), &claims(op))? {
+        Ok(())
+    } else {
+        Err(Refusal::Conflict)
     }
 }

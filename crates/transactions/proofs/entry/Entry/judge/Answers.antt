@@ -1,25 +1,36 @@
-use Rattle.std.proofs.Common.{inl, inr, Some, sym, ◌∙◌, subst}
+use Rattle.std.proofs.Common.{inl, inr, Some, sym, ◌∙◌, ap, subst}
+use Rattle.refusals.specs.declared.refusal.Refusal.TheVariants.{TooLarge}
+use Rattle.machine.specs.Machine.{refusal_by, refused_if, too_long}
 use Rattle.transactions.specs.Entries.{transaction_of, HasView, WritesView}
+use Rattle.transactions.proofs.Kept.{if_err}
 use Rattle.transactions.proofs.Views.{judged_seen, legal_seen}
 use Rattle.transactions.proofs.entry.Entry.judge.Goals as goal
 
-pub returns-in-Ok-Some-clause-ok : goal.returns-in-Ok-Some-clause-ok
-returns-in-Ok-Some-clause-ok c =
+pub returns-in_err-made-clause-refused : goal.returns-in_err-made-clause-refused
+returns-in_err-made-clause-refused c =
     let e = c.see.new.self in
     let has : HasView c.args.now.now c.args.number e.ops.items (Some c.in-Some.view) = subst (HasView c.args.now.now c.args.number e.ops.items) c.in-Some.is c.in_ok-see.ensures.seen in
-    judged_seen c.args.now.now c.args.number (transaction_of e) c.in-Some.view c.in-Ok-Some.made c.args.op.now c.levels_made-levels.result has (subst (WritesView c.in-Some.view c.args.op.now) c.in-Ok-Some.field-0-is c.in-Ok-Some.ensures.ok) c.levels_made-levels.ensures
-
-pub returns-in-Ok-None-clause-ok : goal.returns-in-Ok-None-clause-ok
-returns-in-Ok-None-clause-ok c =
-    let e = c.see.new.self in
-    let has : HasView c.args.now.now c.args.number e.ops.items (Some c.in-Some.view) = subst (HasView c.args.now.now c.args.number e.ops.items) c.in-Some.is c.in_ok-see.ensures.seen in
-    sym (legal_seen c.args.now.now (transaction_of e) c.in-Some.view c.args.op.now has.1) ∙ subst (WritesView c.in-Some.view c.args.op.now) c.in-Ok-None.field-0-is c.in-Ok-None.ensures.ok
-
-pub returns-in-Err-clause-refused : goal.returns-in-Err-clause-refused
-returns-in-Err-clause-refused c =
-    let e = c.see.new.self in
-    let has : HasView c.args.now.now c.args.number e.ops.items (Some c.in-Some.view) = subst (HasView c.args.now.now c.args.number e.ops.items) c.in-Some.is c.in_ok-see.ensures.seen in
-    elim c.in-Err.ensures.refused [
-      | inl told ↦ inl (sym (legal_seen c.args.now.now (transaction_of e) c.in-Some.view c.args.op.now has.1) ∙ told)
+    if_err c.from_residual-in_err-made.result c.in_err-made.field-0.0 _ c.from_residual-in_err-made.ensures.1 (elim c.in_err-made.ensures.refused [
+      | inl told ↦ inl (ap (λ l. refusal_by l (refused_if (too_long (transaction_of e) c.args.op.now) TooLarge)) (sym (legal_seen c.args.now.now (transaction_of e) c.in-Some.view c.args.op.now has.1) ∙ told))
       | inr memory ↦ inr memory
-    ]
+    ])
+
+pub returns-in_default-2-clause-ok : goal.returns-in_default-2-clause-ok
+returns-in_default-2-clause-ok c =
+    let e = c.see.new.self in
+    let has : HasView c.args.now.now c.args.number e.ops.items (Some c.in-Some.view) = subst (HasView c.args.now.now c.args.number e.ops.items) c.in-Some.is c.in_ok-see.ensures.seen in
+    sym (legal_seen c.args.now.now (transaction_of e) c.in-Some.view c.args.op.now has.1) ∙ subst (WritesView c.in-Some.view c.args.op.now) c.in_default-2.is c.in_ok-made.ensures.ok
+
+pub returns-then-is_too_long-clause-refused : goal.returns-then-is_too_long-clause-refused
+returns-then-is_too_long-clause-refused c =
+    let e = c.see.new.self in
+    let has : HasView c.args.now.now c.args.number e.ops.items (Some c.in-Some.view) = subst (HasView c.args.now.now c.args.number e.ops.items) c.in-Some.is c.in_ok-see.ensures.seen in
+    let written = subst (WritesView c.in-Some.view c.args.op.now) c.in-Some-2.is c.in_ok-made.ensures.ok in
+    inl (ap (λ l. refusal_by l (refused_if (too_long (transaction_of e) c.args.op.now) TooLarge)) (sym (legal_seen c.args.now.now (transaction_of e) c.in-Some.view c.args.op.now has.1) ∙ written.0) ∙ ap (λ b. refused_if b TooLarge) (sym c.is_too_long.ensures ∙ c.if-is_too_long.true))
+
+pub returns-clause-ok : goal.returns-clause-ok
+returns-clause-ok c =
+    let e = c.see.new.self in
+    let has : HasView c.args.now.now c.args.number e.ops.items (Some c.in-Some.view) = subst (HasView c.args.now.now c.args.number e.ops.items) c.in-Some.is c.in_ok-see.ensures.seen in
+    let written = subst (WritesView c.in-Some.view c.args.op.now) c.in-Some-2.is c.in_ok-made.ensures.ok in
+    judged_seen c.args.now.now c.args.number (transaction_of e) c.in-Some.view c.in-Some-2.made c.args.op.now c.levels_made-levels.result has written c.levels_made-levels.ensures (sym c.is_too_long.ensures ∙ c.if-is_too_long.false)

@@ -5,7 +5,7 @@ use Rattle.slab.specs.Slab.{with_value}
 use Rattle.slab.proofs.SlabLemmas.{Updates-with_value}
 use Rattle.reg_tree.specs.Judgement.{legal}
 use Rattle.machine.specs.Transactions.{Transaction, at, own, view, is_active, inactive_refusal}
-use Rattle.transactions.specs.Entries.{transaction_of, places_of, IsJudged, IsJudgedOf, judge_refusal}
+use Rattle.transactions.specs.Entries.{transaction_of, places_of, IsJudged, IsJudgedOf, judge_refusal, illegal}
 use Rattle.transactions.specs.Tables.{Table}
 use Rattle.transactions.proofs.Kept.{kept_seen, seen_entry, same_places}
 use Rattle.transactions.proofs.Slots.{slot}
@@ -18,6 +18,9 @@ there c = sym c.in-Some.ensures.value
 same : (c : goal.After-self-2-1) → places_of (with_value c.self.inside.places c.args.tx.place c.judge.new.self).slots ≡ places_of c.self.inside.places.slots
 same c = same_places c.self.inside.places.slots c.args.tx.place c.in-Some.entry.now c.judge.new.self (there c) (ap transaction_of c.judge.ensures.rest)
 
+pub judge-requires-clause-counted : goal.judge-requires-clause-counted
+judge-requires-clause-counted c = let e = c.self.invariant.entries c.args.tx.place c.in-Some.entry.now (sym c.in-Some.ensures.value) in (e.counted, e.short)
+
 pub invariant_of-self : goal.invariant_of-self
 invariant_of-self c =
     kept_seen c.self.inside.trees c.self.inside.number c.self.inside.begun c.self.inside.claims c.self.inside.places (with_value c.self.inside.places c.args.tx.place c.judge.new.self) c.args.tx.place c.in-Some.entry.now c.judge.new.self c.self.invariant
@@ -29,7 +32,7 @@ pub returns-clause-same : goal.returns-clause-same
 returns-clause-same c = ap (λ places. record { trees = c.self.inside.trees; number = c.self.inside.number; places = places; begun = c.self.inside.begun }) (same c) ∙ c.self.view_is
 
 passes : (c : goal.After-self-2-1) → inactive_refusal (own (places_of c.self.inside.places.slots) c.args.session c.args.tx) ≡ None
-passes c = subst (λ (t : Table). inactive_refusal (own t.places c.args.session c.args.tx) ≡ None) (sym c.self.view_is) c.in_ok-check_active.ensures.ok
+passes c = subst (λ (t : Table). inactive_refusal (own t.places c.args.session c.args.tx) ≡ None) (sym c.self.view_is) c.requires
 
 its : (c : goal.After-self-2-1) → own (places_of c.self.inside.places.slots) c.args.session c.args.tx ≡ Some (transaction_of c.in-Some.entry.now)
 its c = own_is c.self.inside.places.slots c.args.session c.args.tx (passes c) c.in-Some.entry.now (there c)
@@ -47,4 +50,4 @@ pub returns-clause-refused : goal.returns-clause-refused
 returns-clause-refused c =
     subst (λ (t : Table). IfErr c.judge.result (λ why. (judge_refusal t.trees c.args.op.now (own t.places c.args.session c.args.tx) ≡ Some why) ⊎ (why ≡ NoMemory))) c.self.view_is
     (judge_refused (shown c.self.inside.trees c.self.inside.number c.self.inside.begun c.self.inside.places.slots) c.args.session c.args.tx c.args.op.now (transaction_of c.in-Some.entry.now) (its c) (active c) c.judge.result
-    (subst (λ (one : Transaction). IfErr c.judge.result (λ why. (legal (view c.self.inside.trees one) c.args.op.now ≡ Err why) ⊎ (why ≡ NoMemory))) (ap transaction_of c.judge.ensures.rest) c.judge.ensures.refused))
+    (subst (λ (one : Transaction). IfErr c.judge.result (λ why. (illegal c.self.inside.trees c.args.op.now one ≡ Some why) ⊎ (why ≡ NoMemory))) (ap transaction_of c.judge.ensures.rest) c.judge.ensures.refused))
