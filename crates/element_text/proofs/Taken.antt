@@ -77,7 +77,7 @@ number_whole (suc n) (b ∷ bytes) enough small =
     step n b bytes (little_number n bytes) (drop n bytes) (small 0 (omega arith)) (number_whole n bytes (omega arith) (λ k lt. small (suc k) (omega arith)))
     ∙ ap (λ (x : ℕ). Some (b + 256 * x, drop n bytes)) (sym (little_from-cons 0 n b bytes))
 
-all_push : {X : Type 0} (P : X → Type 0) (xs : List X) (x : X) → AllByRecursion P xs → P x → AllByRecursion P (xs ++ x ∷ [])
+pub all_push : {X : Type 0} (P : X → Type 0) (xs : List X) (x : X) → AllByRecursion P xs → P x → AllByRecursion P (xs ++ x ∷ [])
 all_push P [] x all here = (here, tt)
 all_push P (y ∷ xs) x all here = (all.0, all_push P xs x all.1 here)
 

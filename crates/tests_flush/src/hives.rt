@@ -100,8 +100,11 @@ pub fn flushed(
     if !file.is_at_rest() || number < file.number() {
         return Err(Refusal::Conflict);
     }
+    if element.text_len() >= u64::from(u32::MAX) {
+        return Err(Refusal::TooLarge);
+    }
     let mut changes = Vec::new(alloc);
-    changes.push(element)?;
+    changes.push(ChangeText::of(alloc, &element)?)?;
     match file.absorb(alloc, &changes, &[], number) {
         Ok(()) => flush_on(file, disk, 0, MANY),
         Err(why) => Err(why),

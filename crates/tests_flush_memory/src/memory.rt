@@ -35,7 +35,7 @@ struct Desk {
 pub(crate) fn status(alloc: Global) -> Result<u8, Fault> {
     let tree = Tree::fresh(alloc)?;
     let mut changes = Vec::new(alloc);
-    changes.push(creation(alloc)?)?;
+    changes.push(text(alloc, &creation(alloc)?)?)?;
     let mut disk = MemDisk::new(alloc, Arc::new(alloc, Plan::new())?);
     disk.room(FILES, ROOM, CALLS)?;
     let mut desk = Desk {
@@ -89,7 +89,7 @@ impl Desk {
         &mut self,
         alloc: Global,
         file: &mut HiveFile,
-        changes: &[Element],
+        changes: &[ChangeText],
     ) -> Result<(), Fault>
         ensures { IsWhole file.old → IsWhole file.new }
     {

@@ -46,7 +46,7 @@ pub(crate) fn play<R: Print + CpuClock>(rt: &R, alloc: Global, line: &str) -> Re
     let mut disk = made(alloc, values, bytes as u32)?;
     let mut file = HiveFile::open(alloc, &mut disk, 0, Uuid::nil())?;
     let mut changes = Vec::new(alloc);
-    changes.push(change(alloc, values / 2)?)?;
+    changes.push(text(alloc, &change(alloc, values / 2)?)?)?;
     if !file.is_at_rest() || file.number() != 0 {
         return Err(Fault::Otherwise("a hive that is busy"));
     }
@@ -103,6 +103,14 @@ fn setting(alloc: Global, number: usize, tells: u8) -> Result<Op, Fault> {
         kind: 3,
         data,
     })
+}
+
+/// A change as it is kept.
+pub(crate) fn text(alloc: Global, change: &Element) -> Result<ChangeText, Fault> {
+    if change.text_len() >= u64::from(u32::MAX) {
+        return Err(Fault::Otherwise("a change that is too long"));
+    }
+    Ok(ChangeText::of(alloc, change)?)
 }
 
 // changes the value of a number

@@ -5,7 +5,6 @@ use commit_journal::Journal;
 use disk_model::{Disk, MemDisk, Plan};
 use faults::Fault;
 use refusals::limits::MOST_HIVES;
-use reg_tree::Element;
 use std::alloc::{AllocError, Global};
 use std::sync::Arc;
 
@@ -21,9 +20,9 @@ pub(crate) struct Desk {
     pub disk: MemDisk,
     pub journal: Option<Journal>,
     /// What is handed in at a step.
-    pub handed: Vec<Element>,
+    pub handed: Vec<ChangeText>,
     /// What the last opening answered.
-    pub opened: Vec<Element>,
+    pub opened: Vec<ChangeText>,
     /// Whether each call that takes memory is looked at, before it and behind it.
     pub is_watched: bool,
     /// Whether a call of the journal was refused memory.
@@ -179,14 +178,14 @@ fn done(is_done: bool) -> Result<(), Fault> {
 }
 
 /// The elements of which bytes are the texts, one behind another.
-fn elements_of(alloc: Global, bytes: &[u8]) -> Result<Vec<Element>, Fault> {
+fn elements_of(alloc: Global, bytes: &[u8]) -> Result<Vec<ChangeText>, Fault> {
     let mut elements = Vec::new(alloc);
     let mut rest = bytes;
     for _ in 0..bytes.len() {
         if rest.is_empty() {
             break;
         }
-        let (element, behind) = element_text::read(alloc, MOST_HIVES as u8, rest)?;
+        let (element, behind) = ChangeText::take(alloc, MOST_HIVES as u8, rest)?;
         elements.push(element)?;
         rest = behind;
     }

@@ -69,9 +69,7 @@ impl Desk {
         let wanted = self.names.bytes(wanted)?;
         let mut texts = Vec::new(self.alloc);
         for element in &self.opened {
-            if element.text_len() < u64::from(u32::MAX) {
-                element_text::write(element, &mut texts)?;
-            }
+            texts.extend_from_slice(element.bytes())?;
         }
         if texts == wanted {
             Ok(())

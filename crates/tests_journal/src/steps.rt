@@ -9,16 +9,17 @@ ghost use Rattle.commit_journal.specs.Journals.{choice_of, store_of};
 
 use commit_journal::Journal;
 use disk_model::Disk;
+use element_text::ChangeText;
 use engine_words::Progress;
 use refusals::Refusal;
 use refusals::limits::{GREATEST_NUMBER, MOST_ELEMENT_BYTES, MOST_JOURNAL_BYTES};
-use reg_tree::Element;
 
-fn is_on_hives(element: &Element, hives: u8) -> bool
-    ensures { result ≡ true → OnHives hives element.now }
+fn is_on_hives(change: &ChangeText, hives: u8) -> bool
+    ensures { result ≡ true → OnHives hives change.now }
 {
-    for op in element.ops.list() {
-        if op.hive() >= hives {
+    let mut left = change.hives();
+    while let Some(hive) = left.next() {
+        if hive >= hives {
             return false;
         }
     }
@@ -26,7 +27,7 @@ fn is_on_hives(element: &Element, hives: u8) -> bool
 }
 
 /// Whether the journal may be handed these elements behind what stands.
-pub fn may_hand(journal: &Journal, handed: &[Element]) -> bool
+pub fn may_hand(journal: &Journal, handed: &[ChangeText]) -> bool
     ensures { result ≡ true → IsHanded (store_of journal.now).hives
         (65 + room_of (choice_of journal.now).now.elements)
         (top 0 (choice_of journal.now).now + 1) handed.now (choice_of journal.now).now }
@@ -54,7 +55,7 @@ pub fn may_hand(journal: &Journal, handed: &[Element]) -> bool
 pub fn step<D: Disk>(
     journal: &mut Journal,
     disk: &mut D,
-    handed: &[Element],
+    handed: &[ChangeText],
 ) -> Option<Result<Progress, Refusal>> {
     if !may_hand(journal, handed) {
         return None;

@@ -1,7 +1,10 @@
-use Rattle.std.proofs.Common.{◌<◌, take}
-use Rattle.std.specs.List.{AllByRecursion}
-use Rattle.reg_tree.specs.Operations.{hive_of}
+use Rattle.std.proofs.Common.{length}
+use Rattle.element_text.specs.Changes.{hives_of}
+use Rattle.tests_journal.proofs.Hives.{AreThere}
 use Rattle.tests_journal.proofs.steps.is_on_hives.Given as goal
 
-abbrev pub invariant-loop-op : goal.invariant-loop-op
-invariant-loop-op l = AllByRecursion (λ op. hive_of op < l.hives) (take l.op-index l.op-items)
+abbrev pub invariant-loop-hive : goal.invariant-loop-hive
+invariant-loop-hive l = AreThere l.hives (hives_of l.change) l.left
+
+abbrev pub decreases-loop-hive : goal.decreases-loop-hive
+decreases-loop-hive l = length l.left
