@@ -122,6 +122,10 @@ pub if_err : {A E : Type 0} (r : Result A E) (why : E) (P : E → Type 0) → Is
 if_err (Ok a) why P h p = tt
 if_err (Err e) why P h p = subst P (sym h) p
 
+pub if_err_then : {A E : Type 0} (r : Result A E) (P Q : E → Type 0) → ((why : E) → P why → Q why) → IfErr r P → IfErr r Q
+if_err_then (Ok a) P Q follows p = tt
+if_err_then (Err e) P Q follows p = follows e p
+
 -- an error leaves all as it was
 pub on_err : {A E : Type 0} (r : Result A E) (P : Type 0) → P → OnErr r P
 on_err (Ok a) P p = tt

@@ -35,8 +35,9 @@ use Rattle.machine.specs.declared.event.Reply.TheVariants as reply
 use Rattle.transactions.specs.Tables.{Table, EndsWith, IsPending, IsPendingOf, holds_if, is_listed, rolled_back_if}
 use Rattle.transactions.specs.Histories.{IsShort}
 use Rattle.transactions.specs.Stores.{Answers, IsTied, store_of}
-use Rattle.transactions.specs.Prepared.{Readies, ReadiesWrite}
+use Rattle.transactions.specs.Prepared.{Readies, JudgesWrite, ReadiesWrite}
 use Rattle.transactions.specs.declared.prepared.Ready.{Ready}
+use Rattle.transactions.specs.declared.prepared.JudgedWrite.{JudgedWrite}
 use Rattle.transactions.specs.declared.prepared.ReadyWrite.{ReadyWrite}
 
 -- an error that is handed on is the answer
@@ -73,14 +74,6 @@ module _ (m : Machine) (session : ℕ) (why : Refusal) (res : Result Reply Refus
 
   pub closed_begin : fault m ≡ None → (id : List ℕ) → Answers m (event.Begin session id) res m
   closed_begin free id = on_refusal m (event.Begin session id) res why h (inl (second _ _ (Some why) free (first _ _ why (no_session m session why i))), refl)
-
-  pub closed_tx_read : (tx : Tx) (hive : ℕ) (path : List (List ℕ)) (question : Question) → Answers m (event.TxRead session tx hive path question) res m
-  closed_tx_read tx hive path question =
-      on_refusal m (event.TxRead session tx hive path question) res why h (inl (first _ _ why (first _ _ why (ap inactive_refusal (none_found m session tx why i) ∙ ap Some (sym i.named)))), refl)
-
-  pub closed_tx_write : fault m ≡ None → (tx : Tx) (moment : ℕ) (op : Op) → Answers m (event.TxWrite session tx moment op) res m
-  closed_tx_write free tx moment op =
-      on_refusal m (event.TxWrite session tx moment op) res why h (inl (second _ _ (Some why) free (first _ _ why (first _ _ why (ap inactive_refusal (none_found m session tx why i) ∙ ap Some (sym i.named))))), refl)
 
   pub closed_commit : fault m ≡ None → (tx : Tx) (moment : ℕ) → Answers m (event.CommitAccept session tx moment) res m
   closed_commit free tx moment = on_refusal m (event.CommitAccept session tx moment) res why h (inl (second _ _ (Some why) free (ap (commit_refusal_if m moment) (none_found m session tx why i) ∙ ap Some (sym i.named))), refl)
@@ -128,7 +121,7 @@ illegal_write m session moment op trees res why f o c e w h =
     on_refusal m (event.Write session moment op) res why h
     (either w (λ r. may_write m session moment op (Some why) f o c (ap (λ l. refusal_by l (room_refusal m (element_text_len (change moment op)))) (ap (λ t. legal t op) (sym e) ∙ r))), refl)
 
--- the hive is one that calls may not name, or before that the transaction is none that is active
+-- the hive is one that calls may not name
 module _ (m : Machine) (session : ℕ) (why : Refusal) (res : Result Reply Refusal) (o : is_open m session ≡ true) (h : IsErrAnd res (λ e. e ≡ why)) where
   not_called : (hive : ℕ) → unnamed_refusal m hive ≡ Some why → call_refusal m session hive ≡ Some why
   not_called hive e = second (closed_refusal m session) (unnamed_refusal m hive) (Some why) (opened_none m session o) e
@@ -139,18 +132,25 @@ module _ (m : Machine) (session : ℕ) (why : Refusal) (res : Result Reply Refus
   pub unnamed_write : fault m ≡ None → (moment : ℕ) (op : Op) → unnamed_refusal m (hive_of op) ≡ Some why → Answers m (event.Write session moment op) res m
   unnamed_write free moment op e = on_refusal m (event.Write session moment op) res why h (inl (second _ _ (Some why) free (first _ _ why (not_called (hive_of op) e))), refl)
 
-  abbrev pub IsUncalled : Tx → ℕ → Type 0
-  IsUncalled tx hive = (inactive_refusal (own m.places session tx) ≡ Some why) ⊎ ((inactive_refusal (own m.places session tx) ≡ None) × (unnamed_refusal m hive ≡ Some why))
+-- a call in a transaction: its session isn't open, or else it is none that is active, or else the hive is one that calls may not name
+module _ (m : Machine) (session : ℕ) (tx : Tx) (hive : ℕ) (why : Refusal) where
+  pub closed_call : IsClosed m session why → tx_call_refusal m session tx hive ≡ Some why
+  closed_call i = first _ _ why (ap inactive_refusal (none_found m session tx why i) ∙ ap Some (sym i.named))
 
-  not_called_in : (tx : Tx) (hive : ℕ) → IsUncalled tx hive → tx_call_refusal m session tx hive ≡ Some why
-  not_called_in tx hive (inl e) = first _ _ why (ap (λ b. inactive_refusal (cond b (own m.places session tx) None)) o ∙ e)
-  not_called_in tx hive (inr e) = second _ _ (Some why) (ap (λ b. inactive_refusal (cond b (own m.places session tx) None)) o ∙ e.0) e.1
+  module _ (o : is_open m session ≡ true) where
+    pub inactive_call : inactive_refusal (own m.places session tx) ≡ Some why → tx_call_refusal m session tx hive ≡ Some why
+    inactive_call e = first _ _ why (ap (λ b. inactive_refusal (cond b (own m.places session tx) None)) o ∙ e)
 
-  pub uncalled_tx_read : (tx : Tx) (hive : ℕ) (path : List (List ℕ)) (question : Question) → IsUncalled tx hive → Answers m (event.TxRead session tx hive path question) res m
-  uncalled_tx_read tx hive path question u = on_refusal m (event.TxRead session tx hive path question) res why h (inl (first _ _ why (not_called_in tx hive u)), refl)
+    pub unnamed_call : inactive_refusal (own m.places session tx) ≡ None → unnamed_refusal m hive ≡ Some why → tx_call_refusal m session tx hive ≡ Some why
+    unnamed_call active e = second _ _ (Some why) (ap (λ b. inactive_refusal (cond b (own m.places session tx) None)) o ∙ active) e
 
-  pub uncalled_tx_write : fault m ≡ None → (tx : Tx) (moment : ℕ) (op : Op) → IsUncalled tx (hive_of op) → Answers m (event.TxWrite session tx moment op) res m
-  uncalled_tx_write free tx moment op u = on_refusal m (event.TxWrite session tx moment op) res why h (inl (second _ _ (Some why) free (first _ _ why (not_called_in tx (hive_of op) u))), refl)
+-- such a call is refused
+module _ (m : Machine) (session : ℕ) (tx : Tx) (why : Refusal) (res : Result Reply Refusal) (h : IsErrAnd res (λ e. e ≡ why)) where
+  pub uncalled_tx_read : (hive : ℕ) (path : List (List ℕ)) (question : Question) → tx_call_refusal m session tx hive ≡ Some why → Answers m (event.TxRead session tx hive path question) res m
+  uncalled_tx_read hive path question u = on_refusal m (event.TxRead session tx hive path question) res why h (inl (first _ _ why u), refl)
+
+  pub uncalled_tx_write : fault m ≡ None → (moment : ℕ) (op : Op) → tx_call_refusal m session tx (hive_of op) ≡ Some why → Answers m (event.TxWrite session tx moment op) res m
+  uncalled_tx_write free moment op u = on_refusal m (event.TxWrite session tx moment op) res why h (inl (second _ _ (Some why) free (first _ _ why u)), refl)
 
 -- a length that is cut off at the greatest number of 64 bits has no room either
 tests : (room long cut : ℕ) → cut ≡ min long 18446744073709551615 → nat_lt MOST_JOURNAL_BYTES (room + (17 + cut)) ≡ nat_lt MOST_JOURNAL_BYTES (room + (17 + long))
@@ -373,6 +373,10 @@ unready m spare event (Err e) why h s = subst (λ r. Step m event (reply.Refused
 pub unready_write : (m : Machine) (session moment : ℕ) (op : Op) (res : Result (Option ReadyWrite) Refusal) (why : Refusal) → IsErrAnd res (λ e. e ≡ why) → Step m (event.Write session moment op) (reply.Refused why) m → ReadiesWrite m session moment op res
 unready_write m session moment op (Ok x) why h s = absurd h
 unready_write m session moment op (Err e) why h s = subst (λ r. Step m (event.Write session moment op) (reply.Refused r) m) (sym h) s
+
+pub unjudged_write : (m : Machine) (session moment : ℕ) (op : Op) (res : Result (Option JudgedWrite) Refusal) (why : Refusal) → IsErrAnd res (λ e. e ≡ why) → Step m (event.Write session moment op) (reply.Refused why) m → JudgesWrite m session moment op res
+unjudged_write m session moment op (Ok x) why h s = absurd h
+unjudged_write m session moment op (Err e) why h s = subst (λ r. Step m (event.Write session moment op) (reply.Refused r) m) (sym h) s
 
 -- a transaction that is active
 pub active_pending : (slot : Option Transaction) (ops : List Op) (long : ℕ) → IsPending slot ops long → inactive_refusal slot ≡ None

@@ -21,6 +21,7 @@ use Rattle.transactions.specs.Tables.{IsPending, holds_if, is_listed}
 use Rattle.transactions.specs.Entries.{AreMoved}
 use Rattle.transactions.specs.Histories.{IsShort}
 use Rattle.transactions.specs.Stores.{StoreView}
+use Rattle.transactions.specs.declared.prepared.JudgedWrite.{JudgedWrite}
 use Rattle.transactions.specs.declared.prepared.ReadyWrite.{ReadyWrite}
 use Rattle.transactions.specs.declared.prepared.ReadyCommit.{ReadyCommit}
 use Rattle.transactions.specs.declared.prepared.Ready.{Ready}
@@ -32,6 +33,24 @@ abbrev pub may_accept : Event → Bool
 may_accept (event.Write session moment op) = true
 may_accept (event.CommitAccept session tx moment) = true
 may_accept _ = false
+
+-- An operation may be accepted by itself, and this it leads to: the trees then, who is rolled back, the room.
+pub record IsJudgedWrite (machine : Machine) (session moment : ℕ) (op : Op) (judged : JudgedWrite) : Type 0 where
+  pub there : is_open machine session ≡ true
+  pub named : unnamed_refusal machine (hive_of op) ≡ None
+  pub is_legal : legal (trees_now machine) op ≡ Ok Legal
+  pub roomy : room_refusal machine (element_text_len (change moment op)) ≡ None
+  pub short : IsShort (change moment op)
+  pub levels : judged.levels ≡ levels_made (trees_now machine) op
+  pub trees : judged.trees ≡ applied_one (trees_now machine) op moment
+  pub holders : (place : ℕ) → is_listed judged.holders place ≡ holds_if (claim_of op) (at machine.places place)
+  pub room : judged.room ≡ machine.room + (17 + element_text_len (change moment op))
+
+-- it may; or it is answered so, and nothing has changed
+abbrev pub JudgesWrite : Machine → ℕ → ℕ → Op → Result (Option JudgedWrite) Refusal → Type 0
+JudgesWrite machine session moment op (Ok (Some judged)) = IsJudgedWrite machine session moment op judged
+JudgesWrite machine session moment op (Ok None) = Step machine (event.Write session moment op) reply.Opened machine
+JudgesWrite machine session moment op (Err why) = Step machine (event.Write session moment op) (reply.Refused why) machine
 
 -- An operation may be accepted by itself, and all that it leads to is made: the change, the trees then, who is rolled back, what the others see, the room.
 pub record IsReadyWrite (machine : Machine) (session moment : ℕ) (op : Op) (made : ReadyWrite) : Type 0 where

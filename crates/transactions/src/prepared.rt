@@ -30,6 +30,19 @@ pub(crate) enum Ready {
     Commit(ReadyCommit),
 }
 
+/// What an operation leads to that may be accepted by itself.
+#[derive(Drop)]
+pub(crate) struct JudgedWrite {
+    /// The trees after it.
+    pub trees: Trees,
+    /// How many keys it makes, where it creates one.
+    pub levels: Option<usize>,
+    /// The transactions that are rolled back by it.
+    pub holders: Holders,
+    /// The room that the journal has used then.
+    pub room: u64,
+}
+
 /// An operation that is accepted by itself.
 #[derive(Drop)]
 pub(crate) struct ReadyWrite {

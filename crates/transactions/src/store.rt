@@ -4,13 +4,14 @@ ghost use Rattle.std.specs.List.{AllByRecursion, list_any};
 ghost use Rattle.refusals.specs.declared.refusal.Refusal.TheVariants.{NoMemory, NoSuchHandle};
 ghost use Rattle.machine.specs.declared.event.Reply.TheVariants as reply;
 ghost use Rattle.machine.specs.Steps.{Step, is_step};
-ghost use Rattle.machine.specs.Machine.{opened_machine, last_number, fault, trees_now, room_refusal, unnamed_refusal};
+ghost use Rattle.machine.specs.Machine.{opened_machine, last_number, fault, trees_now, is_open, room_refusal, unnamed_refusal, tx_call_refusal};
+ghost use Rattle.machine.specs.Transactions.{own, inactive_refusal};
 ghost use Rattle.transactions.specs.Histories.{IsShort};
 ghost use Rattle.transactions.specs.Stores.{Answers, needs_device};
-ghost use Rattle.transactions.specs.Prepared.{IsPrepared, IsReady, IsReadyCommit, IsReadyNothing, IsReadyWrite, Readies, ReadiesWrite, Shows, may_accept, shown_by, will_show};
+ghost use Rattle.transactions.specs.Prepared.{IsPrepared, IsReady, IsReadyCommit, IsReadyNothing, IsReadyWrite, JudgesWrite, Readies, ReadiesWrite, Shows, may_accept, shown_by, will_show};
 
 use crate::history::History;
-use crate::prepared::{Prepared, Ready, ReadyCommit, ReadyWrite};
+use crate::prepared::{JudgedWrite, Prepared, Ready, ReadyCommit, ReadyWrite};
 use crate::short::change_is_short;
 use crate::table::{TxTable, Written};
 use machine::room::CHANGE_START;
@@ -392,24 +393,46 @@ impl Store {
         ensures machine { self.new.machine ≡ self.old.machine }
         ensures at_hand { self.new.at_hand ≡ self.old.at_hand }
     {
-        open(&self.sessions, session)?;
-        self.check_named(op.hive())?;
-        let Some(made) = self.table.trees().write(self.alloc, &op, moment)? else {
+        let Some(judged) = self.judge_write(session, moment, &op)? else {
             return Ok(None);
         };
-        let room = self.room_with(CHANGE_BYTES.saturating_add(op.text_len()))?;
-        let levels = levels_made(self.table.trees(), &op);
-        change_is_short(&op);
-        let holders = self.table.holders(&op)?;
         let ops = Ops::one(self.alloc, op)?;
-        let moved = self.table.move_views(ops.list(), moment, &holders)?;
+        let moved = self.table.move_views(ops.list(), moment, &judged.holders)?;
         self.history.reserve()?;
         Ok(Some(ReadyWrite {
             element: Element { moment, ops },
-            trees: made,
+            trees: judged.trees,
+            levels: judged.levels,
+            holders: judged.holders,
+            moved,
+            room: judged.room,
+        }))
+    }
+
+    // judges an operation by itself, and makes the trees after it; nothing where the key that it creates is there
+    fn judge_write(
+        &self,
+        session: u32,
+        moment: u64,
+        op: &Op,
+    ) -> Result<Option<JudgedWrite>, Refusal>
+        requires free { fault self.now.machine ≡ None }
+        ensures { JudgesWrite self.now.machine session moment op.now result }
+    {
+        open(&self.sessions, session)?;
+        self.check_named(op.hive())?;
+        let now = self.table.trees();
+        let Some(trees) = now.write(self.alloc, op, moment)? else {
+            return Ok(None);
+        };
+        let room = self.room_with(CHANGE_BYTES.saturating_add(op.text_len()))?;
+        let levels = levels_made(now, op);
+        change_is_short(op);
+        let holders = self.table.holders(op)?;
+        Ok(Some(JudgedWrite {
+            trees,
             levels,
             holders,
-            moved,
             room,
         }))
     }
@@ -458,6 +481,20 @@ impl Store {
         }
     }
 
+    // refuses a session that isn't open, then a handle that is none of its active transactions', then a hive that calls may not name
+    fn check_call(&self, session: u32, tx: Tx, hive: u8) -> Result<(), Refusal>
+        ensures there { OnOk result (is_open self.now.machine session ≡ true) }
+        ensures active { OnOk result
+            (inactive_refusal (own self.now.machine.places session tx) ≡ None) }
+        ensures named { OnOk result (unnamed_refusal self.now.machine hive ≡ None) }
+        ensures refused { IfErr result (λ refusal.
+            tx_call_refusal self.now.machine session tx hive ≡ Some refusal) }
+    {
+        open(&self.sessions, session)?;
+        self.table.check_active(session, tx)?;
+        self.check_named(hive)
+    }
+
     // the room that the journal has used with one change more, of so many bytes
     fn room_with(&self, length: u64) -> Result<u64, Refusal>
         ensures ok { IfOk result (λ room. (room_refusal self.now.machine length ≡ None)
@@ -501,9 +538,7 @@ impl Store {
         ensures step { Answers self.old.machine (Event.TxRead session tx hive path.now question) result self.new.machine }
         ensures at_hand { self.new.at_hand ≡ self.old.at_hand }
     {
-        open(&self.sessions, session)?;
-        self.table.check_active(session, tx)?;
-        self.check_named(hive)?;
+        self.check_call(session, tx, hive)?;
         let found = self.table.view_read(session, tx, hive, path, question)?;
         Ok(Reply::Read { found })
     }
@@ -513,9 +548,7 @@ impl Store {
         ensures step { Answers self.old.machine (Event.TxWrite session tx moment op) result self.new.machine }
         ensures at_hand { self.new.at_hand ≡ self.old.at_hand }
     {
-        open(&self.sessions, session)?;
-        self.table.check_active(session, tx)?;
-        self.check_named(op.hive())?;
+        self.check_call(session, tx, op.hive())?;
         match self.table.write_active(session, tx, moment, op)? {
             Written::Added { levels } => Ok(Reply::Added { levels }),
             Written::Opened => Ok(Reply::Opened),

@@ -1,24 +1,9 @@
-use Rattle.std.proofs.Common.{◌≡◌, inl, inr, Some, sym, ◌∙◌, ap, subst}
-use Rattle.machine.specs.Ends.{refusal_of}
-use Rattle.machine.specs.Machine.{is_open, unnamed_refusal}
-use Rattle.machine.specs.Transactions.{own, inactive_refusal}
-use Rattle.transactions.specs.Stores.{StoreView}
-use Rattle.transactions.proofs.Stored.{closed_tx_write, uncalled_tx_write}
+use Rattle.std.proofs.Common.{◌≡◌, Some, subst}
+use Rattle.machine.specs.Machine.{tx_call_refusal}
+use Rattle.transactions.proofs.Stored.{uncalled_tx_write}
 use Rattle.transactions.proofs.store.Store.tx_write.Goals as goal
 
-pub returns-in_err-open-clause-step : goal.returns-in_err-open-clause-step
-returns-in_err-open-clause-step c =
-    closed_tx_write c.args.self.now.machine c.args.session c.in_err-open.field-0.0 c.from_residual.result
-    (record { shut = ap (λ (v : StoreView). is_open v.machine c.args.session) (sym c.self.view_is) ∙ c.in_err-open.ensures.refused.0; named = c.in_err-open.ensures.refused.1 }) c.from_residual.ensures.1 c.requires.free c.args.tx c.args.moment c.args.op
-
-pub returns-in_err-check_active-clause-step : goal.returns-in_err-check_active-clause-step
-returns-in_err-check_active-clause-step c =
-    uncalled_tx_write c.args.self.now.machine c.args.session (refusal_of c.in_err-check_active.field-0.0) c.from_residual-in_err-check_active.result
-    (ap (λ (v : StoreView). is_open v.machine c.args.session) (sym c.self.view_is) ∙ c.in_ok-open.ensures.ok) c.from_residual-in_err-check_active.ensures.1 c.requires.free c.args.tx c.args.moment c.args.op
-    (inl (ap (λ (v : StoreView). inactive_refusal (own v.machine.places c.args.session c.args.tx)) (sym c.self.view_is) ∙ c.in_err-check_active.ensures.refused))
-
-pub returns-in_err-check_named-clause-step : goal.returns-in_err-check_named-clause-step
-returns-in_err-check_named-clause-step c =
-    uncalled_tx_write c.args.self.now.machine c.args.session c.in_err-check_named.field-0.0 c.from_residual-in_err-check_named.result
-    (ap (λ (v : StoreView). is_open v.machine c.args.session) (sym c.self.view_is) ∙ c.in_ok-open.ensures.ok) c.from_residual-in_err-check_named.ensures.1 c.requires.free c.args.tx c.args.moment c.args.op
-    (inr (ap (λ (v : StoreView). inactive_refusal (own v.machine.places c.args.session c.args.tx)) (sym c.self.view_is) ∙ c.in_ok-check_active.ensures.ok, subst (λ hive. unnamed_refusal c.args.self.now.machine hive ≡ Some c.in_err-check_named.field-0.0) c.hive.ensures c.in_err-check_named.ensures.refused))
+pub returns-in_err-check_call-clause-step : goal.returns-in_err-check_call-clause-step
+returns-in_err-check_call-clause-step c =
+    uncalled_tx_write c.args.self.now.machine c.args.session c.args.tx c.in_err-check_call.field-0.0 c.from_residual.result c.from_residual.ensures.1 c.requires.free c.args.moment c.args.op
+    (subst (λ hive. tx_call_refusal c.args.self.now.machine c.args.session c.args.tx hive ≡ Some c.in_err-check_call.field-0.0) c.hive.ensures c.in_err-check_call.ensures.refused)

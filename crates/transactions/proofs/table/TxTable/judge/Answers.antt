@@ -1,10 +1,9 @@
-use Rattle.std.proofs.Common.{◌≡◌, ◌⊎◌, Some, Err, refl, sym, ◌∙◌, ap, subst}
+use Rattle.std.proofs.Common.{◌≡◌, ◌⊎◌, Some, refl, sym, ◌∙◌, ap, subst}
 use Rattle.std.specs.Prelude.{IsSome, IfOk, IfErr, true, None}
 use Rattle.refusals.specs.declared.refusal.Refusal.TheVariants.{NoMemory}
 use Rattle.slab.specs.Slab.{with_value}
 use Rattle.slab.proofs.SlabLemmas.{Updates-with_value}
-use Rattle.reg_tree.specs.Judgement.{legal}
-use Rattle.machine.specs.Transactions.{Transaction, at, own, view, is_active, inactive_refusal}
+use Rattle.machine.specs.Transactions.{Transaction, at, own, is_active, inactive_refusal}
 use Rattle.transactions.specs.Entries.{transaction_of, places_of, IsJudged, IsJudgedOf, judge_refusal, illegal}
 use Rattle.transactions.specs.Tables.{Table}
 use Rattle.transactions.proofs.Kept.{kept_seen, seen_entry, same_places}
