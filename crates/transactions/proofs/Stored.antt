@@ -12,7 +12,7 @@ use Rattle.refusals.specs.declared.limits.TheConstants.{MOST_ELEMENT_BYTES, GREA
 use Rattle.reg_tree.specs.Maps.{TreeMap}
 use Rattle.reg_tree.specs.Fresh.{fresh_tree}
 use Rattle.reg_tree.specs.Operations.{hive_of}
-use Rattle.reg_tree.specs.Texts.{op_text_len, element_text_len}
+use Rattle.reg_tree.specs.Texts.{op_text_len, element_text_len, ops_text_len}
 use Rattle.reg_tree.specs.Judgement.{legal, applied, applied_one, applied_if, changed, any_outweighs}
 use Rattle.reg_tree.specs.Sequences.{after_elements}
 use Rattle.reg_tree.specs.declared.element.Element.{Element}
@@ -310,6 +310,11 @@ module _ (m : Machine) (session moment : ℕ) (tx : Tx) (why : Refusal) (res : R
 pub of_pending : (P : List Op → Type 0) (slot : Option Transaction) (ops : List Op) (long : ℕ) → IsPending slot ops long → IfSome slot (λ one. P one.ops) → P ops
 of_pending P None ops long p h = absurd p
 of_pending P (Some one) ops long p h = subst P (sym p.given) h
+
+-- how long the change of pending operations is
+pub pending_len : (slot : Option Transaction) (ops : List Op) (long : ℕ) → IsPending slot ops long → long ≡ 16 + ops_text_len ops
+pending_len None ops long p = absurd p
+pending_len (Some one) ops long p = p.long 0 ∙ ap (λ (x : List Op). 16 + ops_text_len x) (sym p.given)
 
 -- a transaction that ended after the trees of now were replaced ended before
 pub ends_before : (t after u : Table) (trees : List TreeMap) (session : ℕ) (tx : Tx) (given : List Op) → after ≡ record t { trees = trees; number = t.number + 1 } → EndsWith after session tx Committed given u →

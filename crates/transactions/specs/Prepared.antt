@@ -75,6 +75,7 @@ pub record IsReadyCommit (machine : Machine) (made : ReadyCommit) : Type 0 where
   pub there : is_open machine made.session ≡ true
   pub pending : IsPending (own machine.places made.session made.tx) ops text_len
   pub some : (length ops == 0) ≡ false
+  pub element : made.element ≡ record { moment = made.moment; ops = ops }
   pub short : text_len ≤ MOST_ELEMENT_BYTES
   pub light : any_outweighs (trees_now machine) ops made.moment ≡ false
   pub trees : made.trees ≡ applied (trees_now machine) ops made.moment

@@ -3,7 +3,7 @@ ghost use Rattle.std.specs.Prelude.{◌≡◌, ◌<◌, ◌≤◌, ◌+◌, ◌-
 ghost use Rattle.std.specs.List.{AllByRecursion};
 ghost use Rattle.transactions.specs.Histories.{IsShort};
 
-use reg_tree::Element;
+use element_text::ChangeText;
 use std::alloc::{AllocError, Global};
 use std::marker::Model;
 use std::snapshot::Snapshot;
@@ -12,8 +12,8 @@ use std::snapshot::Snapshot;
 /// that were let go.
 #[derive(Drop)]
 pub(crate) struct History {
-    all: Vec<Snapshot<Element>>,
-    recent: Vec<Element>,
+    all: Vec<Snapshot<ChangeText>>,
+    recent: Vec<ChangeText>,
 }
 
 impl Model for History {
@@ -73,18 +73,18 @@ impl History {
     }
 
     /// One change more, for which there is place.
-    pub fn push_reserved(&mut self, element: Element)
+    pub fn push_reserved(&mut self, change: ChangeText)
         requires spare { 0 < self.old.spare }
-        requires short { IsShort element }
-        ensures changes { self.new.changes ≡ self.old.changes ++ element ∷ [] }
+        requires short { IsShort change }
+        ensures changes { self.new.changes ≡ self.old.changes ++ change ∷ [] }
         ensures at_hand { self.new.let_go ≡ self.old.let_go }
     {
-        self.all.push_reserved(Snapshot::of(&element));
-        self.recent.push_reserved(element);
+        self.all.push_reserved(Snapshot::of(&change));
+        self.recent.push_reserved(change);
     }
 
     /// The changes behind the first so many, none of which was let go.
-    pub fn after(&self, count: usize) -> &[Element]
+    pub fn after(&self, count: usize) -> &[ChangeText]
         requires at_hand { self.now.let_go ≤ count }
         requires there { count ≤ length self.now.changes }
         ensures changes { result.now ≡ drop count self.now.changes }

@@ -4,8 +4,9 @@ ghost use Rattle.transactions.specs.Prepared.{will_show};
 
 use crate::entry::View;
 use crate::table::Holders;
+use element_text::ChangeText;
 use machine::{Event, Reply, Tx};
-use reg_tree::{Element, Trees};
+use reg_tree::Trees;
 use std::alloc::{AllocError, Global};
 use std::snapshot::Snapshot;
 
@@ -46,8 +47,8 @@ pub(crate) struct JudgedWrite {
 /// An operation that is accepted by itself.
 #[derive(Drop)]
 pub(crate) struct ReadyWrite {
-    /// The change.
-    pub element: Element,
+    /// The change, kept as its text.
+    pub element: ChangeText,
     /// The trees after it.
     pub trees: Trees,
     /// How many keys it makes, where it creates one.
@@ -69,6 +70,8 @@ pub(crate) struct ReadyCommit {
     pub tx: Tx,
     /// The moment of the change.
     pub moment: u64,
+    /// The change, kept as its text.
+    pub element: ChangeText,
     /// The trees after it.
     pub trees: Trees,
     /// What the others see then, by their places; nothing where it is to be made again.

@@ -14,6 +14,7 @@ use crate::history::History;
 use crate::prepared::{JudgedWrite, Prepared, Ready, ReadyCommit, ReadyWrite};
 use crate::short::change_is_short;
 use crate::table::{TxTable, Written};
+use element_text::ChangeText;
 use machine::room::CHANGE_START;
 use machine::{Bounds, Event, Question, Reply, Sessions, Tx, levels_made, look_up};
 use refusals::Refusal;
@@ -226,7 +227,7 @@ impl Store {
     }
 
     /// The accepted changes with numbers above this one, none of which was let go.
-    pub fn above(&self, number: u64) -> &[Element]
+    pub fn above(&self, number: u64) -> &[ChangeText]
         requires at_hand { self.now.at_hand ≤ number }
         requires there { number ≤ last_number self.now.machine }
         ensures changes { result.now
@@ -398,9 +399,10 @@ impl Store {
         };
         let ops = Ops::one(self.alloc, op)?;
         let moved = self.table.move_views(ops.list(), moment, &judged.holders)?;
+        let element = ChangeText::of(self.alloc, &Element { moment, ops })?;
         self.history.reserve()?;
         Ok(Some(ReadyWrite {
-            element: Element { moment, ops },
+            element,
             trees: judged.trees,
             levels: judged.levels,
             holders: judged.holders,
@@ -584,11 +586,14 @@ impl Store {
         } else {
             Vec::new(self.alloc)
         };
+        let element =
+            ChangeText::of_ops(self.alloc, moment, pending.ops, pending.text_len)?;
         self.history.reserve()?;
         Ok(Ready::Commit(ReadyCommit {
             session,
             tx,
             moment,
+            element,
             trees: made.trees,
             moved,
             room,
@@ -640,20 +645,18 @@ impl Store {
         let ReadyCommit {
             session,
             tx,
-            moment,
+            moment: _,
+            element,
             trees,
             moved,
             room,
         } = commit;
         self.table.accept(trees);
         self.table.take_views(moved);
-        let Ok(ops) = self.table.commit(session, tx) else {
+        let Ok(_ops) = self.table.commit(session, tx) else {
             unreachable!();
         };
-        let Some(ops) = Ops::from_vec(ops) else {
-            unreachable!();
-        };
-        self.history.push_reserved(Element { moment, ops });
+        self.history.push_reserved(element);
         self.room = room;
         Reply::Awaits {
             number: self.table.number(),

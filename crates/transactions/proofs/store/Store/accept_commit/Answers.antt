@@ -14,38 +14,37 @@ use Rattle.transactions.specs.Tables.{Table, EndsWith}
 use Rattle.transactions.proofs.Stored.{below_most, commits, ends_before, pending_short, same_ops, tied_more}
 use Rattle.transactions.proofs.store.Store.accept_commit.Goals as goal
 
-abbrev old_store : (c : goal.After-number) → Machine
+abbrev old_store : (c : goal.After-drop-ops) → Machine
 old_store c = store_of c.self.inside.opened.value c.self.inside.before c.self.inside.history.changes c.self.inside.sessions c.self.inside.table c.self.inside.durable c.self.inside.room c.self.inside.faulted c.self.inside.bounds
 
-ready : (c : goal.After-number) → IsReadyCommit (old_store c) c.args.commit
+ready : (c : goal.After-drop-ops) → IsReadyCommit (old_store c) c.args.commit
 ready c = subst (λ (v : StoreView). IsReadyCommit v.machine c.args.commit) (sym c.self.view_is) c.requires.ready
 
 -- the table after the transaction's end, before the trees of now are replaced
-abbrev ended_table : (c : goal.After-number) → Table
+abbrev ended_table : (c : goal.After-drop-ops) → Table
 ended_table c = record c.self.inside.table { places = c.commit.new.self.places }
 
-ends : (c : goal.After-number) → EndsWith c.self.inside.table c.args.commit.session c.args.commit.tx Committed c.in-Ok.ops.items (ended_table c) × (c.commit.new.self ≡ record (ended_table c) { trees = c.args.commit.trees; number = c.self.inside.table.number + 1 })
-ends c = ends_before c.self.inside.table c.take_views.new.self c.commit.new.self c.args.commit.trees c.args.commit.session c.args.commit.tx c.in-Ok.ops.items (c.take_views.ensures ∙ c.accept.ensures) c.in-Ok.ensures.ok
+ends : (c : goal.After-drop-ops) → EndsWith c.self.inside.table c.args.commit.session c.args.commit.tx Committed c.in-Ok._ops.items (ended_table c) × (c.commit.new.self ≡ record (ended_table c) { trees = c.args.commit.trees; number = c.self.inside.table.number + 1 })
+ends c = ends_before c.self.inside.table c.take_views.new.self c.commit.new.self c.args.commit.trees c.args.commit.session c.args.commit.tx c.in-Ok._ops.items (c.take_views.ensures ∙ c.accept.ensures) c.in-Ok.ensures.ok
 
-same : (c : goal.After-number) → (ready c).ops ≡ c.in-Ok.ops.items
-same c = same_ops c.self.inside.table (ended_table c) c.args.commit.session c.args.commit.tx (ready c).ops c.in-Ok.ops.items (ready c).text_len (ready c).pending (ends c).0
+same : (c : goal.After-drop-ops) → (ready c).ops ≡ c.in-Ok._ops.items
+same c = same_ops c.self.inside.table (ended_table c) c.args.commit.session c.args.commit.tx (ready c).ops c.in-Ok._ops.items (ready c).text_len (ready c).pending (ends c).0
 
 pub push_reserved-requires-clause-short : goal.push_reserved-requires-clause-short
 push_reserved-requires-clause-short c =
     let r = subst (λ (v : StoreView). IsReadyCommit v.machine c.args.commit) (sym c.self.view_is) c.requires.ready in
-    let q = same_ops c.self.inside.table (record c.self.inside.table { places = c.commit.new.self.places }) c.args.commit.session c.args.commit.tx r.ops c.in-Ok.ops.items r.text_len r.pending
-    (ends_before c.self.inside.table c.take_views.new.self c.commit.new.self c.args.commit.trees c.args.commit.session c.args.commit.tx c.in-Ok.ops.items (c.take_views.ensures ∙ c.accept.ensures) c.in-Ok.ensures.ok).0 in
-    subst (λ (x : List Op). let y : Element = record { moment = c.args.commit.moment; ops = x } in IsShort y) (q ∙ sym c.in-Some.ensures.some)
+    subst IsShort (sym r.element)
     (pending_short (own c.self.inside.table.places c.args.commit.session c.args.commit.tx) r.ops r.text_len c.args.commit.moment r.pending r.short)
 
-added : (c : goal.After-number) → c.push_reserved.new.self.changes ≡ c.self.inside.history.changes ++ record { moment = c.args.commit.moment; ops = c.in-Ok.ops.items } ∷ []
+added : (c : goal.After-drop-ops) → c.push_reserved.new.self.changes ≡ c.self.inside.history.changes ++ record { moment = c.args.commit.moment; ops = c.in-Ok._ops.items } ∷ []
 added c = c.push_reserved.ensures.changes
-    ∙ ap (λ (x : List Op). let y : Element = record { moment = c.args.commit.moment; ops = x } in c.self.inside.history.changes ++ y ∷ []) c.in-Some.ensures.some
+    ∙ ap (λ (e : Element). c.self.inside.history.changes ++ e ∷ []) (ready c).element
+    ∙ ap (λ (x : List Op). let y : Element = record { moment = c.args.commit.moment; ops = x } in c.self.inside.history.changes ++ y ∷ []) (same c)
 
-tied : (c : goal.After-number) → IsTied c.commit.new.self (store_of c.self.inside.opened.value c.self.inside.before c.push_reserved.new.self.changes c.self.inside.sessions c.commit.new.self c.self.inside.durable c.args.commit.room c.self.inside.faulted c.self.inside.bounds)
+tied : (c : goal.After-drop-ops) → IsTied c.commit.new.self (store_of c.self.inside.opened.value c.self.inside.before c.push_reserved.new.self.changes c.self.inside.sessions c.commit.new.self c.self.inside.durable c.args.commit.room c.self.inside.faulted c.self.inside.bounds)
 tied c =
     tied_more c.self.inside.opened.value c.self.inside.before c.self.inside.history.changes c.push_reserved.new.self.changes c.self.inside.sessions c.self.inside.table c.commit.new.self c.self.inside.durable c.self.inside.room c.args.commit.room c.self.inside.faulted c.self.inside.bounds
-    (record { moment = c.args.commit.moment; ops = c.in-Ok.ops.items }) c.self.invariant (below_most (old_store c) (ready c).text_len (ready c).roomy) (added c)
+    (record { moment = c.args.commit.moment; ops = c.in-Ok._ops.items }) c.self.invariant (below_most (old_store c) (ready c).text_len (ready c).roomy) (added c)
     (ap (λ (t : Table). t.trees) (ends c).1 ∙ (ready c).trees ∙ ap (λ x. applied x (ready c).ops c.args.commit.moment) (sym c.self.invariant.trees) ∙ ap (λ x. applied c.self.inside.table.trees x c.args.commit.moment) (same c))
     (ap (λ (t : Table). t.number) (ends c).1)
 
@@ -57,7 +56,7 @@ returns-clause-step c =
     subst (λ (v : StoreView). Commits v.machine c.args.commit.session c.args.commit.tx c.args.commit.moment c.number.result
     (store_of c.self.inside.opened.value c.self.inside.before c.push_reserved.new.self.changes c.self.inside.sessions c.commit.new.self c.self.inside.durable c.args.commit.room c.self.inside.faulted c.self.inside.bounds)) c.self.view_is
     (commits c.self.inside.opened.value c.self.inside.before c.self.inside.history.changes c.push_reserved.new.self.changes c.self.inside.sessions c.self.inside.table (ended_table c) c.commit.new.self c.self.inside.durable c.self.inside.room c.args.commit.room c.self.inside.faulted c.self.inside.bounds
-    (ready c).free c.args.commit.session c.args.commit.moment c.number.result c.args.commit.tx c.args.commit.trees (ready c).ops c.in-Ok.ops.items (ready c).text_len c.self.invariant (ready c).there
+    (ready c).free c.args.commit.session c.args.commit.moment c.number.result c.args.commit.tx c.args.commit.trees (ready c).ops c.in-Ok._ops.items (ready c).text_len c.self.invariant (ready c).there
     (ready c).pending (ends c).0 (ready c).some (ap (λ x. any_outweighs x (ready c).ops c.args.commit.moment) c.self.invariant.trees ∙ (ready c).light)
     (ready c).roomy c.number.ensures (added c) (ready c).room (ends c).1)
 

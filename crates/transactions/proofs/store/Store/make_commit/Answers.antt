@@ -8,7 +8,7 @@ use Rattle.machine.specs.declared.event.Event.TheVariants as event
 use Rattle.transactions.specs.Entries.{IsCommitted}
 use Rattle.transactions.specs.Tables.{IsPending}
 use Rattle.transactions.specs.Stores.{StoreView}
-use Rattle.transactions.proofs.Stored.{closed_commit, crowded_commit, heavy_commit, not_ended, of_pending, unready}
+use Rattle.transactions.proofs.Stored.{closed_commit, crowded_commit, heavy_commit, not_ended, of_pending, pending_len, unready}
 use Rattle.transactions.proofs.store.Store.make_commit.Goals as goal
 
 pub returns-in_err-open-clause-made : goal.returns-in_err-open-clause-made
@@ -63,3 +63,6 @@ returns-then-is_empty-clause-made c = (
     none = sym c.is_empty.ensures ∙ c.if-is_empty.true;
   },
 )
+
+pub of_ops-requires-clause-len : goal.of_ops-requires-clause-len
+of_ops-requires-clause-len c = pending_len (own c.self.inside.table.places c.args.session c.args.tx) c.in_ok-pending.pending.ops.now c.in_ok-pending.pending.text_len c.in_ok-pending.ensures.ok
