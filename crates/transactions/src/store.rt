@@ -586,8 +586,7 @@ impl Store {
         } else {
             Vec::new(self.alloc)
         };
-        let element =
-            ChangeText::of_ops(self.alloc, moment, pending.ops, pending.text_len)?;
+        let element = ChangeText::of_ops(self.alloc, moment, pending.ops, pending.text_len)?;
         self.history.reserve()?;
         Ok(Ready::Commit(ReadyCommit {
             session,
@@ -646,7 +645,7 @@ impl Store {
             session,
             tx,
             moment: _,
-            element,
+            element: change,
             trees,
             moved,
             room,
@@ -656,7 +655,7 @@ impl Store {
         let Ok(_ops) = self.table.commit(session, tx) else {
             unreachable!();
         };
-        self.history.push_reserved(element);
+        self.history.push_reserved(change);
         self.room = room;
         Reply::Awaits {
             number: self.table.number(),
