@@ -3,6 +3,7 @@ ghost use Rattle.hive_flush.specs.HiveStates.{IsWhole};
 
 use base_block::{BaseBlock, SequenceNumber};
 use disk_model::{Disk, MemDisk, Plan, Tear};
+use element_text::ChangeText;
 use engine_words::Progress;
 use hive_emit::{Emitted, emit};
 use hive_flush::HiveFile;

@@ -1,7 +1,9 @@
 //! A hive's calls with memory refused: what is refused changes nothing, and the call made again is as if nothing had been.
 ghost use Rattle.hive_flush.specs.HiveStates.{IsWhole};
 
+use crate::timing::text;
 use disk_model::{Disk, MemDisk, Plan};
+use element_text::ChangeText;
 use engine_words::Progress;
 use faults::Fault;
 use hive_flush::HiveFile;

@@ -3,6 +3,7 @@ use crate::memory::flushed;
 use base_block::{BaseBlock, SequenceNumber};
 use dirty_vector::PAGE_BYTES;
 use disk_model::{Disk, MemDisk, Plan};
+use element_text::ChangeText;
 use faults::Fault;
 use hive_emit::{Emitted, emit};
 use hive_flush::HiveFile;

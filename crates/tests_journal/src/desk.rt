@@ -3,6 +3,7 @@ use crate::files::tear_of;
 use crate::names::{Names, number};
 use commit_journal::Journal;
 use disk_model::{Disk, MemDisk, Plan};
+use element_text::ChangeText;
 use faults::Fault;
 use refusals::limits::MOST_HIVES;
 use std::alloc::{AllocError, Global};

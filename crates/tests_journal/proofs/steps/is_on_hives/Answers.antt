@@ -1,10 +1,10 @@
-use Rattle.std.proofs.Common.{[], refl, subst}
+use Rattle.std.proofs.Common.{[], sym, subst}
 use Rattle.element_text.specs.Changes.{hives_of}
 use Rattle.tests_journal.proofs.Hives.{AreThere, next_is_there, all_are_there}
 use Rattle.tests_journal.proofs.steps.is_on_hives.Goals as goal
 
 pub loop-hive-init : goal.loop-hive-init
-loop-hive-init c = ([], refl, tt)
+loop-hive-init c = ([], sym c.hives-left.ensures, tt)
 
 pub loop-hive-preserved : goal.loop-hive-preserved
 loop-hive-preserved c =
