@@ -1,6 +1,5 @@
 -- What is known of the bytes that a change is kept as.
-use Rattle.std.proofs.Common.{◌≡◌, ℕ, suc, ◌+◌, ◌-◌, ◌<◌, ◌≤◌, List, [], ◌∷◌, ◌++◌, length, take, refl, sym, ap, subst, ◌∙◌, arith, length-append, Option, Some, None}
-use Rattle.std.specs.Prelude.{map}
+use Rattle.std.proofs.Common.{◌≡◌, ℕ, suc, ◌+◌, ◌-◌, ◌<◌, ◌≤◌, List, [], ◌∷◌, length, take, refl, sym, ap, subst, ◌∙◌, arith, length-append, Option, Some, None}
 use Rattle.std.specs.Option.{option_and_then}
 use Rattle.std.specs.List.{AllByRecursion}
 use Rattle.std.proofs.lemmas.List.{append-nil, take_at}
@@ -92,9 +91,17 @@ fields_of bytes is = option_and_then_some (whole bytes) (fields_at 256 bytes) (c
     let t = let_through _ (Some (made got.0, got.1)) (change_in bytes, []) second in
     let ops : got.0.1.1 ≡ (change_in bytes).ops = ap (λ (x : Element × List ℕ). x.0.ops) (same_Some (made got.0, got.1) (change_in bytes, []) t.1) in
     record {
-      len = got.0.0; moment = got.0.1.0; count = h.0; second = f.0; third = g.0; texts = h.1; behind = got.1;
+      len = got.0.0;
+      moment = got.0.1.0;
+      count = h.0;
+      second = f.0;
+      third = g.0;
+      texts = h.1;
+      behind = got.1;
       of_moment = ap (λ (x : Element × List ℕ). x.0.moment) (same_Some (made got.0, got.1) (change_in bytes, []) t.1);
-      is_len = f.1; is_moment = g.1; is_count = h.2;
+      is_len = f.1;
+      is_moment = g.1;
+      is_count = h.2;
       are_ops = h.3 ∙ ap (λ (ops : List Op). Some (ops, got.1)) ops;
     })
 
@@ -110,7 +117,7 @@ module _ (op : Op) where
   pub one_hive : (left more : ℕ) (bytes rest : List ℕ) → left ≡ suc more → op_at 256 bytes ≡ Some (op, rest) → AreOps left bytes → hives_in left bytes ≡ hive_of op ∷ hives_in more rest
   one_hive left more bytes rest is got some =
       let read : repeat left (op_at 256) bytes ≡ before (repeat more (op_at 256) rest) = ap (λ (n : ℕ). repeat n (op_at 256) bytes) is
-          ∙ ap (λ (o : Option (Op × List ℕ)). option_and_then (λ one. then_by (repeat more (op_at 256)) (λ ops. give (one.0 ∷ ops)) one.1) o) got in
+      ∙ ap (λ (o : Option (Op × List ℕ)). option_and_then (λ one. then_by (repeat more (op_at 256)) (λ ops. give (one.0 ∷ ops)) one.1) o) got in
       ap hives_read read ∙ first_hive (repeat more (op_at 256) rest) (λ none. some (read ∙ none))
 
 -- the hive of the last operation

@@ -1,10 +1,9 @@
 -- What is known of a change by the bytes behind it.
-use Rattle.std.proofs.Common.{◌≡◌, ℕ, ◌+◌, ◌<◌, ◌≤◌, Bool, true, false, List, length, refl, ap, ◌∙◌, arith, Option, Some, None}
-use Rattle.std.specs.Prelude.{if◌then◌else◌, ◌==◌, ◌&&◌, nat_le}
+use Rattle.std.proofs.Common.{◌≡◌, ℕ, ◌+◌, ◌≤◌, Bool, List, length, ap, ◌∙◌, Option, Some, None}
+use Rattle.std.specs.Prelude.{if◌then◌else◌, ◌==◌, nat_le}
 use Rattle.std.specs.Option.{option_and_then}
 use Rattle.std.proofs.lemmas.Bool.{le-leb, eq-eqb, and_from}
 use Rattle.reg_tree.specs.declared.op.Op.{Op}
-use Rattle.reg_tree.specs.declared.element.Element.{Element}
 use Rattle.element_text.specs.Text.{fields_at, made, whole, element_at}
 
 module _ (hives : ℕ) (bytes : List ℕ) where

@@ -1,5 +1,5 @@
 //! An accepted change as it is kept until it is applied: by its text.
-ghost use Rattle.std.specs.Prelude.{◌≡◌, ◌==◌, ◌+◌, ◌<◌, ◌≤◌, ◌^◌, ℕ, List, length, Some, None, IfOk, MatchResult};
+ghost use Rattle.std.specs.Prelude.{◌≡◌, ◌==◌, ◌+◌, ◌<◌, ◌≤◌, ◌^◌, ℕ, length, Some, None, IfOk, MatchResult};
 ghost use Rattle.std.specs.List.{AllByRecursion, list_any};
 ghost use Rattle.refusals.specs.Answers.{RefusedFor};
 ghost use Rattle.refusals.specs.declared.refusal.Refusal.TheVariants.{JournalDamaged};
@@ -89,11 +89,7 @@ impl ChangeText {
     /// The change on one of so many hives that bytes begin with, and the bytes behind it.
     ///
     /// Refused with `JournalDamaged` exactly where the bytes begin with no text of such a change, and with `NoMemory`.
-    pub fn take(
-        alloc: Global,
-        hives: u8,
-        bytes: &[u8],
-    ) -> Result<(ChangeText, &[u8]), Refusal>
+    pub fn take(alloc: Global, hives: u8, bytes: &[u8]) -> Result<(ChangeText, &[u8]), Refusal>
         ensures { MatchResult result (λ got. element_at hives bytes.now ≡ Some (got.0, got.1.now))
             (RefusedFor JournalDamaged (element_at hives bytes.now ≡ None)) }
     {

@@ -72,7 +72,12 @@ fn take_fields(alloc: Global, hives: u16, bytes: &[u8]) -> Result<(Fields, &[u8]
 }
 
 /// So many operations, one after another, and the bytes behind them.
-fn take_ops(alloc: Global, hives: u16, count: u32, bytes: &[u8]) -> Result<(Vec<Op>, &[u8]), Refusal>
+fn take_ops(
+    alloc: Global,
+    hives: u16,
+    count: u32,
+    bytes: &[u8],
+) -> Result<(Vec<Op>, &[u8]), Refusal>
     ensures { MatchResult result (λ got. repeat count (op_at hives) bytes.now ≡ Some (
       got.0.items,
       got.1.now,

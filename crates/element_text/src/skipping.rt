@@ -1,8 +1,7 @@
 //! What stands behind a change that bytes begin with, found without memory: each function here does what the reader of
 //! `specs/Text` says that its clause names, and makes no value of it.
-ghost use Rattle.std.specs.Prelude.{◌≡◌, List, ℕ, MatchOption, Some, None, IfSome, true};
+ghost use Rattle.std.specs.Prelude.{◌≡◌, List, ℕ, MatchOption, Some, None};
 ghost use Rattle.reg_names.specs.Names.{is_key_name, is_name_unit, is_key_unit, is_value_name};
-ghost use Rattle.reg_tree.specs.Operations.{hive_of};
 ghost use Rattle.reg_tree.specs.declared.op.Op.{Op};
 ghost use Rattle.element_text.specs.Readers.{repeat, string_at};
 ghost use Rattle.element_text.specs.Changes.{Skips, SkipsMany, SkipsFields, SkipsOp};

@@ -19,8 +19,8 @@ use hive_emit::{Emitted, emit};
 use hive_files::mark_changes;
 use hive_records::one_tree;
 use refusals::Refusal;
-use reg_tree::laws::{trees_stay, weights_stay};
 use reg_tree::Tree;
+use reg_tree::laws::{trees_stay, weights_stay};
 use std::alloc::Global;
 
 impl HiveFile {

@@ -33,12 +33,7 @@ pub(crate) fn replayed(
 }
 
 // the tree after the operations on a hive of a change, which is read only where it has one
-fn after_change(
-    alloc: Global,
-    tree: Tree,
-    hive: u8,
-    change: &ChangeText,
-) -> Result<Tree, Refusal>
+fn after_change(alloc: Global, tree: Tree, hive: u8, change: &ChangeText) -> Result<Tree, Refusal>
     ensures made { IfOk result (λ made.
         replay rules (on_hive hive (timed_element change.now)) tree ≡ Some made) }
     ensures fails { IfErr result (RefusedFor JournalDamaged

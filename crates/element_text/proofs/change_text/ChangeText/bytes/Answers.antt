@@ -1,7 +1,4 @@
-use Rattle.std.proofs.Common.{◌∙◌, ap, subst, ◌<◌, ℕ}
-use Rattle.std.specs.List.{AllByRecursion}
-use Rattle.reg_tree.specs.Operations.{hive_of}
-use Rattle.reg_tree.specs.declared.element.Element.{Element}
+use Rattle.std.proofs.Common.{◌∙◌, ap, subst}
 use Rattle.element_text.specs.Text.{element_text, Fits}
 use Rattle.element_text.specs.Kept.{bytes_of}
 use Rattle.element_text.proofs.Kept.{is_text, fits_within}

@@ -1,4 +1,4 @@
-use Rattle.std.proofs.Common.{◌≡◌, ◌∙◌, ◌++◌, List, ℕ, ap}
+use Rattle.std.proofs.Common.{◌∙◌, ◌++◌, List, ℕ, ap}
 use Rattle.reg_tree.specs.declared.element.Element.{Element}
 use Rattle.element_text.specs.Text.{element_text}
 use Rattle.element_text.proofs.Kept.{stands_for}

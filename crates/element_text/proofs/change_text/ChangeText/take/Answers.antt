@@ -1,4 +1,4 @@
-use Rattle.std.proofs.Common.{◌≡◌, ◌∙◌, ◌-◌, ◌≤◌, List, ℕ, arith, ap, sym, length, Some}
+use Rattle.std.proofs.Common.{◌∙◌, ◌-◌, ◌≤◌, ℕ, arith, ap, sym, length, Some}
 use Rattle.reg_tree.specs.declared.element.Element.{Element}
 use Rattle.element_text.specs.Text.{element_at}
 use Rattle.element_text.proofs.Kept.{cut, no_longer}

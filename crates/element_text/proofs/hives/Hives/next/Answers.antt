@@ -1,4 +1,4 @@
-use Rattle.std.proofs.Common.{◌≡◌, ◌∙◌, ◌-◌, ◌∷◌, List, ℕ, ap, sym, subst, arith}
+use Rattle.std.proofs.Common.{◌∙◌, ◌-◌, ◌∷◌, ℕ, ap, sym, arith}
 use Rattle.element_text.specs.Changes.{hives_in}
 use Rattle.element_text.proofs.Kept.{one_hive, last_hive}
 use Rattle.element_text.proofs.hives.Hives.next.Goals as goal

@@ -1,4 +1,4 @@
-use Rattle.std.proofs.Common.{◌≡◌, ◌∙◌, ap, sym, ℕ, List, Some, None}
+use Rattle.std.proofs.Common.{◌≡◌, ◌∙◌, ap, sym, ℕ, List, Some}
 use Rattle.std.proofs.lemmas.Option.{none-some}
 use Rattle.element_text.specs.Readers.{repeat, number_at}
 use Rattle.element_text.specs.Text.{op_at}
