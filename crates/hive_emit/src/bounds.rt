@@ -50,5 +50,5 @@ fn add_kid(bounds: &mut Bounds, key: &Key) {
     let name = key.name().units().len().saturating_mul(UNIT);
     let name = u16::try_from(name).unwrap_or(u16::MAX);
     bounds.kid_name = bounds.kid_name.max(name);
-    bounds.kid_class = bounds.kid_class.max(clamped(key.class().bytes().len()));
+    bounds.kid_class = bounds.kid_class.max(clamped(key.class().len()));
 }

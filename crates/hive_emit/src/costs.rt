@@ -26,7 +26,7 @@ fn row_cost(key: &Key) -> usize
 {
     let _time = key.time();
     let record = cell_cost(record_len(key.name().units()));
-    record + class_cost(key.class().bytes().len()) + values_cost(key.values())
+    record + class_cost(key.class().len()) + values_cost(key.values())
 }
 
 /// What a key and all keys below it take.

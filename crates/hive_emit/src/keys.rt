@@ -93,7 +93,7 @@ fn put_own(
         image.old.bytes (own_cost row (length places.now)) why) }
 {
     let key = node.key();
-    let class = match put_class(image, key.class().bytes()) {
+    let class = match put_class(image, key.class()) {
         Ok(class) => class,
         Err(why) => return Err(why),
     };
@@ -156,7 +156,7 @@ fn fill_key(
     let key = node.key();
     let time = key.time();
     text.clear();
-    let class = key.class().bytes().len() as u16;
+    let class = key.class().len() as u16;
     put_key_node(text, key.name().units(), key.flags(), time, class, its)?;
     fill(image, at, text);
     Ok(())

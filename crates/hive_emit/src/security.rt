@@ -10,7 +10,7 @@ use hive_cells::Image;
 use hive_key_writer::{NOWHERE, cell_cost, put_cell};
 use hive_records::put_security;
 use refusals::Refusal;
-use reg_tree_parts::{Data, Key, Node};
+use reg_tree_parts::{Descriptor, Key, Node};
 use std::alloc::{AllocError, Global};
 use std::collections::BTreeMap;
 use std::marker::Model;
@@ -19,7 +19,7 @@ use std::marker::Model;
 #[derive(Drop)]
 pub(crate) struct Security {
     /// The descriptor.
-    pub descriptor: Data,
+    pub descriptor: Descriptor,
     /// How many keys have it.
     pub count: u32,
     /// Where its cell is.
@@ -99,7 +99,7 @@ impl Securities {
     }
 
     // keeps a descriptor that a first key has
-    fn add(&mut self, alloc: Global, descriptor: &Data) -> Result<(), AllocError>
+    fn add(&mut self, alloc: Global, descriptor: &Descriptor) -> Result<(), AllocError>
         requires new { Has self.old descriptor.now → ⊥ }
         ensures counted { OnOk result (Has self.new descriptor.now) }
         ensures keeps { OnOk result (Keeps self.old self.new) }
@@ -125,7 +125,7 @@ impl Securities {
     }
 
     // counts a key with a descriptor
-    fn count(&mut self, alloc: Global, descriptor: &Data) -> Result<(), AllocError>
+    fn count(&mut self, alloc: Global, descriptor: &Descriptor) -> Result<(), AllocError>
         ensures counted { OnOk result (Has self.new descriptor.now) }
         ensures keeps { OnOk result (Keeps self.old self.new) }
         ensures short { OnOk result (length descriptor.now < 2 ^ 32 → AreShort self.old

@@ -5,7 +5,7 @@ ghost use Rattle.hive_keys.specs.Reading.{marks_of};
 
 use crate::cells::is_marked;
 use crate::flags::Flags;
-use reg_tree_parts::Data;
+use reg_tree_parts::Descriptor;
 use std::alloc::{AllocError, Global};
 use std::collections::BTreeMap;
 use std::marker::Model;
@@ -13,7 +13,7 @@ use std::marker::Model;
 /// Descriptors by the offsets of their security cells. Contracts see the offsets in rising order, each with its bytes.
 #[derive(Drop)]
 pub struct Descriptors {
-    by_offset: BTreeMap<u32, Data>,
+    by_offset: BTreeMap<u32, Descriptor>,
 }
 
 impl Model for Descriptors {
@@ -38,17 +38,17 @@ impl Descriptors {
     }
 
     /// The descriptor of the security cell at an offset, if it is kept. It shares the bytes.
-    pub(crate) fn get(&self, at: u32) -> Result<Option<Data>, AllocError>
+    pub(crate) fn get(&self, at: u32) -> Result<Option<Descriptor>, AllocError>
         ensures { IfOk result (λ found. found ≡ descriptor_in self.now at) }
     {
         match self.by_offset.get(&at) {
-            Some(data) => Ok(Some(data.clone()?)),
+            Some(descriptor) => Ok(Some(descriptor.clone()?)),
             None => Ok(None),
         }
     }
 
     /// Keeps the descriptor of the security cell at an offset, of which none is kept.
-    pub(crate) fn keep(&mut self, at: u32, descriptor: Data) -> Result<(), AllocError>
+    pub(crate) fn keep(&mut self, at: u32, descriptor: Descriptor) -> Result<(), AllocError>
         requires { descriptor_in self.old at ≡ None }
         ensures here { IfOk result (λ _. descriptor_in self.new at ≡ Some descriptor) }
         ensures others { IfOk result (λ _. (other : ℕ) → other ≢ at →

@@ -16,7 +16,7 @@ use crate::values::values;
 use hive_cells::{Image, Looks};
 use hive_records::{KeyNode, Security};
 use refusals::Refusal;
-use reg_tree_parts::{Data, Key};
+use reg_tree_parts::{Data, Descriptor, Key};
 use std::alloc::Global;
 
 // the offset of none
@@ -51,7 +51,7 @@ fn class(
 }
 
 // the descriptor in the security cell at an offset, which is lent and so not marked
-fn security(alloc: Global, image: &Image, looks: &mut Looks, at: u32) -> Result<Data, Refusal>
+fn security(alloc: Global, image: &Image, looks: &mut Looks, at: u32) -> Result<Descriptor, Refusal>
     requires { at ≢ nowhere }
     ensures reads { (cells : Cells) → Shows image.now.bytes cells → SaysLent at cells result }
     ensures look { looks.new ≤ looks.old + 1 }
@@ -64,7 +64,7 @@ fn security(alloc: Global, image: &Image, looks: &mut Looks, at: u32) -> Result<
         Ok(security) => security,
         Err(refusal) => return Err(refusal),
     };
-    Ok(Data::new(alloc, security.descriptor)?)
+    Ok(Descriptor::new(alloc, security.descriptor)?)
 }
 
 // the descriptor that a key names, which is kept where it wasn't before
@@ -74,7 +74,7 @@ fn descriptor(
     looks: &mut Looks,
     known: &mut Descriptors,
     at: u32,
-) -> Result<Data, Refusal>
+) -> Result<Descriptor, Refusal>
     requires { AreDescriptors image.now.bytes known.old }
     ensures reads { (cells : Cells) → Shows image.now.bytes cells → (marks : Marks) → FollowsIn
         (λ its. its) (descriptor_at at) cells marks marks result }
@@ -84,18 +84,18 @@ fn descriptor(
     ensures look { looks.new ≤ looks.old + 1 }
 {
     if at == NOWHERE {
-        return Ok(Data::new(alloc, &[])?);
+        return Ok(Descriptor::new(alloc, &[])?);
     }
-    if let Some(data) = known.get(at)? {
-        return Ok(data);
+    if let Some(descriptor) = known.get(at)? {
+        return Ok(descriptor);
     }
-    let data = match security(alloc, image, looks, at) {
-        Ok(data) => data,
+    let descriptor = match security(alloc, image, looks, at) {
+        Ok(descriptor) => descriptor,
         Err(refusal) => return Err(refusal),
     };
-    let kept = data.clone()?;
+    let kept = descriptor.clone()?;
     known.keep(at, kept)?;
-    Ok(data)
+    Ok(descriptor)
 }
 
 /// The key at an offset, and its subkeys' offsets in the order of its list. `split` says whether data past 16,344 bytes are in
@@ -158,6 +158,14 @@ pub fn key(
         Err(refusal) => return Err(refusal),
     };
     let name = name_of(alloc, &node.name)?;
-    let key = Key::new(name, class, node.flags, descriptor, node.time, values);
+    let key = Key::new(
+        alloc,
+        name,
+        class,
+        node.flags,
+        descriptor,
+        node.time,
+        values,
+    )?;
     Ok((key, kids))
 }

@@ -36,7 +36,7 @@ fn is_same_node(mine: &Node, theirs: &Node) -> bool {
 // whether two keys hold the same, whatever stands below them
 fn is_same_key(mine: &Key, theirs: &Key) -> bool {
     mine.name().units() == theirs.name().units()
-        && mine.class().bytes() == theirs.class().bytes()
+        && mine.class() == theirs.class()
         && mine.flags() == theirs.flags()
         && mine.descriptor().bytes() == theirs.descriptor().bytes()
         && mine.time() == theirs.time()

@@ -18,6 +18,6 @@ mod trees;
 pub use element::{CHANGE_BYTES, Element, Ops};
 pub use names::Names;
 pub use op::{Legality, Op};
-pub use reg_tree_parts::{Data, Key, Node, Value, Values};
+pub use reg_tree_parts::{Data, Descriptor, Key, Node, Value, Values};
 pub use tree::{Info, NOT_DELETABLE, Tree};
 pub use trees::Trees;

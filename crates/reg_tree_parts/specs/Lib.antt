@@ -2,6 +2,7 @@ pub mod Orders
 pub mod Weights
 pub mod Bytes
 pub mod Rows
+pub mod Uncommons
 pub mod Held
 pub mod ValueEdits
 pub mod NewRows

@@ -4,30 +4,34 @@ ghost use Rattle.reg_tree_parts.specs.Rows.{Row, row_weight};
 ghost use Rattle.reg_tree_parts.specs.NewRows.{new_row};
 
 use crate::data::Data;
+use crate::descriptor::Descriptor;
+use crate::uncommon::{self, Uncommon};
 use crate::values::Values;
 use reg_names::Name;
 use std::alloc::{AllocError, Global};
 use std::marker::Model;
+use std::sync::Arc;
 
 /// What a key holds: its name as spelled, class, flags, security descriptor, last written time and values.
 #[derive(Drop)]
 pub struct Key {
     name: Name,
-    class: Data,
-    flags: u16,
-    descriptor: Data,
+    /// The class and the flags.
+    uncommon: Option<Arc<Uncommon>>,
+    descriptor: Descriptor,
     time: u64,
     values: Values,
 }
 
 impl Model for Key {
     ghost use Rattle.reg_tree_parts.specs.Rows.{Row, row_code};
+    ghost use Rattle.reg_tree_parts.specs.Uncommons.{class_in, flags_in};
 
     ghost Value = { Row };
 
     ghost coded = { row_code };
 
-    ghost view = { λ inside. record { name = inside.name; class = inside.class; flags = inside.flags; descriptor = inside.descriptor; time = inside.time; values = inside.values } };
+    ghost view = { λ inside. record { name = inside.name; class = class_in inside.uncommon; flags = flags_in inside.uncommon; descriptor = inside.descriptor; time = inside.time; values = inside.values } };
 }
 
 /// The weight of a key without name, class, descriptor and values.
@@ -36,16 +40,17 @@ pub const KEY_WEIGHT: u64 = 192;
 const _: () = prove!(KEY_WEIGHT == 192);
 
 impl Key {
-    /// A key of these parts.
+    /// A key of these parts. One without class and flags takes no memory beside them.
     pub fn new(
+        alloc: Global,
         name: Name,
         class: Data,
         flags: u16,
-        descriptor: Data,
+        descriptor: Descriptor,
         time: u64,
         values: Values,
-    ) -> Key
-        ensures { result ≡ record {
+    ) -> Result<Key, AllocError>
+        ensures { IfOk result (λ made. made ≡ record {
           name = name;
           class = class;
           flags = flags;
@@ -53,32 +58,37 @@ impl Key {
               descriptor;
           time = time;
           values = values;
-        } }
+        }) }
     {
-        Key {
+        let uncommon = uncommon::keep(alloc, class, flags)?;
+        Ok(Key {
             name,
-            class,
-            flags,
+            uncommon,
             descriptor,
             time,
             values,
-        }
+        })
     }
 
-    /// A new key of this name: no class, no flags and no values.
+    /// A new key of this name: no class, no flags and no values. It shares the descriptor.
     pub fn fresh(
         alloc: Global,
         name: &Name,
-        descriptor: &Data,
+        descriptor: &Descriptor,
         time: u64,
     ) -> Result<Key, AllocError>
         ensures { IfOk result (λ made. made ≡ new_row name.now descriptor.now time) }
     {
         let name = name.clone()?;
-        let class = Data::new(alloc, &[])?;
         let descriptor = descriptor.clone()?;
         let values = Values::new(alloc)?;
-        Ok(Key::new(name, class, 0, descriptor, time, values))
+        Ok(Key {
+            name,
+            uncommon: None,
+            descriptor,
+            time,
+            values,
+        })
     }
 
     /// The name as spelled.
@@ -89,21 +99,21 @@ impl Key {
     }
 
     /// The class.
-    pub fn class(&self) -> &Data
+    pub fn class(&self) -> &[u8]
         ensures { result.now ≡ self.now.class }
     {
-        &self.class
+        uncommon::class(&self.uncommon)
     }
 
     /// The flags.
     pub fn flags(&self) -> u16
         ensures { result ≡ self.now.flags }
     {
-        self.flags
+        uncommon::flags(&self.uncommon)
     }
 
     /// The security descriptor.
-    pub fn descriptor(&self) -> &Data
+    pub fn descriptor(&self) -> &Descriptor
         ensures { result.now ≡ self.now.descriptor }
     {
         &self.descriptor
@@ -128,12 +138,11 @@ impl Key {
         ensures { IfOk result (λ made. made ≡ record self.now { time = time; values = values }) }
     {
         let name = self.name.clone()?;
-        let class = self.class.clone()?;
+        let uncommon = uncommon::share(&self.uncommon)?;
         let descriptor = self.descriptor.clone()?;
         Ok(Key {
             name,
-            class,
-            flags: self.flags,
+            uncommon,
             descriptor,
             time,
             values,
@@ -154,7 +163,7 @@ impl Key {
         ensures { result ≡ min (row_weight self.now) u64.MAX }
     {
         let units = self.name.units().len() as u64;
-        let class = self.class.bytes().len() as u64;
+        let class = self.class().len() as u64;
         let descriptor = self.descriptor.bytes().len() as u64;
         let values = self.values.weight();
         units

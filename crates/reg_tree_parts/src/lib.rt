@@ -7,12 +7,15 @@
 #![tactic(auto)]
 
 mod data;
+mod descriptor;
 mod key;
 mod node;
+mod uncommon;
 mod value;
 mod values;
 
 pub use data::Data;
+pub use descriptor::Descriptor;
 pub use key::Key;
 pub use node::Node;
 pub use value::Value;

@@ -11,7 +11,7 @@ ghost use Rattle.shared_map.specs.Listings.{entries};
 ghost use Rattle.shared_map.specs.Parts.{FitsMap};
 ghost use Rattle.reg_tree_parts.specs.Nodes.{Entries, entries_of, entries_weight, subkey_entries, root_name, row_at, names_below, spelled_root, begins_path, branch_row, subkeys_of, HasSubkeys, IsNode, AreNodes};
 
-use crate::data::Data;
+use crate::descriptor::Descriptor;
 use crate::key::Key;
 use reg_names::Name;
 use shared_map::{Listed, SharedMap};
@@ -279,7 +279,7 @@ impl Node {
         alloc: Global,
         name: &Name,
         further: &[Name],
-        descriptor: &Data,
+        descriptor: &Descriptor,
         time: u64,
     ) -> Result<Node, AllocError>
         ensures rows { IfOk result (λ made. (path : List (List ℕ)) → row_at made path

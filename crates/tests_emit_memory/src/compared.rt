@@ -25,7 +25,7 @@ fn is_same_key(one: &Key, other: &Key) -> bool {
     one.name().units() == other.name().units()
         && one.flags() == other.flags()
         && one.time() == other.time()
-        && one.class().bytes() == other.class().bytes()
+        && one.class() == other.class()
         && one.descriptor().bytes() == other.descriptor().bytes()
         && are_same_values(one, other)
 }

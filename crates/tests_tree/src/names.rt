@@ -2,7 +2,7 @@
 use crate::fixtures::{counts, path, says, units};
 use refusals::Refusal;
 use reg_names::{Name, Path, folded_unit};
-use reg_tree::{Data, Key, Trees};
+use reg_tree::{Data, Descriptor, Key, Trees};
 use reg_tree_parts::{Node, Values};
 use std::alloc::{AllocError, Global};
 use std::cmp::Ordering;
@@ -186,7 +186,7 @@ fn grown(alloc: Global, node: &Node, units: &[u16]) -> Result<Node, AllocError> 
 // a key with the subkeys `é`, `z`, `É` and a small Greek alpha
 fn foreign(alloc: Global) -> Result<Node, AllocError> {
     let name = Name::stored(alloc, &[])?;
-    let descriptor = Data::new(alloc, &[])?;
+    let descriptor = Descriptor::new(alloc, &[])?;
     let key = Key::fresh(alloc, &name, &descriptor, 0)?;
     let mut node = Node::leaf(alloc, key)?;
     for unit in [0xe9, 0x7a, 0xc9, 0x03b1] {

@@ -19,7 +19,7 @@ use crate::op::{Legality, Op};
 use refusals::Refusal;
 use refusals::limits::MOST_WEIGHT;
 use reg_names::{Name, Path, ValueName};
-use reg_tree_parts::{Data, Key, Node, Values};
+use reg_tree_parts::{Data, Descriptor, Key, Node, Values};
 use std::alloc::{AllocError, Global};
 use std::sync::Arc;
 
@@ -253,9 +253,9 @@ fn fresh_key(alloc: Global) -> Result<Key, AllocError>
 {
     let name = Name::stored(alloc, &[])?;
     let class = Data::new(alloc, &[])?;
-    let descriptor = Data::new(alloc, &FRESH_DESCRIPTOR)?;
+    let descriptor = Descriptor::new(alloc, &FRESH_DESCRIPTOR)?;
     let values = Values::new(alloc)?;
-    Ok(Key::new(name, class, FRESH_FLAGS, descriptor, 0, values))
+    Key::new(alloc, name, class, FRESH_FLAGS, descriptor, 0, values)
 }
 
 // the flags of a new hive's root: that of a root, and not to be deleted

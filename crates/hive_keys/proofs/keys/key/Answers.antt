@@ -23,7 +23,7 @@ pub returns-in-Err-kids-clause-reads : goal.returns-in-Err-kids-clause-reads
 returns-in-Err-kids-clause-reads c = λ cells shows. key_kidless c.args.split c.args.at cells (marks_of c.args.seen.now) (marks_of c.look_once.new.seen) c.in-Ok.cell.now (c.in-Ok.ensures.reads cells shows) c.in-Ok-read.node c.in-Ok-read.ensures (marks_of c.class.new.seen) c.in-Ok-class.class (c.in-Ok-class.ensures.reads cells shows) c.in-Ok-descriptor.descriptor (c.in-Ok-descriptor.ensures.reads cells shows (marks_of c.class.new.seen)) (marks_of c.values.new.seen) c.in-Ok-values.values (c.in-Ok-values.ensures.reads cells shows) (marks_of c.kids.new.seen) c.in-Err-kids.refusal (c.in-Err-kids.ensures.reads cells shows)
 
 pub returns-clause-reads : goal.returns-clause-reads
-returns-clause-reads c = λ cells shows. key_read c.args.split c.args.at cells (marks_of c.args.seen.now) (marks_of c.look_once.new.seen) c.in-Ok.cell.now (c.in-Ok.ensures.reads cells shows) c.in-Ok-read.node c.in-Ok-read.ensures (marks_of c.class.new.seen) c.in-Ok-class.class (c.in-Ok-class.ensures.reads cells shows) c.in-Ok-descriptor.descriptor (c.in-Ok-descriptor.ensures.reads cells shows (marks_of c.class.new.seen)) (marks_of c.values.new.seen) c.in-Ok-values.values (c.in-Ok-values.ensures.reads cells shows) (marks_of c.kids.new.seen) c.in-Ok-kids.kids.items c.in_ok-name.name c.new-key.result (c.in-Ok-kids.ensures.reads cells shows) c.in_ok-name.ensures c.new-key.ensures
+returns-clause-reads c = λ cells shows. key_read c.args.split c.args.at cells (marks_of c.args.seen.now) (marks_of c.look_once.new.seen) c.in-Ok.cell.now (c.in-Ok.ensures.reads cells shows) c.in-Ok-read.node c.in-Ok-read.ensures (marks_of c.class.new.seen) c.in-Ok-class.class (c.in-Ok-class.ensures.reads cells shows) c.in-Ok-descriptor.descriptor (c.in-Ok-descriptor.ensures.reads cells shows (marks_of c.class.new.seen)) (marks_of c.values.new.seen) c.in-Ok-values.values (c.in-Ok-values.ensures.reads cells shows) (marks_of c.kids.new.seen) c.in-Ok-kids.kids.items c.in_ok-name.name c.in_ok-key.key (c.in-Ok-kids.ensures.reads cells shows) c.in_ok-name.ensures c.in_ok-key.ensures
 
 pub returns-clause-keeps : goal.returns-clause-keeps
 returns-clause-keeps c = λ cells shows. keeps_as c.args.known.now c.descriptor.new.known _ _
