@@ -15,7 +15,7 @@ whole : (row : Row) (units class : List ℕ) (values : ValueMap) (len head class
 whole row units class values len head class_is values_is u c v l r k w = omega (arith, row_parts row, ap (λ xs. length (name_text xs)) u, ap length c, ap values_cost v, l, r, k, w)
 
 pub overflow_add-result-2 : goal.overflow_add-result-2
-overflow_add-result-2 c = omega (arith, c.requires.fits, whole c.args.key.now c.units.result.now c.bytes.result.now c.values.result.now c.record_len.result c.cell_cost-record.result c.class_cost.result c.values_cost.result (c.units.ensures ∙ c.name.ensures) (c.bytes.ensures ∙ c.class.ensures) c.values.ensures c.record_len.ensures c.cell_cost-record.ensures c.class_cost.ensures c.values_cost.ensures)
+overflow_add-result-2 c = omega (arith, c.requires.fits, whole c.args.key.now c.units.result.now c.class.result.now c.values.result.now c.record_len.result c.cell_cost-record.result c.class_cost.result c.values_cost.result (c.units.ensures ∙ c.name.ensures) (c.class.ensures) c.values.ensures c.record_len.ensures c.cell_cost-record.ensures c.class_cost.ensures c.values_cost.ensures)
 
 pub returns : goal.returns
-returns c = whole c.args.key.now c.units.result.now c.bytes.result.now c.values.result.now c.record_len.result c.cell_cost-record.result c.class_cost.result c.values_cost.result (c.units.ensures ∙ c.name.ensures) (c.bytes.ensures ∙ c.class.ensures) c.values.ensures c.record_len.ensures c.cell_cost-record.ensures c.class_cost.ensures c.values_cost.ensures
+returns c = whole c.args.key.now c.units.result.now c.class.result.now c.values.result.now c.record_len.result c.cell_cost-record.result c.class_cost.result c.values_cost.result (c.units.ensures ∙ c.name.ensures) (c.class.ensures) c.values.ensures c.record_len.ensures c.cell_cost-record.ensures c.class_cost.ensures c.values_cost.ensures

@@ -1,4 +1,4 @@
-use Rattle.std.proofs.Common.{◌≡◌, ◌+◌, length, sym, ap, subst, arith, ◌∙◌}
+use Rattle.std.proofs.Common.{◌≡◌, ◌+◌, length, sym, ap, subst, arith}
 use Rattle.reg_tree_parts.specs.Nodes.{subkeys_of}
 use Rattle.reg_tree_parts.specs.Rows.{Row}
 use Rattle.hive_key_writer.specs.Making.{Makes}
@@ -16,34 +16,34 @@ put_values-requires c = subst CanPutAll (sym c.values.ensures) (own_can c.args.n
 pub returns-clause-made : goal.returns-clause-made
 returns-clause-made c = λ row e. subst (λ (r : Row). Makes c.args.image.now.bytes c.put_kids.new.image.bytes (OwnAt c.in-Ok.class c.in-Ok-put_values.values c.in-Ok-put_kids.kids r c.args.places.now (subkeys_of c.args.node.now))) (row_same c.args.node.now c.key-key.result.now row c.key-key.ensures.here e)
     (own_made c.args.image.now.bytes c.put_class.new.image.bytes c.put_values.new.image.bytes c.put_kids.new.image.bytes c.in-Ok.class c.in-Ok-put_values.values c.in-Ok-put_kids.kids c.key-key.result.now c.args.places.now (subkeys_of c.args.node.now) c.is_plain.result c.requires.near c.requires.all c.is_plain.ensures
-    (subst (λ cs. Makes c.args.image.now.bytes c.put_class.new.image.bytes (ClassAt c.in-Ok.class cs)) (c.bytes.ensures ∙ c.class.ensures) c.in-Ok.ensures.made)
+    (subst (λ cs. Makes c.args.image.now.bytes c.put_class.new.image.bytes (ClassAt c.in-Ok.class cs)) (c.class.ensures) c.in-Ok.ensures.made)
     (subst (λ vs. Makes c.put_class.new.image.bytes c.put_values.new.image.bytes (ValuesAt c.in-Ok-put_values.values vs)) c.values.ensures c.in-Ok-put_values.ensures.made)
     c.in-Ok-put_kids.ensures.made)
 
 pub returns-clause-uses : goal.returns-clause-uses
 returns-clause-uses c = λ row e.
-    let class : class_cost (length c.bytes.result.now) ≡ class_cost (length c.key-key.result.now.class) = ap (λ xs. class_cost (length xs)) (c.bytes.ensures ∙ c.class.ensures) in
+    let class : class_cost (length c.class.result.now) ≡ class_cost (length c.key-key.result.now.class) = ap (λ xs. class_cost (length xs)) (c.class.ensures) in
     let values : values_cost c.values.result.now ≡ values_cost c.key-key.result.now.values = ap values_cost c.values.ensures in
     let same : own_cost c.key-key.result.now (length c.args.places.now) ≡ own_cost row (length c.args.places.now) = ap (λ (r : Row). own_cost r (length c.args.places.now)) (row_same c.args.node.now c.key-key.result.now row c.key-key.ensures.here e) in
-    uses_more c.args.image.now.bytes c.put_kids.new.image.bytes (class_cost (length c.bytes.result.now) + values_cost c.values.result.now + kids_cost (length c.args.places.now)) (own_cost row (length c.args.places.now)) (omega (arith, class, values, same))
-    (both_used c.args.image.now.bytes c.put_values.new.image.bytes c.put_kids.new.image.bytes (class_cost (length c.bytes.result.now) + values_cost c.values.result.now) (kids_cost (length c.args.places.now)) (both_used c.args.image.now.bytes c.put_class.new.image.bytes c.put_values.new.image.bytes (class_cost (length c.bytes.result.now)) (values_cost c.values.result.now) c.in-Ok.ensures.uses c.in-Ok-put_values.ensures.uses) c.in-Ok-put_kids.ensures.uses)
+    uses_more c.args.image.now.bytes c.put_kids.new.image.bytes (class_cost (length c.class.result.now) + values_cost c.values.result.now + kids_cost (length c.args.places.now)) (own_cost row (length c.args.places.now)) (omega (arith, class, values, same))
+    (both_used c.args.image.now.bytes c.put_values.new.image.bytes c.put_kids.new.image.bytes (class_cost (length c.class.result.now) + values_cost c.values.result.now) (kids_cost (length c.args.places.now)) (both_used c.args.image.now.bytes c.put_class.new.image.bytes c.put_values.new.image.bytes (class_cost (length c.class.result.now)) (values_cost c.values.result.now) c.in-Ok.ensures.uses c.in-Ok-put_values.ensures.uses) c.in-Ok-put_kids.ensures.uses)
 
 pub returns-in-Err-clause-stops : goal.returns-in-Err-clause-stops
 returns-in-Err-clause-stops c = λ row e.
-    let class : class_cost (length c.bytes.result.now) ≡ class_cost (length c.key-key.result.now.class) = ap (λ xs. class_cost (length xs)) (c.bytes.ensures ∙ c.class.ensures) in
+    let class : class_cost (length c.class.result.now) ≡ class_cost (length c.key-key.result.now.class) = ap (λ xs. class_cost (length xs)) (c.class.ensures) in
     let same : own_cost c.key-key.result.now (length c.args.places.now) ≡ own_cost row (length c.args.places.now) = ap (λ (r : Row). own_cost r (length c.args.places.now)) (row_same c.args.node.now c.key-key.result.now row c.key-key.ensures.here e) in
-    stops_more c.args.image.now.bytes (class_cost (length c.bytes.result.now)) (own_cost row (length c.args.places.now)) c.in-Err.why (omega (arith, class, same)) c.in-Err.ensures.stops
+    stops_more c.args.image.now.bytes (class_cost (length c.class.result.now)) (own_cost row (length c.args.places.now)) c.in-Err.why (omega (arith, class, same)) c.in-Err.ensures.stops
 
 pub returns-in-Err-put_values-clause-stops : goal.returns-in-Err-put_values-clause-stops
 returns-in-Err-put_values-clause-stops c = λ row e.
-    let class : class_cost (length c.bytes.result.now) ≡ class_cost (length c.key-key.result.now.class) = ap (λ xs. class_cost (length xs)) (c.bytes.ensures ∙ c.class.ensures) in
+    let class : class_cost (length c.class.result.now) ≡ class_cost (length c.key-key.result.now.class) = ap (λ xs. class_cost (length xs)) (c.class.ensures) in
     let values : values_cost c.values.result.now ≡ values_cost c.key-key.result.now.values = ap values_cost c.values.ensures in
     let same : own_cost c.key-key.result.now (length c.args.places.now) ≡ own_cost row (length c.args.places.now) = ap (λ (r : Row). own_cost r (length c.args.places.now)) (row_same c.args.node.now c.key-key.result.now row c.key-key.ensures.here e) in
-    stops_later c.args.image.now.bytes c.put_class.new.image.bytes (class_cost (length c.bytes.result.now)) (values_cost c.values.result.now) (own_cost row (length c.args.places.now)) c.in-Err-put_values.why (omega (arith, class, values, same)) c.in-Ok.ensures.uses c.in-Err-put_values.ensures.stops
+    stops_later c.args.image.now.bytes c.put_class.new.image.bytes (class_cost (length c.class.result.now)) (values_cost c.values.result.now) (own_cost row (length c.args.places.now)) c.in-Err-put_values.why (omega (arith, class, values, same)) c.in-Ok.ensures.uses c.in-Err-put_values.ensures.stops
 
 pub returns-in-Err-put_kids-clause-stops : goal.returns-in-Err-put_kids-clause-stops
 returns-in-Err-put_kids-clause-stops c = λ row e.
-    let class : class_cost (length c.bytes.result.now) ≡ class_cost (length c.key-key.result.now.class) = ap (λ xs. class_cost (length xs)) (c.bytes.ensures ∙ c.class.ensures) in
+    let class : class_cost (length c.class.result.now) ≡ class_cost (length c.key-key.result.now.class) = ap (λ xs. class_cost (length xs)) (c.class.ensures) in
     let values : values_cost c.values.result.now ≡ values_cost c.key-key.result.now.values = ap values_cost c.values.ensures in
     let same : own_cost c.key-key.result.now (length c.args.places.now) ≡ own_cost row (length c.args.places.now) = ap (λ (r : Row). own_cost r (length c.args.places.now)) (row_same c.args.node.now c.key-key.result.now row c.key-key.ensures.here e) in
-    stops_later c.args.image.now.bytes c.put_values.new.image.bytes (class_cost (length c.bytes.result.now) + values_cost c.values.result.now) (kids_cost (length c.args.places.now)) (own_cost row (length c.args.places.now)) c.in-Err-put_kids.why (omega (arith, class, values, same)) (both_used c.args.image.now.bytes c.put_class.new.image.bytes c.put_values.new.image.bytes (class_cost (length c.bytes.result.now)) (values_cost c.values.result.now) c.in-Ok.ensures.uses c.in-Ok-put_values.ensures.uses) c.in-Err-put_kids.ensures.stops
+    stops_later c.args.image.now.bytes c.put_values.new.image.bytes (class_cost (length c.class.result.now) + values_cost c.values.result.now) (kids_cost (length c.args.places.now)) (own_cost row (length c.args.places.now)) c.in-Err-put_kids.why (omega (arith, class, values, same)) (both_used c.args.image.now.bytes c.put_class.new.image.bytes c.put_values.new.image.bytes (class_cost (length c.class.result.now)) (values_cost c.values.result.now) c.in-Ok.ensures.uses c.in-Ok-put_values.ensures.uses) c.in-Err-put_kids.ensures.stops
