@@ -7,3 +7,4 @@ pub mod May
 pub mod Taken
 pub mod Skipped
 pub mod Kept
+pub mod OneHive

@@ -1,5 +1,5 @@
 -- A change that is kept as its text.
-use Rattle.std.specs.Prelude.{◌≡◌, ℕ, List, [], length, map, Option, Some, None}
+use Rattle.std.specs.Prelude.{◌≡◌, ◌==◌, ℕ, List, [], ◌∷◌, ◌++◌, length, map, filter, Option, Some, None}
 use Rattle.reg_tree.specs.declared.op.Op.{Op}
 use Rattle.reg_tree.specs.declared.element.Element.{Element}
 use Rattle.reg_tree.specs.Operations.{hive_of}
@@ -22,6 +22,10 @@ SkipsFields got len count rest = (moment : ℕ) × (ops : List Op) × (got ≡ S
 abbrev pub SkipsOp : Option (Op × List ℕ) → ℕ → List ℕ → Type 0
 SkipsOp got hive rest = (op : Op) × (got ≡ Some (op, rest)) × (hive_of op ≡ hive)
 
+-- these operations were read
+abbrev pub HasOps : Option (List Op × List ℕ) → List Op → Type 0
+HasOps got ops = (rest : List ℕ) × (got ≡ Some (ops, rest))
+
 -- what was read, or else the change without operations at the moment 0
 abbrev pub change_or_none : Option (Element × List ℕ) → Element
 change_or_none None = record { moment = 0; ops = [] }
@@ -42,6 +46,11 @@ hives_of e = map hive_of e.ops
 -- bytes begin with so many operations
 abbrev pub AreOps : ℕ → List ℕ → Type 0
 AreOps count bytes = ¬ (repeat count (op_at 256) bytes ≡ None)
+
+-- An operation was read, and these bytes are behind it. It was put behind the ones before where it is on this hive, and else
+-- these stay.
+abbrev pub TakesOp : Option (Op × List ℕ) → ℕ → List Op → List Op → List ℕ → Type 0
+TakesOp got hive before after rest = (op : Op) × (got ≡ Some (op, rest)) × (after ≡ before ++ filter (λ one. hive_of one == hive) (op ∷ []))
 
 -- the hives of those that were read
 abbrev pub hives_read : Option (List Op × List ℕ) → List ℕ

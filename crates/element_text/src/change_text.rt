@@ -1,5 +1,5 @@
 //! An accepted change as it is kept until it is applied: by its text.
-ghost use Rattle.std.specs.Prelude.{◌≡◌, ◌==◌, ◌+◌, ◌<◌, ◌≤◌, ◌^◌, ℕ, length, Some, None, IfOk, MatchResult};
+ghost use Rattle.std.specs.Prelude.{◌≡◌, ◌==◌, ◌+◌, ◌<◌, ◌≤◌, ◌^◌, ℕ, length, filter, Some, None, IfOk, MatchResult};
 ghost use Rattle.std.specs.List.{AllByRecursion, list_any};
 ghost use Rattle.refusals.specs.Answers.{RefusedFor};
 ghost use Rattle.refusals.specs.declared.refusal.Refusal.TheVariants.{JournalDamaged};
@@ -11,7 +11,8 @@ ghost use Rattle.element_text.specs.Kept.{bytes_of, FitsHere};
 ghost use Rattle.element_text.specs.Text.{element_at, element_text, Fits};
 ghost use Rattle.element_text.specs.declared.change_text.TheConstants.{MOST_HERE};
 
-use crate::hives::{Hives, are_any, moment_in};
+use crate::hives::{Hives, are_any, moment_in, ops_in};
+use crate::one_hive::take_ops_on;
 use crate::reading::take_change;
 use crate::skipping::skip_change;
 use crate::writing::write_change;
@@ -166,6 +167,14 @@ impl ChangeText {
             Err(Refusal::NoMemory) => Err(AllocError),
             Err(_) => unreachable!(),
         }
+    }
+
+    /// Its operations on one hive, in their order. Nothing is made of the others.
+    pub fn ops_on(&self, alloc: Global, hive: u8) -> Result<Vec<Op>, AllocError>
+        ensures { IfOk result (λ ops. ops.items ≡ filter (λ op. hive_of op == hive) self.now.ops) }
+    {
+        let (count, bytes) = ops_in(self.held.bytes());
+        take_ops_on(alloc, hive, count, bytes)
     }
 
     /// The moment of the change.

@@ -1,10 +1,11 @@
-//! The hives that a change's operations are on, told from its text.
+//! The hives that a change's operations are on, told from its text; where the operations stand there, and its moment.
 ghost use Rattle.std.specs.Prelude.{◌≡◌, ◌==◌, ◌∷◌, [], ℕ, List, Some, None, MatchOption};
 ghost use Rattle.std.specs.List.{list_any};
 ghost use Rattle.reg_tree.specs.declared.op.Op.{Op};
 ghost use Rattle.reg_tree.specs.Operations.{hive_of};
+ghost use Rattle.element_text.specs.Readers.{repeat};
 ghost use Rattle.element_text.specs.Text.{op_at};
-ghost use Rattle.element_text.specs.Changes.{IsChange, change_in, hives_of};
+ghost use Rattle.element_text.specs.Changes.{IsChange, HasOps, change_in, hives_of};
 
 use crate::change_text::ALL_HIVES;
 use crate::fields::{first_u8, first_u32, first_u64};
@@ -37,15 +38,7 @@ impl<'a> Hives<'a> {
         requires { IsChange text.now }
         ensures { result ≡ hives_of (change_in text.now) }
     {
-        let Some((_, rest)) = first_u32(text) else {
-            unreachable!();
-        };
-        let Some((_, rest)) = first_u64(rest) else {
-            unreachable!();
-        };
-        let Some((left, bytes)) = first_u32(rest) else {
-            unreachable!();
-        };
+        let (left, bytes) = ops_in(text);
         Hives { left, bytes }
     }
 
@@ -71,8 +64,25 @@ impl<'a> Hives<'a> {
     }
 }
 
-// the hive of the operation that bytes begin with
-fn hive_in(bytes: &[u8]) -> u8
+/// How many operations the change has that bytes are the text of, and the bytes that begin with them.
+pub(crate) fn ops_in(text: &[u8]) -> (u32, &[u8])
+    requires { IsChange text.now }
+    ensures { HasOps (repeat result.0 (op_at 256) result.1.now) (change_in text.now).ops }
+{
+    let Some((_, rest)) = first_u32(text) else {
+        unreachable!();
+    };
+    let Some((_, rest)) = first_u64(rest) else {
+        unreachable!();
+    };
+    let Some((count, bytes)) = first_u32(rest) else {
+        unreachable!();
+    };
+    (count, bytes)
+}
+
+/// The hive of the operation that bytes begin with.
+pub(crate) fn hive_in(bytes: &[u8]) -> u8
     requires { ¬ (op_at 256 bytes.now ≡ None) }
     ensures { (op : Op) (rest : List ℕ) → op_at 256 bytes.now ≡ Some (op, rest) → result ≡ hive_of op }
 {

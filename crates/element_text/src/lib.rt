@@ -13,6 +13,7 @@ mod change_text;
 mod fields;
 mod hives;
 pub mod laws;
+mod one_hive;
 mod reading;
 mod skipping;
 mod writing;

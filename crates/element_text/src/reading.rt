@@ -95,7 +95,8 @@ fn take_ops(
     Ok((ops, rest))
 }
 
-fn take_op(alloc: Global, hives: u16, bytes: &[u8]) -> Result<(Op, &[u8]), Refusal>
+/// An operation on one of so many hives, and the bytes behind it.
+pub(crate) fn take_op(alloc: Global, hives: u16, bytes: &[u8]) -> Result<(Op, &[u8]), Refusal>
     ensures { MatchResult result (λ got. op_at hives bytes.now ≡ Some (got.0, got.1.now))
         (RefusedFor JournalDamaged (op_at hives bytes.now ≡ None)) }
 {
