@@ -1,6 +1,6 @@
 -- Changes replayed on one tree, one after another.
 use Rattle.std.proofs.Common.{◌≡◌, ◌≢◌, ◌||◌, ℕ, Bool, true, false, List, [], ◌∷◌, map, refl, sym, ap, ◌∙◌}
-use Rattle.std.specs.Prelude.{◌==◌, if◌then◌else◌}
+use Rattle.std.specs.Prelude.{◌==◌, filter, if◌then◌else◌}
 use Rattle.std.specs.List.{list_any}
 use Rattle.std.proofs.lemmas.Bool.{eq-eqb, ne_eqb}
 use Rattle.prefix_law.specs.Changes.{applied, on_hive, ops_on}
@@ -31,6 +31,25 @@ pub change_here : (hive : ℕ) (element : Element) (rest : List Element) (tree m
     → applied rules (ops_on hive (timed_elements (element ∷ rest))) tree ≡ applied rules (ops_on hive (timed_elements rest)) made
 change_here hive element rest tree made is =
     applied-append rules (on_hive hive (timed_element element)) (ops_on hive (timed_elements rest)) tree ∙ ap (applied rules (ops_on hive (timed_elements rest))) (sym is)
+
+-- those of some operations that are on the hive are all that these have there
+same_here : (hive moment : ℕ) (ops : List Op) → on_hive hive (map (timed moment) (filter (λ op. hive_of op == hive) ops)) ≡ on_hive hive (map (timed moment) ops)
+same_here hive moment [] = refl
+same_here hive moment (op ∷ ops) = by_test (hive_of op == hive) refl (same_here hive moment ops)
+  where
+    kept : List Op
+    kept = filter (λ one. hive_of one == hive) ops
+
+    behind : List Op → List TimedOp
+    behind some = on_hive hive (map (timed moment) some)
+
+    by_test : (b : Bool) → (hive_of op == hive) ≡ b → behind kept ≡ behind ops → behind (if b then op ∷ kept else kept) ≡ (if b then (moment, op) ∷ behind ops else behind ops)
+    by_test true is rest = ap (λ (t : Bool). if t then (moment, op) ∷ behind kept else behind kept) is ∙ ap (λ (front : List TimedOp). (moment, op) ∷ front) rest
+    by_test false is rest = rest
+
+pub found_here : (hive at moment : ℕ) (found ops : List Op) → at ≡ moment → found ≡ filter (λ op. hive_of op == hive) ops → on_hive hive (map (timed at) found) ≡ on_hive hive (map (timed moment) ops)
+found_here hive at moment found ops now is =
+    ap (λ (m : ℕ). on_hive hive (map (timed m) found)) now ∙ ap (λ (some : List Op). on_hive hive (map (timed moment) some)) is ∙ same_here hive moment ops
 
 -- a change that has no operation on the hive
 pub none_here : (hive moment : ℕ) (ops : List Op) → list_any (λ one. one == hive) (map hive_of ops) ≡ false → on_hive hive (map (timed moment) ops) ≡ []

@@ -32,18 +32,19 @@ pub(crate) fn replayed(
     Ok(made)
 }
 
-// the tree after the operations on a hive of a change, which is read only where it has one
+// the tree after the operations on a hive of a change, of which only these are read
 fn after_change(alloc: Global, tree: Tree, hive: u8, change: &ChangeText) -> Result<Tree, Refusal>
     ensures made { IfOk result (λ made.
         replay rules (on_hive hive (timed_element change.now)) tree ≡ Some made) }
     ensures fails { IfErr result (RefusedFor JournalDamaged
         (replay rules (on_hive hive (timed_element change.now)) tree ≡ None)) }
 {
+    // that a change is elsewhere is told sooner by its hives alone
     if !change.is_on(hive) {
         return Ok(tree);
     }
-    let element = change.read(alloc)?;
-    after_ops(alloc, tree, hive, element.ops.list(), element.moment)
+    let ops = change.ops_on(alloc, hive)?;
+    after_ops(alloc, tree, hive, &ops, change.moment())
 }
 
 // the tree after the operations on a hive among some, at one moment
