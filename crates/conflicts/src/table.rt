@@ -5,7 +5,7 @@ ghost use Rattle.std.specs.Option.{option_map};
 ghost use Rattle.std.specs.BTreeSet.{contains_by};
 ghost use Rattle.conflicts.specs.Spots.{pair_order};
 ghost use Rattle.conflicts.specs.Filed.{TakesOwn, LeavesOthers};
-ghost use Rattle.conflicts.specs.Holders.{Held, same_held, AsksFor, without_owner, stands_against, holds_claim, with_number, with_holder, is_some_that, holders_of};
+ghost use Rattle.conflicts.specs.Holders.{Held, same_held, AsksFor, StandApart, without_owner, stands_against, holds_claim, with_number, with_holder, is_some_that, holders_of};
 
 use crate::claim::{Claim, Kind, conflict, same_claim};
 use crate::spots::{Spot, copy, numbers_near, spot_of};
@@ -213,6 +213,13 @@ impl ClaimTable {
             }
         }
         Ok(false)
+    }
+
+    /// No transaction's claim conflicts with another's. It does nothing: what it ensures is so of every table.
+    pub fn stand_apart(&self)
+        ensures { StandApart self.now }
+    {
+        let _ = &self.added;
     }
 
     /// Drops all claims of a transaction. Takes no memory.

@@ -1,6 +1,8 @@
 -- Which transactions hold a claim that conflicts with one more: the table of claims and the transactions say the same.
-use Rattle.std.proofs.Common.{◌≡◌, ◌⊎◌, inl, inr, ℕ, suc, arith, ◌==◌, Bool, true, false, not, ◌||◌, ◌&&◌, List, [], ◌∷◌, length, Option, Some, None, refl, sym, ◌∙◌, ap, subst}
-use Rattle.std.specs.Prelude.{◌≢◌, Contains, map}
+use Rattle.std.proofs.Common.{◌≡◌, ◌⊎◌, inl, inr, ℕ, ◌==◌, Bool, true, false, not, ◌||◌, ◌&&◌, List, [], ◌∷◌, length, Option, Some, None, refl, sym, ◌∙◌, ap, subst}
+use Rattle.std.specs.Prelude.{◌≢◌, Contains, if◌then◌else◌, map}
+use Rattle.refusals.specs.declared.refusal.Refusal.TheVariants.{NotActive}
+use Rattle.reg_tree.specs.declared.op.Op.{Op}
 use Rattle.std.specs.List.{list_any}
 use Rattle.std.proofs.lemmas.Option.{none-some}
 use Rattle.std.proofs.lemmas.Bool.{true≢false, eqb-true, eq-eqb, ne_eqb, false_from_ne_true}
@@ -8,13 +10,12 @@ use Rattle.slab.specs.Slab.{Slab}
 use Rattle.slab.proofs.SlabLemmas.{Contains-entries}
 use Rattle.claims_law.specs.Skeleton.{Claim, Conflict}
 use Rattle.conflicts.specs.Claims.{claim_of, meets}
-use Rattle.conflicts.specs.Holders.{Held, IsHolder, holders_of}
-use Rattle.conflicts.specs.declared.table.Owner.{Owner}
+use Rattle.conflicts.specs.Holders.{Held, IsHolder, StandApart, holders_of}
 use Rattle.conflicts.proofs.Meets.{meets_conflict, conflict_meets}
 use Rattle.conflicts.proofs.Members.{here, later, first_or_later, none_empty, who}
-use Rattle.machine.specs.Transactions.{Transaction, Places, at, held, is_active, holds, is_claimed}
+use Rattle.machine.specs.Transactions.{Transaction, Places, at, own_if, held, inactive_refusal, is_active, holds, is_claimed}
 use Rattle.transactions.specs.Entries.{Claims}
-use Rattle.transactions.specs.Tables.{holds_if, is_listed}
+use Rattle.transactions.specs.Tables.{IsPending, MeetNone, holds_if, is_listed}
 use Rattle.transactions.proofs.Claimed.{AreClaimed, some_same}
 
 -- tests of lists
@@ -76,6 +77,13 @@ listed places place c = any_of (λ p. p == place) places place c (eq-eqb place p
 of_listed : (places : List ℕ) (place : ℕ) → is_listed places place ≡ true → Contains places place
 of_listed places place h = let t = of_any (λ p. p == place) places h in subst (Contains places) (eqb-true t.0 place t.2) t.1
 
+may_act : (one : Transaction) → inactive_refusal (Some one) ≡ None → is_active one ≡ true
+may_act one = by_state (is_active one)
+  where
+    by_state : (active : Bool) → (if active then None else Some NotActive) ≡ None → active ≡ true
+    by_state true e = refl
+    by_state false e = absurd (none-some NotActive (sym e))
+
 -- a transaction holds a claim which conflicts, exactly where one of its claims does
 
 holding : (claim : Claim) (one : Transaction) (c : Claim) → is_active one ≡ true → Contains (map claim_of one.ops) c → Conflict claim c → holds claim one ≡ true
@@ -92,9 +100,6 @@ of_holding claim one h =
 
 abbrev slab_of : Places → Slab Transaction
 slab_of places = record { slots = places; vacant_key = 0; capacity = 0 }
-
-suc_is_not : (n : ℕ) → (suc n == 0) ≡ false
-suc_is_not n = ne_eqb (suc n) 0 (λ e. omega (arith, e))
 
 module _ (places : Places) (claims : List Held) (all : AreClaimed places claims) (claim : Claim) where
   -- who holds one is at its place
@@ -134,12 +139,6 @@ module _ (places : Places) (claims : List Held) (all : AreClaimed places claims)
       none_empty t.0.0 (subst (λ l. Contains l t.0.0) none (is_holder (Some place) t.0.0 t.0.1 ((Contains-entries (slab_of places) t.0.0 t.0.1).0 t.1) p.1
       (λ same. true≢false (sym p.0 ∙ ap not (eq-eqb t.0.0 place (sym (some_same place t.0.0 same))))))))
 
-  -- as the list of holders says that is empty, or isn't
-  pub claimed_is : (place : ℕ) (owners : List Owner) (empty : Bool) → map (λ (o : Owner). o.0) owners ≡ holders_of claims (Some place) claim → empty ≡ (length owners == 0) → not empty ≡ is_claimed places place claim
-  claimed_is place [] empty e is = ap not is ∙ sym (claimed_by_none place (sym e))
-  claimed_is place (o ∷ owners) empty e is =
-      ap not (is ∙ suc_is_not (length owners)) ∙ sym (claimed_by place o.0 (subst (λ l. Contains l o.0) e (here o.0 (map (λ (o : Owner). o.0) owners))))
-
   -- as a claim that was asked for says
   pub claimed_free : (place : ℕ) → holders_of claims (Some place) claim ≡ [] → is_claimed places place claim ≡ false
   claimed_free place none = claimed_by_none place none
@@ -151,12 +150,36 @@ module _ (places : Places) (claims : List Held) (all : AreClaimed places claims)
       by_list [] e = absurd (some e)
       by_list (o ∷ owners) e = claimed_by place o (subst (λ l. Contains l o) (sym e) (here o owners))
 
--- where no other place's transaction holds one, none of them does
-pub none_elsewhere : (places : Places) (place : ℕ) (claim : Claim) → is_claimed places place claim ≡ false → (other : ℕ) → (other ≡ place → ⊥) → holds_if claim (at places other) ≡ false
-none_elsewhere places place claim none other apart = by_place (at places other) refl
+-- where no claims of two transactions conflict, no operation of an active one meets a claim of another
+module _ (places : Places) (claims : List Held) (all : AreClaimed places claims) (apart : StandApart claims) (place other : ℕ) (elsewhere : other ≡ place → ⊥) where
+  meets_nobody : (one : Transaction) → at places place ≡ Some one → is_active one ≡ true → (op : Op) → Contains one.ops op → holds_if (claim_of op) (at places other) ≡ false
+  meets_nobody one there active op made = by_place (at places other) refl
+    where
+      by_place : (slot : Option Transaction) → at places other ≡ slot → holds_if (claim_of op) slot ≡ false
+      by_place None e = refl
+      by_place (Some their) e = false_from_ne_true (holds (claim_of op) their) (λ h.
+          let t = of_holding (claim_of op) their h in
+          let mine : Contains claims (record { owner = place; claim = claim_of op }) = (all place (claim_of op)).1 (record { one = one; there = there; active = active; made = mapped claim_of one.ops op made }) in
+          let theirs : Contains claims (record { owner = other; claim = t.1.0 }) = (all other t.1.0).1 (record { one = their; there = e; active = t.0; made = t.1.1 }) in
+          true≢false (sym (both (not (place == other)) (meets (claim_of op) t.1.0) (ap not (ne_eqb place other (λ same. elsewhere (sym same)))) (conflict_meets (claim_of op) t.1.0 t.1.2))
+          ∙ apart (record { owner = place; claim = claim_of op }) (record { owner = other; claim = t.1.0 }) mine theirs))
+
+  all_meet_none : (ops : List Op) → ((op : Op) → Contains ops op → holds_if (claim_of op) (at places other) ≡ false) → MeetNone ops (at places other)
+  all_meet_none [] none = tt
+  all_meet_none (op ∷ ops) none = (none op (here op ops), all_meet_none ops (λ o c. none o (later op ops o c)))
+
+  pub pending_meet_none : (change : List Op) (length : ℕ) → IsPending (at places place) change length → MeetNone change (at places other)
+  pending_meet_none change length pending = by_place (at places place) refl pending
+    where
+      by_place : (slot : Option Transaction) → at places place ≡ slot → IsPending slot change length → MeetNone change (at places other)
+      by_place None e p = absurd p
+      by_place (Some one) e p = subst (λ ops. MeetNone ops (at places other)) (sym p.given) (all_meet_none one.ops (meets_nobody one e (may_act one p.active)))
+
+-- the operations of the transaction that a handle names are those of its place's
+pub pending_there : (session generation : ℕ) (slot : Option Transaction) (ops : List Op) (length : ℕ) → IsPending (own_if session generation slot) ops length → IsPending slot ops length
+pending_there session generation None ops length p = p
+pending_there session generation (Some one) ops length p = if_own (one.session == session && one.generation == generation) p
   where
-    by_place : (there : Option Transaction) → at places other ≡ there → holds_if claim there ≡ false
-    by_place None there = refl
-    by_place (Some one) there = false_from_ne_true (holds claim one) (λ h.
-        true≢false (sym (any_of (λ (e : ℕ × Transaction). not (e.0 == place) && holds claim e.1) (held places) (other, one) ((Contains-entries (slab_of places) other one).1 there)
-        (both (not (other == place)) (holds claim one) (ap not (ne_eqb other place apart)) h)) ∙ none))
+    if_own : (own : Bool) → IsPending (if own then Some one else None) ops length → IsPending (Some one) ops length
+    if_own true p = p
+    if_own false p = absurd p

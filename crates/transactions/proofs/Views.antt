@@ -33,7 +33,7 @@ use Rattle.conflicts.proofs.Meets.{conflict_meets}
 use Rattle.machine.specs.Machine.{levels_made, too_long}
 use Rattle.machine.specs.Transactions.{Transaction, Places, at, is_active, holds, view}
 use Rattle.transactions.specs.Entries.{IsMade, AreCarried, AreAfter, AreLight, IsViewNow, IsViewed, WritesView, MovesView, StaysView, IsLegalIn, IsMovedTo, AreMoved, moment_of}
-use Rattle.transactions.specs.Tables.{holds_if, MeetNone}
+use Rattle.transactions.specs.Tables.{MeetNone}
 use Rattle.transactions.specs.declared.entry.View.{View}
 
 -- whatever its moment, a view differs from the operations applied at another in times alone
@@ -279,13 +279,6 @@ apart_all_if [] one active none = apart_none one.ops
 apart_all_if (op ∷ change) one active none = apart_more one.ops op change (apart_if op one active none.0) (apart_all_if change one active none.1)
 
 -- an operation more
-pub meet_none_more : (front done : List Op) (op : Op) (there : Option Transaction) → MeetNone front there → holds_if (claim_of op) there ≡ false → done ≡ front ++ op ∷ [] → MeetNone done there
-meet_none_more front done op there none last all = subst (λ ops. MeetNone ops there) (sym all) (more_of front none)
-  where
-    more_of : (front : List Op) → MeetNone front there → MeetNone (front ++ op ∷ []) there
-    more_of [] none = (last, tt)
-    more_of (o ∷ front) none = (none.0, more_of front none.1)
-
 -- a key that a view hasn't isn't there, at whatever moment
 module _ (hive : ℕ) (path : List (List ℕ)) where
   none_named : (trees : List TreeMap) → info_in trees hive path ≡ None → value_names_in trees hive path ≡ None

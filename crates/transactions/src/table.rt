@@ -14,7 +14,7 @@ ghost use Rattle.transactions.specs.Entries.{transaction_of, IsViewed, IsCommitt
 ghost use Rattle.machine.specs.Acts.{Finishes, Closes};
 ghost use Rattle.machine.specs.Machine.{refused_if, first_of, read_refusal, seen, seat_refusal, added_refusal_if};
 ghost use Rattle.transactions.specs.Tables.{Denies, Begins, ChangesPlaces, Writes, EndsWith, IsNotEnded, IsPending, is_of, holds_if, is_listed, MeetNone, rolled_back_if};
-ghost use Rattle.machine.specs.Transactions.{Transaction, at, own, is_claimed, is_active_outcome, Becomes, Puts, gone_with, count_held, missing_refusal, inactive_refusal};
+ghost use Rattle.machine.specs.Transactions.{Transaction, at, own, is_active_outcome, Becomes, Puts, gone_with, count_held, missing_refusal, inactive_refusal};
 
 use crate::entry::{Committed, Entry, Judged, View};
 use conflicts::{ClaimTable, Owner, claims};
@@ -230,16 +230,6 @@ impl TxTable {
         Ok(Written::Added {
             levels: judged.levels,
         })
-    }
-
-    // whether another active transaction holds a claim which conflicts with that of an operation
-    fn is_claimed(&self, place: usize, op: &Op) -> Result<bool, AllocError>
-        ensures { IfOk result (λ claimed. claimed
-            ≡ is_claimed self.now.places place (claim_of op.now)) }
-    {
-        let owner = Owner(place as u64);
-        let holders = self.claims.holders(Some(owner), &claims(op))?;
-        Ok(!holders.as_slice().is_empty())
     }
 
     /// What the question asks of a key, as the transaction sees it. Refused with `NoSuchHandle`, then `NotActive`, then
@@ -524,28 +514,30 @@ impl TxTable {
     }
 
     /// The views after the commit of the transaction at a place, by their places. Its claims conflict with nobody's, so each
-    /// view may be moved; where one were to, none is.
+    /// view may be moved.
     pub(crate) fn move_others(
         &self,
         place: usize,
         change: &[Op],
         moment: u64,
     ) -> Result<Vec<Option<View>>, AllocError>
+        requires pending { (length : ℕ) × IsPending (at self.now.places place) change.now length }
         requires carried { AreCarriedOut self.now.trees change.now moment }
         requires below { self.now.number < 2 ^ 64 - 1 }
         ensures { IfOk result (λ moved.
             AreMoved (applied self.now.trees change.now moment) (self.now.number + 1) self.now.places
             moved.items) }
     {
-        if !self.may_move_others(place, change.len()) || self.is_any_claimed(place, change)? {
+        if !self.may_move_others(place, change.len()) {
             return Ok(Vec::new(self.alloc));
         }
+        self.claims.stand_apart();
         let mut owners = Vec::new(self.alloc);
         owners.push(Owner(place as u64))?;
         self.move_views(change, moment, &Holders { owners })
     }
 
-    // whether some view beside that of a place is worth moving past so many operations: else claims need not be looked up
+    // whether some view beside that of a place is worth moving past so many operations
     fn may_move_others(&self, place: usize, count: usize) -> bool {
         for other in 0..self.places.capacity() {
             match self.places.get(other) {
@@ -554,19 +546,6 @@ impl TxTable {
             }
         }
         false
-    }
-
-    // whether a transaction beside that of a place holds a claim which conflicts with that of some operation
-    fn is_any_claimed(&self, place: usize, change: &[Op]) -> Result<bool, AllocError>
-        ensures { IfOk result (λ claimed. claimed ≡ false → (other : ℕ) → (other ≡ place → ⊥) →
-            MeetNone change.now (at self.now.places other)) }
-    {
-        for op in change {
-            if self.is_claimed(place, op)? {
-                return Ok(true);
-            }
-        }
-        Ok(false)
     }
 
     /// Takes the views after the change that was just accepted. Takes no memory.

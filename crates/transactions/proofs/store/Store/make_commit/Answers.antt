@@ -3,11 +3,12 @@ use Rattle.refusals.specs.declared.refusal.Refusal.TheVariants.{NoMemory, TooLar
 use Rattle.reg_tree.specs.Judgement.{any_outweighs}
 use Rattle.machine.specs.Ends.{refusal_of}
 use Rattle.machine.specs.Machine.{is_open, trees_now}
-use Rattle.machine.specs.Transactions.{own, inactive_refusal}
+use Rattle.machine.specs.Transactions.{at, own, inactive_refusal}
 use Rattle.machine.specs.declared.event.Event.TheVariants as event
 use Rattle.transactions.specs.Entries.{IsCommitted}
 use Rattle.transactions.specs.Tables.{IsPending}
 use Rattle.transactions.specs.Stores.{StoreView}
+use Rattle.transactions.proofs.Holding.{pending_there}
 use Rattle.transactions.proofs.Stored.{closed_commit, crowded_commit, heavy_commit, not_ended, of_pending, pending_len, unready}
 use Rattle.transactions.proofs.store.Store.make_commit.Goals as goal
 
@@ -66,3 +67,9 @@ returns-then-is_empty-clause-made c = (
 
 pub of_ops-requires-clause-len : goal.of_ops-requires-clause-len
 of_ops-requires-clause-len c = pending_len (own c.self.inside.table.places c.args.session c.args.tx) c.in_ok-pending.pending.ops.now c.in_ok-pending.pending.text_len c.in_ok-pending.ensures.ok
+
+pub move_others-requires-clause-pending : goal.move_others-requires-clause-pending
+move_others-requires-clause-pending c = (
+  c.in_ok-pending.pending.text_len,
+  pending_there c.args.session c.args.tx.generation (at c.self.inside.table.places c.args.tx.place) c.in_ok-pending.pending.ops.now c.in_ok-pending.pending.text_len c.in_ok-pending.ensures.ok,
+)
