@@ -10,6 +10,7 @@ ghost use Rattle.element_text.specs.Changes.{IsChange, change_in, hives_of};
 ghost use Rattle.element_text.specs.Kept.{bytes_of, FitsHere};
 ghost use Rattle.element_text.specs.Text.{element_at, element_text, Fits};
 ghost use Rattle.element_text.specs.declared.change_text.TheConstants.{MOST_HERE};
+ghost use Rattle.std.specs.Prelude.{take};
 
 use crate::hives::{Hives, are_any, moment_in, ops_in};
 use crate::one_hive::take_ops_on;
@@ -90,6 +91,7 @@ impl ChangeText {
     /// The change on one of so many hives that bytes begin with, and the bytes behind it.
     ///
     /// Refused with `JournalDamaged` exactly where the bytes begin with no text of such a change, and with `NoMemory`.
+    #[inline(always)]
     pub fn take(alloc: Global, hives: u8, bytes: &[u8]) -> Result<(ChangeText, &[u8]), Refusal>
         ensures { MatchResult result (λ got. element_at hives bytes.now ≡ Some (got.0, got.1.now))
             (RefusedFor JournalDamaged (element_at hives bytes.now ≡ None)) }
@@ -97,26 +99,47 @@ impl ChangeText {
         let Some(rest) = skip_change(u16::from(hives), bytes) else {
             return Err(Refusal::JournalDamaged);
         };
-        let text = &bytes[..bytes.len() - rest.len()];
-        Ok((ChangeText::copied(alloc, text)?, rest))
+        let len = bytes.len() - rest.len();
+        Ok((ChangeText::copied(alloc, bytes, len)?, rest))
     }
 
-    // the change whose text these bytes are
-    fn copied(alloc: Global, text: &[u8]) -> Result<ChangeText, AllocError>
-        requires { IsChange text.now }
-        ensures { IfOk result (λ kept. kept ≡ change_in text.now) }
+    // the change whose text so many of the first of these bytes are
+    #[inline(always)]
+    fn copied(alloc: Global, bytes: &[u8], len: usize) -> Result<ChangeText, AllocError>
+        requires there { len ≤ length bytes.now }
+        requires change { IsChange (take len bytes.now) }
+        ensures { IfOk result (λ kept. kept ≡ change_in (take len bytes.now)) }
     {
-        if text.len() <= MOST_HERE {
+        if len <= MOST_HERE && bytes.len() >= MOST_HERE {
+            return Ok(ChangeText::front(bytes, len));
+        }
+        let text = &bytes[..len];
+        if len <= MOST_HERE {
             return Ok(ChangeText::here(text));
         }
-        let mut bytes = Vec::with_capacity(alloc, text.len())?;
+        let mut bytes = Vec::with_capacity(alloc, len)?;
         bytes.extend_from_slice(text)?;
         Ok(ChangeText {
             held: Held::There(bytes),
         })
     }
 
-    // the same, of bytes that aren't copied where they are more than a few
+    // the same, of a few bytes that others are behind: as many are copied whatever the text's length is, which takes the fewest steps
+    #[inline(always)]
+    fn front(bytes: &[u8], len: usize) -> ChangeText
+        requires few { len ≤ MOST_HERE }
+        requires there { MOST_HERE ≤ length bytes.now }
+        requires change { IsChange (take len bytes.now) }
+        ensures { result ≡ change_in (take len bytes.now) }
+    {
+        let mut here = [0; MOST_HERE];
+        here.copy_from_slice(&bytes[..MOST_HERE]);
+        ChangeText {
+            held: Held::Here(len as u8, here),
+        }
+    }
+
+    // that whose text these bytes are, which aren't copied where they are more than a few
     fn kept(bytes: Vec<u8>) -> ChangeText
         requires { IsChange bytes.items }
         ensures { result ≡ change_in bytes.items }

@@ -4,11 +4,11 @@ use Rattle.element_text.specs.Text.{element_at}
 use Rattle.element_text.proofs.Kept.{cut, no_longer}
 use Rattle.element_text.proofs.change_text.ChangeText.take.Goals as goal
 
-pub slice_bounds-text-count : goal.slice_bounds-text-count
-slice_bounds-text-count c = let got = c.in-Some.ensures in no_longer c.from.result (omega (arith, c.from.ensures, c.ranges.hives.fits)) c.args.bytes.now got.0 c.in-Some.rest.now got.1
+pub overflow_sub-len : goal.overflow_sub-len
+overflow_sub-len c = let got = c.in-Some.ensures in no_longer c.from.result (omega (arith, c.from.ensures, c.ranges.hives.fits)) c.args.bytes.now got.0 c.in-Some.rest.now got.1
 
-pub copied-requires : goal.copied-requires
-copied-requires c =
+pub copied-requires-clause-change : goal.copied-requires-clause-change
+copied-requires-clause-change c =
     let got = c.in-Some.ensures in
     let few : c.from.result ≤ 256 = omega (arith, c.from.ensures, c.ranges.hives.fits) in
     (cut c.from.result few c.args.bytes.now got.0 c.in-Some.rest.now got.1 (length c.args.bytes.now - length c.in-Some.rest.now)
