@@ -1,6 +1,7 @@
 -- An element at the front of bytes: what is read of it, and where nothing is.
-use Rattle.std.proofs.Common.{◌≡◌, ℕ, ◌+◌, ◌-◌, ◌≤◌, List, [], ◌∷◌, ◌++◌, length, take, drop, refl, sym, ◌∙◌, ap, arith, append_assoc, length-append, length-take, take-append-drop, Some}
+use Rattle.std.proofs.Common.{◌≡◌, ℕ, ◌+◌, ◌-◌, ◌≤◌, List, [], ◌∷◌, ◌++◌, length, take, drop, refl, sym, ◌∙◌, ap, arith, append_assoc, length-append, length-take, take-append-drop, Some, None}
 use Rattle.std.proofs.lemmas.List.{take_at, append-nil, drop-take, take-take}
+use Rattle.std.proofs.lemmas.Option.{none-some}
 use Rattle.byteorder.specs.Endian.{little_number, little_bytes}
 use Rattle.byteorder.specs.Numbers.{little_from-take, little_number-reads_back}
 use Rattle.reg_tree.specs.declared.element.Element.{Element}
@@ -13,6 +14,7 @@ use Rattle.engine_words.specs.Changes.{TimedOp, timed_element}
 use Rattle.commit_journal.specs.Store.{timed_at}
 use Rattle.commit_journal.proofs.Opening.{map_back}
 use Rattle.commit_journal.proofs.Batches.{reads}
+use Rattle.commit_journal.proofs.Parts.{never}
 
 no_bytes : (l : List ℕ) → length l ≡ 0 → l ≡ []
 no_bytes [] is = refl
@@ -72,3 +74,20 @@ module _ (hives : ℕ) (le : hives ≤ 256) where
             = sym (take-append-drop len (take left bytes)) ∙ ap (λ (l : List ℕ). l ++ drop len (take left bytes)) (take-take len left bytes more ∙ text) ∙ ap (λ (l : List ℕ). element_text e ++ l) (cut_front len left bytes more) in
             ap (timed_at hives) parts ∙ reads hives le e (take (left - len) (drop len bytes)) b.1,
       )
+
+  -- an element that is read of bytes is read of as many of them as their length says, and has so many
+  pub read_front : (bytes : List ℕ) (len : ℕ) (e : Element) (rest : List ℕ) → little_number 4 bytes ≡ len → element_at hives bytes ≡ Some (e, rest) → (element_at hives (take len bytes) ≡ Some (e, [])) × (element_text_len e ≡ len)
+  read_front bytes len e rest is h =
+      let b = (element_law hives le).back bytes e rest h in
+      let n : element_text_len e ≡ len = sym (length_read hives e rest bytes b.1 b.0) ∙ is in
+      let front : take len bytes ≡ element_text e ++ []
+      = ap (λ (l : List ℕ). take len l) b.0 ∙ take_at (element_text e) rest len (element_length e ∙ n) ∙ sym (append-nil (element_text e)) in
+      (ap (element_at hives) front ∙ (element_law hives le).again e [] b.1, n)
+
+  -- where bytes begin with no element, none is read of the first of them
+  pub none_front : (bytes : List ℕ) (len : ℕ) → element_at hives bytes ≡ None → element_at hives (take len bytes) ≡ None
+  none_front bytes len none = never (element_at hives (take len bytes)) (λ one h.
+      let b = (element_law hives le).back (take len bytes) one.0 one.1 h in
+      let whole : bytes ≡ element_text one.0 ++ (one.1 ++ drop len bytes)
+      = sym (take-append-drop len bytes) ∙ ap (λ (l : List ℕ). l ++ drop len bytes) b.0 ∙ append_assoc (element_text one.0) one.1 (drop len bytes) in
+      none-some (one.0, one.1 ++ drop len bytes) (sym none ∙ ap (element_at hives) whole ∙ (element_law hives le).again one.0 (one.1 ++ drop len bytes) b.1))

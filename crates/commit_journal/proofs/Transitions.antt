@@ -1,6 +1,6 @@
 -- Each step of a reading, in the words of what is still to be read.
 use Rattle.std.proofs.Common.{◌≡◌, ◌≢◌, inl, inr, ⊎_elim, ℕ, ◌+◌, ◌-◌, ◌<◌, ◌≤◌, List, [], ◌∷◌, ◌++◌, length, take, drop, get_or, refl, sym, ◌∙◌, ap, subst, arith, length-append, length-take, length-drop, drop_of_length-le, Some, None}
-use Rattle.std.proofs.lemmas.List.{take-append-le, drop-append-le, take-take, map-append, length-map}
+use Rattle.std.proofs.lemmas.List.{take-append-le, drop-append-le, drop-drop, take_all, take-take, map-append, length-map}
 use Rattle.std.proofs.lemmas.Option.{none-some}
 use Rattle.std.specs.Prelude.{Result, Ok, Err, OnOk, IfErr, sum_by}
 use Rattle.std.specs.List.{AllByRecursion}
@@ -25,7 +25,7 @@ use Rattle.commit_journal.specs.declared.standing.Standing.{Standing}
 use Rattle.commit_journal.specs.declared.reader.Part.{Part}
 use Rattle.commit_journal.proofs.Parts.{never, found_at, head_says, body_begins, no_end, no_element, in_body_on, body_done}
 use Rattle.commit_journal.proofs.Numbers.{floor_some}
-use Rattle.commit_journal.proofs.ElementsRead.{begins, whole}
+use Rattle.commit_journal.proofs.ElementsRead.{begins, none_front, read_front, whole}
 
 -- what is said of an answer, weakened
 pub ok_on : {X E : Type 0} (r : Result X E) (P Q : Type 0) → (P → Q) → OnOk r P → OnOk r Q
@@ -81,6 +81,14 @@ last_is s d es some ends =
 pub number_front : (n k : ℕ) (bytes behind : List ℕ) → n + k ≤ length bytes → little_number k (drop n bytes) ≡ little_number k (drop n (bytes ++ behind))
 number_front n k bytes behind long =
     sym (ap (little_number k) (drop-append-le n bytes behind (omega (arith, long))) ∙ little_from-append k (drop n bytes) behind (omega (arith, long, length-drop n bytes)))
+
+-- the bytes from a place on, to the end of all
+pub rest_is : (n : ℕ) (bytes : List ℕ) → take (length bytes - n) (drop n bytes) ≡ drop n bytes
+rest_is n bytes = take_all (length bytes - n) (drop n bytes) (omega (arith, length-drop n bytes))
+
+-- those that are further on
+pub rest_on : (n k : ℕ) (bytes : List ℕ) → drop k (take (length bytes - n) (drop n bytes)) ≡ drop (n + k) bytes
+rest_on n k bytes = ap (drop k) (rest_is n bytes) ∙ drop-drop k n bytes ∙ ap (λ (m : ℕ). drop m bytes) (omega arith)
 
 module _ (id : List ℕ) (hives : ℕ) (le : hives ≤ 256) (file : List ℕ) (now : Standing) where
   abbrev t : Texts TimedOp
@@ -163,28 +171,30 @@ module _ (id : List ℕ) (hives : ℕ) (le : hives ≤ 256) (file : List ℕ) (n
         (subst (λ (n : ℕ). AtGate t file (longer (spelled_by now) (part.first - 1) taken) n rest) (sym gate)
         (body_done t file (spelled_by now) now.gate part.size part.first taken rest body goes))
 
-  module _ (es : List Element) (part : Part) (len : ℕ) (bytes behind : List ℕ) (here : in_part t file now es part (bytes ++ behind)) (len_is : little_number 4 (bytes ++ behind) ≡ len) (some : 1 ≤ part.count) (low : 16 ≤ len) (high : len ≤ part.left) (there : len ≤ length bytes) where
+  module _ (es : List Element) (part : Part) (len : ℕ) (bytes behind : List ℕ) (here : in_part t file now es part (bytes ++ behind)) (len_is : little_number 4 bytes ≡ len) (some : 1 ≤ part.count) (low : 16 ≤ len) (high : len ≤ part.left) (there : len ≤ length bytes) where
     front : take len (bytes ++ behind) ≡ take len bytes
     front = take-append-le len bytes behind there
 
-    pub text_none : element_at hives (take len bytes) ≡ None → spelled t file ≡ None
+    number : little_number 4 (bytes ++ behind) ≡ len
+    number = sym (number_front 0 4 bytes behind (omega (arith, low, there))) ∙ len_is
+
+    pub text_none : element_at hives bytes ≡ None → spelled t file ≡ None
     text_none none = unread es part (bytes ++ behind) here some (λ one h.
         let g = begins hives le (take part.left (bytes ++ behind)) one h in
-        let n : little_number 4 (take part.left (bytes ++ behind)) ≡ len = little_from-take 0 4 part.left (bytes ++ behind) (omega (arith, low, high)) ∙ len_is in
+        let n : little_number 4 (take part.left (bytes ++ behind)) ≡ len = little_from-take 0 4 part.left (bytes ++ behind) (omega (arith, low, high)) ∙ number in
         let same : take (little_number 4 (take part.left (bytes ++ behind))) (take part.left (bytes ++ behind)) ≡ take len bytes
         = ap (λ (k : ℕ). take k (take part.left (bytes ++ behind))) n ∙ take-take len part.left (bytes ++ behind) high ∙ front in
-        none-some (g.element, []) (sym none ∙ ap (element_at hives) (sym same) ∙ g.read))
+        none-some (g.element, []) (sym (none_front hives le bytes len none) ∙ ap (element_at hives) (sym same) ∙ g.read))
 
-    pub text_on : (e : Element) (over : List ℕ) (xs : List Element) → element_at hives (take len bytes) ≡ Some (e, over) → part.start ≤ length es → xs ≡ es ++ e ∷ []
-        → in_part t file now xs (record { first = part.first; size = part.size; left = part.left - (len - length over); count = part.count - 1; start = part.start }) (drop len bytes ++ behind)
+    pub text_on : (e : Element) (over : List ℕ) (xs : List Element) → element_at hives bytes ≡ Some (e, over) → part.start ≤ length es → xs ≡ es ++ e ∷ []
+        → in_part t file now xs (record { first = part.first; size = part.size; left = part.left - len; count = part.count - 1; start = part.start }) (drop len bytes ++ behind)
     text_on e over xs read start is =
-        let w = whole hives le (bytes ++ behind) len e over len_is low (omega (arith, there, length-append bytes behind)) (ap (element_at hives) front ∙ read) in
+        let f = read_front hives le bytes len e over len_is read in
+        let w = whole hives le (bytes ++ behind) len e [] number low (omega (arith, there, length-append bytes behind)) (ap (element_at hives) front ∙ f.0) in
         let more = part.count - 1 in
         let on = in_body_on t file (spelled_by now) now.gate part.size part.first (timed_elements (drop part.start es)) part.left part.count (bytes ++ behind) here (timed_element e) len more (omega (arith, some)) high (w.1 part.left high) in
         let rest : drop len (bytes ++ behind) ≡ drop len bytes ++ behind = drop-append-le len bytes behind there in
-        let left : part.left - len ≡ part.left - (len - length over) = omega (arith, ap (λ (l : List ℕ). length l) w.0) in
         let taken : timed_elements (drop part.start es) ++ timed_element e ∷ [] ≡ timed_elements (drop part.start xs)
         = sym (ap timed_elements (ap (drop part.start) is ∙ drop-append-le part.start es (e ∷ []) start) ∙ map-append timed_element (drop part.start es) (e ∷ [])) in
-        subst (λ (l : List (law.Element TimedOp)). InBody t file (spelled_by now) now.gate part.size part.first l (part.left - (len - length over)) more (drop len bytes ++ behind)) taken
-        (subst (λ (n : ℕ). InBody t file (spelled_by now) now.gate part.size part.first (timed_elements (drop part.start es) ++ timed_element e ∷ []) n more (drop len bytes ++ behind)) left
-        (subst (λ (l : List ℕ). InBody t file (spelled_by now) now.gate part.size part.first (timed_elements (drop part.start es) ++ timed_element e ∷ []) (part.left - len) more l) rest on))
+        subst (λ (l : List (law.Element TimedOp)). InBody t file (spelled_by now) now.gate part.size part.first l (part.left - len) more (drop len bytes ++ behind)) taken
+        (subst (λ (l : List ℕ). InBody t file (spelled_by now) now.gate part.size part.first (timed_elements (drop part.start es) ++ timed_element e ∷ []) (part.left - len) more l) rest on)

@@ -103,6 +103,12 @@ pub record KeepsPart (now : Standing) (es : List Element) (part : Part) : Type 0
   pub size : part.size ≡ 16 + (part.left + sum_by element_text_len (drop part.start es))
   pub short : part.size ≤ MOST_BODY_BYTES
 
+-- the length of a part's next element may be this
+pub record IsNext (part : Part) (len : ℕ) : Type 0 where
+  pub some : 1 ≤ part.count
+  pub low : 16 ≤ len
+  pub high : len ≤ part.left
+
 abbrev pub keeps_at : ℕ → Standing → List Element → Next → Type 0
 keeps_at hives now es Gate = KeepsElements hives now es es
 keeps_at hives now es Head = KeepsElements hives now es es

@@ -2,7 +2,8 @@
 //!
 //! It sees no device. Bytes are handed to it as they come, each time as many as it wants at least; where the file has
 //! fewer, it is no journal. Each element is handed on as it is complete, so that the reading never holds bytes of its own.
-ghost use Rattle.std.specs.Prelude.{◌≡◌, ◌+◌, ◌-◌, ◌*◌, ◌<◌, ◌≤◌, ◌^◌, ◌++◌, ◌↔◌, ℕ, List, [], length, take, drop, true, None, IfOk, IfErr, OnOk};
+ghost use Rattle.std.specs.Prelude.{◌≡◌, ◌+◌, ◌-◌, ◌*◌, ◌<◌, ◌≤◌, ◌^◌, ◌++◌, ◌↔◌, ℕ, List, [], length, take, drop, true, None, IfSome, IfOk, IfErr, OnOk};
+ghost use Rattle.byteorder.specs.Endian.{little_number};
 ghost use Rattle.refusals.specs.Answers.{RefusedFor};
 ghost use Rattle.refusals.specs.declared.refusal.Refusal.TheVariants.{JournalDamaged};
 ghost use Rattle.prefix_law.specs.Promises.{nothing};
@@ -152,14 +153,8 @@ impl Reader {
                 self.head(bytes, left)?;
                 Ok(16)
             }
-            Next::Size(part) => {
-                self.size(part, bytes)?;
-                Ok(0)
-            }
-            Next::Text(part, len) => match self.text(part, len, bytes) {
-                Ok(()) => Ok(len),
-                Err(why) => Err(why),
-            },
+            Next::Size(part) => self.size(part, bytes),
+            Next::Text(part, len) => self.again(part, len, bytes),
             Next::Done => Ok(0),
         }
     }
@@ -308,8 +303,8 @@ impl Reader {
         Ok(())
     }
 
-    /// The length of an element, which is read again with it.
-    fn size(&mut self, part: Part, bytes: &[u8]) -> Result<(), Refusal>
+    /// The length of an element, which is read again with it: where so many bytes are at hand it is taken.
+    fn size(&mut self, part: Part, bytes: &[u8]) -> Result<usize, Refusal>
         requires there { 4 ≤ length bytes.now }
         requires keeps { keeps_at self.old.hives self.old.stands (read_by self.old) (Next.Size part) }
         requires tied { tied_at self.old.keeping.last self.old.stands (read_by self.old) (Next.Size part) }
@@ -319,11 +314,12 @@ impl Reader {
         ensures kept { OnOk result (IsKept self.new.keeping) }
         ensures hives { self.new.hives ≡ self.old.hives }
         ensures numbers { IsOf self.old.keeping self.new.keeping }
-        ensures falls { OnOk result (waits self.new.next < 1) }
-        ensures reads { OnOk result ((id file behind : List ℕ) →
+        ensures within { IfOk result (λ n. n ≤ length bytes.now) }
+        ensures falls { IfOk result (λ n. waits self.new.next < 1 + 2 * n) }
+        ensures reads { IfOk result (λ n. (id file behind : List ℕ) →
             reading_at (texts_for id self.old) file self.old.stands (read_by self.old)
             (Next.Size part) (bytes.now ++ behind) →
-            IsReading id file self.new (bytes.now ++ behind)) }
+            IsReading id file self.new (drop n bytes.now ++ behind)) }
         ensures refused { IfErr result (RefusedFor JournalDamaged ((id file behind : List ℕ) →
             reading_at (texts_for id self.old) file self.old.stands (read_by self.old)
             (Next.Size part) (bytes.now ++ behind) →
@@ -333,12 +329,16 @@ impl Reader {
         if len < LEAST_ELEMENT_BYTES || len > part.left {
             return Err(Refusal::JournalDamaged);
         }
-        self.next = Next::Text(part, len as usize);
-        Ok(())
+        let len = len as usize;
+        if len > bytes.len() {
+            self.next = Next::Text(part, len);
+            return Ok(0);
+        }
+        self.texts(part, len, bytes)
     }
 
-    /// An element.
-    fn text(&mut self, part: Part, len: usize, bytes: &[u8]) -> Result<(), Refusal>
+    /// An element whose length was read before it was at hand, and with it again.
+    fn again(&mut self, part: Part, len: usize, bytes: &[u8]) -> Result<usize, Refusal>
         requires there { len ≤ length bytes.now }
         requires keeps { keeps_at self.old.hives self.old.stands (read_by self.old)
             (Next.Text part len) }
@@ -350,26 +350,115 @@ impl Reader {
         ensures kept { OnOk result (IsKept self.new.keeping) }
         ensures hives { self.new.hives ≡ self.old.hives }
         ensures numbers { IsOf self.old.keeping self.new.keeping }
-        ensures falls { OnOk result (waits self.new.next < 2 * len) }
-        ensures reads { OnOk result ((id file behind : List ℕ) →
+        ensures within { IfOk result (λ n. n ≤ length bytes.now) }
+        ensures falls { IfOk result (λ n. waits self.new.next < 2 * n) }
+        ensures reads { IfOk result (λ n. (id file behind : List ℕ) →
             reading_at (texts_for id self.old) file self.old.stands (read_by self.old)
             (Next.Text part len) (bytes.now ++ behind) →
-            IsReading id file self.new (drop len bytes.now ++ behind)) }
+            IsReading id file self.new (drop n bytes.now ++ behind)) }
         ensures refused { IfErr result (RefusedFor JournalDamaged ((id file behind : List ℕ) →
             reading_at (texts_for id self.old) file self.old.stands (read_by self.old)
             (Next.Text part len) (bytes.now ++ behind) →
             spelled (texts_for id self.old) file ≡ None)) }
     {
-        let (element, behind) = match ChangeText::take(self.alloc, self.hives, &bytes[..len]) {
-            Ok(read) => read,
+        if LittleEndian::read_u32(bytes) as usize != len {
+            return Err(Refusal::JournalDamaged);
+        }
+        self.texts(part, len, bytes)
+    }
+
+    /// An element, and those behind it that are at hand whole: answers how many bytes they have.
+    fn texts(&mut self, part: Part, len: usize, bytes: &[u8]) -> Result<usize, Refusal>
+        requires there { len ≤ length bytes.now }
+        requires len { little_number 4 bytes.now ≡ len }
+        requires keeps { keeps_at self.old.hives self.old.stands (read_by self.old)
+            (Next.Text part len) }
+        requires tied { IsInPart self.old.keeping.last (read_by self.old) part }
+        requires kept { IsKept self.old.keeping }
+        ensures keeps { OnOk result (Keeps self.new) }
+        ensures tied { OnOk result (IsTied self.new) }
+        ensures kept { OnOk result (IsKept self.new.keeping) }
+        ensures hives { self.new.hives ≡ self.old.hives }
+        ensures numbers { IsOf self.old.keeping self.new.keeping }
+        ensures within { IfOk result (λ n. n ≤ length bytes.now) }
+        ensures falls { IfOk result (λ n. waits self.new.next < 2 * n) }
+        ensures reads { IfOk result (λ n. (id file behind : List ℕ) →
+            in_part (texts_for id self.old) file self.old.stands (read_by self.old) part
+            (bytes.now ++ behind) →
+            IsReading id file self.new (drop n bytes.now ++ behind)) }
+        ensures refused { IfErr result (RefusedFor JournalDamaged ((id file behind : List ℕ) →
+            in_part (texts_for id self.old) file self.old.stands (read_by self.old) part
+            (bytes.now ++ behind) →
+            spelled (texts_for id self.old) file ≡ None)) }
+    {
+        let mut part = part;
+        self.text(&mut part, len, bytes)?;
+        let mut taken = len;
+        'elements: while let Some(more) = part.whole(&bytes[taken..]) {
+            match self.text(&mut part, more, &bytes[taken..]) {
+                Ok(()) => taken += more,
+                Err(why) => return Err(why),
+            }
+        }
+        match self.part(part) {
+            Ok(()) => Ok(taken),
+            Err(why) => Err(why),
+        }
+    }
+
+    /// An element: the part has one less.
+    #[inline(always)]
+    fn text(&mut self, part: &mut Part, len: usize, bytes: &[u8]) -> Result<(), Refusal>
+        requires there { len ≤ length bytes.now }
+        requires len { little_number 4 bytes.now ≡ len }
+        requires keeps { keeps_at self.old.hives self.old.stands (read_by self.old)
+            (Next.Text part.old len) }
+        requires tied { IsInPart self.old.keeping.last (read_by self.old) part.old }
+        requires kept { IsKept self.old.keeping }
+        ensures elements { OnOk result (KeepsElements self.new.hives self.new.stands
+            (take part.new.start (read_by self.new)) (read_by self.new)) }
+        ensures part { OnOk result (KeepsPart self.new.stands (read_by self.new) part.new) }
+        ensures tied { OnOk result (IsInPart self.new.keeping.last (read_by self.new) part.new) }
+        ensures kept { OnOk result (IsKept self.new.keeping) }
+        ensures hives { self.new.hives ≡ self.old.hives }
+        ensures numbers { IsOf self.old.keeping self.new.keeping }
+        ensures reads { OnOk result ((id file behind : List ℕ) →
+            in_part (texts_for id self.old) file self.old.stands (read_by self.old) part.old
+            (bytes.now ++ behind) →
+            in_part (texts_for id self.new) file self.new.stands (read_by self.new) part.new
+            (drop len bytes.now ++ behind)) }
+        ensures refused { IfErr result (RefusedFor JournalDamaged ((id file behind : List ℕ) →
+            in_part (texts_for id self.old) file self.old.stands (read_by self.old) part.old
+            (bytes.now ++ behind) →
+            spelled (texts_for id self.old) file ≡ None)) }
+    {
+        let element = match ChangeText::take(self.alloc, self.hives, bytes) {
+            Ok((element, _)) => element,
             Err(why) => return Err(why),
         };
-        let next = Part {
-            left: part.left - (len - behind.len()) as u64,
-            count: part.count - 1,
-            ..part
-        };
         self.keeping.push(element)?;
-        self.part(next)
+        part.left -= len as u64;
+        part.count -= 1;
+        Ok(())
+    }
+}
+
+impl Part {
+    ghost use Rattle.commit_journal.specs.Reading.{IsNext};
+
+    /// The length of its next element, where that is at hand whole.
+    fn whole(&self, bytes: &[u8]) -> Option<usize>
+        ensures { IfSome result (λ len. IsNext self.now len × ((len ≤ length bytes.now) ×
+            (little_number 4 bytes.now ≡ len))) }
+    {
+        if self.count == 0 || bytes.len() < 4 {
+            return None;
+        }
+        let len = u64::from(LittleEndian::read_u32(bytes));
+        if len >= LEAST_ELEMENT_BYTES && len <= self.left && len <= bytes.len() as u64 {
+            Some(len as usize)
+        } else {
+            None
+        }
     }
 }
