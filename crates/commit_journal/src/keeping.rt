@@ -74,7 +74,26 @@ impl Keeping {
     }
 
     /// One more. It is let go where none was kept, and no hive lacks it.
+    #[inline(always)]
     pub fn push(&mut self, element: ChangeText) -> Result<(), AllocError>
+        requires kept { IsKept self.old }
+        requires room { self.old.last + 1 < 2 ^ 64 }
+        ensures kept { OnOk result (IsKept self.new) }
+        ensures read { OnOk result (changes_told self.new.read ≡ changes_told self.old.read ++ element ∷ []) }
+        ensures last { OnOk result (self.new.last ≡ self.old.last + 1) }
+        ensures numbers { self.new.numbers ≡ self.old.numbers }
+        ensures hives { length self.new.naming.last.items ≡ length self.old.naming.last.items }
+    {
+        if self.elements.len() > 0 {
+            return self.keep(element);
+        }
+        self.judge(element)
+    }
+
+    // a next one where none is kept: it is let go, or the first that is; apart from `push`, since it is read here before it
+    // is moved
+    #[inline(never)]
+    fn judge(&mut self, element: ChangeText) -> Result<(), AllocError>
         requires kept { IsKept self.old }
         requires room { self.old.last + 1 < 2 ^ 64 }
         ensures kept { OnOk result (IsKept self.new) }
@@ -126,6 +145,7 @@ impl Keeping {
     }
 
     // a next one is kept
+    #[inline(always)]
     fn keep(&mut self, element: ChangeText) -> Result<(), AllocError>
         requires kept { IsKept self.old }
         requires room { self.old.last + 1 < 2 ^ 64 }
@@ -138,10 +158,12 @@ impl Keeping {
         ensures hives { length self.new.naming.last.items ≡ length self.old.naming.last.items }
     {
         let number = self.last + 1;
-        self.naming.count_one(&element, number);
+        // it is read where it stays: before that it needs no place in memory
+        let place = self.elements.len();
         self.read.then(&element);
-        self.last = number;
         self.elements.push(element)?;
+        self.naming.count_one(&self.elements[place], number);
+        self.last = number;
         Ok(())
     }
 }

@@ -1,4 +1,4 @@
-use Rattle.std.proofs.Common.{◌≡◌, ◌+◌, List, ℕ, cond, sym, ap, subst, option_map, slice_get}
+use Rattle.std.proofs.Common.{◌≡◌, ◌+◌, List, ℕ, cond, sym, subst, option_map, slice_get}
 use Rattle.reg_tree.specs.declared.element.Element.{Element}
 use Rattle.commit_journal.specs.Lacking.{IsKeeping}
 use Rattle.commit_journal.specs.Naming.{names}
