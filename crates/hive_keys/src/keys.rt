@@ -159,13 +159,7 @@ pub fn key(
     };
     let name = name_of(alloc, &node.name)?;
     let key = Key::new(
-        alloc,
-        name,
-        class,
-        node.flags,
-        descriptor,
-        node.time,
-        values,
+        alloc, name, class, node.flags, descriptor, node.time, values,
     )?;
     Ok((key, kids))
 }
