@@ -1,5 +1,5 @@
 -- How many calls of a repair are left.
-use Rattle.std.proofs.Common.{◌≡◌, ◌∙◌, ℕ, ◌<◌, refl, sym, subst, arith}
+use Rattle.std.proofs.Common.{◌≡◌, ℕ, ◌<◌, refl, arith}
 use Rattle.dirty_vector.specs.Pages.{Pages}
 use Rattle.hive_writer.specs.declared.stage.Purpose.TheVariants as purpose
 use Rattle.hive_writer.specs.declared.stage.Stage.{Stage}
