@@ -1,5 +1,5 @@
 //! An accepted change as it is kept until it is applied: by its text.
-ghost use Rattle.std.specs.Prelude.{◌≡◌, ◌==◌, ◌+◌, ◌<◌, ◌≤◌, ◌^◌, ℕ, length, filter, Some, None, IfOk, MatchResult};
+ghost use Rattle.std.specs.Prelude.{◌≡◌, ◌==◌, ◌+◌, ◌<◌, ◌≤◌, ◌^◌, ℕ, length, take, filter, Some, None, IfOk, MatchResult};
 ghost use Rattle.std.specs.List.{AllByRecursion, list_any};
 ghost use Rattle.refusals.specs.Answers.{RefusedFor};
 ghost use Rattle.refusals.specs.declared.refusal.Refusal.TheVariants.{JournalDamaged};
@@ -10,7 +10,6 @@ ghost use Rattle.element_text.specs.Changes.{IsChange, change_in, hives_of};
 ghost use Rattle.element_text.specs.Kept.{bytes_of, FitsHere};
 ghost use Rattle.element_text.specs.Text.{element_at, element_text, Fits};
 ghost use Rattle.element_text.specs.declared.change_text.TheConstants.{MOST_HERE};
-ghost use Rattle.std.specs.Prelude.{take};
 
 use crate::hives::{Hives, are_any, moment_in, ops_in};
 use crate::one_hive::take_ops_on;
