@@ -121,7 +121,7 @@ fn write_path(text: &mut Vec<u16>, names: &[Name]) -> Result<(), AllocError>
 }
 
 /// The numbers of all spots at which a claim may lie that conflicts with this one: those of each key on the way to
-/// its key, of its key, and for a Shape of all keys below it. Each number once, rising.
+/// its key, of its key, and for a Shape of all keys below it. Each number once, rising. Where there are no spots it takes no memory.
 pub(crate) fn numbers_near(
     alloc: Global,
     spots: &BTreeSet<Spot>,
@@ -131,6 +131,9 @@ pub(crate) fn numbers_near(
         spot.0.items ≡ spot_text held → meets claim.now held ≡ true → Contains found.items spot.1) }
     ensures rises { IfOk result (λ found. IsStrictlySortedBy nat_cmp found.items) }
 {
+    if spots.is_empty() {
+        return Ok(Vec::new(alloc));
+    }
     let mut text = Vec::with_capacity(alloc, units_of(claim.path.names()))?;
     text.push(u16::from(claim.hive))?;
     let mut found = numbers_along(alloc, spots, claim.path.names(), &mut text)?;

@@ -1,8 +1,14 @@
 use Rattle.std.proofs.Common.{◌++◌, ◌∷◌, [], ap, sym, ◌∙◌, subst}
+use Rattle.std.specs.List.Sorted.{IsStrictlySortedBy}
+use Rattle.std.specs.Ordering.{nat_cmp}
 use Rattle.reg_names.specs.Names.{folded_path}
 use Rattle.conflicts.specs.Spots.{GoesOn}
 use Rattle.conflicts.proofs.PathSpots.{near_has}
 use Rattle.conflicts.proofs.spots.numbers_near.Goals as goal
+
+pub returns-then-is_empty-clause-rises : goal.returns-then-is_empty-clause-rises
+unfolding IsStrictlySortedBy
+returns-then-is_empty-clause-rises c = subst (IsStrictlySortedBy nat_cmp) (sym c.new.ensures.items) tt
 
 pub returns-clause-complete : goal.returns-clause-complete
 returns-clause-complete c = λ spot held has at t.
