@@ -17,30 +17,28 @@ map-halves f (suc h) (x ∷ xs) = ap (λ ys. f x ∷ ys) (map-halves f h xs)
 
 -- two leaves of the halves of a list have its entries
 pub leaf_halves : {A : Type 0} (key : A → List ℕ) (items xs ys : List (Arc A Global)) (h : ℕ) → map arc_value xs ≡ map arc_value (take h items) → map arc_value ys ≡ map arc_value (drop h items)
-    → (p q : Arc (Part (Leaf A)) Global) → leaf_entries key ((arc_value p).body) ≡ keyed_all key xs → leaf_entries key ((arc_value q).body) ≡ keyed_all key ys → (made : List (Arc (Part (Leaf A)) Global)) → made ≡ p ∷ q ∷ [] → parts_entries (leaf_entries key) made ≡ keyed_all key items
-leaf_halves key items xs ys h front back p q ps qs made is =
-    ap (parts_entries (leaf_entries key)) is
-    ∙ ap (λ es. es ++ (leaf_entries key ((arc_value q).body) ++ [])) (ps ∙ same_entries key xs (take h items) front)
+    → (p q : Arc (Part (Leaf A)) Global) → leaf_entries key ((arc_value p).body) ≡ keyed_all key xs → leaf_entries key ((arc_value q).body) ≡ keyed_all key ys → parts_entries (leaf_entries key) (p ∷ q ∷ []) ≡ keyed_all key items
+leaf_halves key items xs ys h front back p q ps qs =
+    ap (λ es. es ++ (leaf_entries key ((arc_value q).body) ++ [])) (ps ∙ same_entries key xs (take h items) front)
     ∙ ap (λ es. keyed_all key (take h items) ++ es) (append-nil (leaf_entries key ((arc_value q).body)) ∙ qs ∙ same_entries key ys (drop h items) back)
     ∙ map-halves (keyed key) h items
 
 -- two groups of the halves of parts take them all
 pub group_halves : {P : Type 0} (parts xs ys : List (Arc (Part P) Global)) (h : ℕ) → map arc_value xs ≡ map arc_value (take h parts) → map arc_value ys ≡ map arc_value (drop h parts)
-    → (p q : Arc (Part (Group P)) Global) → IsSum (map arc_value xs) (arc_value p) → IsSum (map arc_value ys) (arc_value q) → (made : List (Arc (Part (Group P)) Global)) → made ≡ p ∷ q ∷ [] → AreSums (map arc_value parts) made
-group_halves parts xs ys h front back p q ps qs made is =
-    subst (AreSums (map arc_value parts)) (sym is) (
-      map arc_value (take h parts),
+    → (p q : Arc (Part (Group P)) Global) → IsSum (map arc_value xs) (arc_value p) → IsSum (map arc_value ys) (arc_value q) → AreSums (map arc_value parts) (p ∷ q ∷ [])
+group_halves parts xs ys h front back p q ps qs = (
+  map arc_value (take h parts),
+  (
+    map arc_value (drop h parts),
+    (
+      sym (map-halves arc_value h parts),
       (
-        map arc_value (drop h parts),
-        (
-          sym (map-halves arc_value h parts),
-          (
-            subst (λ s. IsSum s (arc_value p)) front ps,
-            (map arc_value (drop h parts), ([], (sym (append-nil (map arc_value (drop h parts))), (subst (λ s. IsSum s (arc_value q)) back qs, refl)))),
-          ),
-        ),
+        subst (λ s. IsSum s (arc_value p)) front ps,
+        (map arc_value (drop h parts), ([], (sym (append-nil (map arc_value (drop h parts))), (subst (λ s. IsSum s (arc_value q)) back qs, refl)))),
       ),
-    )
+    ),
+  ),
+)
 
 -- a list around one of its items
 around : {A B : Type 0} (f : A → B) (xs : List A) (i : ℕ) (x : A) → i < length xs → x ≡ get_or xs i x → map f xs ≡ map f (take i xs) ++ (f x ∷ map f (drop (suc i) xs))

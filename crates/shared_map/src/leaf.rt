@@ -7,10 +7,10 @@ ghost use Rattle.std.specs.Ordering.{eq_by_cmp};
 ghost use Rattle.reg_names.specs.Names.{folded};
 ghost use Rattle.shared_map.specs.Orders.{name_order};
 ghost use Rattle.shared_map.specs.Searches.{IsFound, IsGap};
-ghost use Rattle.shared_map.specs.Listings.{keyed_all, leaf_entries, parts_entries};
+ghost use Rattle.shared_map.specs.Listings.{keyed_all, leaf_entries, parts_entries, parts_of};
 ghost use Rattle.shared_map.specs.Parts.{IsPart, AreParts, FitsLeaf, load_of};
 
-use crate::parts::Part;
+use crate::parts::{Part, Pieces};
 use crate::piece::Piece;
 use reg_names::Name;
 use std::alloc::{AllocError, Global};
@@ -108,28 +108,28 @@ impl<E: Listed> Piece<E> for Leaf<E> {
         }
     }
 
-    fn with(&self, alloc: Global, new: Arc<E>) -> Result<Vec<Arc<Part<Leaf<E>>>>, AllocError>
+    fn with(&self, alloc: Global, new: Arc<E>) -> Result<Pieces<Leaf<E>>, AllocError>
         requires fits { FitsLeaf E.key E.load self.now }
         requires sorted { T (is_sorted name_order (leaf_entries E.key self.now)) }
         requires some { 0 < length (leaf_entries E.key self.now) }
-        ensures entries { IfOk result (λ made. parts_entries (leaf_entries E.key) made.items
+        ensures entries { IfOk result (λ made. parts_entries (leaf_entries E.key) (parts_of made)
             ≡ put name_order (E.key new.value) new.value (leaf_entries E.key self.now)) }
         ensures parts { IfOk result (λ made. AreParts (leaf_entries E.key) E.load (FitsLeaf E.key
-            E.load) made.items) }
+            E.load) (parts_of made)) }
     {
         let items = self.with_item(alloc, new)?;
         leaf_parts(alloc, items)
     }
 
-    fn without(&self, alloc: Global, name: &Name) -> Result<Vec<Arc<Part<Leaf<E>>>>, AllocError>
+    fn without(&self, alloc: Global, name: &Name) -> Result<Pieces<Leaf<E>>, AllocError>
         requires fits { FitsLeaf E.key E.load self.now }
         requires sorted { T (is_sorted name_order (leaf_entries E.key self.now)) }
         requires some { 0 < length (leaf_entries E.key self.now) }
-        ensures entries { IfOk result (λ made. parts_entries (leaf_entries E.key) made.items
+        ensures entries { IfOk result (λ made. parts_entries (leaf_entries E.key) (parts_of made)
             ≡ where_key name_order (λ key. not (eq_by_cmp name_order (folded name.now) key))
             (leaf_entries E.key self.now)) }
         ensures parts { IfOk result (λ made. AreParts (leaf_entries E.key) E.load (FitsLeaf E.key
-            E.load) made.items) }
+            E.load) (parts_of made)) }
     {
         let items = self.without_item(alloc, name)?;
         leaf_parts(alloc, items)
@@ -140,35 +140,30 @@ impl<E: Listed> Piece<E> for Leaf<E> {
 pub(crate) fn leaf_parts<E: Listed>(
     alloc: Global,
     items: Vec<Arc<E>>,
-) -> Result<Vec<Arc<Part<Leaf<E>>>>, AllocError>
-    ensures entries { IfOk result (λ made. parts_entries (leaf_entries E.key) made.items
+) -> Result<Pieces<Leaf<E>>, AllocError>
+    ensures entries { IfOk result (λ made. parts_entries (leaf_entries E.key) (parts_of made)
         ≡ keyed_all E.key items.items) }
     ensures parts { IfOk result (λ made. AreParts (leaf_entries E.key) E.load (FitsLeaf E.key
-        E.load) made.items) }
+        E.load) (parts_of made)) }
 {
-    let mut made = Vec::new(alloc);
     if items.is_empty() {
-        return Ok(made);
+        return Ok(Pieces::Gone);
     }
     if items.len() <= MOST_ENTRIES {
-        made.push(leaf_part(alloc, items)?)?;
-        return Ok(made);
+        return Ok(Pieces::One(leaf_part(alloc, items)?));
     }
     let half = items.len() / 2;
-    made.push(leaf_part(alloc, copied(alloc, &items[..half], 0)?)?)?;
-    made.push(leaf_part(alloc, copied(alloc, &items[half..], 0)?)?)?;
-    Ok(made)
+    let front = leaf_part(alloc, copied(alloc, &items[..half], 0)?)?;
+    let back = leaf_part(alloc, copied(alloc, &items[half..], 0)?)?;
+    Ok(Pieces::Two(front, back))
 }
 
 /// The parts of this entry alone.
-pub(crate) fn one_leaf<E: Listed>(
-    alloc: Global,
-    new: Arc<E>,
-) -> Result<Vec<Arc<Part<Leaf<E>>>>, AllocError>
-    ensures entries { IfOk result (λ made. parts_entries (leaf_entries E.key) made.items
+pub(crate) fn one_leaf<E: Listed>(alloc: Global, new: Arc<E>) -> Result<Pieces<Leaf<E>>, AllocError>
+    ensures entries { IfOk result (λ made. parts_entries (leaf_entries E.key) (parts_of made)
         ≡ (E.key new.value, new.value) ∷ []) }
     ensures parts { IfOk result (λ made. AreParts (leaf_entries E.key) E.load (FitsLeaf E.key
-        E.load) made.items) }
+        E.load) (parts_of made)) }
 {
     let mut items = Vec::new(alloc);
     items.push(new)?;

@@ -8,4 +8,4 @@ mod piece;
 
 pub use leaf::{Leaf, Listed};
 pub use map::SharedMap;
-pub use parts::{Group, Part};
+pub use parts::{Group, Part, Pieces};

@@ -5,11 +5,11 @@ ghost use Rattle.std.specs.FinMap.Entries.{find, is_sorted, put, where_key};
 ghost use Rattle.std.specs.Ordering.{eq_by_cmp};
 ghost use Rattle.reg_names.specs.Names.{folded};
 ghost use Rattle.shared_map.specs.Orders.{name_order};
-ghost use Rattle.shared_map.specs.Listings.{entries, keyed_all, leaf_entries, group_entries, parts_entries};
+ghost use Rattle.shared_map.specs.Listings.{entries, keyed_all, leaf_entries, group_entries, parts_entries, parts_of};
 ghost use Rattle.shared_map.specs.Parts.{load_of, AreParts, FitsLeaf, FitsGroup, FitsMap};
 
 use crate::leaf::{Leaf, Listed, add_leaves, one_leaf};
-use crate::parts::{Group, MOST_PARTS, Part, group_part, grouped};
+use crate::parts::{Group, MOST_PARTS, Part, Pieces, group_part, grouped};
 use crate::piece::{Piece, with_in, without_in};
 use reg_names::Name;
 use std::alloc::{AllocError, Global};
@@ -136,8 +136,8 @@ impl<E: Listed> SharedMap<E> {
         ensures fits { IfOk result (FitsMap E.key E.load) }
     {
         match &self.held {
-            Held::Empty => of_leaves(alloc, one_leaf(alloc, new)?),
-            Held::Few(leaf) => of_leaves(alloc, leaf.body().with(alloc, new)?),
+            Held::Empty => of_pieces(alloc, one_leaf(alloc, new)?),
+            Held::Few(leaf) => of_pieces(alloc, leaf.body().with(alloc, new)?),
             Held::Several(group) => of_leaves(alloc, with_in(alloc, group.body().parts(), new)?),
             Held::Many(whole) => of_clusters(alloc, with_in(alloc, whole.body().parts(), new)?),
         }
@@ -153,7 +153,7 @@ impl<E: Listed> SharedMap<E> {
     {
         match &self.held {
             Held::Empty => Ok(SharedMap { held: Held::Empty }),
-            Held::Few(leaf) => of_leaves(alloc, leaf.body().without(alloc, name)?),
+            Held::Few(leaf) => of_pieces(alloc, leaf.body().without(alloc, name)?),
             Held::Several(group) => {
                 let leaves = without_in(alloc, group.body().parts(), name)?;
                 of_leaves(alloc, leaves)
@@ -162,6 +162,27 @@ impl<E: Listed> SharedMap<E> {
                 let clusters = without_in(alloc, whole.body().parts(), name)?;
                 of_clusters(alloc, clusters)
             }
+        }
+    }
+}
+
+// a map of what an edit left of a leaf
+fn of_pieces<E: Listed>(alloc: Global, pieces: Pieces<Leaf<E>>) -> Result<SharedMap<E>, AllocError>
+    requires { AreParts (leaf_entries E.key) E.load (FitsLeaf E.key E.load) (parts_of pieces) }
+    ensures entries { IfOk result (λ made. entries E.key made
+        ≡ parts_entries (leaf_entries E.key) (parts_of pieces)) }
+    ensures fits { IfOk result (FitsMap E.key E.load) }
+{
+    match pieces {
+        Pieces::Gone => Ok(SharedMap { held: Held::Empty }),
+        Pieces::One(leaf) => Ok(SharedMap {
+            held: Held::Few(leaf),
+        }),
+        Pieces::Two(front, back) => {
+            let mut leaves = Vec::with_capacity(alloc, 2)?;
+            leaves.push(front)?;
+            leaves.push(back)?;
+            of_leaves(alloc, leaves)
         }
     }
 }

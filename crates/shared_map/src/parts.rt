@@ -2,6 +2,7 @@
 ghost use Rattle.std.specs.Prelude.{◌≡◌, ℕ, ◌+◌, ◌<◌, List, ◌++◌, length, min, map, take, drop, IfOk, OnOk, MatchOption, ◌≤◌, sum_by, slice_index_or};
 ghost use Rattle.std.specs.Arc.{arc_value};
 ghost use Rattle.reg_names.specs.Names.{folded};
+ghost use Rattle.shared_map.specs.Listings.{parts_of};
 ghost use Rattle.shared_map.specs.Parts.{IsPlace, IsNth, IsSum, AreSums, IsMoreSums};
 
 use reg_names::Name;
@@ -32,6 +33,17 @@ impl<P: Drop> Group<P> {
     {
         &self.parts
     }
+}
+
+/// What an edit leaves of a part: nothing, one part, or two halves.
+#[derive(Drop)]
+pub enum Pieces<P> {
+    /// Nothing is left.
+    Gone,
+    /// This is.
+    One(Arc<Part<P>>),
+    /// These are, in order.
+    Two(Arc<Part<P>>, Arc<Part<P>>),
 }
 
 /// The most parts of a group that is no map's whole.
@@ -84,21 +96,35 @@ fn extend<P: Drop>(made: &mut Vec<Arc<Part<P>>>, parts: &[Arc<Part<P>>]) -> Resu
     Ok(())
 }
 
-/// The parts with others in the place of one.
+// adds what an edit left
+fn add_pieces<P: Drop>(made: &mut Vec<Arc<Part<P>>>, new: Pieces<P>) -> Result<(), AllocError>
+    ensures { OnOk result (made.new.items ≡ made.old.items ++ parts_of new) }
+{
+    match new {
+        Pieces::Gone => {}
+        Pieces::One(part) => made.push(part)?,
+        Pieces::Two(front, back) => {
+            made.push(front)?;
+            made.push(back)?;
+        }
+    }
+    Ok(())
+}
+
+/// The parts with what an edit left of one in its place.
 pub(crate) fn spliced<P: Drop>(
     alloc: Global,
     parts: &[Arc<Part<P>>],
     at: usize,
-    new: Vec<Arc<Part<P>>>,
+    new: Pieces<P>,
 ) -> Result<Vec<Arc<Part<P>>>, AllocError>
     requires { at < length parts.now }
     ensures { IfOk result (λ made. map arc_value made.items ≡ map arc_value (take at parts.now)
-        ++ (map arc_value new.items ++ map arc_value (drop (at + 1) parts.now))) }
+        ++ (map arc_value (parts_of new) ++ map arc_value (drop (at + 1) parts.now))) }
 {
     let mut made = Vec::with_capacity(alloc, parts.len().saturating_add(1))?;
     extend(&mut made, &parts[..at])?;
-    let mut new = new;
-    made.append(&mut new)?;
+    add_pieces(&mut made, new)?;
     extend(&mut made, &parts[at + 1..])?;
     Ok(made)
 }
@@ -174,21 +200,19 @@ pub(crate) fn nth<P>(parts: &[Arc<Part<P>>], index: usize) -> Option<(usize, usi
 pub(crate) fn group_parts<P: Drop>(
     alloc: Global,
     parts: Vec<Arc<Part<P>>>,
-) -> Result<Vec<Arc<Part<Group<P>>>>, AllocError>
-    ensures { IfOk result (λ made. AreSums (map arc_value parts.items) made.items) }
+) -> Result<Pieces<Group<P>>, AllocError>
+    ensures { IfOk result (λ made. AreSums (map arc_value parts.items) (parts_of made)) }
 {
-    let mut made = Vec::new(alloc);
     if parts.is_empty() {
-        return Ok(made);
+        return Ok(Pieces::Gone);
     }
     if parts.len() <= MOST_PARTS {
-        made.push(group_part(alloc, parts)?)?;
-        return Ok(made);
+        return Ok(Pieces::One(group_part(alloc, parts)?));
     }
     let half = parts.len() / 2;
-    made.push(group_part(alloc, copied(alloc, &parts[..half])?)?)?;
-    made.push(group_part(alloc, copied(alloc, &parts[half..])?)?)?;
-    Ok(made)
+    let front = group_part(alloc, copied(alloc, &parts[..half])?)?;
+    let back = group_part(alloc, copied(alloc, &parts[half..])?)?;
+    Ok(Pieces::Two(front, back))
 }
 
 // the same parts

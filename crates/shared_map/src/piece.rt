@@ -5,11 +5,11 @@ ghost use Rattle.std.specs.FinMap.Entries.{find, is_sorted, put, where_key};
 ghost use Rattle.std.specs.Ordering.{eq_by_cmp};
 ghost use Rattle.reg_names.specs.Names.{folded};
 ghost use Rattle.shared_map.specs.Orders.{name_order};
-ghost use Rattle.shared_map.specs.Listings.{parts_entries, group_entries};
+ghost use Rattle.shared_map.specs.Listings.{parts_entries, parts_of, group_entries};
 ghost use Rattle.shared_map.specs.Parts.{AreParts, FitsGroup};
 
 use crate::leaf::Listed;
-use crate::parts::{Group, Part, group_parts, nth, place, spliced};
+use crate::parts::{Group, Part, Pieces, group_parts, nth, place, spliced};
 use reg_names::Name;
 use std::alloc::{AllocError, Global};
 use std::sync::Arc;
@@ -38,22 +38,22 @@ pub trait Piece<E: Listed>: Drop {
             ≡ option_map (λ e. e.1) (slice_get (list self.now) index) };
 
     /// The parts of the entries with this one in the place of its name.
-    fn with(&self, alloc: Global, new: Arc<E>) -> Result<Vec<Arc<Part<Self>>>, AllocError>
+    fn with(&self, alloc: Global, new: Arc<E>) -> Result<Pieces<Self>, AllocError>
         requires fits { Fits self.now }
         requires sorted { T (is_sorted name_order (list self.now)) }
         requires some { 0 < length (list self.now) }
-        ensures entries { IfOk result (λ made. parts_entries list made.items
+        ensures entries { IfOk result (λ made. parts_entries list (parts_of made)
             ≡ put name_order (E.key new.value) new.value (list self.now)) }
-        ensures parts { IfOk result (λ made. AreParts list E.load Fits made.items) };
+        ensures parts { IfOk result (λ made. AreParts list E.load Fits (parts_of made)) };
 
     /// The parts of the entries without the one of this name.
-    fn without(&self, alloc: Global, name: &Name) -> Result<Vec<Arc<Part<Self>>>, AllocError>
+    fn without(&self, alloc: Global, name: &Name) -> Result<Pieces<Self>, AllocError>
         requires fits { Fits self.now }
         requires sorted { T (is_sorted name_order (list self.now)) }
         requires some { 0 < length (list self.now) }
-        ensures entries { IfOk result (λ made. parts_entries list made.items ≡ where_key name_order
+        ensures entries { IfOk result (λ made. parts_entries list (parts_of made) ≡ where_key name_order
             (λ key. not (eq_by_cmp name_order (folded name.now) key)) (list self.now)) }
-        ensures parts { IfOk result (λ made. AreParts list E.load Fits made.items) };
+        ensures parts { IfOk result (λ made. AreParts list E.load Fits (parts_of made)) };
 }
 
 impl<E: Listed, P: Piece<E>> Piece<E> for Group<P> {
@@ -75,29 +75,29 @@ impl<E: Listed, P: Piece<E>> Piece<E> for Group<P> {
         }
     }
 
-    fn with(&self, alloc: Global, new: Arc<E>) -> Result<Vec<Arc<Part<Group<P>>>>, AllocError>
+    fn with(&self, alloc: Global, new: Arc<E>) -> Result<Pieces<Group<P>>, AllocError>
         requires fits { FitsGroup P.list E.load P.Fits self.now }
         requires sorted { T (is_sorted name_order (group_entries P.list self.now)) }
         requires some { 0 < length (group_entries P.list self.now) }
-        ensures entries { IfOk result (λ made. parts_entries (group_entries P.list) made.items
+        ensures entries { IfOk result (λ made. parts_entries (group_entries P.list) (parts_of made)
             ≡ put name_order (E.key new.value) new.value (group_entries P.list self.now)) }
         ensures parts { IfOk result (λ made. AreParts (group_entries P.list) E.load (FitsGroup
-            P.list E.load P.Fits) made.items) }
+            P.list E.load P.Fits) (parts_of made)) }
     {
         let pieces = with_in(alloc, self.parts(), new)?;
         let made = group_parts(alloc, pieces)?;
         Ok(made)
     }
 
-    fn without(&self, alloc: Global, name: &Name) -> Result<Vec<Arc<Part<Group<P>>>>, AllocError>
+    fn without(&self, alloc: Global, name: &Name) -> Result<Pieces<Group<P>>, AllocError>
         requires fits { FitsGroup P.list E.load P.Fits self.now }
         requires sorted { T (is_sorted name_order (group_entries P.list self.now)) }
         requires some { 0 < length (group_entries P.list self.now) }
-        ensures entries { IfOk result (λ made. parts_entries (group_entries P.list) made.items
+        ensures entries { IfOk result (λ made. parts_entries (group_entries P.list) (parts_of made)
             ≡ where_key name_order (λ key. not (eq_by_cmp name_order (folded name.now) key))
             (group_entries P.list self.now)) }
         ensures parts { IfOk result (λ made. AreParts (group_entries P.list) E.load (FitsGroup
-            P.list E.load P.Fits) made.items) }
+            P.list E.load P.Fits) (parts_of made)) }
     {
         let pieces = without_in(alloc, self.parts(), name)?;
         let made = group_parts(alloc, pieces)?;
