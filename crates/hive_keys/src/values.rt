@@ -131,7 +131,7 @@ pub(crate) fn values(
     ensures works { Works looks.old looks.new seen.old seen.new result }
 {
     if count == 0 {
-        return Ok(Values::new(alloc)?);
+        return Ok(Values::new());
     }
     let list = match look_once(image, seen, looks, at) {
         Ok(list) => list,
@@ -184,7 +184,7 @@ fn mapped(alloc: Global, found: &[Value]) -> Result<Values, Refusal>
         × (values ≡ map_of found.now)) (λ refusal. (refusal ≡ NoMemory)
         ⊎ ((refusal ≡ HiveDamaged 0 BadName) × (all_apart (names_in found.now) ≡ false))) }
 {
-    let mut values = Values::new(alloc)?;
+    let mut values = Values::new();
     for value in found {
         if values.get(&value.name).is_some() {
             return Err(Refusal::from(Cause::BadName));

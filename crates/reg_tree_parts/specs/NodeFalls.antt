@@ -31,7 +31,7 @@ most_below (k ∷ ks) = omega (arith, most_below ks, length-append (below k.0 k.
 items_fall : (leaf : Leaf Entries) → most (λ (x : Arc Entries Global). length (arc_value x) + 1) leaf.items.items ≤ most measure (leaf_entries root_name leaf)
 items_fall leaf = most_items measure root_name (λ x. length (arc_value x) + 1) (λ x. omega arith) leaf.items.items
 
-held_falls : (key : Arc Row Global) (held : Held Entries) (weight : ℕ) → deep-Node (record { key = key; subkeys = record { held = held }; weight = weight }) ≤ most measure (held_entries root_name held)
+held_falls : (key : Row) (held : Held Entries) (weight : ℕ) → deep-Node (record { weight = weight; key = key; subkeys = record { held = held } }) ≤ most measure (held_entries root_name held)
 held_falls key Empty weight = omega arith
 held_falls key (Few leaf) weight = capped (capped (capped (capped_part (capped (items_fall (arc_value leaf).body)))))
 held_falls key (Several group) weight =

@@ -71,23 +71,17 @@ impl Key {
     }
 
     /// A new key of this name: no class, no flags and no values. It shares the descriptor.
-    pub fn fresh(
-        alloc: Global,
-        name: &Name,
-        descriptor: &Descriptor,
-        time: u64,
-    ) -> Result<Key, AllocError>
+    pub fn fresh(name: &Name, descriptor: &Descriptor, time: u64) -> Result<Key, AllocError>
         ensures { IfOk result (λ made. made ≡ new_row name.now descriptor.now time) }
     {
         let name = name.clone()?;
         let descriptor = descriptor.clone()?;
-        let values = Values::new(alloc)?;
         Ok(Key {
             name,
             uncommon: None,
             descriptor,
             time,
-            values,
+            values: Values::new(),
         })
     }
 
@@ -172,5 +166,16 @@ impl Key {
             .saturating_add(descriptor)
             .saturating_add(values)
             .saturating_add(KEY_WEIGHT)
+    }
+}
+
+impl Clone for Key {
+    ghost is_clone = { λ old copy. copy ≡ old };
+
+    fn clone(&self) -> Result<Key, AllocError>
+        ensures { IfOk result (λ copy. copy ≡ self.now) }
+    {
+        let values = self.values.clone()?;
+        self.with_values(values, self.time)
     }
 }

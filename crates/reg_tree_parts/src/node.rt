@@ -1,6 +1,5 @@
 //! Nodes: a key with its subkeys, which never changes once it is made.
 ghost use Rattle.std.specs.Prelude.{◌≡◌, ℕ, ◌+◌, ◌<◌, ◌≤◌, T, false, List, [], ◌∷◌, ◌++◌, length, map, take, IfOk, IfSome, IfNone, min, slice_get};
-ghost use Rattle.std.specs.Arc.{arc_value};
 ghost use Rattle.std.specs.FinMap.Entries.{is_sorted};
 ghost use Rattle.std.specs.Ordering.{eq_by_cmp};
 ghost use Rattle.std.specs.Option.{option_copied};
@@ -20,17 +19,18 @@ use std::marker::Model;
 use std::sync::Arc;
 
 /// A key and all keys below it, shared by `Arc`.
+///
+/// What is read of the keys beside a change stands first, next to the pointer's own counts.
 #[derive(Drop)]
 pub struct Node {
-    key: Arc<Key>,
-    subkeys: SharedMap<Node>,
     weight: u64,
+    key: Key,
+    subkeys: SharedMap<Node>,
 }
 
 impl Model for Node {
     ghost use Rattle.std.specs.Prelude.{length};
     ghost use Rattle.std.specs.Coded.{coded×, coded_ℕ, coded_list};
-    ghost use Rattle.std.specs.Arc.{arc_value};
     ghost use Rattle.shared_map.specs.Listings.{entries};
     ghost use Rattle.reg_tree_parts.specs.Rows.{row_code};
     ghost use Rattle.reg_tree_parts.specs.Nodes.{Entries, entries_of, root_name, NodeFits};
@@ -39,9 +39,9 @@ impl Model for Node {
 
     ghost coded = { coded_list (coded× (coded_list (coded_list coded_ℕ)) row_code) };
 
-    ghost view = { λ inside. entries_of (arc_value inside.key) (entries root_name inside.subkeys) };
+    ghost view = { λ inside. entries_of inside.key (entries root_name inside.subkeys) };
 
-    ghost invariant = { λ inside. NodeFits (arc_value inside.key) inside.subkeys inside.weight };
+    ghost invariant = { λ inside. NodeFits inside.key inside.subkeys inside.weight };
 
     ghost size = { length };
 
@@ -58,7 +58,6 @@ impl Node {
         ensures is { IfOk result (λ made. made ≡ entries_of key (subkey_entries subkeys.items)) }
         ensures node { IfOk result IsNode }
     {
-        let key = Arc::new(alloc, key)?;
         let subkeys = SharedMap::from_vec(alloc, subkeys)?;
         Ok(Node::from_parts(key, subkeys))
     }
@@ -156,7 +155,7 @@ impl Node {
     }
 
     /// The key with another row of the same name, and the same subkeys.
-    pub fn with_key(&self, alloc: Global, key: Key) -> Result<Node, AllocError>
+    pub fn with_key(&self, key: Key) -> Result<Node, AllocError>
         requires { folded key.name ≡ root_name self.now }
         ensures here { IfOk result (λ made. row_at made [] ≡ Some key) }
         ensures below { IfOk result (λ made. (name : List ℕ) (rest : List (List ℕ)) →
@@ -165,16 +164,15 @@ impl Node {
         ensures node { IfOk result IsNode }
     {
         let _ = &self.weight;
-        let key = Arc::new(alloc, key)?;
         let subkeys = self.subkeys.share()?;
         Ok(Node::from_parts(key, subkeys))
     }
 
     // the key with this subkey in the place of its name
-    fn with_child(&self, alloc: Global, key: Arc<Key>, child: Arc<Node>) -> Result<Node, AllocError>
-        requires named { folded key.value.name ≡ root_name self.now }
+    fn with_child(&self, alloc: Global, key: Key, child: Arc<Node>) -> Result<Node, AllocError>
+        requires named { folded key.name ≡ root_name self.now }
         requires node { IsNode child.value }
-        ensures here { IfOk result (λ made. row_at made [] ≡ Some key.value) }
+        ensures here { IfOk result (λ made. row_at made [] ≡ Some key) }
         ensures child { IfOk result (λ made. (rest : List (List ℕ)) →
             row_at made (root_name child.value ∷ rest) ≡ row_at child.value rest) }
         ensures others { IfOk result (λ made. (name : List ℕ) (rest : List (List ℕ)) →
@@ -200,7 +198,6 @@ impl Node {
         ensures root { IfOk result (λ made. root_name made ≡ root_name self.now) }
         ensures node { IfOk result IsNode }
     {
-        let key = Arc::new(alloc, key)?;
         let child = Arc::new(alloc, child)?;
         self.with_child(alloc, key, child)
     }
@@ -217,7 +214,6 @@ impl Node {
         ensures root { IfOk result (λ made. root_name made ≡ root_name self.now) }
         ensures node { IfOk result IsNode }
     {
-        let key = Arc::new(alloc, key)?;
         let subkeys = self.subkeys.without(alloc, name)?;
         Ok(Node::from_parts(key, subkeys))
     }
@@ -250,7 +246,7 @@ impl Node {
         ensures root { IfOk result (λ made. root_name made ≡ root_name self.now) }
         ensures node { IfOk result IsNode }
     {
-        let key = self.key.clone()?;
+        let _ = &self.weight;
         let Some((name, rest)) = path.split_first() else {
             return Ok(with);
         };
@@ -258,20 +254,19 @@ impl Node {
             unreachable!();
         };
         let new = child.with_replaced(alloc, rest, with)?;
+        let key = self.key.clone()?;
         let made = self.with_child(alloc, key, Arc::new(alloc, new)?)?;
         Ok(made)
     }
 
     /// A key without subkeys.
-    pub fn leaf(alloc: Global, key: Key) -> Result<Node, AllocError>
-        ensures here { IfOk result (λ made. row_at made [] ≡ Some key) }
-        ensures alone { IfOk result (λ made. (name : List ℕ) (rest : List (List ℕ)) →
-            row_at made (name ∷ rest) ≡ None) }
-        ensures root { IfOk result (λ made. root_name made ≡ folded key.name) }
-        ensures node { IfOk result IsNode }
+    pub fn leaf(key: Key) -> Node
+        ensures here { row_at result [] ≡ Some key }
+        ensures alone { (name : List ℕ) (rest : List (List ℕ)) → row_at result (name ∷ rest) ≡ None }
+        ensures root { root_name result ≡ folded key.name }
+        ensures node { IsNode result }
     {
-        let key = Arc::new(alloc, key)?;
-        Ok(Node::from_parts(key, SharedMap::new()))
+        Node::from_parts(key, SharedMap::new())
     }
 
     /// A new key of this name, and below it one new key of each further name, all with this descriptor.
@@ -287,7 +282,7 @@ impl Node {
         ensures root { IfOk result (λ made. root_name made ≡ folded name.now) }
         ensures node { IfOk result IsNode }
     {
-        let leaf = Node::leaf(alloc, Key::fresh(alloc, name, descriptor, time)?)?;
+        let leaf = Node::leaf(Key::fresh(name, descriptor, time)?);
         let Some((next, rest)) = further.split_first() else {
             return Ok(leaf);
         };
@@ -298,18 +293,18 @@ impl Node {
     }
 
     // a key with these subkeys
-    fn from_parts(key: Arc<Key>, subkeys: SharedMap<Node>) -> Node
+    fn from_parts(key: Key, subkeys: SharedMap<Node>) -> Node
         requires nodes { AreNodes (entries root_name subkeys) }
         requires rises { T (is_sorted name_order (entries root_name subkeys)) }
         requires fits { FitsMap root_name entries_weight subkeys }
-        ensures is { result ≡ entries_of (arc_value key) (entries root_name subkeys) }
+        ensures is { result ≡ entries_of key (entries root_name subkeys) }
         ensures node { IsNode result }
     {
         let weight = key.weight().saturating_add(subkeys.weight());
         Node {
+            weight,
             key,
             subkeys,
-            weight,
         }
     }
 }

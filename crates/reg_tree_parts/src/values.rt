@@ -37,13 +37,13 @@ impl Model for Values {
 }
 
 impl Values {
-    /// No values.
-    pub fn new(alloc: Global) -> Result<Values, AllocError>
-        ensures { IfOk result (λ values. values ≡ finite.empty) }
+    /// No values, which take no memory.
+    pub fn new() -> Values
+        ensures { result ≡ finite.empty }
     {
-        let _ = alloc;
-        let items = SharedMap::new();
-        Ok(Values { items })
+        Values {
+            items: SharedMap::new(),
+        }
     }
 
     /// How many values there are.

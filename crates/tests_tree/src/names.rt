@@ -187,8 +187,8 @@ fn grown(alloc: Global, node: &Node, units: &[u16]) -> Result<Node, AllocError> 
 fn foreign(alloc: Global) -> Result<Node, AllocError> {
     let name = Name::stored(alloc, &[])?;
     let descriptor = Descriptor::new(alloc, &[])?;
-    let key = Key::fresh(alloc, &name, &descriptor, 0)?;
-    let mut node = Node::leaf(alloc, key)?;
+    let key = Key::fresh(&name, &descriptor, 0)?;
+    let mut node = Node::leaf(key);
     for unit in [0xe9, 0x7a, 0xc9, 0x03b1] {
         node = grown(alloc, &node, &[unit])?;
     }
@@ -265,7 +265,7 @@ fn with_value(alloc: Global, values: &Values, kind: u32, unit: u16) -> Result<Va
 
 // the values `é`, `z` and `É`, with the types 0 to 2
 fn foreign_values(alloc: Global) -> Result<Values, AllocError> {
-    let mut values = Values::new(alloc)?;
+    let mut values = Values::new();
     for (kind, unit) in [(0, 0xe9), (1, 0x7a), (2, 0xc9)] {
         values = with_value(alloc, &values, kind, unit)?;
     }

@@ -26,7 +26,7 @@ pub loop-value-preserved : goal.loop-value-preserved
 loop-value-preserved c =
     let none = sym c.get.ensures.found ∙ none_if (option_copied c.get.result) (copied_is c.get.result ∙ sym c.is_some.ensures ∙ c.if-is_some.false) in
     record {
-      map = c.in_ok-values-2.ensures ∙ with_more (take c.loop-value.value-index c.args.found.now) c.value-item.result c.loop-value.values c.loop-value.invariant.map none
+      map = c.in_ok-values.ensures ∙ with_more (take c.loop-value.value-index c.args.found.now) c.value-item.result c.loop-value.values c.loop-value.invariant.map none
           ∙ ap map_of (sym (next c.args.found.now c.loop-value.value-index c.value-item.result c.loop-value-test.true c.value-item.is));
       apart = ap (λ (vs : List Value). all_apart (names_in vs)) (next c.args.found.now c.loop-value.value-index c.value-item.result c.loop-value-test.true c.value-item.is)
           ∙ apart_more (take c.loop-value.value-index c.args.found.now) c.value-item.result c.loop-value.values c.loop-value.invariant.map c.loop-value.invariant.apart none;

@@ -8,7 +8,7 @@ use Rattle.hive_keys.proofs.AllValues.{no_values, values_unlisted, values_short,
 use Rattle.hive_keys.proofs.values.values.Goals as goal
 
 pub returns-then-count-eq0-clause-reads : goal.returns-then-count-eq0-clause-reads
-returns-then-count-eq0-clause-reads c = λ cells shows. no_values c.args.split c.args.count c.args.at cells (marks_of c.args.seen.now) c.in_ok-new.field-0 (search (rules, c.if-count-eq0.true)) c.in_ok-new.ensures
+returns-then-count-eq0-clause-reads c = λ cells shows. no_values c.args.split c.args.count c.args.at cells (marks_of c.args.seen.now) c.new.result (search (rules, c.if-count-eq0.true)) c.new.ensures
 
 pub returns-in-Err-clause-reads : goal.returns-in-Err-clause-reads
 returns-in-Err-clause-reads c = λ cells shows. values_unlisted c.args.split c.args.count c.args.at cells (marks_of c.args.seen.now) (marks_of c.look_once.new.seen) (search (rules, c.if-count-eq0.false)) c.in-Err.refusal (c.in-Err.ensures.reads cells shows)

@@ -1,6 +1,5 @@
 use Rattle.shared_map.specs.Listings.{entries}
 use Rattle.shared_map.specs.Keyed.{entries_keyed}
-use Rattle.std.specs.Arc.{arc_value}
 use Rattle.reg_tree_parts.specs.Nodes.{root_name}
 use Rattle.reg_tree_parts.proofs.NodeLists.{weighs_whole}
 use Rattle.reg_tree_parts.proofs.Parents.{is_node}
@@ -11,7 +10,7 @@ invariant_of-result c = record {
   nodes = c.requires.nodes;
   rises = c.requires.rises;
   fits = c.requires.fits;
-  weighs = weighs_whole (arc_value c.args.key) (entries root_name c.args.subkeys) _ _ _ (rw c.deref.ensures at c.weight.ensures) c.weight-2.ensures c.saturating_add-weight.ensures;
+  weighs = weighs_whole c.args.key (entries root_name c.args.subkeys) _ _ _ c.weight.ensures c.weight-2.ensures c.saturating_add-weight.ensures;
 }
 
 pub returns-clause-node : goal.returns-clause-node

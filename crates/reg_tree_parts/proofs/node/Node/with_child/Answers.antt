@@ -1,4 +1,3 @@
-use Rattle.std.specs.Arc.{arc_value}
 use Rattle.shared_map.specs.Listings.{entries}
 use Rattle.reg_tree_parts.specs.Nodes.{root_name}
 use Rattle.reg_tree_parts.proofs.NodeLists.{nodes_put, rows_put_same, rows_put_other}
@@ -14,7 +13,7 @@ pub from_parts-requires-clause-rises : goal.from_parts-requires-clause-rises
 from_parts-requires-clause-rises c = (nodes_put (entries root_name c.self.inside.subkeys) c.self.invariant.rises (entries root_name c.in_ok-subkeys.subkeys) (root_name c.args.child.value) c.args.child.value c.requires.node c.self.invariant.nodes c.in_ok-subkeys.ensures.entries).1
 
 pub returns-clause-child : goal.returns-clause-child
-returns-clause-child c = rw c.from_parts.ensures.is (rows_put_same (entries root_name c.self.inside.subkeys) c.self.invariant.rises (arc_value c.args.key) (entries root_name c.in_ok-subkeys.subkeys) (root_name c.args.child.value) c.args.child.value c.in_ok-subkeys.ensures.entries)
+returns-clause-child c = rw c.from_parts.ensures.is (rows_put_same (entries root_name c.self.inside.subkeys) c.self.invariant.rises c.args.key (entries root_name c.in_ok-subkeys.subkeys) (root_name c.args.child.value) c.args.child.value c.in_ok-subkeys.ensures.entries)
 
 pub returns-clause-others : goal.returns-clause-others
-returns-clause-others c = rw (c.from_parts.ensures.is, ← c.self.view_is) (rows_put_other (entries root_name c.self.inside.subkeys) c.self.invariant.rises (arc_value c.args.key) (arc_value c.self.inside.key) (entries root_name c.in_ok-subkeys.subkeys) (root_name c.args.child.value) c.args.child.value c.in_ok-subkeys.ensures.entries)
+returns-clause-others c = rw (c.from_parts.ensures.is, ← c.self.view_is) (rows_put_other (entries root_name c.self.inside.subkeys) c.self.invariant.rises c.args.key c.self.inside.key (entries root_name c.in_ok-subkeys.subkeys) (root_name c.args.child.value) c.args.child.value c.in_ok-subkeys.ensures.entries)

@@ -1,4 +1,3 @@
-use Rattle.std.specs.Arc.{arc_value}
 use Rattle.shared_map.specs.Listings.{entries}
 use Rattle.reg_tree_parts.specs.Nodes.{root_name}
 use Rattle.reg_names.specs.Names.{folded}
@@ -15,7 +14,7 @@ pub from_parts-requires-clause-rises : goal.from_parts-requires-clause-rises
 from_parts-requires-clause-rises c = (nodes_where (entries root_name c.self.inside.subkeys) c.self.invariant.rises (entries root_name c.in_ok-subkeys.subkeys) _ c.self.invariant.nodes c.in_ok-subkeys.ensures.entries).1
 
 pub returns-clause-gone : goal.returns-clause-gone
-returns-clause-gone c = rw c.from_parts.ensures.is (rows_where_gone (entries root_name c.self.inside.subkeys) c.self.invariant.rises (arc_value c.in_ok-key.key) (entries root_name c.in_ok-subkeys.subkeys) (folded c.args.name.now) c.in_ok-subkeys.ensures.entries)
+returns-clause-gone c = rw c.from_parts.ensures.is (rows_where_gone (entries root_name c.self.inside.subkeys) c.self.invariant.rises c.args.key (entries root_name c.in_ok-subkeys.subkeys) (folded c.args.name.now) c.in_ok-subkeys.ensures.entries)
 
 pub returns-clause-others : goal.returns-clause-others
-returns-clause-others c = rw (c.from_parts.ensures.is, ← c.self.view_is) (rows_where_other (entries root_name c.self.inside.subkeys) c.self.invariant.rises (arc_value c.in_ok-key.key) (arc_value c.self.inside.key) (entries root_name c.in_ok-subkeys.subkeys) (folded c.args.name.now) c.in_ok-subkeys.ensures.entries)
+returns-clause-others c = rw (c.from_parts.ensures.is, ← c.self.view_is) (rows_where_other (entries root_name c.self.inside.subkeys) c.self.invariant.rises c.args.key c.self.inside.key (entries root_name c.in_ok-subkeys.subkeys) (folded c.args.name.now) c.in_ok-subkeys.ensures.entries)
