@@ -1,5 +1,5 @@
 //! The node of the root after one operation: a new node along the operation's path, all else shared.
-ghost use Rattle.std.specs.Prelude.{◌≡◌, ◌<◌, true, List, [], ◌∷◌, ◌++◌, ℕ, cond, length, IsSome, Some, None, IfOk, ◌⊎◌, false, IfErr};
+ghost use Rattle.std.specs.Prelude.{◌≡◌, ◌<◌, ◌+◌, true, List, [], ◌∷◌, ◌++◌, ℕ, cond, length, take, IsSome, Some, None, Ok, Err, IfOk, IfSome, OnOk, MatchOption, ◌⊎◌, IfErr};
 ghost use Rattle.std.specs.Result.{is_err};
 ghost use Rattle.std.specs.Ordering.{eq_by_cmp};
 ghost use Rattle.reg_names.specs.Names.{folded, folded_path, is_path, is_value_name};
@@ -7,10 +7,10 @@ ghost use Rattle.refusals.specs.Answers.{IsOrNoMemory};
 ghost use Rattle.reg_tree_parts.specs.Orders.{path_order};
 ghost use Rattle.reg_tree_parts.specs.Rows.{Row};
 ghost use Rattle.reg_tree_parts.specs.ValueEdits.{values_with, values_without};
-ghost use Rattle.reg_tree_parts.specs.Nodes.{row_at, IsNode};
-ghost use Rattle.reg_tree.specs.Maps.{row, is_there, subkeys, weight};
-ghost use Rattle.reg_tree.specs.Operations.{row_created, row_deleted, row_edited, row_after};
-ghost use Rattle.reg_tree.specs.Judgement.{judged, changed, legal_in, legal_after, IsWritten};
+ghost use Rattle.reg_tree_parts.specs.Nodes.{row_at, root_name, IsNode};
+ghost use Rattle.reg_tree.specs.Maps.{StandsAt, row, subkeys, weight};
+ghost use Rattle.reg_tree.specs.Operations.{depth_there, row_created, row_deleted, row_edited, row_after};
+ghost use Rattle.reg_tree.specs.Judgement.{judged, judged_create, judged_set, judged_unset, changed, legal_in, legal_after, IsWritten};
 ghost use Rattle.reg_tree.specs.Fresh.{fresh_row, fresh_tree};
 ghost use Rattle.reg_tree.specs.Spellable.{IsNamed};
 
@@ -24,23 +24,27 @@ use std::alloc::{AllocError, Global};
 use std::sync::Arc;
 
 impl Tree {
-    // the key at this path with another row of the same name
-    fn with_key(&self, alloc: Global, path: &[Name], key: Key) -> Result<Node, AllocError>
-        requires { (old : Row) × (row self.now (folded_path path.now) ≡ Some old) × (folded key.name
-            ≡ folded old.name) }
+    // the root with another row of the same name at the path of a key, whose node it is
+    fn with_key(
+        &self,
+        alloc: Global,
+        path: &[Name],
+        node: &Node,
+        key: Key,
+    ) -> Result<Node, AllocError>
+        requires found { StandsAt self.now (folded_path path.now) node.now }
+        requires named { folded key.name ≡ root_name node.now }
         ensures rows { IfOk result (λ made. (q : List (List ℕ)) → row_at made q
             ≡ cond (eq_by_cmp path_order q (folded_path path.now)) (Some key) (row self.now q)) }
         ensures node { IfOk result IsNode }
     {
-        let Some(node) = self.node(path) else {
-            unreachable!();
-        };
         let _ = node.key();
-        let new = node.with_key(alloc, key)?;
+        let new = node.with_key(key)?;
         let made = self.root.with_replaced(alloc, path, new)?;
         Ok(made)
     }
 
+    // the root after a value was written, where that may be done
     fn set_value(
         &self,
         alloc: Global,
@@ -49,48 +53,58 @@ impl Tree {
         kind: u32,
         data: &Data,
         moment: u64,
-    ) -> Result<Node, AllocError>
-        requires { IsSome (row self.now (folded_path path.now)) }
+    ) -> Result<Node, Refusal>
+        ensures legal { IfOk result (λ _. judged_set self.now (folded_path path.now) data.now
+            ≡ Ok Legality.Legal) }
+        ensures refused { IfErr result (λ refusal.
+            (judged_set self.now (folded_path path.now) data.now ≡ Err refusal)
+            ⊎ (refusal ≡ Refusal.NoMemory)) }
         ensures rows { IfOk result (λ made. (q : List (List ℕ)) → row_at made q ≡ row_edited (λ key.
             record key { values = values_with key.values name.now kind data.now }) self.now
             (folded_path path.now) moment q) }
         ensures node { IfOk result IsNode }
         ensures named { (is_path path.now ≡ true) × (is_value_name name.now ≡ true) }
     {
-        let Some(node) = self.node(path.names()) else {
-            unreachable!();
-        };
+        let value_name = name.name();
+        let names = path.names();
+        let node = self.key_to_set(path, data)?;
         let key = node.key();
-        let values = key.values().with(alloc, name.name(), kind, data)?;
+        let values = key.values().with(alloc, value_name, kind, data)?;
         let new = key.with_values(values, moment)?;
-        let made = self.with_key(alloc, path.names(), new)?;
+        let made = self.with_key(alloc, names, node, new)?;
         Ok(made)
     }
 
+    // the root after a value was deleted, where that may be done
     fn delete_value(
         &self,
         alloc: Global,
         path: &Path,
         name: &ValueName,
         moment: u64,
-    ) -> Result<Node, AllocError>
-        requires { IsSome (row self.now (folded_path path.now)) }
+    ) -> Result<Node, Refusal>
+        ensures legal { IfOk result (λ _. judged_unset self.now (folded_path path.now) name.now
+            ≡ Ok Legality.Legal) }
+        ensures refused { IfErr result (λ refusal.
+            (judged_unset self.now (folded_path path.now) name.now ≡ Err refusal)
+            ⊎ (refusal ≡ Refusal.NoMemory)) }
         ensures rows { IfOk result (λ made. (q : List (List ℕ)) → row_at made q ≡ row_edited (λ key.
             record key { values = values_without key.values name.now }) self.now (folded_path
             path.now) moment q) }
         ensures node { IfOk result IsNode }
         ensures named { (is_path path.now ≡ true) × (is_value_name name.now ≡ true) }
     {
-        let Some(node) = self.node(path.names()) else {
-            unreachable!();
-        };
+        let value_name = name.name();
+        let names = path.names();
+        let node = self.key_to_unset(path, name)?;
         let key = node.key();
-        let values = key.values().without(alloc, name.name())?;
+        let values = key.values().without(alloc, value_name)?;
         let new = key.with_values(values, moment)?;
-        let made = self.with_key(alloc, path.names(), new)?;
+        let made = self.with_key(alloc, names, node, new)?;
         Ok(made)
     }
 
+    // the root after a key was deleted, which may be done
     fn delete_key(&self, alloc: Global, path: &Path, moment: u64) -> Result<Node, AllocError>
         requires there { IsSome (row self.now (folded_path path.now)) }
         requires below { 0 < length path.now }
@@ -112,15 +126,49 @@ impl Tree {
         Ok(made)
     }
 
-    fn create_key(&self, alloc: Global, path: &Path, moment: u64) -> Result<Node, AllocError>
-        requires { is_there self.now (folded_path path.now) ≡ false }
-        ensures rows { IfOk result (λ made. (q : List (List ℕ)) → row_at made q
-            ≡ row_created self.now path.now moment q) }
-        ensures node { IfOk result IsNode }
+    // the root after a creation, or nothing where the key is there
+    fn create_key(&self, alloc: Global, path: &Path, moment: u64) -> Result<Option<Node>, Refusal>
+        ensures judged { IfOk result (λ made. MatchOption made
+            (judged_create self.now (folded_path path.now) ≡ Ok Legality.Opened)
+            (λ _. judged_create self.now (folded_path path.now) ≡ Ok Legality.Legal)) }
+        ensures refused { IfErr result (λ refusal.
+            (judged_create self.now (folded_path path.now) ≡ Err refusal)
+            ⊎ (refusal ≡ Refusal.NoMemory)) }
+        ensures rows { IfOk result (λ made. IfSome made (λ node. (q : List (List ℕ)) → row_at node q
+            ≡ row_created self.now path.now moment q)) }
+        ensures node { IfOk result (λ made. IfSome made IsNode) }
         ensures named { is_path path.now ≡ true }
     {
         let names = path.names();
         let (node, depth) = self.nearest(names);
+        match self.judge_levels(names, depth)? {
+            Legality::Opened => Ok(None),
+            Legality::Legal => {
+                let made = self.branched(alloc, names, node, depth, moment)?;
+                Ok(Some(made))
+            }
+        }
+    }
+
+    // the root with new keys along a path, of which so many names lead to this node
+    fn branched(
+        &self,
+        alloc: Global,
+        names: &[Name],
+        node: &Node,
+        depth: usize,
+        moment: u64,
+    ) -> Result<Node, AllocError>
+        requires missing { depth < length names.now }
+        requires depth { depth ≡ depth_there self.now (folded_path names.now) }
+        requires below { (rest : List (List ℕ)) →
+            row self.now (take depth (folded_path names.now) ++ rest) ≡ row_at node.now rest }
+        requires gone { (rest : List (List ℕ)) →
+            row self.now (take (depth + 1) (folded_path names.now) ++ rest) ≡ None }
+        ensures rows { IfOk result (λ made. (q : List (List ℕ)) → row_at made q
+            ≡ row_created self.now names.now moment q) }
+        ensures node { IfOk result IsNode }
+    {
         let (front, rest) = names.split_at(depth);
         let Some((name, further)) = rest.split_first() else {
             unreachable!();
@@ -132,37 +180,57 @@ impl Tree {
         Ok(made)
     }
 
-    // the root after an operation that may be carried out
-    fn root_after(&self, alloc: Global, op: &Op, moment: u64) -> Result<Node, AllocError>
-        requires { judged self.now op.now ≡ Ok Legality.Legal }
-        ensures rows { IfOk result (λ made. (q : List (List ℕ)) → row_at made q
-            ≡ row_after self.now op.now moment q) }
-        ensures node { IfOk result IsNode }
-        ensures named { IsNamed op.now }
+    // the root after an operation, or nothing where that opens a key
+    fn root_after(&self, alloc: Global, op: &Op, moment: u64) -> Result<Option<Node>, Refusal>
+        ensures judged { IfOk result (λ made. MatchOption made
+            (judged self.now op.now ≡ Ok Legality.Opened)
+            (λ _. judged self.now op.now ≡ Ok Legality.Legal)) }
+        ensures refused { IfErr result (λ refusal.
+            (judged self.now op.now ≡ Err refusal) ⊎ (refusal ≡ Refusal.NoMemory)) }
+        ensures rows { IfOk result (λ made. IfSome made (λ node. (q : List (List ℕ)) → row_at node q
+            ≡ row_after self.now op.now moment q)) }
+        ensures node { IfOk result (λ made. IfSome made IsNode) }
+        ensures named { OnOk result (IsNamed op.now) }
     {
         match op {
             Op::CreateKey { path, .. } => self.create_key(alloc, path, moment),
-            Op::DeleteKey { path, .. } => self.delete_key(alloc, path, moment),
+            Op::DeleteKey { path, .. } => {
+                self.may_delete(path)?;
+                let made = self.delete_key(alloc, path, moment)?;
+                Ok(Some(made))
+            }
             Op::SetValue {
                 path,
                 name,
                 kind,
                 data,
                 ..
-            } => self.set_value(alloc, path, name, *kind, data, moment),
-            Op::DeleteValue { path, name, .. } => self.delete_value(alloc, path, name, moment),
+            } => {
+                let made = self.set_value(alloc, path, name, *kind, data, moment)?;
+                Ok(Some(made))
+            }
+            Op::DeleteValue { path, name, .. } => {
+                let made = self.delete_value(alloc, path, name, moment)?;
+                Ok(Some(made))
+            }
         }
     }
 
-    // the tree after an operation that may be carried out
-    fn apply_legal(&self, alloc: Global, op: &Op, moment: u64) -> Result<Tree, AllocError>
-        requires { judged self.now op.now ≡ Ok Legality.Legal }
-        ensures { IfOk result (λ made. made ≡ changed self.now op.now moment) }
+    // the tree after an operation, or nothing where that opens a key; weights are not looked at
+    fn carry_out(&self, alloc: Global, op: &Op, moment: u64) -> Result<Option<Tree>, Refusal>
+        ensures ok { IfOk result
+            (IsWritten (judged self.now op.now) (changed self.now op.now moment)) }
+        ensures refused { IfErr result (λ refusal.
+            (judged self.now op.now ≡ Err refusal) ⊎ (refusal ≡ Refusal.NoMemory)) }
     {
         let _ = &self.root;
-        let root = self.root_after(alloc, op, moment)?;
-        let root = Arc::new(alloc, root)?;
-        Ok(Tree { root })
+        match self.root_after(alloc, op, moment)? {
+            None => Ok(None),
+            Some(root) => {
+                let root = Arc::new(alloc, root)?;
+                Ok(Some(Tree { root }))
+            }
+        }
     }
 
     /// The tree after the operation at this moment. One that may not be carried out, or that opens a key,
@@ -170,9 +238,11 @@ impl Tree {
     pub fn apply(&self, alloc: Global, op: &Op, moment: u64) -> Result<Tree, AllocError>
         ensures { IfOk result (λ made. made ≡ changed self.now op.now moment) }
     {
-        match self.judge(op) {
-            Ok(Legality::Legal) => self.apply_legal(alloc, op, moment),
-            _ => self.clone(),
+        match self.carry_out(alloc, op, moment) {
+            Ok(Some(made)) => Ok(made),
+            Ok(None) => self.clone(),
+            Err(Refusal::NoMemory) => Err(AllocError),
+            Err(_) => self.clone(),
         }
     }
 
@@ -184,10 +254,9 @@ impl Tree {
         ensures refused { IfErr result (λ refusal.
             (legal_in self.now op.now ≡ Err refusal) ⊎ (refusal ≡ Refusal.NoMemory)) }
     {
-        match self.judge(op)? {
-            Legality::Opened => Ok(None),
-            Legality::Legal => {
-                let made = self.apply_legal(alloc, op, moment)?;
+        match self.carry_out(alloc, op, moment)? {
+            None => Ok(None),
+            Some(made) => {
                 if made.is_over(op) {
                     return Err(Refusal::TooLarge);
                 }
@@ -207,32 +276,16 @@ impl Tree {
     }
 
     /// Whether the operation is legal on this tree: it may be carried out, and a creation or a value written
-    /// leaves the tree within the weight of 16,777,216, else `TooLarge`.
+    /// leaves the tree within the weight of 16,777,216, else `TooLarge`. A deletion takes no memory to be judged.
     pub fn legal(&self, alloc: Global, op: &Op) -> Result<Legality, Refusal>
         ensures { IsOrNoMemory result (legal_in self.now op.now) }
     {
-        match self.judge(op) {
-            Ok(Legality::Legal) => self.weigh(alloc, op),
-            other => other,
-        }
-    }
-
-    // whether the operation, which may be carried out, leaves the tree within its weight
-    fn weigh(&self, alloc: Global, op: &Op) -> Result<Legality, Refusal>
-        requires { judged self.now op.now ≡ Ok Legality.Legal }
-        ensures { IsOrNoMemory result (legal_after op.now (Ok Legality.Legal) (weight (changed
-            self.now op.now 0))) }
-    {
         match op {
-            Op::DeleteKey { .. } | Op::DeleteValue { .. } => Ok(Legality::Legal),
-            Op::CreateKey { .. } | Op::SetValue { .. } => {
-                let after = self.apply_legal(alloc, op, 0)?;
-                if after.is_over(op) {
-                    Err(Refusal::TooLarge)
-                } else {
-                    Ok(Legality::Legal)
-                }
-            }
+            Op::DeleteKey { .. } | Op::DeleteValue { .. } => self.judge(op),
+            Op::CreateKey { .. } | Op::SetValue { .. } => match self.write(alloc, op, 0)? {
+                Some(_) => Ok(Legality::Legal),
+                None => Ok(Legality::Opened),
+            },
         }
     }
 
@@ -241,7 +294,7 @@ impl Tree {
     pub fn fresh(alloc: Global) -> Result<Tree, AllocError>
         ensures { IfOk result (λ made. made ≡ fresh_tree) }
     {
-        let leaf = Node::leaf(alloc, fresh_key(alloc)?)?;
+        let leaf = Node::leaf(fresh_key(alloc)?);
         let root = Arc::new(alloc, leaf)?;
         Ok(Tree { root })
     }
@@ -254,8 +307,15 @@ fn fresh_key(alloc: Global) -> Result<Key, AllocError>
     let name = Name::stored(alloc, &[])?;
     let class = Data::new(alloc, &[])?;
     let descriptor = Descriptor::new(alloc, &FRESH_DESCRIPTOR)?;
-    let values = Values::new(alloc)?;
-    Key::new(alloc, name, class, FRESH_FLAGS, descriptor, 0, values)
+    Key::new(
+        alloc,
+        name,
+        class,
+        FRESH_FLAGS,
+        descriptor,
+        0,
+        Values::new(),
+    )
 }
 
 // the flags of a new hive's root: that of a root, and not to be deleted

@@ -9,10 +9,10 @@ use Rattle.reg_tree.proofs.tree.Tree.with_key.Goals as goal
 
 pub with_replaced-requires-clause-named : goal.with_replaced-requires-clause-named
 with_replaced-requires-clause-named c =
-    (c.key.result.now, rows_of (arc_value c.self.inside.root) c.deref.result.now c.args.self.now c.self.invariant.node c.self.view_is c.deref.ensures (folded_path c.args.path.now) ∙ c.in-Some.ensures.key ∙ c.key.ensures.here, sym (c.in_ok-new.ensures.named ∙ c.key.ensures.named))
+    (c.key.result.now, rows_of (arc_value c.self.inside.root) c.deref.result.now c.args.self.now c.self.invariant.node c.self.view_is c.deref.ensures (folded_path c.args.path.now) ∙ c.requires.found.1 ∙ c.key.ensures.here, sym (c.in_ok-new.ensures.named ∙ c.key.ensures.named))
 
 pub returns-clause-rows : goal.returns-clause-rows
 returns-clause-rows c =
-    edited (row_at c.in_ok-made.made) (row c.args.self.now) c.in_ok-new.new c.in-Some.node.now (folded_path c.args.path.now) c.in_ok-made.ensures.within
+    edited (row_at c.in_ok-made.made) (row c.args.self.now) c.in_ok-new.new c.args.node.now (folded_path c.args.path.now) c.in_ok-made.ensures.within
     (λ q off. c.in_ok-made.ensures.others q off ∙ rows_of (arc_value c.self.inside.root) c.deref.result.now c.args.self.now c.self.invariant.node c.self.view_is c.deref.ensures q)
-    c.in-Some.ensures.found c.args.key c.in_ok-new.ensures.here c.in_ok-new.ensures.below
+    c.requires.found.0 c.args.key c.in_ok-new.ensures.here c.in_ok-new.ensures.below
