@@ -6,6 +6,11 @@ stopped and whatever is torn, the store opens with all of the values. What the h
 something to flush: up to the log's sync they hold the old values, for which the journal makes up; from the first sector's sync on the
 new ones; and between the two what is left of that sector decides.
 """
+import os
+import sys
+
+sys.path.insert(0, os.path.join(os.path.dirname(os.path.dirname(os.path.abspath(__file__))), "tools"))
+from transcript import write  # noqa: E402
 
 CALLS = 10
 BEFORE, AFTER = 0x11, 0x22
@@ -37,11 +42,8 @@ OPENED = "\n".join(["opened 9", "hive 0", "key 0: 0", *[f"val {name} 3 {data(AFT
 
 
 def run(title, steps, status):
-    """A run: its title, lines with their replies, and its status."""
-    print(f"== {title}")
-    for line, reply in [("hives 1", "ok"), *FLUSHED, *steps]:
-        print(f"> {line}\n{reply}")
-    print(f"status {status}\n")
+    """A run over a hive that is flushed."""
+    write(title, [*FLUSHED, *steps], status)
 
 
 print("# A hive's flush in the laboratory, stopped at each of its calls.\n\ncommand: lab\n")

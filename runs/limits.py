@@ -1,15 +1,12 @@
 """Prints runs at the limits, and one past them: too long to be kept as text."""
+import os
+import sys
+
+sys.path.insert(0, os.path.join(os.path.dirname(os.path.dirname(os.path.abspath(__file__))), "tools"))
+from transcript import write  # noqa: E402
 
 MEBIBYTE = 1_048_576
 ID = "00000000-0000-0000-0000-000000000001"
-
-
-def run(title, steps, status):
-    """A run: its title, lines with their replies, and its status."""
-    print(f"== {title}")
-    for line, reply in [("hives 1", "ok"), *steps]:
-        print(f"> {line}\n{reply}")
-    print(f"status {status}\n")
 
 
 def path(names):
@@ -30,7 +27,7 @@ def creations(levels):
 
 print("# Limits: what is allowed at each, and one past it.\n")
 
-run(
+write(
     "one creation makes at most 32 levels, wherever it begins",
     [
         (f"create {path(33)}", "E5 TooDeep"),
@@ -43,7 +40,7 @@ run(
     1,
 )
 
-run(
+write(
     "a tree has 512 levels; a path of 513 names is too deep, also where a hive is missing or it is only read",
     [
         *creations(512),
@@ -59,7 +56,7 @@ run(
     1,
 )
 
-run(
+write(
     "a key's name has at most 255 units, a value's at most 16,383",
     [
         (f"create 0:{'~' * 256}", "E4 BadName"),
@@ -72,7 +69,7 @@ run(
     1,
 )
 
-run(
+write(
     "a value has at most 1,048,576 bytes; a key that isn't there is told before they are counted",
     [
         (f"set 0: v 3 {data(MEBIBYTE + 1)}", "E6 TooLarge"),
@@ -87,7 +84,7 @@ run(
 HEAVY = [(f"set 0: {name} 3 {data(MEBIBYTE)}", f"accepted {number}") for number, name in enumerate("abcdefghijklmno", 1)]
 ROOM = 16_777_216 - (192 + 20) - 15 * (128 + 2 + MEBIBYTE) - (128 + 2)
 
-run(
+write(
     "a tree weighs at most 16,777,216",
     [
         *HEAVY,
@@ -103,7 +100,7 @@ run(
 )
 
 # three writes of 1,048,576 bytes leave a transaction's change no room for a fourth
-run(
+write(
     "a transaction's change has at most 4,194,304 bytes, which is told before a conflict",
     [
         ("create 0:K\\L", "created 2 accepted 1"),
@@ -118,7 +115,7 @@ run(
     1,
 )
 
-run(
+write(
     "a commit is weighed after each of its writes, also where the last tree fits again",
     [
         ("create 0:K", "created 1 accepted 1"),
@@ -139,7 +136,7 @@ run(
 )
 
 # one that is open takes no further seat, and a refused session leaves the current one
-run(
+write(
     "there are 32 sessions",
     [
         *[(f"session {number}", "ok") for number in range(1, 32)],
@@ -154,7 +151,7 @@ run(
 )
 
 # a refused begin leaves its label; a transaction that has ended is held until it is closed
-run(
+write(
     "there are 1,024 transactions",
     [
         *[(f"begin t{number} {ID}", "ok") for number in range(1024)],

@@ -120,3 +120,16 @@ def read_all(paths):
         names = sorted(name for name in os.listdir(folder) if name.endswith((".run", ".py")))
         paths = [os.path.join(folder, name) for name in names]
     return [run for path in paths for run in read(path)]
+
+
+def write(title, steps, status):
+    """Prints a run over one hive, for a program that prints such text: its title, lines with their replies, and its status."""
+    print(f"== {title}")
+    for line, reply in [("hives 1", "ok"), *steps]:
+        print(f"> {line}\n{reply}")
+    print(f"status {status}\n")
+
+
+def listed(word, names):
+    """The reply that lists these names."""
+    return " ".join([word, str(len(names)), *names])
