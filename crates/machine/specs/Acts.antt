@@ -3,10 +3,11 @@
 use Rattle.std.specs.Prelude.{◌≡◌, ℕ, ◌+◌, List, Option, Some, None, Ok}
 use Rattle.reg_tree.specs.Maps.{TreeMap}
 use Rattle.reg_tree.specs.Judgement.{legal}
+use Rattle.reg_tree.specs.TreeLists.{levels_made}
 use Rattle.reg_tree.specs.declared.op.Op.{Op}
 use Rattle.reg_tree.specs.declared.op.Legality.TheVariants.{Legal, Opened}
 use Rattle.machine.specs.Transactions.{Transaction, Places, Puts, at, view, fresh_transaction, ended, with_op, inactive_refusal}
-use Rattle.machine.specs.Machine.{levels_made, added_refusal_if}
+use Rattle.machine.specs.Machine.{added_refusal_if}
 use Rattle.machine.specs.declared.handle.Tx.{Tx}
 use Rattle.machine.specs.declared.handle.Outcome.{Outcome}
 

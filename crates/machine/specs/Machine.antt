@@ -13,11 +13,10 @@ use Rattle.reg_tree.specs.Texts.{element_text_len}
 use Rattle.reg_tree.specs.Operations.{hive_of}
 use Rattle.reg_tree.specs.Judgement.{legal}
 use Rattle.reg_tree.specs.Judgement.{any_outweighs}
-use Rattle.reg_tree.specs.TreeLists.{value_in, value_index_in, info_in, subkeys_in, subkey_index_in, value_names_in, levels_in}
+use Rattle.reg_tree.specs.TreeLists.{value_in, value_index_in, info_in, subkeys_in, subkey_index_in, value_names_in}
 use Rattle.reg_tree.specs.Sequences.{after_elements}
 use Rattle.reg_tree.specs.declared.element.Element.{Element}
 use Rattle.reg_tree.specs.declared.op.Op.{Op}
-use Rattle.reg_tree.specs.declared.op.Op.TheVariants.{CreateKey, DeleteKey, SetValue, DeleteValue}
 use Rattle.reg_tree.specs.declared.op.Legality.{Legality}
 use Rattle.reg_tree.specs.declared.op.Legality.TheVariants.{Legal, Opened}
 use Rattle.conflicts.specs.Claims.{claim_of}
@@ -149,13 +148,6 @@ looked_up trees hive path InfoOf = option_map found.Counts (info_in trees hive (
 abbrev pub read_refusal : Option Found → Option Refusal
 read_refusal (Some found) = None
 read_refusal None = Some NotFound
-
--- how many keys a creation makes; no other operation makes keys
-abbrev pub levels_made : List TreeMap → Op → Option ℕ
-levels_made trees (CreateKey hive path) = levels_in trees hive (folded_path path)
-levels_made trees (DeleteKey hive path) = None
-levels_made trees (SetValue hive path name kind bytes) = None
-levels_made trees (DeleteValue hive path name) = None
 
 -- the first refusal of an operation: that it is not legal, or what stands against a legal one; a key that is opened
 -- meets nothing more

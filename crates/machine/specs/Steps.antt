@@ -5,11 +5,12 @@ use Rattle.refusals.specs.declared.refusal.Refusal.TheVariants.{NoMemory, NotFou
 use Rattle.reg_tree.specs.Maps.{TreeMap}
 use Rattle.reg_tree.specs.Operations.{hive_of}
 use Rattle.reg_tree.specs.Judgement.{legal}
+use Rattle.reg_tree.specs.TreeLists.{levels_made}
 use Rattle.reg_tree.specs.declared.op.Op.{Op}
 use Rattle.reg_tree.specs.declared.op.Legality.TheVariants.{Legal, Opened}
 use Rattle.conflicts.specs.Claims.{claim_of}
 use Rattle.machine.specs.Transactions.{Transaction, Puts, Becomes, ended, rolled_back_by, gone_with, missing_refusal, inactive_refusal}
-use Rattle.machine.specs.Machine.{Machine, trees_now, last_number, pending, room_with, room_of, is_open, found_in, change, first_of, fault, closed_refusal, unnamed_refusal, call_refusal, tx_call_refusal, start_refusal, looked_up, read_refusal, levels_made, write_refusal, begin_refusal, seen, added_refusal_if, commit_refusal_if}
+use Rattle.machine.specs.Machine.{Machine, trees_now, last_number, pending, room_with, room_of, is_open, found_in, change, first_of, fault, closed_refusal, unnamed_refusal, call_refusal, tx_call_refusal, start_refusal, looked_up, read_refusal, write_refusal, begin_refusal, seen, added_refusal_if, commit_refusal_if}
 use Rattle.machine.specs.Acts.{Starts, Adds, Opens, Finishes, Closes}
 use Rattle.machine.specs.Shapes.{DoneOr, ReadOr, AcceptedOr, AddedOr, BegunOr, AwaitsOr, StandsOr, ReceiptOr, SteppedOr}
 use Rattle.machine.specs.declared.handle.Tx.{Tx}

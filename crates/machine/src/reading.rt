@@ -1,7 +1,8 @@
 //! What is read of trees, and how many keys an operation makes in them.
 ghost use Rattle.std.specs.Prelude.{◌≡◌, ◌⊎◌, Some, None, IfOk, IfErr};
 ghost use Rattle.refusals.specs.declared.refusal.Refusal.TheVariants.{NoMemory};
-ghost use Rattle.machine.specs.Machine.{looked_up, levels_made, read_refusal};
+ghost use Rattle.reg_tree.specs.TreeLists.{levels_made};
+ghost use Rattle.machine.specs.Machine.{looked_up, read_refusal};
 
 use crate::event::{Found, Question};
 use refusals::Refusal;

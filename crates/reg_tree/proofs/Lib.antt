@@ -12,3 +12,4 @@ pub mod Listed
 pub mod Times
 pub mod Weighing
 pub mod Spelling
+pub mod Ways

@@ -8,3 +8,4 @@ pub mod TreeLists
 pub mod Sequences
 pub mod Times
 pub mod Spellable
+pub mod Edits

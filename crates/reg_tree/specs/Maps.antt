@@ -4,7 +4,7 @@ use Rattle.std.specs.FinMap as finite
 use Rattle.reg_names.specs.Names.{folded}
 use Rattle.reg_tree_parts.specs.Orders.{path_order}
 use Rattle.reg_tree_parts.specs.Rows.{Row}
-use Rattle.reg_tree_parts.specs.Nodes.{Entries, entries_weight, names_below, row_at}
+use Rattle.reg_tree_parts.specs.Nodes.{entries_weight, names_below}
 
 -- a tree: the row of each key, by its folded path
 abbrev pub TreeMap : Type 0
@@ -13,10 +13,6 @@ TreeMap = finite.FinMap path_order Row
 -- the row at a path
 abbrev pub row : TreeMap → List (List ℕ) → Option Row
 row tree path = finite.get tree path
-
--- the entries of the key at a path: what the tree has from there on, and the key's own row
-abbrev pub StandsAt : TreeMap → List (List ℕ) → Entries → Type 0
-StandsAt tree path node = ((rest : List (List ℕ)) → row tree (path ++ rest) ≡ row_at node rest) × (row tree path ≡ row_at node [])
 
 -- whether a key is there
 abbrev pub is_there : TreeMap → List (List ℕ) → Bool

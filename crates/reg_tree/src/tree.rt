@@ -1,14 +1,14 @@
 //! One registry tree.
-ghost use Rattle.std.specs.Prelude.{◌≡◌, ◌+◌, ◌-◌, ◌<◌, ◌≤◌, ◌==◌, length, take, List, [], ℕ, ◌++◌, IfSome, IfNone, IfOk, min, IfErr};
+ghost use Rattle.std.specs.Prelude.{◌≡◌, ◌-◌, ◌≤◌, ◌==◌, length, List, [], ℕ, ◌++◌, IfSome, IfNone, IfOk, min, IfErr};
 ghost use Rattle.reg_names.specs.Names.{folded_path};
 ghost use Rattle.reg_tree_parts.specs.Nodes.{row_at, names_below, IsNode};
 ghost use Rattle.std.specs.FinMap as finite;
 ghost use Rattle.reg_tree.specs.Maps.{row, is_there, subkeys, missing, weight, IsTree};
 ghost use Rattle.reg_tree.specs.Spellable.{IsSpellable};
-ghost use Rattle.reg_tree.specs.Operations.{depth_there};
 ghost use Rattle.reg_tree.specs.Reads.{value_at, value_index, subkey_index, info_of, IsMissing};
 
 mod change;
+mod edits;
 mod judging;
 mod lists;
 
@@ -168,14 +168,9 @@ impl Tree {
     // the last key on the way along the path that is there, and how many of the names lead to it
     fn nearest(&self, path: &[Name]) -> (&Node, usize)
         ensures within { result.1 ≤ length path.now }
-        ensures depth { result.1 ≡ depth_there self.now (folded_path path.now) }
         ensures missing { length (missing self.now (folded_path path.now))
             ≡ length path.now - result.1 }
         ensures there { is_there self.now (folded_path path.now) ≡ (result.1 == length path.now) }
-        ensures below { (rest : List (List ℕ)) →
-            row self.now (take result.1 (folded_path path.now) ++ rest) ≡ row_at result.0.now rest }
-        ensures gone { result.1 < length (folded_path path.now) → (rest : List (List ℕ)) →
-            row self.now (take (result.1 + 1) (folded_path path.now) ++ rest) ≡ None }
     {
         let (node, depth) = self.root.nearest(path);
         let _ = node.key();

@@ -8,3 +8,4 @@ pub mod NamesBelow
 pub mod NodeLists
 pub mod PathSteps
 pub mod Subkeys
+pub mod Walks

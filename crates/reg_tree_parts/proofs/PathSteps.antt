@@ -3,7 +3,6 @@ use Rattle.std.proofs.Common.{◌≡◌, ℕ, ◌+◌, ◌<◌, suc, Bool, true,
 use Rattle.std.specs.Ordering.{eq_by_cmp}
 use Rattle.reg_names.specs.Names.{folded, folded_path}
 use Rattle.reg_tree_parts.specs.Orders.{name_order}
-use Rattle.reg_tree_parts.specs.Rows.{Row}
 use Rattle.reg_tree_parts.specs.NewRows.{new_row}
 use Rattle.reg_tree_parts.specs.Nodes.{Entries, root_name, row_at, begins_path, branch_row}
 use Rattle.reg_tree_parts.proofs.Keys.{names_apart}
@@ -60,12 +59,12 @@ rows_branch made leaf child name next bytes rest time here root below others alo
     ])
 
 -- and at any other path
-pub others_step : (made self new old : Entries) (row : Row) (name : List ℕ) (rest : List (List ℕ)) (path : List (List ℕ)) → path ≡ name ∷ rest → row_at made [] ≡ Some row → row_at self [] ≡ Some row → root_name new ≡ folded name
+pub others_step : (made self new old : Entries) (name : List ℕ) (rest : List (List ℕ)) (path : List (List ℕ)) → path ≡ name ∷ rest → row_at made [] ≡ row_at self [] → root_name new ≡ folded name
     → ((r : List (List ℕ)) → row_at made (root_name new ∷ r) ≡ row_at new r) → ((m : List ℕ) (r : List (List ℕ)) → eq_by_cmp name_order m (root_name new) ≡ false → row_at made (m ∷ r) ≡ row_at self (m ∷ r))
     → ((r : List (List ℕ)) → row_at self (folded name ∷ r) ≡ row_at old r) → ((q : List (List ℕ)) → begins_path (folded_path rest) q ≡ false → row_at new q ≡ row_at old q)
     → (q : List (List ℕ)) → begins_path (folded_path path) q ≡ false → row_at made q ≡ row_at self q
-others_step made self new old row name rest path is here was root below others there inner [] apart = here ∙ sym was
-others_step made self new old row name rest path is here was root below others there inner (m ∷ q) apart =
+others_step made self new old name rest path is same root below others there inner [] apart = same
+others_step made self new old name rest path is same root below others there inner (m ∷ q) apart =
     let off : (eq_by_cmp name_order m (folded name) && begins_path (folded_path rest) q) ≡ false = rw is at apart in
     elim (told (eq_by_cmp name_order m (folded name))) [
       | inl tied ↦

@@ -8,3 +8,4 @@ pub mod ValueEdits
 pub mod NewRows
 pub mod Nodes
 pub mod NodeFalls
+pub mod Walks

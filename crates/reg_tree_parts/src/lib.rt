@@ -8,6 +8,7 @@
 
 mod data;
 mod descriptor;
+mod edit;
 mod key;
 mod node;
 mod uncommon;
@@ -16,6 +17,7 @@ mod values;
 
 pub use data::Data;
 pub use descriptor::Descriptor;
+pub use edit::Edit;
 pub use key::Key;
 pub use node::Node;
 pub use value::Value;

@@ -228,35 +228,20 @@ impl Node {
         }
     }
 
-    /// The key with the one at this path, and all below that, replaced by another of the same name.
-    pub fn with_replaced(
-        &self,
-        alloc: Global,
-        path: &[Name],
-        with: Node,
-    ) -> Result<Node, AllocError>
-        requires named { (row : Row) × (row_at self.now (folded_path path.now) ≡ Some row)
-            × (folded row.name ≡ root_name with) }
-        requires node { IsNode with }
-        ensures within { IfOk result (λ made. (rest : List (List ℕ)) →
-            row_at made (folded_path path.now ++ rest) ≡ row_at with rest) }
-        ensures others { IfOk result (λ made. (other : List (List ℕ)) →
-            begins_path (folded_path path.now) other ≡ false → row_at made other
-            ≡ row_at self.now other) }
+    // the key with this subkey in the place of one of its name, and the same row
+    pub(crate) fn with_subkey(&self, alloc: Global, subkey: Node) -> Result<Node, AllocError>
+        requires node { IsNode subkey }
+        ensures here { IfOk result (λ made. row_at made [] ≡ row_at self.now []) }
+        ensures child { IfOk result (λ made. (rest : List (List ℕ)) →
+            row_at made (root_name subkey ∷ rest) ≡ row_at subkey rest) }
+        ensures others { IfOk result (λ made. (name : List ℕ) (rest : List (List ℕ)) →
+            eq_by_cmp name_order name (root_name subkey) ≡ false → row_at made (name ∷ rest)
+            ≡ row_at self.now (name ∷ rest)) }
         ensures root { IfOk result (λ made. root_name made ≡ root_name self.now) }
         ensures node { IfOk result IsNode }
     {
-        let _ = &self.weight;
-        let Some((name, rest)) = path.split_first() else {
-            return Ok(with);
-        };
-        let Some(child) = self.child(name) else {
-            unreachable!();
-        };
-        let new = child.with_replaced(alloc, rest, with)?;
         let key = self.key.clone()?;
-        let made = self.with_child(alloc, key, Arc::new(alloc, new)?)?;
-        Ok(made)
+        self.with_new_child(alloc, key, subkey)
     }
 
     /// A key without subkeys.

@@ -12,7 +12,7 @@ use Rattle.reg_tree_parts.specs.Rows.{Row}
 use Rattle.reg_tree_parts.specs.declared.value.Value.{Value}
 use Rattle.reg_tree.specs.Maps.{TreeMap, row, subkeys, weight}
 use Rattle.reg_tree.specs.Reads.{info_of}
-use Rattle.reg_tree.specs.TreeLists.{info_in, value_names_in, value_names_at}
+use Rattle.reg_tree.specs.TreeLists.{levels_made, info_in, value_names_in, value_names_at}
 use Rattle.reg_tree.specs.declared.tree.Info.{Info}
 use Rattle.reg_tree.specs.Judgement.{judged, legal, legal_if, legal_after, changed, applied, applied_one, outweighs, outweighs_if, any_outweighs}
 use Rattle.reg_tree.specs.Operations.{hive_of}
@@ -30,10 +30,11 @@ use Rattle.conflicts.specs.Claims.{claim_of, meets}
 use Rattle.conflicts.specs.Skeletons.{judged_in, judged_if, AreCarriedOut, AreApart, MakesAlike}
 use Rattle.conflicts.proofs.StaysLegal.{more, one_more, any_moment}
 use Rattle.conflicts.proofs.Meets.{conflict_meets}
-use Rattle.machine.specs.Machine.{levels_made, too_long}
+use Rattle.machine.specs.Machine.{too_long}
 use Rattle.machine.specs.Transactions.{Transaction, Places, at, is_active, holds, view}
 use Rattle.transactions.specs.Entries.{IsMade, AreCarried, AreAfter, AreLight, IsViewNow, IsViewed, WritesView, MovesView, StaysView, IsLegalIn, IsMovedTo, AreMoved, moment_of}
 use Rattle.transactions.specs.Tables.{MeetNone}
+use Rattle.transactions.specs.declared.entry.Judged.{Judged}
 use Rattle.transactions.specs.declared.entry.View.{View}
 
 -- whatever its moment, a view differs from the operations applied at another in times alone
@@ -153,13 +154,13 @@ levels_same trees others same (DeleteValue hive path name) = refl
 pub legal_seen : (now : List TreeMap) (one : Transaction) (v : View) (op : Op) → IsViewNow now one.ops v → legal v.trees op ≡ legal (view now one) op
 legal_seen now one v op is = legal_alike v.trees (view now one) (seen_at now one.ops v.moment v.trees one.moment is.made) op
 
-pub judged_seen : (now : List TreeMap) (number : ℕ) (one : Transaction) (v made : View) (op : Op) (levels : Option ℕ) → (v.number ≡ number) × IsViewNow now one.ops v → WritesView v op (Some made) → levels ≡ levels_made v.trees op → too_long one op ≡ false → IsLegalIn now number one op (record { made = made; levels = levels })
-judged_seen now number one v made op levels has written e short = record {
-  is_legal = sym (legal_seen now one v op has.1) ∙ written.0;
+pub judged_seen : (now : List TreeMap) (number : ℕ) (one : Transaction) (v : View) (op : Op) (written : Judged) → (v.number ≡ number) × IsViewNow now one.ops v → WritesView v op (Some written) → too_long one op ≡ false → IsLegalIn now number one op written
+judged_seen now number one v op written has is short = record {
+  is_legal = sym (legal_seen now one v op has.1) ∙ is.is_legal;
   short = short;
-  made = e ∙ levels_same v.trees (view now one) (seen_at now one.ops v.moment v.trees one.moment has.1.made) op;
-  numbered = ap (λ (x : View). x.number) written.1 ∙ has.0;
-  seen = written_view now one.ops v made op has.1 written.0 written.1;
+  made = is.levels ∙ levels_same v.trees (view now one) (seen_at now one.ops v.moment v.trees one.moment has.1.made) op;
+  numbered = ap (λ (x : View). x.number) is.made ∙ has.0;
+  seen = written_view now one.ops v written.made op has.1 is.is_legal is.made;
 }
 
 -- a moment that was compared

@@ -10,7 +10,7 @@ use Rattle.reg_tree.specs.Judgement.{applied, applied_one, legal, any_outweighs}
 use Rattle.reg_tree.specs.Sequences.{AreTrees}
 use Rattle.reg_tree.specs.Times.{SameButTimes}
 use Rattle.conflicts.specs.Skeletons.{AreCarriedOut, AreApart}
-use Rattle.reg_tree.specs.TreeLists.{info_in}
+use Rattle.reg_tree.specs.TreeLists.{levels_made, info_in}
 use Rattle.reg_tree.specs.declared.tree.Info.{Info}
 use Rattle.reg_tree.specs.declared.op.Op.{Op}
 use Rattle.reg_tree.specs.declared.op.Legality.TheVariants.{Legal, Opened}
@@ -18,7 +18,7 @@ use Rattle.claims_law.specs.Skeleton.{Claim}
 use Rattle.conflicts.specs.Claims.{claim_of}
 use Rattle.conflicts.specs.Holders.{Held}
 use Rattle.machine.specs.Transactions.{Transaction, Places, Puts, at, own, with_op, is_active, is_claimed, inactive_refusal, view}
-use Rattle.machine.specs.Machine.{levels_made, refusal_by, refused_if, first_of, too_long}
+use Rattle.machine.specs.Machine.{refusal_by, refused_if, first_of, too_long}
 use Rattle.machine.specs.declared.handle.Tx.{Tx}
 use Rattle.transactions.specs.Tables.{Table}
 use Rattle.transactions.specs.declared.table.Written.{Written}
@@ -93,10 +93,16 @@ abbrev pub moment_of : Option ℕ → ℕ
 moment_of None = 0
 moment_of (Some moment) = moment
 
--- an operation is carried out on a view's trees at its moment, or opens a key
-abbrev pub WritesView : View → Op → Option View → Type 0
+-- an operation is carried out on a view's trees at its moment, and makes so many keys
+pub record IsWrittenTo (view : View) (op : Op) (written : Judged) : Type 0 where
+  pub is_legal : legal view.trees op ≡ Ok Legal
+  pub made : written.made ≡ record view { trees = applied_one view.trees op (moment_of view.moment); unasked = written.made.unasked }
+  pub levels : written.levels ≡ levels_made view.trees op
+
+-- or it opens a key
+abbrev pub WritesView : View → Op → Option Judged → Type 0
 WritesView view op None = legal view.trees op ≡ Ok Opened
-WritesView view op (Some made) = (legal view.trees op ≡ Ok Legal) × (made ≡ record view { trees = applied_one view.trees op (moment_of view.moment); unasked = made.unasked })
+WritesView view op (Some written) = IsWrittenTo view op written
 
 -- a change is carried out on a view's trees, where it makes as many keys as on the trees of now
 pub record MovesView (view : View) (now : List TreeMap) (op : Op) (number : ℕ) (after : View) : Type 0 where

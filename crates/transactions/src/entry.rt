@@ -141,19 +141,26 @@ impl View {
         }
     }
 
-    /// The view after one operation more, or nothing where it opens a key; judged and carried out at the view's moment.
-    fn write(&self, alloc: Global, op: &Op) -> Result<Option<View>, Refusal>
+    /// The view after one operation more and how many keys that made, or nothing where it opens a key; judged and carried out
+    /// at the view's moment.
+    fn write(&self, alloc: Global, op: &Op) -> Result<Option<Judged>, Refusal>
         ensures ok { IfOk result (WritesView self.now op.now) }
         ensures refused { IfErr result (λ refusal.
             (legal self.now.trees op.now ≡ Err refusal) ⊎ (refusal ≡ NoMemory)) }
     {
-        match self.trees.write(alloc, op, self.moment.unwrap_or(0)) {
-            Ok(Some(trees)) => Ok(Some(View {
-                trees,
-                moment: self.moment,
-                number: self.number,
-                carried: self.carried,
-                unasked: 0,
+        match self
+            .trees
+            .write_counted(alloc, op, self.moment.unwrap_or(0))
+        {
+            Ok(Some((trees, levels))) => Ok(Some(Judged {
+                made: View {
+                    trees,
+                    moment: self.moment,
+                    number: self.number,
+                    carried: self.carried,
+                    unasked: 0,
+                },
+                levels,
             })),
             Ok(None) => Ok(None),
             Err(refusal) => Err(refusal),
@@ -172,20 +179,24 @@ impl View {
     ) -> Result<Option<View>, AllocError>
         ensures { IfOk result (λ moved. IfSome moved (MovesView self.now now.now op.now number)) }
     {
-        if !self.carried || levels_made(&self.trees, op) != levels_made(now, op) {
+        if !self.carried {
             return Ok(None);
         }
-        match self.trees.write(alloc, op, 0) {
-            Ok(Some(trees)) => Ok(Some(View {
-                trees,
-                moment: None,
-                number,
-                carried: true,
-                unasked: self.unasked.saturating_add(1),
-            })),
-            Err(Refusal::NoMemory) => Err(AllocError),
-            _ => Ok(None),
+        let (trees, levels) = match self.trees.write_counted(alloc, op, 0) {
+            Ok(Some(written)) => written,
+            Err(Refusal::NoMemory) => return Err(AllocError),
+            _ => return Ok(None),
+        };
+        if levels != levels_made(now, op) {
+            return Ok(None);
         }
+        Ok(Some(View {
+            trees,
+            moment: None,
+            number,
+            carried: true,
+            unasked: self.unasked.saturating_add(1),
+        }))
     }
 
     /// The view after the change of this number, none of whose operations meets a claim of the view's: each is applied to it
@@ -371,14 +382,13 @@ impl Entry {
         let Some(view) = &self.view else {
             unreachable!();
         };
-        let Some(made) = view.write(alloc, op)? else {
+        let Some(written) = view.write(alloc, op)? else {
             return Ok(None);
         };
-        let levels = levels_made(&view.trees, op);
         if self.is_too_long(op) {
             return Err(Refusal::TooLarge);
         }
-        Ok(Some(Judged { made, levels }))
+        Ok(Some(written))
     }
 
     /// What the question asks of a key, as the transaction sees it.

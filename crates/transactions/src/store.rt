@@ -16,7 +16,7 @@ use crate::short::change_is_short;
 use crate::table::{TxTable, Written};
 use element_text::ChangeText;
 use machine::room::CHANGE_START;
-use machine::{Bounds, Event, Question, Reply, Sessions, Tx, levels_made, look_up};
+use machine::{Bounds, Event, Question, Reply, Sessions, Tx, look_up};
 use refusals::Refusal;
 use refusals::limits::{GREATEST_NUMBER, MOST_JOURNAL_BYTES};
 use reg_names::Path;
@@ -424,11 +424,10 @@ impl Store {
         open(&self.sessions, session)?;
         self.check_named(op.hive())?;
         let now = self.table.trees();
-        let Some(trees) = now.write(self.alloc, op, moment)? else {
+        let Some((trees, levels)) = now.write_counted(self.alloc, op, moment)? else {
             return Ok(None);
         };
         let room = self.room_with(CHANGE_BYTES.saturating_add(op.text_len()))?;
-        let levels = levels_made(now, op);
         change_is_short(op);
         let holders = self.table.holders(op)?;
         Ok(Some(JudgedWrite {

@@ -1,15 +1,14 @@
-//! Whether an operation may be carried out: it is judged by the key that it finds, from which whoever carries it out goes on.
-ghost use Rattle.std.specs.Prelude.{◌≡◌, ◌-◌, ◌≤◌, ◌==◌, Ok, Err, IfOk, IfErr, OnOk, length};
+//! Whether an operation may be carried out, which is asked of it alone: a write judges as it goes (`edits`).
+ghost use Rattle.std.specs.Prelude.{◌≡◌};
 ghost use Rattle.reg_names.specs.Names.{folded_path};
-ghost use Rattle.reg_tree.specs.Maps.{StandsAt, is_there, missing};
 ghost use Rattle.reg_tree.specs.Judgement.{judged, judged_create, judged_delete_at, judged_set, judged_unset};
 
 use super::{NOT_DELETABLE, Tree};
 use crate::op::{Legality, Op};
 use refusals::Refusal;
 use refusals::limits::{MOST_NEW_LEVELS, MOST_VALUE_BYTES};
-use reg_names::{Name, Path, ValueName};
-use reg_tree_parts::{Data, Node};
+use reg_names::{Path, ValueName};
+use reg_tree_parts::Data;
 
 impl Tree {
     /// Whether the operation may be carried out on this tree, weights aside: the first refusal in order.
@@ -34,18 +33,6 @@ impl Tree {
     {
         let names = path.names();
         let (_, depth) = self.nearest(names);
-        self.judge_levels(names, depth)
-    }
-
-    // judges the creation of a key, of whose names so many lead to a key that is there
-    pub(super) fn judge_levels(&self, names: &[Name], depth: usize) -> Result<Legality, Refusal>
-        requires within { depth ≤ length names.now }
-        requires missing { length (missing self.now (folded_path names.now))
-            ≡ length names.now - depth }
-        requires there { is_there self.now (folded_path names.now) ≡ (depth == length names.now) }
-        ensures { result ≡ judged_create self.now (folded_path names.now) }
-    {
-        let _ = &self.root;
         if depth == names.len() {
             return Ok(Legality::Opened);
         }
@@ -57,18 +44,6 @@ impl Tree {
 
     fn judge_delete(&self, path: &Path) -> Result<Legality, Refusal>
         ensures { result ≡ judged_delete_at self.now path.now }
-    {
-        match self.may_delete(path) {
-            Ok(()) => Ok(Legality::Legal),
-            Err(refusal) => Err(refusal),
-        }
-    }
-
-    // refuses a key that may not be deleted
-    pub(super) fn may_delete(&self, path: &Path) -> Result<(), Refusal>
-        ensures legal { OnOk result (judged_delete_at self.now path.now ≡ Ok Legality.Legal) }
-        ensures refused { IfErr result (λ refusal.
-            judged_delete_at self.now path.now ≡ Err refusal) }
     {
         let names = path.names();
         if names.is_empty() {
@@ -83,25 +58,11 @@ impl Tree {
         if node.subkey_count() != 0 {
             return Err(Refusal::HasSubkeys);
         }
-        Ok(())
+        Ok(Legality::Legal)
     }
 
     fn judge_set(&self, path: &Path, data: &Data) -> Result<Legality, Refusal>
         ensures { result ≡ judged_set self.now (folded_path path.now) data.now }
-    {
-        match self.key_to_set(path, data) {
-            Ok(_) => Ok(Legality::Legal),
-            Err(refusal) => Err(refusal),
-        }
-    }
-
-    // the key at this path, where a value of these data may be written
-    pub(super) fn key_to_set(&self, path: &Path, data: &Data) -> Result<&Node, Refusal>
-        ensures legal { IfOk result (λ _. judged_set self.now (folded_path path.now) data.now
-            ≡ Ok Legality.Legal) }
-        ensures found { IfOk result (λ node. StandsAt self.now (folded_path path.now) node.now) }
-        ensures refused { IfErr result (λ refusal.
-            judged_set self.now (folded_path path.now) data.now ≡ Err refusal) }
     {
         let Some(node) = self.node(path.names()) else {
             return Err(Refusal::NotFound);
@@ -110,31 +71,17 @@ impl Tree {
         if data.bytes().len() > MOST_VALUE_BYTES {
             return Err(Refusal::TooLarge);
         }
-        Ok(node)
+        Ok(Legality::Legal)
     }
 
     fn judge_unset(&self, path: &Path, name: &ValueName) -> Result<Legality, Refusal>
         ensures { result ≡ judged_unset self.now (folded_path path.now) name.now }
     {
-        match self.key_to_unset(path, name) {
-            Ok(_) => Ok(Legality::Legal),
-            Err(refusal) => Err(refusal),
-        }
-    }
-
-    // the key at this path, where it has a value of this name
-    pub(super) fn key_to_unset(&self, path: &Path, name: &ValueName) -> Result<&Node, Refusal>
-        ensures legal { IfOk result (λ _. judged_unset self.now (folded_path path.now) name.now
-            ≡ Ok Legality.Legal) }
-        ensures found { IfOk result (λ node. StandsAt self.now (folded_path path.now) node.now) }
-        ensures refused { IfErr result (λ refusal.
-            judged_unset self.now (folded_path path.now) name.now ≡ Err refusal) }
-    {
         let Some(node) = self.node(path.names()) else {
             return Err(Refusal::NotFound);
         };
         match node.key().values().get(name.name()) {
-            Some(_) => Ok(node),
+            Some(_) => Ok(Legality::Legal),
             None => Err(Refusal::NotFound),
         }
     }

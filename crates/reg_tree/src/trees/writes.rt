@@ -1,6 +1,7 @@
 //! Writes: operations that are judged and carried out at once, and lists of them within the limit of weight.
 ghost use Rattle.std.specs.Prelude.{◌≡◌, ◌<◌, ◌⊎◌, length, slice_set, true, false, IfOk, IfErr, OnOk};
 ghost use Rattle.reg_tree.specs.Judgement.{legal, applied, applied_one, outweighs, any_outweighs, IsWritten};
+ghost use Rattle.reg_tree.specs.TreeLists.{levels_made};
 
 use super::Trees;
 use crate::op::Op;
@@ -9,20 +10,38 @@ use refusals::Refusal;
 use std::alloc::{AllocError, Global};
 
 impl Trees {
-    /// The trees after the operation at this moment, or nothing where it opens a key. Refused exactly as
-    /// [`Trees::legal`] says: the operation is judged and carried out in one go, which makes the nodes of its
-    /// path once.
-    pub fn write(&self, alloc: Global, op: &Op, moment: u64) -> Result<Option<Trees>, Refusal>
-        ensures ok { IfOk result
-            (IsWritten (legal self.now op.now) (applied_one self.now op.now moment)) }
+    /// The trees after the operation at this moment, and how many keys that made, where it is a creation; or nothing where
+    /// it opens a key. Refused exactly as [`Trees::legal`] says: the operation is judged and carried out in one go, which
+    /// makes the nodes of its path once.
+    pub fn write_counted(
+        &self,
+        alloc: Global,
+        op: &Op,
+        moment: u64,
+    ) -> Result<Option<(Trees, Option<usize>)>, Refusal>
+        ensures ok { IfOk result (IsWritten (legal self.now op.now)
+            (applied_one self.now op.now moment, levels_made self.now op.now)) }
         ensures refused { IfErr result (λ refusal.
             (legal self.now op.now ≡ Err refusal) ⊎ (refusal ≡ Refusal.NoMemory)) }
     {
         let Some(tree) = self.tree(op.hive()) else {
             return Err(Refusal::NotFound);
         };
-        match tree.write(alloc, op, moment)? {
-            Some(made) => Ok(Some(self.with_tree(alloc, op.hive(), made)?)),
+        match tree.write_counted(alloc, op, moment)? {
+            Some((made, levels)) => Ok(Some((self.with_tree(alloc, op.hive(), made)?, levels))),
+            None => Ok(None),
+        }
+    }
+
+    /// As [`Trees::write_counted`], without the count.
+    pub fn write(&self, alloc: Global, op: &Op, moment: u64) -> Result<Option<Trees>, Refusal>
+        ensures ok { IfOk result
+            (IsWritten (legal self.now op.now) (applied_one self.now op.now moment)) }
+        ensures refused { IfErr result (λ refusal.
+            (legal self.now op.now ≡ Err refusal) ⊎ (refusal ≡ Refusal.NoMemory)) }
+    {
+        match self.write_counted(alloc, op, moment)? {
+            Some((made, _)) => Ok(Some(made)),
             None => Ok(None),
         }
     }

@@ -2,7 +2,9 @@ use Rattle.std.proofs.Common.{◌≡◌, List, ℕ, Ok, IfSome, MatchOption, sub
 use Rattle.reg_tree_parts.specs.Nodes.{row_at, IsNode}
 use Rattle.reg_tree.specs.Spellable.{IsSpellable, IsRooted}
 use Rattle.reg_tree.specs.Operations.{row_after, tree_after}
-use Rattle.reg_tree.specs.Judgement.{judged, changed_if}
+use Rattle.std.specs.FinMap as finite
+use Rattle.reg_tree.specs.TreeLists.{levels_of}
+use Rattle.reg_tree.specs.Judgement.{judged, changed, changed_if}
 use Rattle.reg_tree.specs.declared.op.Legality.TheVariants.{Legal, Opened}
 use Rattle.reg_tree.proofs.Rows.{tree_is}
 use Rattle.reg_tree.proofs.TreesAfter.{made_is}
@@ -13,8 +15,8 @@ pub invariant_of-result : goal.invariant_of-result
 invariant_of-result c =
     let self = c.args.self.now in
     let op = c.args.op.now in
-    let node = subst (λ o. IfSome o IsNode) c.in-Some.is c.in_ok-root_after.ensures.node in
-    let rows = subst (λ o. IfSome o (λ made. (q : List (List ℕ)) → row_at made q ≡ row_after self op c.args.moment q)) c.in-Some.is c.in_ok-root_after.ensures.rows in
+    let node = subst (λ o. IfSome o (λ it. IsNode it.0)) c.in-Some.is c.in_ok-root_after.ensures.node in
+    let rows = subst (λ o. IfSome o (λ it. (q : List (List ℕ)) → row_at it.0 q ≡ row_after self op c.args.moment q)) c.in-Some.is c.in_ok-root_after.ensures.rows in
     let made = made_is self c.in-Some.root node op c.args.moment rows in
     let spellable = spellable_after self (subst IsSpellable c.self.view_is c.self.invariant.spellable) op c.in_ok-root_after.ensures.named c.args.moment in
     subst IsRooted (sym c.in_ok-root-in-Some.ensures.ok) (record { node = node; tree = tree_is _ node; spellable = subst IsSpellable (sym made) spellable })
@@ -23,8 +25,10 @@ pub returns-in_ok-root-in-Some-clause-ok : goal.returns-in_ok-root-in-Some-claus
 returns-in_ok-root-in-Some-clause-ok c =
     let self = c.args.self.now in
     let op = c.args.op.now in
-    let node = subst (λ o. IfSome o IsNode) c.in-Some.is c.in_ok-root_after.ensures.node in
-    let rows = subst (λ o. IfSome o (λ made. (q : List (List ℕ)) → row_at made q ≡ row_after self op c.args.moment q)) c.in-Some.is c.in_ok-root_after.ensures.rows in
+    let node = subst (λ o. IfSome o (λ it. IsNode it.0)) c.in-Some.is c.in_ok-root_after.ensures.node in
+    let rows = subst (λ o. IfSome o (λ it. (q : List (List ℕ)) → row_at it.0 q ≡ row_after self op c.args.moment q)) c.in-Some.is c.in_ok-root_after.ensures.rows in
     let may = subst (λ o. MatchOption o (judged self op ≡ Ok Opened) (λ made. judged self op ≡ Ok Legal)) c.in-Some.is c.in_ok-root_after.ensures.judged in
     let made = made_is self c.in-Some.root node op c.args.moment rows in
-    (may, rw c.in_ok-root-in-Some.ensures.ok (made ∙ ap (λ j. changed_if j (tree_after self op c.args.moment) self) (sym may)))
+    let levels = subst (λ o. IfSome o (λ it. it.1 ≡ levels_of self op)) c.in-Some.is c.in_ok-root_after.ensures.levels in
+    let tree : finite.from_sorted c.in-Some.root ≡ changed self op c.args.moment = made ∙ ap (λ j. changed_if j (tree_after self op c.args.moment) self) (sym may) in
+    (may, rw c.in_ok-root-in-Some.ensures.ok (λ i. (tree i, levels i)))

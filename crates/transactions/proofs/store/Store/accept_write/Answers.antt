@@ -1,9 +1,10 @@
 use Rattle.std.proofs.Common.{◌≡◌, ◌+◌, ℕ, [], ◌∷◌, ◌++◌, ◌∙◌, ap, sym, subst}
 use Rattle.reg_tree.specs.Judgement.{legal, applied_one}
+use Rattle.reg_tree.specs.TreeLists.{levels_made}
 use Rattle.reg_tree.specs.declared.element.Element.{Element}
 use Rattle.reg_tree.specs.declared.op.Op.{Op}
 use Rattle.reg_tree.specs.Texts.{element_text_len}
-use Rattle.machine.specs.Machine.{Machine, change, levels_made}
+use Rattle.machine.specs.Machine.{Machine, change}
 use Rattle.machine.specs.Steps.{Accepts}
 use Rattle.transactions.specs.Entries.{AreMoved}
 use Rattle.transactions.specs.Prepared.{IsReadyWrite}

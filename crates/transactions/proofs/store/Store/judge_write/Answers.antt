@@ -6,7 +6,8 @@ use Rattle.conflicts.specs.Claims.{claim_of}
 use Rattle.machine.specs.Transactions.{at}
 use Rattle.transactions.specs.Tables.{holds_if}
 use Rattle.reg_tree.specs.Judgement.{legal, applied_one, IsWritten}
-use Rattle.machine.specs.Machine.{change, is_open, levels_made, room_refusal, unnamed_refusal, trees_now}
+use Rattle.reg_tree.specs.TreeLists.{levels_made}
+use Rattle.machine.specs.Machine.{change, is_open, room_refusal, unnamed_refusal, trees_now}
 use Rattle.transactions.specs.Stores.{StoreView}
 use Rattle.transactions.proofs.Stored.{closed_write, illegal_write, crowded_write, cut_change, uncut, unjudged_write, unnamed_write}
 use Rattle.transactions.proofs.store.Store.judge_write.Goals as goal
@@ -40,7 +41,7 @@ pub returns-in_err-room : goal.returns-in_err-room
 returns-in_err-room c =
     let m = c.args.self.now.machine in
     let why = c.in_err-room.field-0.0 in
-    let written = subst (IsWritten (legal c.trees-now.result.now c.args.op.now) (applied_one c.trees-now.result.now c.args.op.now c.args.moment)) c.in-Some.is c.in_ok-trees.ensures.ok in
+    let written = subst (IsWritten (legal c.trees-now.result.now c.args.op.now) (applied_one c.trees-now.result.now c.args.op.now c.args.moment, levels_made c.trees-now.result.now c.args.op.now)) c.in-Some.is c.in_ok-trees.ensures.ok in
     unjudged_write m c.args.session c.args.moment c.args.op.now c.from_residual-in_err-room.result why c.from_residual-in_err-room.ensures.1
     (crowded_write m c.args.session c.args.moment c.args.op.now c.trees-now.result.now (Err why) why c.saturating_add.result c.requires.free
     (ap (λ (v : StoreView). is_open v.machine c.args.session) (sym c.self.view_is) ∙ c.in_ok-open.ensures.ok) (subst (λ hive. unnamed_refusal m hive ≡ None) c.hive.ensures c.in_ok-check_named.ensures.ok) (c.trees-now.ensures ∙ c.self.invariant.trees ∙ ap (λ (v : StoreView). trees_now v.machine) c.self.view_is)
@@ -51,7 +52,7 @@ returns c =
     let m = c.args.self.now.machine in
     let op = c.args.op.now in
     let moment = c.args.moment in
-    let written = subst (IsWritten (legal c.trees-now.result.now op) (applied_one c.trees-now.result.now op moment)) c.in-Some.is c.in_ok-trees.ensures.ok in
+    let written = subst (IsWritten (legal c.trees-now.result.now op) (applied_one c.trees-now.result.now op moment, levels_made c.trees-now.result.now op)) c.in-Some.is c.in_ok-trees.ensures.ok in
     let now = c.trees-now.ensures ∙ c.self.invariant.trees ∙ ap (λ (v : StoreView). trees_now v.machine) c.self.view_is in
     let exact = uncut m (element_text_len (change moment op)) c.saturating_add.result c.in_ok-room.ensures.ok.0 (cut_change moment op c.text_len.result c.saturating_add.result c.text_len.ensures c.saturating_add.ensures) in
     record {
@@ -60,8 +61,8 @@ returns c =
       is_legal = subst (λ (t : List TreeMap). legal t op ≡ Ok Legal) now written.0;
       roomy = subst (λ n. room_refusal m n ≡ None) exact c.in_ok-room.ensures.ok.0;
       short = c.change_is_short.ensures c.trees-now.result.now moment written.0;
-      levels = c.levels_made-levels.ensures ∙ ap (λ (t : List TreeMap). levels_made t op) now;
-      trees = written.1 ∙ ap (λ (t : List TreeMap). applied_one t op moment) now;
+      levels = ap (λ w. w.1) written.1 ∙ ap (λ (t : List TreeMap). levels_made t op) now;
+      trees = ap (λ w. w.0) written.1 ∙ ap (λ (t : List TreeMap). applied_one t op moment) now;
       holders = λ place. c.in_ok-holders.ensures place ∙ ap (λ (v : StoreView). holds_if (claim_of op) (at v.machine.places place)) c.self.view_is;
       room = c.in_ok-room.ensures.ok.1 ∙ ap (λ n. m.room + (17 + n)) exact;
     }
