@@ -9,7 +9,8 @@ use Rattle.std.proofs.lemmas.List.{length-map}
 use Rattle.std.proofs.lemmas.List.Sums.{sum_by-append, sum_by-cons}
 use Rattle.reg_tree_parts.specs.Orders.{name_order}
 use Rattle.reg_tree_parts.specs.Rows.{Row, row_weight}
-use Rattle.reg_tree_parts.specs.Nodes.{Entries, below, all_below, entries_of, entries_weight, row_at, row_in, names_below, spelled_root, IsNode, AreNodes}
+use Rattle.reg_tree_parts.specs.Nodes.{Entries, root_name, below, all_below, entries_of, entries_weight, row_at, row_in, names_below, spelled_root, IsNode, AreNodes}
+use Rattle.shared_map.specs.Writes.{laid, written}
 use Rattle.reg_tree_parts.proofs.Keys.{names_total}
 use Rattle.std.proofs.lemmas.Option.{slice_get-map}
 use Rattle.std.specs.Option.{option_map}
@@ -39,6 +40,14 @@ weighs_whole row subkeys own below_it whole o b w =
 -- a key has as many subkeys as its list has nodes
 pub length-names : (row : Row) (subkeys : List (List ℕ × Entries)) → AreNodes subkeys → length subkeys ≡ length (names_below [] (entries_of row subkeys))
 length-names row subkeys nodes = sym (ap length (names-root row subkeys nodes) ∙ length-map subkeys (λ subkey. spelled_root subkey.1))
+
+-- a node that is written among subkeys is put there, whatever had its name
+pub put_written : (child : Entries) (subkeys made : List (List ℕ × Entries)) → made ≡ written root_name (λ old new. new) child subkeys → made ≡ put name_order (root_name child) child subkeys
+put_written child subkeys made is = is ∙ ap (λ es. put name_order (root_name child) es subkeys) (newest (find name_order (root_name child) subkeys))
+  where
+    newest : (found : Option Entries) → laid (λ old new. new) found child ≡ child
+    newest None = refl
+    newest (Some old) = refl
 
 -- nodes stay nodes as one is put in or some are taken out
 nodes-put : (k : List ℕ) (es : Entries) (subkeys : List (List ℕ × Entries)) → IsNode es → AreNodes subkeys → AreNodes (put name_order k es subkeys)

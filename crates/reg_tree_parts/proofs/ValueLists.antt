@@ -1,5 +1,5 @@
 -- What a list of shared values in order says of the map that it stands for.
-use Rattle.std.proofs.Common.{◌≡◌, ℕ, zero, suc, ◌+◌, ◌≤◌, [], ◌∷◌, arith, sum_by, Bool, true, false, not, cond, T, List, length, map, None, slice_get, refl, sym, ◌∙◌, ap, subst}
+use Rattle.std.proofs.Common.{◌≡◌, ℕ, zero, suc, ◌+◌, ◌≤◌, [], ◌∷◌, arith, sum_by, Bool, true, false, not, cond, T, List, length, map, Option, None, Some, slice_get, refl, sym, ◌∙◌, ap, subst}
 use Rattle.std.specs.FinMap as finite
 use Rattle.std.specs.FinMap.{entries-from_sorted, len-entries, get-from_sorted, same_entries_map, entries-insert, get-remove, same_map}
 use Rattle.std.specs.FinMap.Entries.{is_sorted, find, put, where_key, is_sorted-put, is_sorted-where_key, find-where_key}
@@ -7,11 +7,12 @@ use Rattle.std.specs.Ordering.{eq_by_cmp, is_eq}
 use Rattle.std.specs.Cmp.{alike_right, eq_by_cmp_equiv}
 use Rattle.reg_names.specs.Names.{folded}
 use Rattle.reg_tree_parts.specs.Rows.{ValueMap}
-use Rattle.reg_tree_parts.specs.ValueEdits.{spelled_name, values_with}
+use Rattle.reg_tree_parts.specs.ValueEdits.{spelled_name, spelled_as, values_with}
 use Rattle.reg_tree_parts.proofs.Keys.{names_total, names_apart}
 use Rattle.reg_tree_parts.specs.declared.value.Value.{Value}
 use Rattle.reg_tree_parts.specs.Orders.{name_order}
 use Rattle.reg_tree_parts.specs.Weights.{value_weight}
+use Rattle.shared_map.specs.Writes.{laid, written}
 use Rattle.std.proofs.lemmas.List.Sums.{sum_by-cons}
 
 turned : {A : Type 0} (b : Bool) (x y : A) → cond (not b) x y ≡ cond b y x
@@ -69,7 +70,21 @@ loads (e ∷ es) = sum_by-cons (λ x. value_weight x.1) e es ∙ ap (λ w. value
 pub weights_are : (es : List (List ℕ × Value)) → T (is_sorted name_order es) → sum_by (λ e. value_weight e.1) es ≡ sum_by value_weight (finite.values (finite.from_sorted {R = name_order} es))
 weights_are es sorted = loads es ∙ ap (sum_by value_weight) (sym (values_are es sorted))
 
--- a value with the name as it is spelled there, inserted under its own folded name, is the value written
-pub with_is : (values : ValueMap) (name spelled : List ℕ) (kind : ℕ) (bytes given : List ℕ) → spelled ≡ spelled_name (finite.get values (folded name)) name → folded spelled ≡ folded name → bytes ≡ given
-    → finite.insert values (folded spelled) (record { name = spelled; kind = kind; «data» = bytes }) ≡ values_with values name kind given
-with_is values name spelled kind bytes given e f b = λ i. finite.insert values (f i) (record { name = e i; kind = kind; «data» = b i })
+-- a value that is laid over what has its name is spelled as that
+laid_is : (found : Option Value) (value : Value) → laid spelled_as found value ≡ record { name = spelled_name found value.name; kind = value.kind; «data» = value.data }
+laid_is None value = refl
+laid_is (Some old) value = refl
+
+-- a list into which a value was written is in order, and stands for the map with it
+pub written_is : (es : List (List ℕ × Value)) (sorted : T (is_sorted name_order es)) (value : Value) (made : List (List ℕ × Value)) → made ≡ written (λ v. folded v.name) spelled_as value es
+    → T (is_sorted name_order made) × (finite.from_sorted {R = name_order} made ≡ values_with (finite.from_sorted es) value.name value.kind value.data)
+written_is es sorted value made is =
+    let inserted = inserted_is es sorted (folded value.name) (laid spelled_as (find name_order (folded value.name) es) value) made is in (
+      inserted.0,
+      inserted.1
+          ∙ ap (finite.insert (finite.from_sorted es) (folded value.name)) (laid_is (find name_order (folded value.name) es) value ∙ ap (λ found. record { name = spelled_name found value.name; kind = value.kind; «data» = value.data }) (sym (get_is es sorted (folded value.name)))),
+    )
+
+-- what is written is decided by the name, the type and the bytes
+pub with_same : (values : ValueMap) (name given : List ℕ) (kind : ℕ) (bytes shared : List ℕ) → name ≡ given → bytes ≡ shared → values_with values name kind bytes ≡ values_with values given kind shared
+with_same values name given kind bytes shared e f = λ i. values_with values (e i) kind (f i)

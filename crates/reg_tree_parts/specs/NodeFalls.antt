@@ -7,7 +7,7 @@ use Rattle.std.specs.declared.alloc.Global.{Global}
 use Rattle.std.specs.Arc.{arc_value}
 use Rattle.shared_map.specs.declared.leaf.Leaf.{Leaf}
 use Rattle.shared_map.specs.declared.map.Held.{Held}
-use Rattle.shared_map.specs.declared.map.Held.TheVariants.{Empty, Few, Several, Many}
+use Rattle.shared_map.specs.declared.map.Held.TheVariants.{Empty, Few, Several, Many, Vast}
 use Rattle.shared_map.specs.Listings.{held_entries, leaf_entries, group_entries}
 use Rattle.shared_map.specs.ListingFalls.{capped, capped_part, most_items, most_parts}
 use Rattle.reg_tree_parts.specs.Rows.{Row}
@@ -41,6 +41,14 @@ held_falls key (Many whole) weight =
     (λ o. capped_part (capped (most_parts measure _ (group_entries (leaf_entries root_name))
     (λ p. capped_part (capped (most_parts measure _ (leaf_entries root_name) (λ q. capped_part (capped (items_fall (arc_value q).body))) (arc_value p).body.parts.items)))
     (arc_value o).body.parts.items)))
+    (arc_value whole).body.parts.items)))))
+held_falls key (Vast whole) weight =
+    capped (capped (capped (capped_part (capped (most_parts measure _ (group_entries (group_entries (group_entries (leaf_entries root_name))))
+    (λ n. capped_part (capped (most_parts measure _ (group_entries (group_entries (leaf_entries root_name)))
+    (λ o. capped_part (capped (most_parts measure _ (group_entries (leaf_entries root_name))
+    (λ p. capped_part (capped (most_parts measure _ (leaf_entries root_name) (λ q. capped_part (capped (items_fall (arc_value q).body))) (arc_value p).body.parts.items)))
+    (arc_value o).body.parts.items)))
+    (arc_value n).body.parts.items)))
     (arc_value whole).body.parts.items)))))
 
 -- no subkey has more entries than the node

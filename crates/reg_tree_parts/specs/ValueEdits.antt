@@ -10,6 +10,10 @@ abbrev pub spelled_name : Option Value → List ℕ → List ℕ
 spelled_name None name = name
 spelled_name (Some old) name = old.name
 
+-- a value whose name is spelled as another's
+abbrev pub spelled_as : Value → Value → Value
+spelled_as old new = record new { name = old.name }
+
 -- the values with one written: its type and data are new, and one that was there keeps the spelling of its name
 abbrev pub values_with : ValueMap → List ℕ → ℕ → List ℕ → ValueMap
 values_with values name kind bytes =

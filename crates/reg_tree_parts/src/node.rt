@@ -299,11 +299,22 @@ impl Listed for Node {
 
     ghost load = { entries_weight };
 
+    ghost over = { λ old new. new };
+
     fn name(&self) -> &Name {
         self.key.name()
     }
 
     fn weight(&self) -> u64 {
         self.weight
+    }
+
+    fn replaced_by(&self, alloc: Global, new: Arc<Node>) -> Result<Arc<Node>, AllocError>
+        requires { root_name new.value ≡ root_name self.now }
+        ensures over { IfOk result (λ made. made.value ≡ new.value) }
+        ensures named { IfOk result (λ made. root_name made.value ≡ root_name self.now) }
+    {
+        let _ = alloc;
+        Ok(new)
     }
 }

@@ -2,11 +2,13 @@
 ghost use Rattle.std.specs.Prelude.{◌≡◌, IfOk, min};
 ghost use Rattle.reg_names.specs.Names.{folded};
 ghost use Rattle.reg_tree_parts.specs.Weights.{value_weight};
+ghost use Rattle.reg_tree_parts.specs.ValueEdits.{spelled_as};
 
 use crate::data::Data;
 use reg_names::Name;
 use shared_map::Listed;
-use std::alloc::AllocError;
+use std::alloc::{AllocError, Global};
+use std::sync::Arc;
 
 /// A value: its name as it was spelled first, its type number, and its data.
 #[derive(Drop)]
@@ -52,12 +54,30 @@ impl Listed for Value {
 
     ghost load = { value_weight };
 
+    ghost over = { spelled_as };
+
     fn name(&self) -> &Name {
         &self.name
     }
 
     fn weight(&self) -> u64 {
         weight_of(self)
+    }
+
+    /// The new one, as this one is spelled.
+    fn replaced_by(&self, alloc: Global, new: Arc<Value>) -> Result<Arc<Value>, AllocError>
+        requires { folded new.value.name ≡ folded self.now.name }
+        ensures over { IfOk result (λ made. made.value ≡ spelled_as self.now new.value) }
+        ensures named { IfOk result (λ made. folded made.value.name ≡ folded self.now.name) }
+    {
+        if self.name.units() == new.name.units() {
+            return Ok(new);
+        }
+        let name = self.name.clone()?;
+        let data = new.data.clone()?;
+        let kind = new.kind;
+        let new = Arc::new(alloc, Value { name, kind, data })?;
+        Ok(new)
     }
 }
 

@@ -4,7 +4,7 @@ ghost use Rattle.std.specs.Option.{option_copied};
 ghost use Rattle.std.specs.FinMap as finite;
 ghost use Rattle.reg_names.specs.Names.{folded};
 ghost use Rattle.reg_tree_parts.specs.Weights.{value_weight};
-ghost use Rattle.reg_tree_parts.specs.ValueEdits.{spelled_name, values_with, values_without};
+ghost use Rattle.reg_tree_parts.specs.ValueEdits.{values_with, values_without};
 
 use crate::data::Data;
 use crate::value::Value;
@@ -61,18 +61,6 @@ impl Values {
         self.items.find(name)
     }
 
-    // the name as the value that has it spells it, else as it is given
-    fn spelling<'a>(&'a self, name: &'a Name) -> &'a Name
-        ensures spelled { result.now
-            ≡ spelled_name (finite.get self.now (folded name.now)) name.now }
-        ensures named { folded result.now ≡ folded name.now }
-    {
-        match self.get(name) {
-            Some(old) => &old.name,
-            None => name,
-        }
-    }
-
     /// The value at this index, in the order of names.
     pub fn at(&self, index: usize) -> Option<&Value>
         ensures { option_copied result ≡ slice_get (finite.values self.now) index }
@@ -91,7 +79,7 @@ impl Values {
     ) -> Result<Values, AllocError>
         ensures { IfOk result (λ made. made ≡ values_with self.now name.now kind bytes.now) }
     {
-        let name = self.spelling(name).clone()?;
+        let name = name.clone()?;
         let data = bytes.clone()?;
         let value = Arc::new(alloc, Value { name, kind, data })?;
         let items = self.items.with(alloc, value)?;

@@ -1,27 +1,16 @@
 -- Lists cut in two.
-use Rattle.std.proofs.Common.{◌≡◌, ℕ, zero, suc, ◌+◌, ◌<◌, ◌≤◌, List, [], ◌∷◌, ◌++◌, map, take, drop, get_or, length, refl, sym, ◌∙◌, ap, subst, append-nil, arith, add-one}
+use Rattle.std.proofs.Common.{◌≡◌, ℕ, zero, suc, ◌+◌, ◌<◌, ◌≤◌, List, [], ◌∷◌, ◌++◌, map, take, drop, get_or, length, refl, sym, ap, subst, append-nil, arith, add-one}
 use Rattle.std.specs.declared.sync.Arc.{Arc}
 use Rattle.std.specs.declared.alloc.Global.{Global}
 use Rattle.std.specs.Arc.{arc_value}
-use Rattle.shared_map.specs.declared.leaf.Leaf.{Leaf}
 use Rattle.shared_map.specs.declared.parts.Part.{Part}
 use Rattle.shared_map.specs.declared.parts.Group.{Group}
-use Rattle.shared_map.specs.Listings.{keyed, keyed_all, leaf_entries, parts_entries}
 use Rattle.shared_map.specs.Parts.{IsSum, AreSums}
-use Rattle.shared_map.proofs.LeafLists.{same_entries}
 
 pub map-halves : {A B : Type 0} (f : A → B) (h : ℕ) (xs : List A) → map f (take h xs) ++ map f (drop h xs) ≡ map f xs
 map-halves f zero xs = refl
 map-halves f (suc h) [] = refl
 map-halves f (suc h) (x ∷ xs) = ap (λ ys. f x ∷ ys) (map-halves f h xs)
-
--- two leaves of the halves of a list have its entries
-pub leaf_halves : {A : Type 0} (key : A → List ℕ) (items xs ys : List (Arc A Global)) (h : ℕ) → map arc_value xs ≡ map arc_value (take h items) → map arc_value ys ≡ map arc_value (drop h items)
-    → (p q : Arc (Part (Leaf A)) Global) → leaf_entries key ((arc_value p).body) ≡ keyed_all key xs → leaf_entries key ((arc_value q).body) ≡ keyed_all key ys → parts_entries (leaf_entries key) (p ∷ q ∷ []) ≡ keyed_all key items
-leaf_halves key items xs ys h front back p q ps qs =
-    ap (λ es. es ++ (leaf_entries key ((arc_value q).body) ++ [])) (ps ∙ same_entries key xs (take h items) front)
-    ∙ ap (λ es. keyed_all key (take h items) ++ es) (append-nil (leaf_entries key ((arc_value q).body)) ∙ qs ∙ same_entries key ys (drop h items) back)
-    ∙ map-halves (keyed key) h items
 
 -- two groups of the halves of parts take them all
 pub group_halves : {P : Type 0} (parts xs ys : List (Arc (Part P) Global)) (h : ℕ) → map arc_value xs ≡ map arc_value (take h parts) → map arc_value ys ≡ map arc_value (drop h parts)

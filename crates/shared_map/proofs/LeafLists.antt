@@ -8,11 +8,12 @@ use Rattle.std.specs.Ordering.{eq_by_cmp}
 use Rattle.std.specs.FinMap.Entries.{find, is_sorted, put, where_key}
 use Rattle.std.proofs.lemmas.Simd.{map-map}
 use Rattle.std.proofs.lemmas.List.{length-map}
-use Rattle.std.proofs.lemmas.List.Sums.{sum_by-cons}
+use Rattle.std.proofs.lemmas.List.Sums.{sum_by-cons, sum_by-insert}
 use Rattle.shared_map.specs.Orders.{name_order}
 use Rattle.shared_map.specs.Searches.{IsFound, IsGap}
 use Rattle.shared_map.specs.Listings.{keyed, keyed_all}
 use Rattle.shared_map.specs.Parts.{load_of}
+use Rattle.shared_map.specs.Writes.{laid, written}
 use Rattle.shared_map.proofs.Names.{names_total}
 use Rattle.shared_map.proofs.SortedLists.{find_at, find_gap, put_at, put_gap, without_at, without_gap}
 
@@ -32,6 +33,12 @@ module _ {A : Type 0} (key : A → List ℕ) where
   load-items load (x ∷ items) =
       sum_by-cons (λ item. load (arc_value item)) x items ∙ ap (λ w. load (arc_value x) + w) (load-items load items) ∙ sym (sum_by-cons (λ e. load e.1) (keyed key x) (keyed_all key items))
 
+  -- a thing that is inserted adds its weight to that of a list, of which this is a copy
+  pub load-insert : (load : A → ℕ) (items made : List (Arc A Global)) → map arc_value made ≡ map arc_value items → (new : Arc A Global) (i : ℕ) → load_of load (keyed_all key (insert made i new)) ≡ load_of load (keyed_all key items) + load (arc_value new)
+  load-insert load items made same new i =
+      sym (load-items load (insert made i new)) ∙ sum_by-insert (λ item. load (arc_value item)) made i new
+      ∙ ap (λ w. w + load (arc_value new)) (load-items load made ∙ ap (load_of load) (same_entries made items same))
+
   -- there are as many entries as things
   pub length-keyed : (items : List (Arc A Global)) → length items ≡ length (keyed_all key items)
   length-keyed items = sym (length-map items (keyed key))
@@ -50,26 +57,35 @@ module _ {A : Type 0} (key : A → List ℕ) where
     pub missing_in : (k : List ℕ) (i : ℕ) → IsGap name_order (λ x. key (arc_value x)) items k i → None ≡ find name_order k (keyed_all key items)
     missing_in k i gap = sym (find_gap names_total (keyed key) items k i gap)
 
-    -- in a copy of the list
-    module _ (made : List (Arc A Global)) (same : map arc_value made ≡ map arc_value items) where
-      made_entries : keyed_all key made ≡ keyed_all key items
-      made_entries = same_entries made items same
+  -- in a copy of a list in order
+  module _ (items : List (Arc A Global)) (sorted : T (is_sorted name_order (keyed_all key items))) (made : List (Arc A Global)) (same : map arc_value made ≡ map arc_value items) where
+    made_entries : keyed_all key made ≡ keyed_all key items
+    made_entries = same_entries made items same
 
-      pub made_sorted : T (is_sorted name_order (keyed_all key made))
-      made_sorted = subst (λ es. T (is_sorted name_order es)) (sym made_entries) sorted
+    pub made_sorted : T (is_sorted name_order (keyed_all key made))
+    made_sorted = subst (λ es. T (is_sorted name_order es)) (sym made_entries) sorted
 
-      -- a thing written over the one with its name is put into the entries
-      pub written : (new : Arc A Global) (i : ℕ) → IsFound (λ x. key (arc_value x)) made (key (arc_value new)) i → keyed_all key (set made i new) ≡ put name_order (key (arc_value new)) (arc_value new) (keyed_all key items)
-      written new i found = put_at names_total (keyed key) made new i new made_sorted found.in_range (found.same new) ∙ ap (put name_order (key (arc_value new)) (arc_value new)) made_entries
+    -- what replaces the thing with a name stands in the entries as what was written over it
+    pub written_over : (over : A → A → A) (new old held : Arc A Global) (i : ℕ) → IsFound (λ x. key (arc_value x)) made (key (arc_value new)) i → old ≡ get_or made i old → arc_value held ≡ over (arc_value old) (arc_value new) → key (arc_value held) ≡ key (arc_value old) → keyed_all key (set made i held) ≡ written key over (arc_value new) (keyed_all key items)
+    written_over over new old held i found is is_over same_key =
+        let name_is : key (arc_value held) ≡ key (arc_value new) = same_key ∙ found_name made (key (arc_value new)) i old found is in
+        let found_held : IsFound (λ x. key (arc_value x)) made (key (arc_value held)) i = subst (λ k. IsFound (λ x. key (arc_value x)) made k i) (sym name_is) found in
+        let found_old : Some (arc_value old) ≡ find name_order (key (arc_value new)) (keyed_all key items) = found_in made made_sorted (key (arc_value new)) i old found is ∙ ap (find name_order (key (arc_value new))) made_entries in
+        put_at names_total (keyed key) made held i held made_sorted found_held.in_range (found_held.same held) ∙ ap (put name_order (key (arc_value held)) (arc_value held)) made_entries
+        ∙ ap (λ k. put name_order k (arc_value held) (keyed_all key items)) name_is
+        ∙ ap (λ v. put name_order (key (arc_value new)) v (keyed_all key items)) (is_over ∙ ap (λ f. laid over f (arc_value new)) found_old)
 
-      -- so is one inserted into the gap of its name
-      pub added : (new : Arc A Global) (i : ℕ) → IsGap name_order (λ x. key (arc_value x)) made (key (arc_value new)) i → keyed_all key (insert made i new) ≡ put name_order (key (arc_value new)) (arc_value new) (keyed_all key items)
-      added new i gap = put_gap names_total (keyed key) made new i gap ∙ ap (put name_order (key (arc_value new)) (arc_value new)) made_entries
+    -- so does one inserted into the gap of its name
+    pub added : (over : A → A → A) (new : Arc A Global) (i : ℕ) → IsGap name_order (λ x. key (arc_value x)) made (key (arc_value new)) i → keyed_all key (insert made i new) ≡ written key over (arc_value new) (keyed_all key items)
+    added over new i gap =
+        let none : None ≡ find name_order (key (arc_value new)) (keyed_all key items) = missing_in made made_sorted (key (arc_value new)) i gap ∙ ap (find name_order (key (arc_value new))) made_entries in
+        put_gap names_total (keyed key) made new i gap ∙ ap (put name_order (key (arc_value new)) (arc_value new)) made_entries
+        ∙ ap (λ f. put name_order (key (arc_value new)) (laid over f (arc_value new)) (keyed_all key items)) none
 
-      -- the thing with a name, removed, leaves those with other names
-      pub dropped : (k : List ℕ) (i : ℕ) (d : Arc A Global) → IsFound (λ x. key (arc_value x)) made k i → keyed_all key (remove made i) ≡ where_key name_order (λ x. not (eq_by_cmp name_order k x)) (keyed_all key items)
-      dropped k i d found = without_at names_total (keyed key) made k i d made_sorted found.in_range (found.same d) ∙ ap (where_key name_order _) made_entries
+    -- the thing with a name, removed, leaves those with other names
+    pub dropped : (k : List ℕ) (i : ℕ) (d : Arc A Global) → IsFound (λ x. key (arc_value x)) made k i → keyed_all key (remove made i) ≡ where_key name_order (λ x. not (eq_by_cmp name_order k x)) (keyed_all key items)
+    dropped k i d found = without_at names_total (keyed key) made k i d made_sorted found.in_range (found.same d) ∙ ap (where_key name_order _) made_entries
 
-      -- and where none has it, the list is those
-      pub kept : (k : List ℕ) (i : ℕ) → IsGap name_order (λ x. key (arc_value x)) made k i → keyed_all key made ≡ where_key name_order (λ x. not (eq_by_cmp name_order k x)) (keyed_all key items)
-      kept k i gap = without_gap names_total (keyed key) made k i gap ∙ ap (where_key name_order _) made_entries
+    -- and where none has it, the list is those
+    pub kept : (k : List ℕ) (i : ℕ) → IsGap name_order (λ x. key (arc_value x)) made k i → keyed_all key made ≡ where_key name_order (λ x. not (eq_by_cmp name_order k x)) (keyed_all key items)
+    kept k i gap = without_gap names_total (keyed key) made k i gap ∙ ap (where_key name_order _) made_entries

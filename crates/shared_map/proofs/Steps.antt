@@ -11,6 +11,7 @@ use Rattle.shared_map.specs.declared.parts.Part.{Part}
 use Rattle.shared_map.specs.Orders.{name_order}
 use Rattle.shared_map.specs.Listings.{entries_in, parts_entries}
 use Rattle.shared_map.specs.Parts.{StartsAt, IsPart, EachIsPart, AreParts, IsPlace}
+use Rattle.shared_map.specs.Writes.{laid, written}
 use Rattle.shared_map.proofs.Names.{names_total}
 use Rattle.shared_map.proofs.SortedLists.{front_of, less_of}
 use Rattle.shared_map.proofs.Halves.{map-around, map-from, map-past, item_at}
@@ -124,10 +125,17 @@ module _ {A P : Type 0} (list : P → List (List ℕ × A)) (load : A → ℕ) (
           ∙ ap (λ es. entries_in list (map arc_value (take i parts)) ++ es) (entries_in-append list new (map arc_value (drop (i + 1) parts)))
 
       -- what is put into the part is put into the whole
-      pub put_step : (v : A) → entries_in list new ≡ put name_order name v (list (arc_value part).body) → entries_in list made ≡ put name_order name v (parts_entries list parts)
+      put_step : (v : A) → entries_in list new ≡ put name_order name v (list (arc_value part).body) → entries_in list made ≡ put name_order name v (parts_entries list parts)
       put_step v is_put =
           made_entries ∙ ap (λ es. entries_in list (map arc_value (take i parts)) ++ (es ++ entries_in list (map arc_value (drop (i + 1) parts)))) is_put
           ∙ sym (ap (put name_order name v) entries_split ∙ put_within name_order names_total name _ _ _ less above v)
+
+      -- what is written in the part is written in the whole
+      pub written_step : (key : A → List ℕ) (over : A → A → A) (new_thing : A) → key new_thing ≡ name → entries_in list new ≡ written key over new_thing (list (arc_value part).body) → entries_in list made ≡ written key over new_thing (parts_entries list parts)
+      written_step key over new_thing is is_written =
+          let as_named : (es : List (List ℕ × A)) → written key over new_thing es ≡ put name_order name (laid over (find name_order name es) new_thing) es = λ es. ap (λ k. put name_order k (laid over (find name_order k es) new_thing) es) is in
+          put_step (laid over (find name_order name (parts_entries list parts)) new_thing) (is_written ∙ as_named (list (arc_value part).body) ∙ ap (λ f. put name_order name (laid over f new_thing) (list (arc_value part).body)) (sym find_step))
+          ∙ sym (as_named (parts_entries list parts))
 
       -- what is taken out of the part is taken out of the whole
       pub where_step : entries_in list new ≡ where_key name_order (λ x. not (eq_by_cmp name_order name x)) (list (arc_value part).body) → entries_in list made ≡ where_key name_order (λ x. not (eq_by_cmp name_order name x)) (parts_entries list parts)

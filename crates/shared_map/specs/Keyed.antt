@@ -7,7 +7,7 @@ use Rattle.shared_map.specs.declared.leaf.Leaf.{Leaf}
 use Rattle.shared_map.specs.declared.parts.Part.{Part}
 use Rattle.shared_map.specs.declared.parts.Group.{Group}
 use Rattle.shared_map.specs.declared.map.Held.{Held}
-use Rattle.shared_map.specs.declared.map.Held.TheVariants.{Empty, Few, Several, Many}
+use Rattle.shared_map.specs.declared.map.Held.TheVariants.{Empty, Few, Several, Many, Vast}
 use Rattle.shared_map.specs.declared.map.SharedMap.{SharedMap}
 use Rattle.shared_map.specs.Listings.{keyed_all, leaf_entries, entries_in, group_entries, held_entries, entries}
 
@@ -44,6 +44,8 @@ module _ {A : Type 0} (key : A → List ℕ) where
   held_keyed (Several group) = of_group (arc_value group).body
   held_keyed (Many whole) =
       group_keyed (group_entries (group_entries (leaf_entries key))) (group_keyed (group_entries (leaf_entries key)) of_group) (arc_value whole).body
+  held_keyed (Vast whole) =
+      group_keyed (group_entries (group_entries (group_entries (leaf_entries key)))) (group_keyed (group_entries (group_entries (leaf_entries key))) (group_keyed (group_entries (leaf_entries key)) of_group)) (arc_value whole).body
 
   -- a map's are
   pub entries_keyed : (shared : SharedMap A) → AreKeyed key (entries key shared)

@@ -10,7 +10,7 @@ use Rattle.shared_map.specs.declared.leaf.Leaf.{Leaf}
 use Rattle.shared_map.specs.declared.parts.Part.{Part}
 use Rattle.shared_map.specs.declared.parts.Group.{Group}
 use Rattle.shared_map.specs.declared.map.Held.{Held}
-use Rattle.shared_map.specs.declared.map.Held.TheVariants.{Empty, Few, Several, Many}
+use Rattle.shared_map.specs.declared.map.Held.TheVariants.{Empty, Few, Several, Many, Vast}
 use Rattle.shared_map.specs.declared.map.SharedMap.{SharedMap}
 use Rattle.shared_map.specs.Orders.{name_order}
 use Rattle.shared_map.specs.Listings.{leaf_entries, group_entries}
@@ -38,9 +38,9 @@ EachIsPart list load Fits (part ∷ parts) = IsPart list load part × Fits part.
 abbrev pub AreParts : {A P : Type 0} → (P → List (List ℕ × A)) → (A → ℕ) → (P → Type 0) → List (Arc (Part P) Global) → Type 0
 AreParts list load Fits parts = EachIsPart list load Fits (map arc_value parts)
 
--- a leaf keeps the weight of its entries
-abbrev pub FitsLeaf : {A : Type 0} → (A → List ℕ) → (A → ℕ) → Leaf A → Type 0
-FitsLeaf key load leaf = leaf.weight ≡ min (load_of load (leaf_entries key leaf)) MAX
+-- a leaf keeps nothing beside its entries
+abbrev pub FitsLeaf : {A : Type 0} → Leaf A → Type 0
+FitsLeaf leaf = Unit {0}
 
 -- the parts of a group are parts
 abbrev pub FitsGroup : {A P : Type 0} → (P → List (List ℕ × A)) → (A → ℕ) → (P → Type 0) → Group P → Type 0
@@ -48,13 +48,16 @@ FitsGroup list load Fits group = AreParts list load Fits group.parts.items
 
 abbrev pub FitsHeld : {A : Type 0} → (A → List ℕ) → (A → ℕ) → Held A → Type 0
 FitsHeld key load Empty = Unit {0}
-FitsHeld key load (Few leaf) = IsPart (leaf_entries key) load (arc_value leaf) × FitsLeaf key load (arc_value leaf).body
+FitsHeld key load (Few leaf) = IsPart (leaf_entries key) load (arc_value leaf) × FitsLeaf (arc_value leaf).body
 FitsHeld key load (Several group) =
     IsPart (group_entries (leaf_entries key)) load (arc_value group)
-    × FitsGroup (leaf_entries key) load (FitsLeaf key load) (arc_value group).body
+    × FitsGroup (leaf_entries key) load FitsLeaf (arc_value group).body
 FitsHeld key load (Many whole) =
     IsPart (group_entries (group_entries (group_entries (leaf_entries key)))) load (arc_value whole)
-    × FitsGroup (group_entries (group_entries (leaf_entries key))) load (FitsGroup (group_entries (leaf_entries key)) load (FitsGroup (leaf_entries key) load (FitsLeaf key load))) (arc_value whole).body
+    × FitsGroup (group_entries (group_entries (leaf_entries key))) load (FitsGroup (group_entries (leaf_entries key)) load (FitsGroup (leaf_entries key) load FitsLeaf)) (arc_value whole).body
+FitsHeld key load (Vast whole) =
+    IsPart (group_entries (group_entries (group_entries (group_entries (leaf_entries key))))) load (arc_value whole)
+    × FitsGroup (group_entries (group_entries (group_entries (leaf_entries key)))) load (FitsGroup (group_entries (group_entries (leaf_entries key))) load (FitsGroup (group_entries (leaf_entries key)) load (FitsGroup (leaf_entries key) load FitsLeaf))) (arc_value whole).body
 
 -- what is kept in a map is that of its entries
 abbrev pub FitsMap : {A : Type 0} → (A → List ℕ) → (A → ℕ) → SharedMap A → Type 0

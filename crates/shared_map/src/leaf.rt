@@ -2,13 +2,14 @@
 ghost use Rattle.std.specs.Prelude.{◌≡◌, ℕ, T, not, List, [], ◌∷◌, ◌<◌, min, length, slice_get, IfOk, IfSome, OnOk, ◌++◌, MatchResult, sum_by, map};
 ghost use Rattle.std.specs.Option.{option_copied, option_map};
 ghost use Rattle.std.specs.Arc.{arc_value};
-ghost use Rattle.std.specs.FinMap.Entries.{find, is_sorted, put, where_key};
+ghost use Rattle.std.specs.FinMap.Entries.{find, is_sorted, where_key};
 ghost use Rattle.std.specs.Ordering.{eq_by_cmp};
 ghost use Rattle.reg_names.specs.Names.{folded};
 ghost use Rattle.shared_map.specs.Orders.{name_order};
 ghost use Rattle.shared_map.specs.Searches.{IsFound, IsGap};
 ghost use Rattle.shared_map.specs.Listings.{keyed_all, leaf_entries, parts_entries, parts_of};
 ghost use Rattle.shared_map.specs.Parts.{IsPart, AreParts, FitsLeaf, load_of};
+ghost use Rattle.shared_map.specs.Writes.{written};
 
 use crate::parts::{Part, Pieces};
 use crate::piece::Piece;
@@ -23,6 +24,8 @@ pub trait Listed: Drop {
 
     ghost load: { Self → ℕ };
 
+    ghost over: { Self → Self → Self };
+
     /// The name.
     fn name(&self) -> &Name
         ensures { folded result.now ≡ key self.now };
@@ -30,43 +33,46 @@ pub trait Listed: Drop {
     /// The weight, or the greatest number of 64 bits where it is more.
     fn weight(&self) -> u64
         ensures { result ≡ min (load self.now) u64.MAX };
+
+    /// What stands in its place once another of its name is put there.
+    fn replaced_by(&self, alloc: Global, new: Arc<Self>) -> Result<Arc<Self>, AllocError>
+        requires { key new.value ≡ key self.now }
+        ensures over { IfOk result (λ made. made.value ≡ over self.now new.value) }
+        ensures named { IfOk result (λ made. key made.value ≡ key self.now) };
 }
 
 /// A few entries in the order of their folded names.
 #[derive(Drop)]
 pub struct Leaf<E> {
     items: Vec<Arc<E>>,
-    weight: u64,
 }
 
 /// The most entries of a leaf.
 const MOST_ENTRIES: usize = 16;
 
 impl<E: Listed> Leaf<E> {
-    // a leaf of these entries
-    fn new(items: Vec<Arc<E>>) -> Leaf<E>
-        ensures entries { leaf_entries E.key result ≡ keyed_all E.key items.items }
-        ensures fits { FitsLeaf E.key E.load result }
-    {
-        let weight = weight_of(&items);
-        Leaf { items, weight }
-    }
-
-    // the entries with this one in the place of its name
-    fn with_item(&self, alloc: Global, new: Arc<E>) -> Result<Vec<Arc<E>>, AllocError>
+    // the entries with this one in the place of its name, and their weight
+    fn with_item(&self, alloc: Global, new: Arc<E>) -> Result<(Vec<Arc<E>>, u64), AllocError>
         requires { T (is_sorted name_order (leaf_entries E.key self.now)) }
-        ensures { IfOk result (λ made. keyed_all E.key made.items ≡ put name_order (E.key new.value)
-            new.value (leaf_entries E.key self.now)) }
+        ensures entries { IfOk result (λ made. keyed_all E.key made.0.items
+            ≡ written E.key E.over new.value (leaf_entries E.key self.now)) }
+        ensures weighs { IfOk result (λ made. made.1
+            ≡ min (load_of E.load (keyed_all E.key made.0.items)) u64.MAX) }
     {
+        // each entry is looked at before pointers to them are taken, which would wait for the memory of one after the other
+        let old = weight_of(&self.items);
         let mut made = copied(alloc, &self.items, 1)?;
         match search(&made, new.name()) {
             Ok(at) => {
+                let new = made[at].replaced_by(alloc, new)?;
                 made[at] = new;
-                Ok(made)
+                let weight = weight_of(&made);
+                Ok((made, weight))
             }
             Err(at) => {
+                let weight = old.saturating_add(new.weight());
                 made.insert(at, new)?;
-                Ok(made)
+                Ok((made, weight))
             }
         }
     }
@@ -91,7 +97,7 @@ impl<E: Listed> Leaf<E> {
 impl<E: Listed> Piece<E> for Leaf<E> {
     ghost list = { leaf_entries E.key };
 
-    ghost Fits = { FitsLeaf E.key E.load };
+    ghost Fits = { FitsLeaf };
 
     fn find(&self, name: &Name) -> Option<&E> {
         match search(&self.items, name) {
@@ -109,52 +115,52 @@ impl<E: Listed> Piece<E> for Leaf<E> {
     }
 
     fn with(&self, alloc: Global, new: Arc<E>) -> Result<Pieces<Leaf<E>>, AllocError>
-        requires fits { FitsLeaf E.key E.load self.now }
+        requires fits { FitsLeaf self.now }
         requires sorted { T (is_sorted name_order (leaf_entries E.key self.now)) }
         requires some { 0 < length (leaf_entries E.key self.now) }
         ensures entries { IfOk result (λ made. parts_entries (leaf_entries E.key) (parts_of made)
-            ≡ put name_order (E.key new.value) new.value (leaf_entries E.key self.now)) }
-        ensures parts { IfOk result (λ made. AreParts (leaf_entries E.key) E.load (FitsLeaf E.key
-            E.load) (parts_of made)) }
+            ≡ written E.key E.over new.value (leaf_entries E.key self.now)) }
+        ensures parts { IfOk result (λ made. AreParts (leaf_entries E.key) E.load FitsLeaf (parts_of made)) }
     {
-        let items = self.with_item(alloc, new)?;
-        leaf_parts(alloc, items)
+        let (items, weight) = self.with_item(alloc, new)?;
+        leaf_parts(alloc, items, weight)
     }
 
     fn without(&self, alloc: Global, name: &Name) -> Result<Pieces<Leaf<E>>, AllocError>
-        requires fits { FitsLeaf E.key E.load self.now }
+        requires fits { FitsLeaf self.now }
         requires sorted { T (is_sorted name_order (leaf_entries E.key self.now)) }
         requires some { 0 < length (leaf_entries E.key self.now) }
         ensures entries { IfOk result (λ made. parts_entries (leaf_entries E.key) (parts_of made)
             ≡ where_key name_order (λ key. not (eq_by_cmp name_order (folded name.now) key))
             (leaf_entries E.key self.now)) }
-        ensures parts { IfOk result (λ made. AreParts (leaf_entries E.key) E.load (FitsLeaf E.key
-            E.load) (parts_of made)) }
+        ensures parts { IfOk result (λ made. AreParts (leaf_entries E.key) E.load FitsLeaf (parts_of made)) }
     {
         let items = self.without_item(alloc, name)?;
-        leaf_parts(alloc, items)
+        let weight = weight_of(&items);
+        leaf_parts(alloc, items, weight)
     }
 }
 
-/// The parts of these entries: none, one leaf, or two halves.
-pub(crate) fn leaf_parts<E: Listed>(
+// the parts of these entries, which have this weight: none, one leaf, or two halves
+fn leaf_parts<E: Listed>(
     alloc: Global,
     items: Vec<Arc<E>>,
+    weight: u64,
 ) -> Result<Pieces<Leaf<E>>, AllocError>
+    requires { weight ≡ min (load_of E.load (keyed_all E.key items.items)) u64.MAX }
     ensures entries { IfOk result (λ made. parts_entries (leaf_entries E.key) (parts_of made)
         ≡ keyed_all E.key items.items) }
-    ensures parts { IfOk result (λ made. AreParts (leaf_entries E.key) E.load (FitsLeaf E.key
-        E.load) (parts_of made)) }
+    ensures parts { IfOk result (λ made. AreParts (leaf_entries E.key) E.load FitsLeaf (parts_of made)) }
 {
     if items.is_empty() {
         return Ok(Pieces::Gone);
     }
     if items.len() <= MOST_ENTRIES {
-        return Ok(Pieces::One(leaf_part(alloc, items)?));
+        return Ok(Pieces::One(leaf_part(alloc, items, weight)?));
     }
-    let half = items.len() / 2;
-    let front = leaf_part(alloc, copied(alloc, &items[..half], 0)?)?;
-    let back = leaf_part(alloc, copied(alloc, &items[half..], 0)?)?;
+    let (front, back) = items.split_at(items.len() / 2);
+    let front = leaf_of(alloc, front)?;
+    let back = leaf_of(alloc, back)?;
     Ok(Pieces::Two(front, back))
 }
 
@@ -162,12 +168,12 @@ pub(crate) fn leaf_parts<E: Listed>(
 pub(crate) fn one_leaf<E: Listed>(alloc: Global, new: Arc<E>) -> Result<Pieces<Leaf<E>>, AllocError>
     ensures entries { IfOk result (λ made. parts_entries (leaf_entries E.key) (parts_of made)
         ≡ (E.key new.value, new.value) ∷ []) }
-    ensures parts { IfOk result (λ made. AreParts (leaf_entries E.key) E.load (FitsLeaf E.key
-        E.load) (parts_of made)) }
+    ensures parts { IfOk result (λ made. AreParts (leaf_entries E.key) E.load FitsLeaf (parts_of made)) }
 {
+    let weight = new.weight();
     let mut items = Vec::new(alloc);
     items.push(new)?;
-    leaf_parts(alloc, items)
+    leaf_parts(alloc, items, weight)
 }
 
 /// Adds the leaves of these entries.
@@ -176,17 +182,17 @@ pub(crate) fn add_leaves<E: Listed>(
     items: &[Arc<E>],
     made: &mut Vec<Arc<Part<Leaf<E>>>>,
 ) -> Result<(), AllocError>
-    requires { AreParts (leaf_entries E.key) E.load (FitsLeaf E.key E.load) made.old.items }
+    requires { AreParts (leaf_entries E.key) E.load FitsLeaf made.old.items }
     ensures entries { OnOk result (parts_entries (leaf_entries E.key) made.new.items
         ≡ parts_entries (leaf_entries E.key) made.old.items ++ keyed_all E.key items.now) }
-    ensures parts { OnOk result (AreParts (leaf_entries E.key) E.load (FitsLeaf E.key E.load)
+    ensures parts { OnOk result (AreParts (leaf_entries E.key) E.load FitsLeaf
         made.new.items) }
 {
     if items.is_empty() {
         return Ok(());
     }
     if items.len() <= MOST_ENTRIES {
-        made.push(leaf_part(alloc, copied(alloc, items, 0)?)?)?;
+        made.push(leaf_of(alloc, items)?)?;
         return Ok(());
     }
     let (front, back) = items.split_at(items.len() / 2);
@@ -195,19 +201,33 @@ pub(crate) fn add_leaves<E: Listed>(
     Ok(())
 }
 
-// the part of a leaf of these entries
-fn leaf_part<E: Listed>(alloc: Global, items: Vec<Arc<E>>) -> Result<Arc<Part<Leaf<E>>>, AllocError>
-    requires { 0 < length items.items }
+// the part of a leaf of the same entries
+fn leaf_of<E: Listed>(alloc: Global, items: &[Arc<E>]) -> Result<Arc<Part<Leaf<E>>>, AllocError>
+    requires { 0 < length items.now }
+    ensures entries { IfOk result (λ part. leaf_entries E.key (arc_value part).body
+        ≡ keyed_all E.key items.now) }
+    ensures part { IfOk result (λ part. IsPart (leaf_entries E.key) E.load (arc_value part)) }
+{
+    let weight = weight_of(items);
+    let part = leaf_part(alloc, copied(alloc, items, 0)?, weight)?;
+    Ok(part)
+}
+
+// the part of a leaf of these entries, which have this weight
+fn leaf_part<E: Listed>(
+    alloc: Global,
+    items: Vec<Arc<E>>,
+    weight: u64,
+) -> Result<Arc<Part<Leaf<E>>>, AllocError>
+    requires some { 0 < length items.items }
+    requires weighs { weight ≡ min (load_of E.load (keyed_all E.key items.items)) u64.MAX }
     ensures entries { IfOk result (λ part. leaf_entries E.key (arc_value part).body
         ≡ keyed_all E.key items.items) }
     ensures part { IfOk result (λ part. IsPart (leaf_entries E.key) E.load (arc_value part)) }
-    ensures fits { IfOk result (λ part. FitsLeaf E.key E.load (arc_value part).body) }
 {
     let first = items[0].name().clone()?;
     let count = items.len();
-    let leaf = Leaf::new(items);
-    let weight = leaf.weight;
-    let part = Arc::new(alloc, Part::new(leaf, first, count, weight))?;
+    let part = Arc::new(alloc, Part::new(Leaf { items }, first, count, weight))?;
     Ok(part)
 }
 

@@ -1,12 +1,13 @@
-//! The map: a leaf, a group of leaves, or groups of groups of groups of leaves.
+//! The map: a leaf, a group of leaves, or three or four levels of groups.
 ghost use Rattle.std.specs.Prelude.{◌≡◌, ℕ, T, not, ◌<◌, List, [], min, length, IfOk, IfSome, map, slice_get};
 ghost use Rattle.std.specs.Option.{option_copied, option_map};
-ghost use Rattle.std.specs.FinMap.Entries.{find, is_sorted, put, where_key};
+ghost use Rattle.std.specs.FinMap.Entries.{find, is_sorted, where_key};
 ghost use Rattle.std.specs.Ordering.{eq_by_cmp};
 ghost use Rattle.reg_names.specs.Names.{folded};
 ghost use Rattle.shared_map.specs.Orders.{name_order};
 ghost use Rattle.shared_map.specs.Listings.{entries, keyed_all, leaf_entries, group_entries, parts_entries, parts_of};
 ghost use Rattle.shared_map.specs.Parts.{load_of, AreParts, FitsLeaf, FitsGroup, FitsMap};
+ghost use Rattle.shared_map.specs.Writes.{written};
 
 use crate::leaf::{Leaf, Listed, add_leaves, one_leaf};
 use crate::parts::{Group, MOST_PARTS, Part, Pieces, group_part, grouped};
@@ -27,6 +28,7 @@ enum Held<E> {
     Few(Arc<Part<Leaf<E>>>),
     Several(Arc<Part<Group<Leaf<E>>>>),
     Many(Arc<Part<Group<Group<Group<Leaf<E>>>>>>),
+    Vast(Arc<Part<Group<Group<Group<Group<Leaf<E>>>>>>>),
 }
 
 impl<E: Listed> SharedMap<E> {
@@ -58,6 +60,10 @@ impl<E: Listed> SharedMap<E> {
                 let held = Held::Many(whole.clone()?);
                 Ok(SharedMap { held })
             }
+            Held::Vast(whole) => {
+                let held = Held::Vast(whole.clone()?);
+                Ok(SharedMap { held })
+            }
         }
     }
 
@@ -71,6 +77,7 @@ impl<E: Listed> SharedMap<E> {
             Held::Few(leaf) => leaf.count(),
             Held::Several(group) => group.count(),
             Held::Many(whole) => whole.count(),
+            Held::Vast(whole) => whole.count(),
         }
     }
 
@@ -84,6 +91,7 @@ impl<E: Listed> SharedMap<E> {
             Held::Few(leaf) => leaf.weight(),
             Held::Several(group) => group.weight(),
             Held::Many(whole) => whole.weight(),
+            Held::Vast(whole) => whole.weight(),
         }
     }
 
@@ -100,6 +108,7 @@ impl<E: Listed> SharedMap<E> {
             Held::Few(leaf) => leaf.body().find(name),
             Held::Several(group) => group.body().find(name),
             Held::Many(whole) => whole.body().find(name),
+            Held::Vast(whole) => whole.body().find(name),
         }
     }
 
@@ -113,6 +122,7 @@ impl<E: Listed> SharedMap<E> {
             Held::Few(leaf) => leaf.body().at(index),
             Held::Several(group) => group.body().at(index),
             Held::Many(whole) => whole.body().at(index),
+            Held::Vast(whole) => whole.body().at(index),
         }
     }
 
@@ -132,7 +142,7 @@ impl<E: Listed> SharedMap<E> {
         requires fits { FitsMap E.key E.load self.now }
         requires sorted { T (is_sorted name_order (entries E.key self.now)) }
         ensures entries { IfOk result (λ made. entries E.key made
-            ≡ put name_order (E.key new.value) new.value (entries E.key self.now)) }
+            ≡ written E.key E.over new.value (entries E.key self.now)) }
         ensures fits { IfOk result (FitsMap E.key E.load) }
     {
         match &self.held {
@@ -140,6 +150,7 @@ impl<E: Listed> SharedMap<E> {
             Held::Few(leaf) => of_pieces(alloc, leaf.body().with(alloc, new)?),
             Held::Several(group) => of_leaves(alloc, with_in(alloc, group.body().parts(), new)?),
             Held::Many(whole) => of_clusters(alloc, with_in(alloc, whole.body().parts(), new)?),
+            Held::Vast(whole) => of_regions(alloc, with_in(alloc, whole.body().parts(), new)?),
         }
     }
 
@@ -162,13 +173,17 @@ impl<E: Listed> SharedMap<E> {
                 let clusters = without_in(alloc, whole.body().parts(), name)?;
                 of_clusters(alloc, clusters)
             }
+            Held::Vast(whole) => {
+                let regions = without_in(alloc, whole.body().parts(), name)?;
+                of_regions(alloc, regions)
+            }
         }
     }
 }
 
 // a map of what an edit left of a leaf
 fn of_pieces<E: Listed>(alloc: Global, pieces: Pieces<Leaf<E>>) -> Result<SharedMap<E>, AllocError>
-    requires { AreParts (leaf_entries E.key) E.load (FitsLeaf E.key E.load) (parts_of pieces) }
+    requires { AreParts (leaf_entries E.key) E.load FitsLeaf (parts_of pieces) }
     ensures entries { IfOk result (λ made. entries E.key made
         ≡ parts_entries (leaf_entries E.key) (parts_of pieces)) }
     ensures fits { IfOk result (FitsMap E.key E.load) }
@@ -192,7 +207,7 @@ fn of_leaves<E: Listed>(
     alloc: Global,
     leaves: Vec<Arc<Part<Leaf<E>>>>,
 ) -> Result<SharedMap<E>, AllocError>
-    requires { AreParts (leaf_entries E.key) E.load (FitsLeaf E.key E.load) leaves.items }
+    requires { AreParts (leaf_entries E.key) E.load FitsLeaf leaves.items }
     ensures entries { IfOk result (λ made. entries E.key made
         ≡ parts_entries (leaf_entries E.key) leaves.items) }
     ensures fits { IfOk result (FitsMap E.key E.load) }
@@ -220,8 +235,7 @@ fn of_clusters<E: Listed>(
     clusters: Vec<Arc<Part<Group<Group<Leaf<E>>>>>>,
 ) -> Result<SharedMap<E>, AllocError>
     requires { AreParts (group_entries (group_entries (leaf_entries E.key))) E.load (FitsGroup
-        (group_entries (leaf_entries E.key)) E.load (FitsGroup (leaf_entries E.key) E.load (FitsLeaf
-        E.key E.load))) clusters.items }
+        (group_entries (leaf_entries E.key)) E.load (FitsGroup (leaf_entries E.key) E.load FitsLeaf)) clusters.items }
     ensures entries { IfOk result (λ made. entries E.key made
         ≡ parts_entries (group_entries (group_entries (leaf_entries E.key))) clusters.items) }
     ensures fits { IfOk result (FitsMap E.key E.load) }
@@ -229,6 +243,30 @@ fn of_clusters<E: Listed>(
     if clusters.is_empty() {
         return Ok(SharedMap { held: Held::Empty });
     }
-    let held = Held::Many(group_part(alloc, clusters)?);
+    if clusters.len() <= MOST_PARTS {
+        let held = Held::Many(group_part(alloc, clusters)?);
+        return Ok(SharedMap { held });
+    }
+    let regions = grouped(alloc, &clusters)?;
+    let made = of_regions(alloc, regions)?;
+    Ok(made)
+}
+
+// a map of these groups of groups of groups
+fn of_regions<E: Listed>(
+    alloc: Global,
+    regions: Vec<Arc<Part<Group<Group<Group<Leaf<E>>>>>>>,
+) -> Result<SharedMap<E>, AllocError>
+    requires { AreParts (group_entries (group_entries (group_entries (leaf_entries E.key)))) E.load
+        (FitsGroup (group_entries (group_entries (leaf_entries E.key))) E.load (FitsGroup
+        (group_entries (leaf_entries E.key)) E.load (FitsGroup (leaf_entries E.key) E.load FitsLeaf))) regions.items }
+    ensures entries { IfOk result (λ made. entries E.key made ≡ parts_entries (group_entries
+        (group_entries (group_entries (leaf_entries E.key)))) regions.items) }
+    ensures fits { IfOk result (FitsMap E.key E.load) }
+{
+    if regions.is_empty() {
+        return Ok(SharedMap { held: Held::Empty });
+    }
+    let held = Held::Vast(group_part(alloc, regions)?);
     Ok(SharedMap { held })
 }

@@ -239,8 +239,8 @@ pub(crate) fn group_part<P: Drop>(
     Ok(part)
 }
 
-// how many entries these parts have together
-fn count_of<P>(parts: &[Arc<Part<P>>]) -> Result<usize, AllocError>
+/// How many entries these parts have together. Refused where 64 bits don't hold it.
+pub(crate) fn count_of<P>(parts: &[Arc<Part<P>>]) -> Result<usize, AllocError>
     ensures { IfOk result (λ count. count ≡ sum_by (λ part. part.count) (map arc_value parts.now)) }
 {
     let mut count = 0usize;

@@ -1,15 +1,16 @@
 //! Pieces: what a part holds, a leaf or a group of parts that hold pieces in their turn.
 ghost use Rattle.std.specs.Prelude.{◌≡◌, ℕ, T, not, List, ◌<◌, length, slice_get, IfOk, IfSome};
 ghost use Rattle.std.specs.Option.{option_copied, option_map};
-ghost use Rattle.std.specs.FinMap.Entries.{find, is_sorted, put, where_key};
+ghost use Rattle.std.specs.FinMap.Entries.{find, is_sorted, where_key};
 ghost use Rattle.std.specs.Ordering.{eq_by_cmp};
 ghost use Rattle.reg_names.specs.Names.{folded};
 ghost use Rattle.shared_map.specs.Orders.{name_order};
 ghost use Rattle.shared_map.specs.Listings.{parts_entries, parts_of, group_entries};
 ghost use Rattle.shared_map.specs.Parts.{AreParts, FitsGroup};
+ghost use Rattle.shared_map.specs.Writes.{written};
 
 use crate::leaf::Listed;
-use crate::parts::{Group, Part, Pieces, group_parts, nth, place, spliced};
+use crate::parts::{Group, Part, Pieces, count_of, group_parts, nth, place, spliced};
 use reg_names::Name;
 use std::alloc::{AllocError, Global};
 use std::sync::Arc;
@@ -43,7 +44,7 @@ pub trait Piece<E: Listed>: Drop {
         requires sorted { T (is_sorted name_order (list self.now)) }
         requires some { 0 < length (list self.now) }
         ensures entries { IfOk result (λ made. parts_entries list (parts_of made)
-            ≡ put name_order (E.key new.value) new.value (list self.now)) }
+            ≡ written E.key E.over new.value (list self.now)) }
         ensures parts { IfOk result (λ made. AreParts list E.load Fits (parts_of made)) };
 
     /// The parts of the entries without the one of this name.
@@ -80,7 +81,7 @@ impl<E: Listed, P: Piece<E>> Piece<E> for Group<P> {
         requires sorted { T (is_sorted name_order (group_entries P.list self.now)) }
         requires some { 0 < length (group_entries P.list self.now) }
         ensures entries { IfOk result (λ made. parts_entries (group_entries P.list) (parts_of made)
-            ≡ put name_order (E.key new.value) new.value (group_entries P.list self.now)) }
+            ≡ written E.key E.over new.value (group_entries P.list self.now)) }
         ensures parts { IfOk result (λ made. AreParts (group_entries P.list) E.load (FitsGroup
             P.list E.load P.Fits) (parts_of made)) }
     {
@@ -115,9 +116,11 @@ pub(crate) fn with_in<E: Listed, P: Piece<E>>(
     requires sorted { T (is_sorted name_order (parts_entries P.list parts.now)) }
     requires some { 0 < length (parts_entries P.list parts.now) }
     ensures entries { IfOk result (λ made. parts_entries P.list made.items
-        ≡ put name_order (E.key new.value) new.value (parts_entries P.list parts.now)) }
+        ≡ written E.key E.over new.value (parts_entries P.list parts.now)) }
     ensures parts { IfOk result (λ made. AreParts P.list E.load P.Fits made.items) }
 {
+    // each part is looked at before one is sought and pointers to them are taken, which would wait for the memory of one after the other
+    let _ = count_of(parts)?;
     let at = place(parts, new.name());
     let pieces = parts[at].body().with(alloc, new)?;
     let made = spliced(alloc, parts, at, pieces)?;

@@ -1,10 +1,9 @@
 use Rattle.std.proofs.Common.{◌≡◌, refl, ◌∙◌, ap, subst, map}
 use Rattle.std.specs.Arc.{arc_value}
-use Rattle.std.specs.FinMap.Entries.{put}
-use Rattle.shared_map.specs.Orders.{name_order}
 use Rattle.shared_map.specs.Listings.{parts_of}
 use Rattle.shared_map.specs.Parts.{IsPlace}
-use Rattle.shared_map.proofs.Steps.{part_fits, part_some, part_sorted, put_step, fit_step}
+use Rattle.shared_map.specs.Writes.{written}
+use Rattle.shared_map.proofs.Steps.{part_fits, part_some, part_sorted, written_step, fit_step}
 use Rattle.shared_map.proofs.piece.with_in.Goals as goal
 
 pub with-requires-clause-fits : goal.with-requires-clause-fits
@@ -26,7 +25,7 @@ pub returns-clause-entries : goal.returns-clause-entries
 returns-clause-entries g c =
     let place : IsPlace c.args.parts.now (g.E.Listed.key c.args.new.value) c.place-at.result = subst (λ k. IsPlace c.args.parts.now k c.place-at.result) (c.name.ensures ∙ ap g.E.Listed.key c.deref.ensures) c.place-at.ensures in
     let body : c.body.result.now ≡ (arc_value c.index-parts-at.result).body = rw (c.body.ensures, c.deref-2.ensures) refl in
-    put_step g.P.Piece.list g.E.Listed.load g.P.Piece.Fits c.args.parts.now c.requires.fits c.requires.sorted (g.E.Listed.key c.args.new.value) c.place-at.result place c.index-parts-at.result c.index-parts-at.is (map arc_value (parts_of c.in_ok-pieces.pieces)) (map arc_value c.in_ok-made.made.items) c.in_ok-made.ensures c.args.new.value (c.in_ok-pieces.ensures.entries ∙ ap (λ p. put name_order (g.E.Listed.key c.args.new.value) c.args.new.value (g.P.Piece.list p)) body)
+    written_step g.P.Piece.list g.E.Listed.load g.P.Piece.Fits c.args.parts.now c.requires.fits c.requires.sorted (g.E.Listed.key c.args.new.value) c.place-at.result place c.index-parts-at.result c.index-parts-at.is (map arc_value (parts_of c.in_ok-pieces.pieces)) (map arc_value c.in_ok-made.made.items) c.in_ok-made.ensures g.E.Listed.key g.E.Listed.over c.args.new.value refl (c.in_ok-pieces.ensures.entries ∙ ap (λ p. written g.E.Listed.key g.E.Listed.over c.args.new.value (g.P.Piece.list p)) body)
 
 pub returns-clause-parts : goal.returns-clause-parts
 returns-clause-parts g c =

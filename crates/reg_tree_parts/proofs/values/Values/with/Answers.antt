@@ -1,8 +1,7 @@
-use Rattle.std.proofs.Common.{◌∙◌, ap}
+use Rattle.std.proofs.Common.{◌∙◌}
 use Rattle.std.specs.Arc.{arc_value}
-use Rattle.reg_names.specs.Names.{folded}
 use Rattle.reg_tree_parts.specs.Held.{value_entries}
-use Rattle.reg_tree_parts.proofs.ValueLists.{inserted_is, with_is}
+use Rattle.reg_tree_parts.proofs.ValueLists.{written_is, with_same}
 use Rattle.reg_tree_parts.proofs.values.Values.with.Goals as goal
 
 pub with-requires : goal.with-requires
@@ -10,11 +9,11 @@ with-requires c = record { fits = c.self.invariant.fits; sorted = c.self.invaria
 
 pub invariant_of-result : goal.invariant_of-result
 invariant_of-result c = record {
-  sorted = (inserted_is (value_entries c.self.inside.items) c.self.invariant.sorted (folded (arc_value c.in_ok-value.value).name) (arc_value c.in_ok-value.value) (value_entries c.in_ok-items.items) c.in_ok-items.ensures.entries).0;
+  sorted = (written_is (value_entries c.self.inside.items) c.self.invariant.sorted (arc_value c.in_ok-value.value) (value_entries c.in_ok-items.items) c.in_ok-items.ensures.entries).0;
   fits = c.in_ok-items.ensures.fits;
 }
 
 pub returns : goal.returns
 returns c = rw (← c.self.view_is)
-    ((inserted_is (value_entries c.self.inside.items) c.self.invariant.sorted (folded (arc_value c.in_ok-value.value).name) (arc_value c.in_ok-value.value) (value_entries c.in_ok-items.items) c.in_ok-items.ensures.entries).1
-    ∙ rw c.in_ok-value.ensures.ok (with_is _ c.args.name.now _ c.args.kind _ _ (c.in_ok-name.ensures ∙ rw (← c.self.view_is) at c.spelling.ensures.spelled) (ap folded c.in_ok-name.ensures ∙ c.spelling.ensures.named) c.in_ok-data.ensures))
+    ((written_is (value_entries c.self.inside.items) c.self.invariant.sorted (arc_value c.in_ok-value.value) (value_entries c.in_ok-items.items) c.in_ok-items.ensures.entries).1
+    ∙ rw c.in_ok-value.ensures.ok (with_same _ _ _ c.args.kind _ _ c.in_ok-name.ensures c.in_ok-data.ensures))
