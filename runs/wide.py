@@ -5,7 +5,8 @@ import sys
 sys.path.insert(0, os.path.join(os.path.dirname(os.path.dirname(os.path.abspath(__file__))), "tools"))
 from transcript import listed, write  # noqa: E402
 
-SUBKEYS = 9_000
+# more than three levels of groups list where they come in order
+SUBKEYS = 20_000
 VALUES = 5_000
 # without a divisor in common with how many there are, so that all come up, and not in order
 STRIDE = 2_399
@@ -21,7 +22,7 @@ def strided(names):
     return [names[place * STRIDE % len(names)] for place in range(len(names))]
 
 
-KEYS = [f"k{number:04}" for number in range(SUBKEYS)]
+KEYS = [f"k{number:05}" for number in range(SUBKEYS)]
 NAMES = [f"v{number:04}" for number in range(VALUES)]
 
 print("# Keys with thousands of subkeys and values.\n")
@@ -30,7 +31,7 @@ write(
     "thousands of subkeys come in order, and most of them go in another",
     [
         *accepted([f"create 0:{name}" for name in KEYS], 1, "created 1 accepted"),
-        ("create 0:K4711", "opened"),
+        ("create 0:K04711", "opened"),
         ("keys 0:", listed("keys", KEYS)),
         *accepted([f"delete 0:{name}" for name in strided(KEYS)[:SUBKEYS - 3]], SUBKEYS + 1),
         ("keys 0:", listed("keys", sorted(strided(KEYS)[SUBKEYS - 3:]))),

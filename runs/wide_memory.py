@@ -1,4 +1,5 @@
-"""Prints a run over a key with so many subkeys and values that they lie on each level of a map, changed at each; tools/memory plays it too."""
+"""Prints a run over a key whose subkeys lie in groups of groups of leaves, and its values in leaves, changed in each; tools/memory plays it
+too."""
 import os
 import sys
 
