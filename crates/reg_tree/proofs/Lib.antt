@@ -13,3 +13,4 @@ pub mod Times
 pub mod Weighing
 pub mod Spelling
 pub mod Ways
+pub mod Stamps

@@ -170,7 +170,7 @@ mapped_too path edit keeps None was key e = cc
 mapped_too path edit keeps (Some old) was key e = let is : edit old ≡ key = cc in subst (IsSpellableAt path) is (keeps old (was old refl))
 
 module _ (tree : TreeMap) (all : IsSpellable tree) where
-  edited_too : (edit : Row → Row) → ((path : List (List ℕ)) (key : Row) → IsSpellableAt path key → IsSpellableAt path (edit key)) → (p : List (List ℕ)) (moment : ℕ) → (path : List (List ℕ)) (key : Row) → row_edited edit tree p moment path ≡ Some key → IsSpellableAt path key
+  pub edited_too : (edit : Row → Row) → ((path : List (List ℕ)) (key : Row) → IsSpellableAt path key → IsSpellableAt path (edit key)) → (p : List (List ℕ)) (moment : ℕ) → (path : List (List ℕ)) (key : Row) → row_edited edit tree p moment path ≡ Some key → IsSpellableAt path key
   edited_too edit keeps p moment path key e = by_case (eq_by_cmp path_order path p) e
     where
       by_case : (b : Bool) → cond b (option_map (λ key. touched moment (edit key)) (row tree path)) (row tree path) ≡ Some key → IsSpellableAt path key

@@ -58,7 +58,7 @@ untimed_sorted : (tree : TreeMap) → T (is_sorted path_order (untimed tree))
 untimed_sorted tree = subst T (sym (is_sorted-timeless (finite.entries tree))) (entries_sorted tree)
 
 -- so trees that have the same rows but for times are the same without times
-same_untimed : (a b : TreeMap) → ((q : List (List ℕ)) → option_map timeless (row a q) ≡ option_map timeless (row b q)) → untimed a ≡ untimed b
+pub same_untimed : (a b : TreeMap) → ((q : List (List ℕ)) → option_map timeless (row a q) ≡ option_map timeless (row b q)) → untimed a ≡ untimed b
 same_untimed a b rows = same_entries path_order paths_total paths_apart (untimed a) (untimed b) (untimed_sorted a) (untimed_sorted b) (λ q. row-untimed a q ∙ rows q ∙ sym (row-untimed b q))
 
 names_below-timeless : (path : List (List ℕ)) (es : Entries) → names_below path (map timeless_entry es) ≡ names_below path es

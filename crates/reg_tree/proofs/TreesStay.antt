@@ -30,13 +30,13 @@ use Rattle.reg_tree.proofs.Changes.{nothing_below}
 use Rattle.reg_tree.proofs.TreesAfter.{row-tree_after}
 
 -- rows that make a tree, at each path
-record Rooted (rows : List (List ℕ) → Option Row) : Type 0 where
-  root : IsSome (rows [])
-  parents : (path : List (List ℕ)) (name : List ℕ) → IsSome (rows (path ++ name ∷ [])) → IsSome (rows path)
-  named : (path : List (List ℕ)) (name : List ℕ) (key : Row) → rows (path ++ name ∷ []) ≡ Some key → folded key.name ≡ name
+pub record Rooted (rows : List (List ℕ) → Option Row) : Type 0 where
+  pub root : IsSome (rows [])
+  pub parents : (path : List (List ℕ)) (name : List ℕ) → IsSome (rows (path ++ name ∷ [])) → IsSome (rows path)
+  pub named : (path : List (List ℕ)) (name : List ℕ) (key : Row) → rows (path ++ name ∷ []) ≡ Some key → folded key.name ≡ name
 
 -- a tree that has such rows is one
-tree_of_rows : (tree : TreeMap) (rows : List (List ℕ) → Option Row) → ((q : List (List ℕ)) → row tree q ≡ rows q) → Rooted rows → IsTree tree
+pub tree_of_rows : (tree : TreeMap) (rows : List (List ℕ) → Option Row) → ((q : List (List ℕ)) → row tree q ≡ rows q) → Rooted rows → IsTree tree
 tree_of_rows tree rows are rooted = record {
   root = subst IsSome (sym (are [])) rooted.root;
   parents = λ path name there. subst IsSome (sym (are path)) (rooted.parents path name (subst IsSome (are (path ++ name ∷ [])) there));
@@ -48,7 +48,7 @@ map_there : {A B : Type 0} (f : A → B) (o : Option A) → IsSome o → IsSome 
 map_there f None there = there
 map_there f (Some x) there = refl
 
-was_there : {A B : Type 0} (f : A → B) (o : Option A) → IsSome (option_map f o) → IsSome o
+pub was_there : {A B : Type 0} (f : A → B) (o : Option A) → IsSome (option_map f o) → IsSome o
 was_there f None there = there
 was_there f (Some x) there = refl
 
@@ -61,7 +61,7 @@ same_names edit keeps (Some k) n was key e =
 
 module _ (tree : TreeMap) (is : IsTree tree) where
   -- an edit of a row
-  edited_rooted : (edit : Row → Row) → ((k : Row) → folded (edit k).name ≡ folded k.name) → (p : List (List ℕ)) (moment : ℕ) → Rooted (row_edited edit tree p moment)
+  pub edited_rooted : (edit : Row → Row) → ((k : Row) → folded (edit k).name ≡ folded k.name) → (p : List (List ℕ)) (moment : ℕ) → Rooted (row_edited edit tree p moment)
   edited_rooted edit keeps p moment = record {
     root = stays (eq_by_cmp path_order [] p) [] is.root;
     parents = λ path name there. stays (eq_by_cmp path_order path p) path (is.parents path name (came (eq_by_cmp path_order (path ++ name ∷ []) p) (path ++ name ∷ []) there));

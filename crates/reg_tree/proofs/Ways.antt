@@ -76,14 +76,14 @@ create_is n d le (name ∷ left) len =
 
 module _ (root : Entries) (rooted : IsRooted root) (way : List (List ℕ)) (d : ℕ) (bottom : Entries) (near : IsNearest root way d bottom) where
   -- where no name is missing, the nearest key is that of the way
-  whole_way : drop d way ≡ [] → (rest : List (List ℕ)) → row (finite.from_sorted {R = path_order} root) (folded_path way ++ rest) ≡ row_at bottom rest
+  pub whole_way : drop d way ≡ [] → (rest : List (List ℕ)) → row (finite.from_sorted {R = path_order} root) (folded_path way ++ rest) ≡ row_at bottom rest
   whole_way none rest = row_is root rooted.node (folded_path way ++ rest) ∙ ap (λ p. row_at root (folded_path p ++ rest)) (sym (all_taken d way none)) ∙ near.there rest
 
   names_of_way : drop d way ≡ [] → (rest : List (List ℕ)) → names_below (folded_path way ++ rest) root ≡ names_below rest bottom
   names_of_way none rest = ap (λ p. names_below (folded_path p ++ rest) root) (sym (all_taken d way none)) ∙ near.names rest
 
   -- where one is, nothing is there
-  part_of_way : (name : List ℕ) (more : List (List ℕ)) → drop d way ≡ name ∷ more → (rest : List (List ℕ)) → row (finite.from_sorted {R = path_order} root) (folded_path way ++ rest) ≡ None
+  pub part_of_way : (name : List ℕ) (more : List (List ℕ)) → drop d way ≡ name ∷ more → (rest : List (List ℕ)) → row (finite.from_sorted {R = path_order} root) (folded_path way ++ rest) ≡ None
   part_of_way name more is rest =
       let lt : d < length way = omega (arith, length-drop d way, ap length is) in
       let split : folded_path way ≡ folded_path (take (d + 1) way) ++ folded_path (drop (d + 1) way) = ap folded_path (sym (take-append-drop (d + 1) way)) ∙ map-append folded (take (d + 1) way) (drop (d + 1) way) in

@@ -9,3 +9,4 @@ pub mod Sequences
 pub mod Times
 pub mod Spellable
 pub mod Edits
+pub mod Stamps

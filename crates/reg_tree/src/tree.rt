@@ -6,11 +6,13 @@ ghost use Rattle.std.specs.FinMap as finite;
 ghost use Rattle.reg_tree.specs.Maps.{row, is_there, subkeys, missing, weight, IsTree};
 ghost use Rattle.reg_tree.specs.Spellable.{IsSpellable};
 ghost use Rattle.reg_tree.specs.Reads.{value_at, value_index, subkey_index, info_of, IsMissing};
+ghost use Rattle.reg_tree.specs.Stamps.{time_at};
 
 mod change;
 mod edits;
 mod judging;
 mod lists;
+mod stamps;
 
 use refusals::Refusal;
 use reg_names::{Name, Path};
@@ -162,6 +164,16 @@ impl Tree {
                 time: node.key().time(),
             }),
             None => Err(Refusal::NotFound),
+        }
+    }
+
+    /// When the key at this path was last written, or nothing where there is no such key. Takes no memory.
+    pub fn time_at(&self, names: &[Name]) -> Option<u64>
+        ensures { result ≡ time_at self.now (folded_path names.now) }
+    {
+        match self.node(names) {
+            Some(node) => Some(node.key().time()),
+            None => None,
         }
     }
 

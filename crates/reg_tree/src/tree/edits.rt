@@ -1,10 +1,11 @@
 //! What an operation does at the end of its walk: it is judged by the key that it finds there, and edits that.
 ghost use Rattle.std.specs.Prelude.{◌≡◌, ◌⊎◌, List, ℕ, Ok, Err, IfOk, IfErr, IfSome, MatchOption, OnOk, [], ◌∷◌, take, drop, length, ◌-◌};
-ghost use Rattle.reg_names.specs.Names.{folded};
+ghost use Rattle.reg_names.specs.Names.{folded, folded_path};
 ghost use Rattle.reg_tree_parts.specs.ValueEdits.{values_with, values_without};
 ghost use Rattle.reg_tree_parts.specs.Nodes.{root_name, IsNode};
 ghost use Rattle.reg_tree.specs.Edits.{way_of, judged_missing, judged_found, judged_last, judged_data, judged_value, IsBranched, LacksSubkey, IsRewritten, counted, makes, refuses};
 ghost use Rattle.reg_tree.specs.Spellable.{IsNamed};
+ghost use Rattle.reg_tree.specs.Stamps.{home_of};
 
 use super::NOT_DELETABLE;
 use crate::op::{Legality, Op};
@@ -59,6 +60,17 @@ impl Op {
             Op::CreateKey { path, .. } | Op::SetValue { path, .. } | Op::DeleteValue { path, .. } =>
                 path.names(),
         }
+    }
+
+    /// The names of the path of the key that the operation writes beside those that it makes: the last key on its way that
+    /// was there. `made` is how many keys it made, as [`Trees::write_counted`](crate::Trees::write_counted) tells, and
+    /// `None` says none.
+    pub fn home(&self, made: Option<usize>) -> &[Name]
+        ensures { folded_path result.now ≡ home_of self.now made }
+    {
+        let way = self.way();
+        let made = made.unwrap_or(0);
+        &way[..way.len().saturating_sub(made)]
     }
 
     // how many keys it made, where so many names of its way were missing

@@ -2,6 +2,7 @@
 ghost use Rattle.std.specs.Prelude.{◌≡◌, IfOk, IfErr};
 ghost use Rattle.reg_names.specs.Names.{folded_path};
 ghost use Rattle.reg_tree.specs.Reads.{IsMissing, IsMissingOrNoMemory};
+ghost use Rattle.reg_tree.specs.Stamps.{time_in};
 ghost use Rattle.reg_tree.specs.TreeLists.{value_in, value_index_in, value_names_in, subkey_index_in, subkeys_in, levels_in, info_in, weight_in};
 
 use super::Trees;
@@ -75,6 +76,16 @@ impl Trees {
         match self.tree(hive) {
             Some(tree) => tree.query_info(path),
             None => Err(Refusal::NotFound),
+        }
+    }
+
+    /// When the key at this path was last written, or nothing where there is no such hive or key. Takes no memory.
+    pub fn time_at(&self, hive: u8, names: &[Name]) -> Option<u64>
+        ensures { result ≡ time_in self.now hive (folded_path names.now) }
+    {
+        match self.tree(hive) {
+            Some(tree) => tree.time_at(names),
+            None => None,
         }
     }
 

@@ -1,12 +1,15 @@
 //! Writes: operations that are judged and carried out at once, and lists of them within the limit of weight.
 ghost use Rattle.std.specs.Prelude.{◌≡◌, ◌<◌, ◌⊎◌, length, slice_set, true, false, IfOk, IfErr, OnOk};
+ghost use Rattle.reg_names.specs.Names.{folded_path};
 ghost use Rattle.reg_tree.specs.Judgement.{legal, applied, applied_one, outweighs, any_outweighs, IsWritten};
+ghost use Rattle.reg_tree.specs.Stamps.{stamped};
 ghost use Rattle.reg_tree.specs.TreeLists.{levels_made};
 
 use super::Trees;
 use crate::op::Op;
 use crate::tree::Tree;
 use refusals::Refusal;
+use reg_names::Name;
 use std::alloc::{AllocError, Global};
 
 impl Trees {
@@ -43,6 +46,27 @@ impl Trees {
         match self.write_counted(alloc, op, moment)? {
             Some((made, _)) => Ok(Some(made)),
             None => Ok(None),
+        }
+    }
+
+    /// The trees in which the key at this path was written at this moment, and all else stays; where there is no such hive
+    /// or key, the same trees.
+    pub fn stamped(
+        &self,
+        alloc: Global,
+        hive: u8,
+        names: &[Name],
+        moment: u64,
+    ) -> Result<Trees, AllocError>
+        ensures { IfOk result (λ made.
+            made ≡ stamped self.now hive (folded_path names.now) moment) }
+    {
+        match self.tree(hive) {
+            Some(tree) => {
+                let made = tree.stamped(alloc, names, moment)?;
+                self.with_tree(alloc, hive, made)
+            }
+            None => self.try_clone(alloc),
         }
     }
 
