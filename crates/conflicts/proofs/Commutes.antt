@@ -1,4 +1,5 @@
--- Two operations whose claims do not conflict may be carried out in either order.
+-- Two operations whose claims do not conflict may be carried out in either order, each at its own moment: but for which of them writes a key last,
+-- they make the same of a tree.
 use Rattle.std.proofs.Common.{◌≡◌, inl, inr, ℕ, ◌+◌, ◌-◌, ◌<◌, ◌≤◌, Bool, true, false, ◌&&◌, cond, List, [], ◌∷◌, ◌++◌, length, take, drop, Option, Some, None, IsSome, is_some, Ok, refl, sym, ◌∙◌, ap, subst, arith, append-nil, append_assoc}
 use Rattle.std.specs.Prelude.{nat_lt, slice_index_or, ⊤}
 use Rattle.std.specs.Ordering.{eq_by_cmp}
@@ -27,107 +28,7 @@ use Rattle.conflicts.specs.Claims.{key_at, claim_of}
 use Rattle.conflicts.proofs.KeyDepths.{Deepest, deepest, depth_is, gone_past, there_up_to, home_is_there}
 use Rattle.conflicts.proofs.OnSkeletons.{key_of_there}
 use Rattle.conflicts.proofs.RowsAfter.{at_home, fresh, created_there}
-use Rattle.conflicts.proofs.Effects.{made, gone, edited, effect, depth_of, home_descriptor, row_by_effect, made_made, made_gone, made_edited, gone_gone, gone_edited, edited_edited, some_none, gone_none, edited_none}
-
--- What an operation does to one row
-
-pub data Deed : Type 0 where
-  Makes : Bool → Bool → Row → Deed
-  Removes : Bool → Bool → Deed
-  Edits : Bool → (ValueMap → ValueMap) → Deed
-
--- done at a moment
-abbrev pub done : ℕ → Deed → Option Row → Option Row
-done m (Makes home new key) o = made m home new key o
-done m (Removes here parent) o = gone m here parent o
-done m (Edits here edit) o = edited m here edit o
-
--- what an operation does to the row at a path, given how far the way to its key leads and the descriptor there
-abbrev pub deed : Op → ℕ → ℕ → List ℕ → List (List ℕ) → Deed
-deed (CreateKey hive spelled) m depth descriptor q =
-    Makes (eq_by_cmp path_order q (take depth (folded_path spelled))) (begins_path q (folded_path spelled) && nat_lt depth (length q)) (new_row (slice_index_or spelled (length q - 1) []) descriptor m)
-deed (DeleteKey hive spelled) m depth descriptor q = Removes (eq_by_cmp path_order q (folded_path spelled)) (one_below q (folded_path spelled))
-deed (SetValue hive spelled name kind bytes) m depth descriptor q = Edits (eq_by_cmp path_order q (folded_path spelled)) (λ values. values_with values name kind bytes)
-deed (DeleteValue hive spelled name) m depth descriptor q = Edits (eq_by_cmp path_order q (folded_path spelled)) (λ values. values_without values name)
-
-effect_done : (op : Op) (m depth : ℕ) (descriptor : List ℕ) (q : List (List ℕ)) (o : Option Row) → effect op m depth descriptor q o ≡ done m (deed op m depth descriptor q) o
-effect_done (CreateKey hive spelled) m depth descriptor q o = refl
-effect_done (DeleteKey hive spelled) m depth descriptor q o = refl
-effect_done (SetValue hive spelled name kind bytes) m depth descriptor q o = refl
-effect_done (DeleteValue hive spelled name) m depth descriptor q o = refl
-
--- it makes only what isn't there, and does all else to what is
-abbrev pub FitsRow : Deed → Option Row → Type 0
-FitsRow (Makes home new key) o = (home ≡ true → IsSome o) × (new ≡ true → o ≡ None)
-FitsRow (Removes here parent) o = (here ≡ true → IsSome o) × (parent ≡ true → IsSome o)
-FitsRow (Edits here edit) o = here ≡ true → IsSome o
-
--- two do not both make the row, nor both edit it
-abbrev pub AreTwo : Deed → Deed → Type 0
-AreTwo (Makes h i k) (Makes h' i' k') = i ≡ true → i' ≡ true → ⊥
-AreTwo (Makes h i k) (Removes d u) = ⊤
-AreTwo (Makes h i k) (Edits e f) = ⊤
-AreTwo (Removes d u) (Makes h i k) = ⊤
-AreTwo (Removes d u) (Removes d' u') = ⊤
-AreTwo (Removes d u) (Edits e f) = ⊤
-AreTwo (Edits e f) (Makes h i k) = ⊤
-AreTwo (Edits e f) (Removes d u) = ⊤
-AreTwo (Edits e f) (Edits e' f') = e ≡ true → e' ≡ true → ⊥
-
--- so they may be done in either order
-either_done : (m : ℕ) (x y : Deed) (o : Option Row) → FitsRow x o → FitsRow y o → AreTwo x y → done m x (done m y o) ≡ done m y (done m x o)
-either_done m (Makes h i k) (Makes h' i' k') o f g two = made_made m h i h' i' k k' o f.0 f.1 g.0 g.1 two
-either_done m (Makes h i k) (Removes d u) o f g two = made_gone m h i d u k o f.0 f.1 g.0 g.1
-either_done m (Makes h i k) (Edits e v) o f g two = made_edited m h i e k v o f.0 f.1 g
-either_done m (Removes d u) (Makes h i k) o f g two = sym (made_gone m h i d u k o g.0 g.1 f.0 f.1)
-either_done m (Removes d u) (Removes d' u') o f g two = gone_gone m d u d' u' o
-either_done m (Removes d u) (Edits e v) o f g two = gone_edited m d u e v o
-either_done m (Edits e v) (Makes h i k) o f g two = sym (made_edited m h i e k v o g.0 g.1 f)
-either_done m (Edits e v) (Removes d u) o f g two = sym (gone_edited m d u e v o)
-either_done m (Edits e v) (Edits e' v') o f g two = edited_edited m e e' v v' o two
-
--- a row that isn't removed keeps its descriptor
-abbrev pub removes : Deed → Bool
-removes (Makes h i k) = false
-removes (Removes d u) = d
-removes (Edits e f) = false
-
-abbrev pub makes : Deed → Bool
-makes (Makes h i k) = i
-makes (Removes d u) = false
-makes (Edits e f) = false
-
-descriptor_stays : (m : ℕ) (x : Deed) (o : Option Row) → IsSome o → FitsRow x o → (removes x ≡ true → ⊥) → descriptor_of (done m x o) ≡ descriptor_of o
-descriptor_stays m x None there f keeps = never there
-descriptor_stays m (Makes true i k) (Some key) there f keeps = refl
-descriptor_stays m (Makes false true k) (Some key) there f keeps = some_none key (f.1 refl)
-descriptor_stays m (Makes false false k) (Some key) there f keeps = refl
-descriptor_stays m (Removes true u) (Some key) there f keeps = absurd (keeps refl)
-descriptor_stays m (Removes false true) (Some key) there f keeps = refl
-descriptor_stays m (Removes false false) (Some key) there f keeps = refl
-descriptor_stays m (Edits true e) (Some key) there f keeps = refl
-descriptor_stays m (Edits false e) (Some key) there f keeps = refl
-
--- it stays there
-there_stays : (m : ℕ) (x : Deed) (o : Option Row) → IsSome o → FitsRow x o → (removes x ≡ true → ⊥) → IsSome (done m x o)
-there_stays m x None there f keeps = never there
-there_stays m (Makes true i k) (Some key) there f keeps = refl
-there_stays m (Makes false true k) (Some key) there f keeps = refl
-there_stays m (Makes false false k) (Some key) there f keeps = refl
-there_stays m (Removes true u) (Some key) there f keeps = absurd (keeps refl)
-there_stays m (Removes false true) (Some key) there f keeps = refl
-there_stays m (Removes false false) (Some key) there f keeps = refl
-there_stays m (Edits true e) (Some key) there f keeps = refl
-there_stays m (Edits false e) (Some key) there f keeps = refl
-
--- one that isn't made stays missing
-gone_stays : (m : ℕ) (x : Deed) (o : Option Row) → o ≡ None → FitsRow x o → (makes x ≡ true → ⊥) → done m x o ≡ None
-gone_stays m x (Some key) none f keeps = some_none key none
-gone_stays m (Makes true i k) None none f keeps = never (f.0 refl)
-gone_stays m (Makes false true k) None none f keeps = absurd (keeps refl)
-gone_stays m (Makes false false k) None none f keeps = refl
-gone_stays m (Removes d u) None none f keeps = gone_none m d u
-gone_stays m (Edits e v) None none f keeps = edited_none m e v
+use Rattle.conflicts.proofs.Effects.{Deed, deed, its, depth_of, home_descriptor, row_done, done, FitsRow, AreTwo, removes, makes, descriptor_stays, there_stays, gone_stays, Orders, either_done}
 
 -- What an operation that may be carried out does to a tree
 
@@ -135,28 +36,20 @@ two_of : (b c : Bool) → (b && c) ≡ true → (b ≡ true) × (c ≡ true)
 two_of true c h = (refl, h)
 two_of false c h = never h
 
--- how long an operation's way is, what it does to each row
-module _ (tree : TreeMap) (m : ℕ) (op : Op) where
-  abbrev pub its : List (List ℕ) → Deed
-  its q = deed op m (depth_of tree op) (home_descriptor tree op) q
-
-  row_done : (q : List (List ℕ)) → row (tree_after tree op m) q ≡ done m (its q) (row tree q)
-  row_done q = row-tree_after tree op m q ∙ row_by_effect tree op m q ∙ effect_done op m (depth_of tree op) (home_descriptor tree op) q (row tree q)
-
 -- a key that a value is written to, or that is deleted, is there, and so is its parent
 at_key : (tree : TreeMap) (p : List (List ℕ)) (q : List (List ℕ)) (key : Row) → row tree p ≡ Some key → eq_by_cmp path_order q p ≡ true → IsSome (row tree q)
 at_key tree p q key there e = ap is_some (ap (row tree) (eq_is q p e) ∙ there)
 
-fits : (tree : TreeMap) (is : IsTree tree) (m : ℕ) (op : Op) → judged tree op ≡ Ok Legal → (q : List (List ℕ)) → FitsRow (its tree m op q) (row tree q)
-fits tree is m (CreateKey hive spelled) legal q = (at_home tree is spelled m q, λ new. let parts = two_of (begins_path q (folded_path spelled)) (nat_lt (depth_there tree (folded_path spelled)) (length q)) new in fresh tree is spelled m q parts.0 parts.1)
-fits tree is m (DeleteKey hive []) legal q = cc
-fits tree is m (DeleteKey hive (name ∷ path)) legal q =
+pub fits : (tree : TreeMap) (is : IsTree tree) (op : Op) → judged tree op ≡ Ok Legal → (q : List (List ℕ)) → FitsRow (its tree op q) (row tree q)
+fits tree is (CreateKey hive spelled) legal q = (at_home tree is spelled 0 q, λ new. let parts = two_of (begins_path q (folded_path spelled)) (nat_lt (depth_there tree (folded_path spelled)) (length q)) new in fresh tree is spelled 0 q parts.0 parts.1)
+fits tree is (DeleteKey hive []) legal q = cc
+fits tree is (DeleteKey hive (name ∷ path)) legal q =
     let known = key_of_there _ (row tree (folded_path (name ∷ path))) legal in (
       at_key tree (folded_path (name ∷ path)) q known.0 known.1,
       λ below. let parts = split_below q (folded_path (name ∷ path)) below in is.parents q parts.0 (ap is_some (ap (row tree) (sym parts.1) ∙ known.1)),
     )
-fits tree is m (SetValue hive path name kind bytes) legal q = let known = key_of_there _ (row tree (folded_path path)) legal in at_key tree (folded_path path) q known.0 known.1
-fits tree is m (DeleteValue hive path name) legal q = let known = key_of_there _ (row tree (folded_path path)) legal in at_key tree (folded_path path) q known.0 known.1
+fits tree is (SetValue hive path name kind bytes) legal q = let known = key_of_there _ (row tree (folded_path path)) legal in at_key tree (folded_path path) q known.0 known.1
+fits tree is (DeleteValue hive path name) legal q = let known = key_of_there _ (row tree (folded_path path)) legal in at_key tree (folded_path path) q known.0 known.1
 
 -- Claims that do not conflict
 
@@ -164,15 +57,15 @@ abbrev pub NoConflict : Op → Op → Type 0
 NoConflict a b = law.Conflict (claim_of a) (claim_of b) → ⊥
 
 -- what does not conflict with a creation removes nothing on its way
-keeps : (a : Op) (hive : ℕ) (spelled : List (List ℕ)) → hive_of a ≡ hive → NoConflict a (CreateKey hive spelled) → (m depth : ℕ) (descriptor : List ℕ) (q r : List (List ℕ)) → folded_path spelled ≡ q ++ r → removes (deed a m depth descriptor q) ≡ true → ⊥
-keeps (CreateKey h p) hive spelled e apart m depth descriptor q r on gone = never gone
-keeps (DeleteKey h p) hive spelled e apart m depth descriptor q r on gone =
+keeps : (a : Op) (hive : ℕ) (spelled : List (List ℕ)) → hive_of a ≡ hive → NoConflict a (CreateKey hive spelled) → (depth : ℕ) (descriptor : List ℕ) (q r : List (List ℕ)) → folded_path spelled ≡ q ++ r → removes (deed a depth descriptor q) ≡ true → ⊥
+keeps (CreateKey h p) hive spelled e apart depth descriptor q r on gone = never gone
+keeps (DeleteKey h p) hive spelled e apart depth descriptor q r on gone =
     apart (elim (split (key_at h p) (key_at hive spelled) e r (on ∙ ap (λ x. x ++ r) (eq_is q (folded_path p) gone))) [
       | inl same ↦ inl same
       | inr below ↦ inr (inl (refl, below))
     ])
-keeps (SetValue h p name kind bytes) hive spelled e apart m depth descriptor q r on gone = never gone
-keeps (DeleteValue h p name) hive spelled e apart m depth descriptor q r on gone = never gone
+keeps (SetValue h p name kind bytes) hive spelled e apart depth descriptor q r on gone = never gone
+keeps (DeleteValue h p name) hive spelled e apart depth descriptor q r on gone = never gone
 
 -- How far a way leads
 
@@ -198,9 +91,9 @@ module _ (tree : TreeMap) (is : IsTree tree) (m : ℕ) (a : Op) (legal : judged 
 
   -- the last key on the way of the creation stays there
   home_stays : IsSome (row (tree_after tree a m) (take depth path))
-  home_stays = subst IsSome (sym (row_done tree m a (take depth path)))
-      (there_stays m (its tree m a (take depth path)) (row tree (take depth path)) (home_is_there tree is path) (fits tree is m a legal (take depth path))
-      (keeps a hive spelled here apart m (depth_of tree a) (home_descriptor tree a) (take depth path) (drop depth path) (sym (take-append-drop depth path))))
+  home_stays = subst IsSome (sym (row_done tree a m (take depth path)))
+      (there_stays m (its tree a (take depth path)) (row tree (take depth path)) (home_is_there tree is path) (fits tree is a legal (take depth path))
+      (keeps a hive spelled here apart (depth_of tree a) (home_descriptor tree a) (take depth path) (drop depth path) (sym (take-append-drop depth path))))
 
   -- so its way is no shorter
   pub no_shorter : depth ≤ depth_there (tree_after tree a m) path
@@ -213,25 +106,25 @@ module _ (tree : TreeMap) (is : IsTree tree) (m : ℕ) (a : Op) (legal : judged 
   ]
 
   -- and as long, where nothing is made past its end
-  pub as_long : (depth < length path → (rest : List (List ℕ)) → makes (its tree m a (take (depth + 1) path ++ rest)) ≡ true → ⊥) → depth_there (tree_after tree a m) path ≡ depth
+  pub as_long : (depth < length path → (rest : List (List ℕ)) → makes (its tree a (take (depth + 1) path ++ rest)) ≡ true → ⊥) → depth_there (tree_after tree a m) path ≡ depth
   as_long unmade = depth_by (tree_after tree a m) after_is path depth (depth_within tree path) home_stays
-      (λ lt rest. row_done tree m a (take (depth + 1) path ++ rest) ∙ gone_stays m (its tree m a (take (depth + 1) path ++ rest)) (row tree (take (depth + 1) path ++ rest)) (past_end tree is path lt rest) (fits tree is m a legal (take (depth + 1) path ++ rest)) (unmade lt rest))
+      (λ lt rest. row_done tree a m (take (depth + 1) path ++ rest) ∙ gone_stays m (its tree a (take (depth + 1) path ++ rest)) (row tree (take (depth + 1) path ++ rest)) (past_end tree is path lt rest) (fits tree is a legal (take (depth + 1) path ++ rest)) (unmade lt rest))
 
   -- what the creation does is then the same
   same_home : depth_there (tree_after tree a m) path ≡ depth → descriptor_of (row (tree_after tree a m) (take (depth_there (tree_after tree a m) path) path)) ≡ descriptor_of (row tree (take depth path))
   same_home e =
       ap (λ d. descriptor_of (row (tree_after tree a m) (take d path))) e
-      ∙ ap descriptor_of (row_done tree m a (take depth path))
-      ∙ descriptor_stays m (its tree m a (take depth path)) (row tree (take depth path)) (home_is_there tree is path) (fits tree is m a legal (take depth path))
-      (keeps a hive spelled here apart m (depth_of tree a) (home_descriptor tree a) (take depth path) (drop depth path) (sym (take-append-drop depth path)))
+      ∙ ap descriptor_of (row_done tree a m (take depth path))
+      ∙ descriptor_stays m (its tree a (take depth path)) (row tree (take depth path)) (home_is_there tree is path) (fits tree is a legal (take depth path))
+      (keeps a hive spelled here apart (depth_of tree a) (home_descriptor tree a) (take depth path) (drop depth path) (sym (take-append-drop depth path)))
 
-  pub same_creation : depth_there (tree_after tree a m) path ≡ depth → (q : List (List ℕ)) → its (tree_after tree a m) m (CreateKey hive spelled) q ≡ its tree m (CreateKey hive spelled) q
-  same_creation e q = λ i. deed (CreateKey hive spelled) m (e i) (same_home e i) q
+  pub same_creation : depth_there (tree_after tree a m) path ≡ depth → (q : List (List ℕ)) → its (tree_after tree a m) (CreateKey hive spelled) q ≡ its tree (CreateKey hive spelled) q
+  same_creation e q = λ i. deed (CreateKey hive spelled) (e i) (same_home e i) q
 
 -- Two operations on one tree
 
 -- where one creation makes as many levels after another as before it, so does the other
-module _ (tree : TreeMap) (is : IsTree tree) (m : ℕ) (h : ℕ) (p : List (List ℕ)) (k : ℕ) (s : List (List ℕ)) (after_a : IsTree (tree_after tree (CreateKey h p) m)) (after_b : IsTree (tree_after tree (CreateKey k s) m))
+module _ (tree : TreeMap) (is : IsTree tree) (m : ℕ) (h : ℕ) (p : List (List ℕ)) (k : ℕ) (s : List (List ℕ)) (after_a : IsTree (tree_after tree (CreateKey h p) m))
     (alike : depth_there (tree_after tree (CreateKey h p) m) (folded_path s) ≡ depth_there tree (folded_path s)) where
   -- what both would make is there
   met : (q r r' : List (List ℕ)) → folded_path p ≡ q ++ r → folded_path s ≡ q ++ r' → IsSome (row tree q)
@@ -246,7 +139,7 @@ module _ (tree : TreeMap) (is : IsTree tree) (m : ℕ) (h : ℕ) (p : List (List
       ]
 
   -- so they make no key both
-  not_both : (q : List (List ℕ)) → makes (its tree m (CreateKey h p) q) ≡ true → makes (its tree m (CreateKey k s) q) ≡ true → ⊥
+  not_both : (q : List (List ℕ)) → makes (its tree (CreateKey h p) q) ≡ true → makes (its tree (CreateKey k s) q) ≡ true → ⊥
   not_both q one other =
       let a = two_of (begins_path q (folded_path p)) (nat_lt (depth_there tree (folded_path p)) (length q)) one in
       let b = two_of (begins_path q (folded_path s)) (nat_lt (depth_there tree (folded_path s)) (length q)) other in
@@ -255,7 +148,7 @@ module _ (tree : TreeMap) (is : IsTree tree) (m : ℕ) (h : ℕ) (p : List (List
       true≢false (sym (met q on.0 on'.0 on.1 on'.1) ∙ ap is_some (fresh tree is p m q a.0 a.1))
 
   -- and the first makes as many after the second
-  unmade : depth_there tree (folded_path p) < length (folded_path p) → (rest : List (List ℕ)) → makes (its tree m (CreateKey k s) (take (depth_there tree (folded_path p) + 1) (folded_path p) ++ rest)) ≡ true → ⊥
+  unmade : depth_there tree (folded_path p) < length (folded_path p) → (rest : List (List ℕ)) → makes (its tree (CreateKey k s) (take (depth_there tree (folded_path p) + 1) (folded_path p) ++ rest)) ≡ true → ⊥
   unmade lt rest new =
       let q : List (List ℕ) = take (depth_there tree (folded_path p) + 1) (folded_path p) in
       let b = two_of (begins_path (q ++ rest) (folded_path s)) (nat_lt (depth_there tree (folded_path s)) (length (q ++ rest))) new in
@@ -277,55 +170,73 @@ conflict_back a b apart c = apart (conflict_sym (claim_of b) (claim_of a) c)
 edits_apart : (k l : law.Key) → k.hive ≡ l.hive → (law.Conflict (record { kind = law.Hold; key = k }) (record { kind = law.Hold; key = l }) → ⊥) → (q : List (List ℕ)) → eq_by_cmp path_order q k.path ≡ true → eq_by_cmp path_order q l.path ≡ true → ⊥
 edits_apart k l e apart q here there = apart (inl (e, sym (eq_is q k.path here) ∙ eq_is q l.path there))
 
-module _ (tree : TreeMap) (is : IsTree tree) (m : ℕ) where
-  -- the other operation is as long after it, whichever it is
-  abbrev pub After : Op → Type 0
-  After op = IsTree (tree_after tree op m)
+-- an operation that stays as long does the same
+pub same_deed : (tree : TreeMap) (is : IsTree tree) (m : ℕ) (a : Op) → judged tree a ≡ Ok Legal → IsTree (tree_after tree a m) → (b : Op) → hive_of a ≡ hive_of b → NoConflict a b → StaysAsLong b tree (tree_after tree a m) → (q : List (List ℕ))
+    → its (tree_after tree a m) b q ≡ its tree b q
+same_deed tree is m a legal after_a (CreateKey k s) e apart alike q = same_creation tree is m a legal after_a k s e apart alike q
+same_deed tree is m a legal after_a (DeleteKey k s) e apart alike q = refl
+same_deed tree is m a legal after_a (SetValue k s name kind bytes) e apart alike q = refl
+same_deed tree is m a legal after_a (DeleteValue k s name) e apart alike q = refl
 
+module _ (tree : TreeMap) (is : IsTree tree) (m n : ℕ) (a b : Op) (e : hive_of a ≡ hive_of b) (apart : NoConflict a b) (legal_a : judged tree a ≡ Ok Legal) (legal_b : judged tree b ≡ Ok Legal)
+    (after_a : IsTree (tree_after tree a m)) (after_b : IsTree (tree_after tree b n)) (alike : StaysAsLong b tree (tree_after tree a m)) where
   -- the first after the second, where the second after the first is as long as on the tree
-  as_long_back : (a b : Op) → hive_of a ≡ hive_of b → NoConflict a b → judged tree b ≡ Ok Legal → After a → After b → StaysAsLong b tree (tree_after tree a m) → StaysAsLong a tree (tree_after tree b m)
-  as_long_back (CreateKey h p) (CreateKey k s) e apart legal after_a after_b alike =
-      as_long tree is m (CreateKey k s) legal after_b h p (sym e) (conflict_back (CreateKey h p) (CreateKey k s) apart) (unmade tree is m h p k s after_a after_b alike)
-  as_long_back (CreateKey h p) (DeleteKey k s) e apart legal after_a after_b alike = as_long tree is m (DeleteKey k s) legal after_b h p (sym e) (conflict_back (CreateKey h p) (DeleteKey k s) apart) (λ lt rest. never)
-  as_long_back (CreateKey h p) (SetValue k s name kind bytes) e apart legal after_a after_b alike = as_long tree is m (SetValue k s name kind bytes) legal after_b h p (sym e) (conflict_back (CreateKey h p) (SetValue k s name kind bytes) apart) (λ lt rest. never)
-  as_long_back (CreateKey h p) (DeleteValue k s name) e apart legal after_a after_b alike = as_long tree is m (DeleteValue k s name) legal after_b h p (sym e) (conflict_back (CreateKey h p) (DeleteValue k s name) apart) (λ lt rest. never)
-  as_long_back (DeleteKey h p) b e apart legal after_a after_b alike = tt
-  as_long_back (SetValue h p name kind bytes) b e apart legal after_a after_b alike = tt
-  as_long_back (DeleteValue h p name) b e apart legal after_a after_b alike = tt
+  as_long_back : StaysAsLong a tree (tree_after tree b n)
+  as_long_back = by_case a b e apart legal_b after_a after_b alike
+    where
+      by_case : (a b : Op) → hive_of a ≡ hive_of b → NoConflict a b → judged tree b ≡ Ok Legal → IsTree (tree_after tree a m) → IsTree (tree_after tree b n) → StaysAsLong b tree (tree_after tree a m) → StaysAsLong a tree (tree_after tree b n)
+      by_case (CreateKey h p) (CreateKey k s) e apart legal after_a after_b alike =
+          as_long tree is n (CreateKey k s) legal after_b h p (sym e) (conflict_back (CreateKey h p) (CreateKey k s) apart) (unmade tree is m h p k s after_a alike)
+      by_case (CreateKey h p) (DeleteKey k s) e apart legal after_a after_b alike = as_long tree is n (DeleteKey k s) legal after_b h p (sym e) (conflict_back (CreateKey h p) (DeleteKey k s) apart) (λ lt rest. never)
+      by_case (CreateKey h p) (SetValue k s name kind bytes) e apart legal after_a after_b alike = as_long tree is n (SetValue k s name kind bytes) legal after_b h p (sym e) (conflict_back (CreateKey h p) (SetValue k s name kind bytes) apart) (λ lt rest. never)
+      by_case (CreateKey h p) (DeleteValue k s name) e apart legal after_a after_b alike = as_long tree is n (DeleteValue k s name) legal after_b h p (sym e) (conflict_back (CreateKey h p) (DeleteValue k s name) apart) (λ lt rest. never)
+      by_case (DeleteKey h p) b e apart legal after_a after_b alike = tt
+      by_case (SetValue h p name kind bytes) b e apart legal after_a after_b alike = tt
+      by_case (DeleteValue h p name) b e apart legal after_a after_b alike = tt
 
-  -- an operation that stays as long does the same
-  same_deed : (a b : Op) → hive_of a ≡ hive_of b → NoConflict a b → judged tree a ≡ Ok Legal → After a → StaysAsLong b tree (tree_after tree a m) → (q : List (List ℕ)) → its (tree_after tree a m) m b q ≡ its tree m b q
-  same_deed a (CreateKey k s) e apart legal after_a alike q = same_creation tree is m a legal after_a k s e apart alike q
-  same_deed a (DeleteKey k s) e apart legal after_a alike q = refl
-  same_deed a (SetValue k s name kind bytes) e apart legal after_a alike q = refl
-  same_deed a (DeleteValue k s name) e apart legal after_a alike q = refl
+  are_two : (q : List (List ℕ)) → AreTwo (its tree a q) (its tree b q)
+  are_two q = by_case a b e apart after_a alike
+    where
+      by_case : (a b : Op) → hive_of a ≡ hive_of b → NoConflict a b → IsTree (tree_after tree a m) → StaysAsLong b tree (tree_after tree a m) → AreTwo (its tree a q) (its tree b q)
+      by_case (CreateKey h p) (CreateKey k s) e apart after_a alike = not_both tree is m h p k s after_a alike q
+      by_case (CreateKey h p) (DeleteKey k s) e apart after_a alike = tt
+      by_case (CreateKey h p) (SetValue k s name kind bytes) e apart after_a alike = tt
+      by_case (CreateKey h p) (DeleteValue k s name) e apart after_a alike = tt
+      by_case (DeleteKey h p) (CreateKey k s) e apart after_a alike = tt
+      by_case (DeleteKey h p) (DeleteKey k s) e apart after_a alike = tt
+      by_case (DeleteKey h p) (SetValue k s name kind bytes) e apart after_a alike = tt
+      by_case (DeleteKey h p) (DeleteValue k s name) e apart after_a alike = tt
+      by_case (SetValue h p name kind bytes) (CreateKey k s) e apart after_a alike = tt
+      by_case (SetValue h p name kind bytes) (DeleteKey k s) e apart after_a alike = tt
+      by_case (SetValue h p name kind bytes) (SetValue k s other sort data_) e apart after_a alike = edits_apart (key_at h p) (key_at k s) e apart q
+      by_case (SetValue h p name kind bytes) (DeleteValue k s other) e apart after_a alike = edits_apart (key_at h p) (key_at k s) e apart q
+      by_case (DeleteValue h p name) (CreateKey k s) e apart after_a alike = tt
+      by_case (DeleteValue h p name) (DeleteKey k s) e apart after_a alike = tt
+      by_case (DeleteValue h p name) (SetValue k s other sort data_) e apart after_a alike = edits_apart (key_at h p) (key_at k s) e apart q
+      by_case (DeleteValue h p name) (DeleteValue k s other) e apart after_a alike = edits_apart (key_at h p) (key_at k s) e apart q
 
-  are_two : (a b : Op) → hive_of a ≡ hive_of b → NoConflict a b → After a → After b → StaysAsLong b tree (tree_after tree a m) → (q : List (List ℕ)) → AreTwo (its tree m b q) (its tree m a q)
-  are_two (CreateKey h p) (CreateKey k s) e apart after_a after_b alike q = λ new old. not_both tree is m h p k s after_a after_b alike q old new
-  are_two (CreateKey h p) (DeleteKey k s) e apart after_a after_b alike q = tt
-  are_two (CreateKey h p) (SetValue k s name kind bytes) e apart after_a after_b alike q = tt
-  are_two (CreateKey h p) (DeleteValue k s name) e apart after_a after_b alike q = tt
-  are_two (DeleteKey h p) (CreateKey k s) e apart after_a after_b alike q = tt
-  are_two (DeleteKey h p) (DeleteKey k s) e apart after_a after_b alike q = tt
-  are_two (DeleteKey h p) (SetValue k s name kind bytes) e apart after_a after_b alike q = tt
-  are_two (DeleteKey h p) (DeleteValue k s name) e apart after_a after_b alike q = tt
-  are_two (SetValue h p name kind bytes) (CreateKey k s) e apart after_a after_b alike q = tt
-  are_two (SetValue h p name kind bytes) (DeleteKey k s) e apart after_a after_b alike q = tt
-  are_two (SetValue h p name kind bytes) (SetValue k s other sort data_) e apart after_a after_b alike q = λ here there. edits_apart (key_at h p) (key_at k s) e apart q there here
-  are_two (SetValue h p name kind bytes) (DeleteValue k s other) e apart after_a after_b alike q = λ here there. edits_apart (key_at h p) (key_at k s) e apart q there here
-  are_two (DeleteValue h p name) (CreateKey k s) e apart after_a after_b alike q = tt
-  are_two (DeleteValue h p name) (DeleteKey k s) e apart after_a after_b alike q = tt
-  are_two (DeleteValue h p name) (SetValue k s other sort data_) e apart after_a after_b alike q = λ here there. edits_apart (key_at h p) (key_at k s) e apart q there here
-  are_two (DeleteValue h p name) (DeleteValue k s other) e apart after_a after_b alike q = λ here there. edits_apart (key_at h p) (key_at k s) e apart q there here
+  abbrev x : List (List ℕ) → Deed
+  x q = its tree a q
 
-  -- two operations apart make the same rows in either order
-  pub either_tree : (a b : Op) → hive_of a ≡ hive_of b → NoConflict a b → judged tree a ≡ Ok Legal → judged tree b ≡ Ok Legal → After a → After b → StaysAsLong b tree (tree_after tree a m)
-      → tree_after (tree_after tree a m) b m ≡ tree_after (tree_after tree b m) a m
-  either_tree a b e apart legal_a legal_b after_a after_b alike = same_map paths_total paths_apart (tree_after (tree_after tree a m) b m) (tree_after (tree_after tree b m) a m) (λ q.
-      row_done (tree_after tree a m) m b q
-      ∙ ap (λ x. done m x (row (tree_after tree a m) q)) (same_deed a b e apart legal_a after_a alike q)
-      ∙ ap (done m (its tree m b q)) (row_done tree m a q)
-      ∙ either_done m (its tree m b q) (its tree m a q) (row tree q) (fits tree is m b legal_b q) (fits tree is m a legal_a q) (are_two a b e apart after_a after_b alike q)
-      ∙ sym (row_done (tree_after tree b m) m a q
-      ∙ ap (λ x. done m x (row (tree_after tree b m) q)) (same_deed b a (sym e) (conflict_back a b apart) legal_b after_b (as_long_back a b e apart legal_b after_a after_b alike) q)
-      ∙ ap (done m (its tree m a q)) (row_done tree m b q)))
+  abbrev y : List (List ℕ) → Deed
+  y q = its tree b q
+
+  -- what two operations apart make of each row in either order
+  pub either_tree : (q : List (List ℕ)) → Orders m (makes (its tree b q)) (row tree q) (row (tree_after tree a m) q) (row (tree_after (tree_after tree a m) b n) q) (row (tree_after (tree_after tree b n) a m) q)
+  either_tree q =
+      subst (λ left. Orders m (makes (y q)) (row tree q) (row (tree_after tree a m) q) left (row (tree_after (tree_after tree b n) a m) q)) (sym b_last)
+      (subst (λ right. Orders m (makes (y q)) (row tree q) (row (tree_after tree a m) q) (done n (y q) (done m (x q) (row tree q))) right) (sym a_last)
+      (subst (λ seen. Orders m (makes (y q)) (row tree q) seen (done n (y q) (done m (x q) (row tree q))) (done m (x q) (done n (y q) (row tree q)))) (sym (row_done tree a m q))
+      (either_done m n (x q) (y q) (row tree q) (fits tree is a legal_a q) (fits tree is b legal_b q) (are_two q))))
+    where
+      b_last : row (tree_after (tree_after tree a m) b n) q ≡ done n (y q) (done m (x q) (row tree q))
+      b_last =
+          row_done (tree_after tree a m) b n q
+          ∙ ap (λ d. done n d (row (tree_after tree a m) q)) (same_deed tree is m a legal_a after_a b e apart alike q)
+          ∙ ap (done n (y q)) (row_done tree a m q)
+
+      a_last : row (tree_after (tree_after tree b n) a m) q ≡ done m (x q) (done n (y q) (row tree q))
+      a_last =
+          row_done (tree_after tree b n) a m q
+          ∙ ap (λ d. done m d (row (tree_after tree b n) q)) (same_deed tree is n b legal_b after_b a (sym e) (conflict_back a b apart) as_long_back q)
+          ∙ ap (done m (x q)) (row_done tree b n q)

@@ -13,5 +13,7 @@ pub mod Apart
 pub mod Looks
 pub mod Filing
 pub mod Effects
+pub mod TimesTold
+pub mod Homes
 pub mod Commutes
 pub mod EitherOrder

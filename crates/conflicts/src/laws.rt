@@ -3,10 +3,13 @@
 //!
 //! They have no code of their own: each is the contract of a function that does nothing, for whoever keeps
 //! transactions.
-ghost use Rattle.std.specs.Prelude.{◌≡◌, ◌⊎◌, ◌↔◌, ◌++◌, ◌∷◌, [], ℕ, List, Option, Contains, ◌≢◌, nat_eq};
+ghost use Rattle.std.specs.Prelude.{◌≡◌, ◌⊎◌, ◌↔◌, ◌++◌, ◌∷◌, [], ℕ, List, Option, Some, Contains, ◌≢◌, nat_eq};
 ghost use Rattle.std.specs.List.{IsDistinct};
 ghost use Rattle.refusals.specs.declared.refusal.Refusal.TheVariants.{TooLarge};
 ghost use Rattle.reg_tree.specs.Maps.{TreeMap};
+ghost use Rattle.reg_tree.specs.Operations.{hive_of};
+ghost use Rattle.reg_tree.specs.Stamps.{time_in, home_of, stamped};
+ghost use Rattle.reg_tree.specs.TreeLists.{levels_made};
 ghost use Rattle.reg_tree.specs.Judgement.{legal, applied, applied_one};
 ghost use Rattle.reg_tree.specs.Sequences.{AreTrees};
 ghost use Rattle.reg_tree.specs.Times.{SameButTimes};
@@ -44,6 +47,9 @@ pub fn but_for_weight()
 /// makes as many keys after them as before them.
 ///
 /// - `exact`: all at one moment, what the two orders make is the same.
+/// - `unwritten`, `written`: the change at a moment of its own, it is the same but for the time of one key, which is the last
+///   one that was on the change's way: where the operations wrote that key, it has their moment if they come last. They didn't
+///   where it hasn't their moment after them; they did where it has, and had another time before them.
 /// - `but_for_times`: at whatever moments, it is the same but for times; so it is of trees that are those after the
 ///   operations but for times.
 pub fn either_order()
@@ -52,6 +58,24 @@ pub fn either_order()
         AreCarriedOut trees ops m → judged_in trees change ≡ Ok Legal →
         MakesAlike change (applied trees ops m) trees →
         applied_one (applied trees ops m) change m ≡ applied (applied_one trees change m) ops m }
+    ensures unwritten { (trees : List TreeMap) (ops : List Op) (change : Op) (m n : ℕ) →
+        AreTrees trees → AreApart ops (change ∷ []) →
+        AreCarriedOut trees ops m → judged_in trees change ≡ Ok Legal →
+        MakesAlike change (applied trees ops m) trees →
+        time_in (applied trees ops m) (hive_of change)
+        (home_of change (levels_made (applied trees ops m) change)) ≢ Some m →
+        applied_one (applied trees ops m) change n ≡ applied (applied_one trees change n) ops m }
+    ensures written { (trees : List TreeMap) (ops : List Op) (change : Op) (m n : ℕ) →
+        AreTrees trees → AreApart ops (change ∷ []) →
+        AreCarriedOut trees ops m → judged_in trees change ≡ Ok Legal →
+        MakesAlike change (applied trees ops m) trees →
+        time_in (applied trees ops m) (hive_of change)
+        (home_of change (levels_made (applied trees ops m) change)) ≡ Some m →
+        time_in trees (hive_of change)
+        (home_of change (levels_made (applied trees ops m) change)) ≢ Some m →
+        stamped (applied_one (applied trees ops m) change n) (hive_of change)
+        (home_of change (levels_made (applied trees ops m) change)) m
+        ≡ applied (applied_one trees change n) ops m }
     ensures but_for_times { (trees seen : List TreeMap) (ops : List Op) (change : Op)
         (m n k l : ℕ) → AreTrees trees →
         AreApart ops (change ∷ []) →
