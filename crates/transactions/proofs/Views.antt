@@ -17,6 +17,7 @@ use Rattle.reg_tree.specs.declared.tree.Info.{Info}
 use Rattle.reg_tree.specs.Judgement.{judged, legal, legal_if, legal_after, changed, applied, applied_one, outweighs, outweighs_if, any_outweighs}
 use Rattle.reg_tree.specs.Operations.{hive_of}
 use Rattle.reg_tree.specs.Sequences.{AreTrees}
+use Rattle.reg_tree.specs.Stamps.{time_in, home_of, stamped}
 use Rattle.reg_tree.specs.Times.{untimed, SameButTimes}
 use Rattle.reg_tree.specs.declared.op.Op.{Op}
 use Rattle.reg_tree.specs.declared.op.Op.TheVariants.{CreateKey, DeleteKey, SetValue, DeleteValue}
@@ -32,7 +33,7 @@ use Rattle.conflicts.proofs.StaysLegal.{more, one_more, any_moment}
 use Rattle.conflicts.proofs.Meets.{conflict_meets}
 use Rattle.machine.specs.Machine.{too_long}
 use Rattle.machine.specs.Transactions.{Transaction, Places, at, is_active, holds, view}
-use Rattle.transactions.specs.Entries.{IsMade, AreCarried, AreAfter, AreLight, IsViewNow, IsViewed, WritesView, MovesView, StaysView, IsLegalIn, IsMovedTo, AreMoved, moment_of}
+use Rattle.transactions.specs.Entries.{IsMade, AreCarried, AreAfter, AreLight, IsViewNow, IsViewed, WritesView, MovesView, IsTimed, KeepsTimes, StaysView, IsLegalIn, IsMovedTo, AreMoved, moment_of}
 use Rattle.transactions.specs.Tables.{MeetNone}
 use Rattle.transactions.specs.declared.entry.Judged.{Judged}
 use Rattle.transactions.specs.declared.entry.View.{View}
@@ -84,7 +85,7 @@ written_view now ops view made op is allowed written = subst (IsViewNow now (ops
         are = before.are;
         carried = one_more now ops op 0 0 before.are before.carried (judged_of_legal (applied now ops 0) op (sym (legal_alike view.trees (applied now ops 0) (seen_at now ops view.moment view.trees 0 is.made) op) ∙ allowed));
       };
-  light = λ c. light_at view.moment view.trees is.made (is.light c) allowed;
+  light = λ l. light_at view.moment view.trees is.made (is.light l) allowed;
 }
   where
     light_at : (moment : Option ℕ) (trees : List TreeMap) → IsMade now ops moment trees → AreLight now ops moment → legal trees op ≡ Ok Legal → AreLight now (ops ++ op ∷ []) moment
@@ -96,9 +97,17 @@ written_view now ops view made op is allowed written = subst (IsViewNow now (ops
     by_moment (Some m) trees h = ap (λ ts. applied_one ts op m) h ∙ sym (one_by_one now ops (op ∷ []) m)
 
 -- the laws of claims, as they are handed in
-abbrev pub EitherOrder : Type 0
-EitherOrder = (trees seen : List TreeMap) (ops : List Op) (change : Op) (m n k l : ℕ) → AreTrees trees → AreApart ops (change ∷ []) → AreCarriedOut trees ops m → judged_in trees change ≡ Ok Legal → SameButTimes seen (applied trees ops m) → MakesAlike change seen trees →
-    SameButTimes (applied_one seen change n) (applied (applied_one trees change k) ops l)
+abbrev pub OnceInOrder : (List TreeMap → Op → ℕ → ℕ → List TreeMap → List TreeMap → Type 0) → Type 0
+OnceInOrder Then = (trees : List TreeMap) (ops : List Op) (change : Op) (m n : ℕ) → AreTrees trees → AreApart ops (change ∷ []) → AreCarriedOut trees ops m → judged_in trees change ≡ Ok Legal → MakesAlike change (applied trees ops m) trees → Then trees change m n (applied trees ops m) (applied (applied_one trees change n) ops m)
+
+pub record EitherOrder : Type 0 where
+  pub exact : (trees : List TreeMap) (ops : List Op) (change : Op) (m : ℕ) → AreTrees trees → AreApart ops (change ∷ []) → AreCarriedOut trees ops m → judged_in trees change ≡ Ok Legal → MakesAlike change (applied trees ops m) trees →
+      applied_one (applied trees ops m) change m ≡ applied (applied_one trees change m) ops m
+  pub unwritten : OnceInOrder (λ trees change m n seen all. (time_in seen (hive_of change) (home_of change (levels_made seen change)) ≡ Some m → ⊥) → applied_one seen change n ≡ all)
+  pub written : OnceInOrder (λ trees change m n seen all. time_in seen (hive_of change) (home_of change (levels_made seen change)) ≡ Some m → (time_in trees (hive_of change) (home_of change (levels_made seen change)) ≡ Some m → ⊥) →
+      stamped (applied_one seen change n) (hive_of change) (home_of change (levels_made seen change)) m ≡ all)
+  pub but_for_times : (trees seen : List TreeMap) (ops : List Op) (change : Op) (m n k l : ℕ) → AreTrees trees → AreApart ops (change ∷ []) → AreCarriedOut trees ops m → judged_in trees change ≡ Ok Legal → SameButTimes seen (applied trees ops m) → MakesAlike change seen trees →
+      SameButTimes (applied_one seen change n) (applied (applied_one trees change k) ops l)
 
 abbrev pub StaysLegal : Type 0
 StaysLegal = (trees : List TreeMap) (first ops : List Op) (m n k : ℕ) → AreTrees trees → AreApart first ops → AreCarriedOut trees ops m → AreCarriedOut (applied trees first n) ops k
@@ -113,21 +122,41 @@ apart_back : (ops : List Op) (change : Op) → AreApart ops (change ∷ []) → 
 apart_back [] change apart = tt
 apart_back (op ∷ ops) change apart = (λ c. apart.0.0 (conflict_sym (claim_of change) (claim_of op) c), apart_back ops change apart.1)
 
+-- trees with operations and a change, whose times stay exact, are those of the change and then the operations
+kept_times : EitherOrder → (now : List TreeMap) (ops : List Op) (op : Op) (own moment : ℕ) → AreTrees now → AreApart ops (op ∷ []) → AreCarriedOut now ops own → judged_in now op ≡ Ok Legal → (seen after : List TreeMap) → seen ≡ applied now ops own → MakesAlike op seen now → KeepsTimes seen now op moment own after →
+    after ≡ applied (applied_one now op moment) ops own
+kept_times either now ops op own moment are apart carried allowed seen after made =
+    subst (λ ts. MakesAlike op ts now → KeepsTimes ts now op moment own after → after ≡ applied (applied_one now op moment) ops own) (sym made) (λ alike keeps. elim keeps [
+      | inl once ↦ once.1 ∙ ap (applied_one (applied now ops own) op) (sym once.0) ∙ either.exact now ops op own are apart carried allowed alike ∙ ap (λ m. applied (applied_one now op m) ops own) once.0
+      | inr (inl other) ↦ other.1 ∙ either.unwritten now ops op own moment are apart carried allowed alike other.0
+      | inr (inr again) ↦ again.2 ∙ either.written now ops op own moment are apart carried allowed alike again.0 again.1
+    ])
+
 -- the view after a change that meets no claim of the operations
-pub moved_view : EitherOrder → StaysLegal → (now : List TreeMap) (ops : List Op) (view after : View) (op : Op) (number moment : ℕ) → IsViewNow now ops view → AreApart ops (op ∷ []) → judged_in now op ≡ Ok Legal → MovesView view now op number after →
+pub moved_view : EitherOrder → StaysLegal → (now : List TreeMap) (ops : List Op) (view after : View) (op : Op) (number moment : ℕ) → IsViewNow now ops view → AreApart ops (op ∷ []) → judged_in now op ≡ Ok Legal → MovesView view now op moment number after →
     IsViewNow (applied_one now op moment) ops after
 moved_view either stays now ops view after op number moment is apart allowed moves =
-    let before : AreCarried now ops = is.carried moves.carried in
     record {
-      made = subst (λ m. IsMade (applied_one now op moment) ops m after.trees) (sym moves.moment)
-          (subst (λ ts. SameButTimes ts (applied (applied_one now op moment) ops 0)) (sym moves.trees)
-          (either now view.trees ops op 0 0 moment 0 before.are apart before.carried allowed (seen_at now ops view.moment view.trees 0 is.made) (alike_made op view.trees now moves.alike)));
+      made = by_moment after.moment moves.timed;
       carried = λ c. record {
         are = trees_stay_one now op moment before.are;
         carried = stays now (op ∷ []) ops 0 moment 0 before.are (apart_back ops op apart, tt) before.carried;
       };
-      light = λ c. subst (AreLight (applied_one now op moment) ops) (sym moves.moment) tt;
+      light = λ l. absurd (true≢false (sym l ∙ moves.unweighed));
     }
+  where
+    before : AreCarried now ops
+    before = is.carried moves.carried
+
+    alike : MakesAlike op view.trees now
+    alike = alike_made op view.trees now moves.alike
+
+    by_moment : (m : Option ℕ) → IsTimed view now op moment m after.trees → IsMade (applied_one now op moment) ops m after.trees
+    by_moment None timed =
+        subst (λ ts. SameButTimes ts (applied (applied_one now op moment) ops 0)) (sym timed)
+        (either.but_for_times now view.trees ops op 0 moment moment 0 before.are apart before.carried allowed (seen_at now ops view.moment view.trees 0 is.made) alike)
+    by_moment (Some own) timed =
+        kept_times either now ops op own moment before.are apart (any_moment now before.are ops 0 own before.carried) allowed view.trees after.trees (subst (λ m. IsMade now ops m view.trees) timed.0 is.made) alike timed.1
 
 -- a view that was made anew, whose operations were carried out
 pub fresh_carried : (now : List TreeMap) (ops : List Op) (m : ℕ) → AreTrees now → AreCarriedOut now ops m → AreCarried now ops
@@ -190,13 +219,13 @@ carried_last now [] op m c = c.0
 carried_last now (o ∷ front) op m c = carried_last (applied_one now o m) front op m c.1
 
 -- a view past one operation more of a change
-pub stays_more : EitherOrder → StaysLegal → (now trees : List TreeMap) (front done : List Op) (op : Op) (m number : ℕ) (view seen after : View) → StaysView now front m view seen → AreCarriedOut now done m → trees ≡ applied now front m → MovesView seen trees op number after → done ≡ front ++ op ∷ [] →
+pub stays_more : EitherOrder → StaysLegal → (now trees : List TreeMap) (front done : List Op) (op : Op) (m number : ℕ) (view seen after : View) → StaysView now front m view seen → AreCarriedOut now done m → trees ≡ applied now front m → MovesView seen trees op m number after → done ≡ front ++ op ∷ [] →
     StaysView now done m view after
 stays_more either stays now trees front done op m number view seen after kept carried made moves all = λ ops is apart.
     let both = apart_parts ops front op (subst (AreApart ops) all apart) in
     subst (λ ts. IsViewNow ts ops after) (sym (one_by_one now front (op ∷ []) m) ∙ ap (λ x. applied now x m) (sym all))
     (moved_view either stays (applied now front m) ops seen after op number m (kept ops is both.0) both.1 (carried_last now front op m (subst (λ x. AreCarriedOut now x m) all carried))
-    (subst (λ ts. MovesView seen ts op number after) made moves))
+    (subst (λ ts. MovesView seen ts op m number after) made moves))
 
 -- the trees of now after one operation more
 pub trees_more : (now trees made : List TreeMap) (front done : List Op) (op : Op) (m : ℕ) → trees ≡ applied now front m → made ≡ applied_one trees op m → done ≡ front ++ op ∷ [] → made ≡ applied now done m

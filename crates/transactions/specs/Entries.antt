@@ -1,5 +1,5 @@
 -- How a table keeps a transaction.
-use Rattle.std.specs.Prelude.{◌≡◌, ◌⊎◌, ℕ, ◌+◌, ◌<◌, ◌≤◌, ◌++◌, ◌∷◌, [], List, map, length, vec_capacity, Contains, Option, IfSome, IsSome, false, Ok, Some, None, ⊤, true, ◌↔◌, slice_index_or}
+use Rattle.std.specs.Prelude.{◌≡◌, ◌≢◌, ◌⊎◌, ℕ, ◌+◌, ◌<◌, ◌≤◌, ◌++◌, ◌∷◌, [], List, map, length, vec_capacity, Contains, Option, IfSome, IsSome, false, Ok, Some, None, ⊤, true, ◌↔◌, slice_index_or}
 use Rattle.std.specs.Option.{option_map}
 use Rattle.refusals.specs.declared.limits.TheConstants.{MOST_ELEMENT_BYTES}
 use Rattle.refusals.specs.declared.refusal.Refusal.{Refusal}
@@ -8,6 +8,8 @@ use Rattle.reg_tree.specs.Maps.{TreeMap}
 use Rattle.reg_tree.specs.Texts.{ops_text_len}
 use Rattle.reg_tree.specs.Judgement.{applied, applied_one, legal, any_outweighs}
 use Rattle.reg_tree.specs.Sequences.{AreTrees}
+use Rattle.reg_tree.specs.Operations.{hive_of}
+use Rattle.reg_tree.specs.Stamps.{time_in, home_of, stamped}
 use Rattle.reg_tree.specs.Times.{SameButTimes}
 use Rattle.conflicts.specs.Skeletons.{AreCarriedOut, AreApart}
 use Rattle.reg_tree.specs.TreeLists.{levels_made, info_in}
@@ -45,8 +47,7 @@ pub record AreCarried (now : List TreeMap) (ops : List Op) : Type 0 where
   pub are : AreTrees now
   pub carried : AreCarriedOut now ops 0
 
--- None of the operations leaves a tree too heavy at a view's moment. Without a moment nothing is said: a change that was applied after the operations
--- was weighed after them, and it comes before them.
+-- None of the operations leaves a tree too heavy at a view's moment. Without a moment nothing is said.
 abbrev pub AreLight : List TreeMap → List Op → Option ℕ → Type 0
 AreLight now ops None = ⊤
 AreLight now ops (Some moment) = any_outweighs now ops moment ≡ false
@@ -61,7 +62,7 @@ pub record AreAfter (now : List TreeMap) (ops : List Op) (moment : ℕ) (trees :
 pub record IsViewNow (now : List TreeMap) (ops : List Op) (view : View) : Type 0 where
   pub made : IsMade now ops view.moment view.trees
   pub carried : view.carried ≡ true → AreCarried now ops
-  pub light : view.carried ≡ true → AreLight now ops view.moment
+  pub light : view.light ≡ true → AreLight now ops view.moment
 
 -- a view that was just made
 pub record IsFresh (now : List TreeMap) (ops : List Op) (moment number : ℕ) (view : View) : Type 0 where
@@ -104,12 +105,28 @@ abbrev pub WritesView : View → Op → Option Judged → Type 0
 WritesView view op None = legal view.trees op ≡ Ok Opened
 WritesView view op (Some written) = IsWrittenTo view op written
 
+-- A change is carried out at its moment on trees with operations at their own, and their times stay those that operations make at that moment: where both
+-- are one; or where the operations didn't write the key that the change writes beside those that it makes; or where they did, and it had another time
+-- before them: then it gets their moment again.
+abbrev pub KeepsTimes : List TreeMap → List TreeMap → Op → ℕ → ℕ → List TreeMap → Type 0
+KeepsTimes seen now op moment own trees =
+    let hive = hive_of op in
+    let home = home_of op (levels_made seen op) in
+    ((own ≡ moment) × (trees ≡ applied_one seen op moment))
+    ⊎ ((time_in seen hive home ≢ Some own) × (trees ≡ applied_one seen op moment))
+    ⊎ ((time_in seen hive home ≡ Some own) × (time_in now hive home ≢ Some own) × (trees ≡ stamped (applied_one seen op moment) hive home own))
+
+-- without a moment times are nobody's
+abbrev pub IsTimed : View → List TreeMap → Op → ℕ → Option ℕ → List TreeMap → Type 0
+IsTimed view now op moment None trees = trees ≡ applied_one view.trees op moment
+IsTimed view now op moment (Some own) trees = (view.moment ≡ Some own) × KeepsTimes view.trees now op moment own trees
+
 -- a change is carried out on a view's trees, where it makes as many keys as on the trees of now
-pub record MovesView (view : View) (now : List TreeMap) (op : Op) (number : ℕ) (after : View) : Type 0 where
+pub record MovesView (view : View) (now : List TreeMap) (op : Op) (moment number : ℕ) (after : View) : Type 0 where
   pub carried : view.carried ≡ true
   pub alike : levels_made view.trees op ≡ levels_made now op
-  pub trees : after.trees ≡ applied_one view.trees op 0
-  pub moment : after.moment ≡ None
+  pub timed : IsTimed view now op moment after.moment after.trees
+  pub unweighed : after.light ≡ false
   pub numbered : after.number ≡ number
 
 -- what was a view of operations is one after a change none of whose operations meets a claim of theirs

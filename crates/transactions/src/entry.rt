@@ -4,20 +4,21 @@ ghost use Rattle.refusals.specs.declared.limits.TheConstants.{MOST_ELEMENT_BYTES
 ghost use Rattle.refusals.specs.declared.refusal.Refusal.TheVariants.{NoMemory, NotFound, TooLarge};
 ghost use Rattle.reg_tree.specs.Texts.{op_text_len, ops_text_len};
 ghost use Rattle.reg_names.specs.Names.{folded_path};
-ghost use Rattle.reg_tree.specs.Judgement.{legal, applied, any_outweighs};
+ghost use Rattle.reg_tree.specs.Judgement.{legal, applied, applied_one, any_outweighs};
 ghost use Rattle.reg_tree.specs.Maps.{TreeMap, IsTree};
 ghost use Rattle.reg_tree.specs.Sequences.{AreTrees};
+ghost use Rattle.reg_tree.specs.Stamps.{home_of};
 ghost use Rattle.conflicts.specs.Skeletons.{AreCarriedOut, AreApart};
 ghost use Rattle.reg_tree.specs.Reads.{IsMissingOrNoMemory};
-ghost use Rattle.reg_tree.specs.TreeLists.{info_in};
-ghost use Rattle.transactions.specs.Entries.{transaction_of, AreAfter, IsCommitted, StaysView, IsViewed, IsFresh, HasView, HasViewAt, Tells, TellsInfo, WritesView, MovesView, IsJudged, illegal, IsSameEntry, HasRoom, HasTwoSpare};
+ghost use Rattle.reg_tree.specs.TreeLists.{info_in, levels_made};
+ghost use Rattle.transactions.specs.Entries.{transaction_of, AreAfter, IsCommitted, StaysView, IsViewed, IsFresh, HasView, HasViewAt, Tells, TellsInfo, WritesView, MovesView, IsTimed, IsJudged, illegal, IsSameEntry, HasRoom, HasTwoSpare};
 ghost use Rattle.machine.specs.Machine.{looked_up, read_refusal, too_long};
 ghost use Rattle.machine.specs.Transactions.{view, with_op, ended, is_active, fresh_transaction};
 
 use machine::{Found, Outcome, Question, levels_made, look_up};
 use refusals::Refusal;
 use refusals::limits::MOST_ELEMENT_BYTES;
-use reg_names::Path;
+use reg_names::{Name, Path};
 use reg_tree::{CHANGE_BYTES, Info, Op, Trees};
 use std::alloc::{AllocError, Global};
 use std::mem;
@@ -28,19 +29,25 @@ const SPARE_OPS: usize = 2;
 
 const _: () = prove!(SPARE_OPS == 2);
 
+/// A moment that no clock comes to: no key has it as its time, unless a caller gives it.
+const NO_CLOCKS_MOMENT: u64 = u64::MAX;
+
 /// The trees that a transaction sees, but for the times of keys, when the last accepted change had a number.
 #[derive(Drop)]
 pub(crate) struct View {
     /// The trees.
     pub(crate) trees: Trees,
-    /// The moment at which the operations were applied to the trees of then; nothing where a later change was applied
-    /// after them, so that times are nobody's.
+    /// The moment that the keys have as their time which the operations wrote; nothing where that isn't known of each of them,
+    /// so that times are nobody's.
     pub(crate) moment: Option<u64>,
     /// The number of the last accepted change.
     pub(crate) number: u64,
     /// Whether each operation is known to be one that could be carried out where it was applied: then a change that
     /// meets no claim of theirs may be applied after them.
     pub(crate) carried: bool,
+    /// Whether none of them is known to leave a tree too heavy. A change that was applied after them was weighed after them,
+    /// and it comes before them.
+    pub(crate) light: bool,
     /// How many operations of others were applied since the view was last asked.
     pub(crate) unasked: usize,
 }
@@ -67,6 +74,13 @@ pub(crate) struct Committed {
     pub(crate) trees: Trees,
     /// Whether each operation is known to be one that could be carried out.
     pub(crate) carried: bool,
+}
+
+/// A view's trees after a change, and the moment that is theirs as it is a view's.
+#[derive(Drop)]
+struct Timed {
+    trees: Trees,
+    moment: Option<u64>,
 }
 
 /// What an operation that is legal would do.
@@ -96,6 +110,7 @@ impl View {
                 moment: Some(moment),
                 number,
                 carried: true,
+                light: true,
                 unasked: 0,
             });
         }
@@ -104,6 +119,7 @@ impl View {
             moment: Some(moment),
             number,
             carried: false,
+            light: false,
             unasked: 0,
         })
     }
@@ -158,6 +174,7 @@ impl View {
                     moment: self.moment,
                     number: self.number,
                     carried: self.carried,
+                    light: self.light,
                     unasked: 0,
                 },
                 levels,
@@ -167,22 +184,24 @@ impl View {
         }
     }
 
-    /// The view after the change of this number, which meets no claim of the operations: the change is applied to it too.
-    /// Nothing where that is not known to be the same: where it makes fewer keys here than on the trees of now, since the
-    /// operations made the others, and then spelled them.
+    /// The view after the change of this number at a moment, which meets no claim of the operations: the change is applied to
+    /// it too. Nothing where that is not known to be the same: where it makes fewer keys here than on the trees of now, since
+    /// the operations made the others, and then spelled them.
     fn moved(
         &self,
         alloc: Global,
         now: &Trees,
         op: &Op,
+        moment: u64,
         number: u64,
     ) -> Result<Option<View>, AllocError>
-        ensures { IfOk result (λ moved. IfSome moved (MovesView self.now now.now op.now number)) }
+        ensures { IfOk result (λ moved.
+            IfSome moved (MovesView self.now now.now op.now moment number)) }
     {
         if !self.carried {
             return Ok(None);
         }
-        let (trees, levels) = match self.trees.write_counted(alloc, op, 0) {
+        let (made, levels) = match self.trees.write_counted(alloc, op, moment) {
             Ok(Some(written)) => written,
             Err(Refusal::NoMemory) => return Err(AllocError),
             _ => return Ok(None),
@@ -190,13 +209,55 @@ impl View {
         if levels != levels_made(now, op) {
             return Ok(None);
         }
+        let timed = self.timed(alloc, now, op, op.home(levels), made, moment)?;
         Ok(Some(View {
-            trees,
-            moment: None,
+            trees: timed.trees,
+            moment: timed.moment,
             number,
             carried: true,
+            light: false,
             unasked: self.unasked.saturating_add(1),
         }))
+    }
+
+    /// The view's trees after a change at a moment of its own, with the times that they would have if it came before the
+    /// operations: they differ in that of its home alone, the key that it writes beside those that it makes. Where the operations
+    /// wrote that too, theirs is the later write. They did where it has their moment in the view, and had another time in the
+    /// trees of now; where it has their moment in both nobody knows, and so the view's times are nobody's from then on.
+    fn timed(
+        &self,
+        alloc: Global,
+        now: &Trees,
+        op: &Op,
+        home: &[Name],
+        made: Trees,
+        moment: u64,
+    ) -> Result<Timed, AllocError>
+        requires made { made ≡ applied_one self.now.trees op.now moment }
+        requires home { folded_path home.now ≡ home_of op.now (levels_made self.now.trees op.now) }
+        ensures { IfOk result (λ timed.
+            IsTimed self.now now.now op.now moment timed.moment timed.trees) }
+    {
+        let kept = Timed {
+            trees: made,
+            moment: self.moment,
+        };
+        let Some(own) = self.moment else {
+            return Ok(kept);
+        };
+        if own == moment || self.trees.time_at(op.hive(), home) != Some(own) {
+            return Ok(kept);
+        }
+        if now.time_at(op.hive(), home) == Some(own) {
+            return Ok(Timed {
+                moment: None,
+                ..kept
+            });
+        }
+        Ok(Timed {
+            trees: kept.trees.stamped(alloc, op.hive(), home, own)?,
+            moment: Some(own),
+        })
     }
 
     /// The view after the change of this number, none of whose operations meets a claim of the view's: each is applied to it
@@ -222,10 +283,11 @@ impl View {
             moment: self.moment,
             number,
             carried: self.carried,
+            light: self.light,
             unasked: self.unasked,
         };
         for op in change {
-            let Some(moved) = seen.moved(alloc, &trees, op, number)? else {
+            let Some(moved) = seen.moved(alloc, &trees, op, moment, number)? else {
                 return Ok(None);
             };
             seen = moved;
@@ -359,6 +421,18 @@ impl Entry {
         Ok(())
     }
 
+    /// Makes the view at a moment that no clock comes to, so that of each key it can be told whether the operations wrote it, also
+    /// after others write it, at whatever moments these are.
+    fn see_apart(&mut self, alloc: Global, now: &Trees, number: u64) -> Result<(), AllocError>
+        ensures rest { self.new ≡ record self.old { view = self.new.view } }
+        ensures same { OnErr result (self.new ≡ self.old) }
+        ensures kept { OnOk result (IsViewed now.now number self.new.ops.items self.new.view) }
+        ensures some { OnOk result (HasView now.now number self.new.ops.items self.new.view) }
+    {
+        self.view = Some(View::make(alloc, now, &self.ops, NO_CLOCKS_MOMENT, number)?);
+        Ok(())
+    }
+
     /// Judges an operation by the view, and carries it out on a copy of that; nothing where it opens a key. Then by the length
     /// of the change.
     pub(crate) fn judge(
@@ -425,8 +499,8 @@ impl Entry {
         }
     }
 
-    /// What is told of a key, with the time that the transaction sees. The view is made again only where it was made at
-    /// another moment, which is the very time that the key has in the trees of now.
+    /// What is told of a key, with the time that the transaction sees. Where the view can't tell it, it is made again at a
+    /// moment that no clock comes to; and where the key has that as its time in the trees of now, at the transaction's own.
     fn info(
         &mut self,
         alloc: Global,
@@ -445,10 +519,11 @@ impl Entry {
             (info_in (view now.now (transaction_of self.new)) hive (folded_path path.now))) }
     {
         self.see(alloc, now, number)?;
-        let Some(view) = &self.view else {
-            unreachable!();
-        };
-        if let Some(info) = view.info_at(now, hive, path, self.moment)? {
+        if let Some(info) = self.told(now, number, hive, path)? {
+            return Ok(info);
+        }
+        self.see_apart(alloc, now, number)?;
+        if let Some(info) = self.told(now, number, hive, path)? {
             return Ok(info);
         }
         self.see_anew(alloc, now, number)?;
@@ -456,6 +531,20 @@ impl Entry {
             unreachable!();
         };
         view.trees.query_info(hive, path)
+    }
+
+    /// What the view that there is tells of a key with the time that the transaction sees, or nothing where it can't tell that.
+    fn told(&self, now: &Trees, number: u64, hive: u8, path: &Path) -> Result<Option<Info>, Refusal>
+        requires { HasView now.now number self.now.ops.items self.now.view }
+        ensures ok { IfOk result (λ told. IfSome told (λ info.
+            info_in (view now.now (transaction_of self.now)) hive (folded_path path.now) ≡ Some info)) }
+        ensures refused { IfErr result (λ refusal. (refusal ≡ NotFound)
+            × (info_in (view now.now (transaction_of self.now)) hive (folded_path path.now) ≡ None)) }
+    {
+        let Some(view) = &self.view else {
+            unreachable!();
+        };
+        view.info_at(now, hive, path, self.moment)
     }
 
     /// Whether there is a view of now that is worth moving past so many operations. One that was not asked for as many of them as
@@ -512,7 +601,11 @@ impl Entry {
             ⊎ (refusal ≡ NoMemory)) }
     {
         match &self.view {
-            Some(view) if view.number == number && view.moment == Some(moment) && view.carried => {
+            Some(view)
+                if view.number == number
+                    && view.moment == Some(moment)
+                    && view.light
+                    && view.carried => {
                 Ok(Committed {
                     trees: view.trees.try_clone(alloc)?,
                     carried: true,

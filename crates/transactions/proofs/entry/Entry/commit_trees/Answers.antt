@@ -12,7 +12,7 @@ returns-in_ok-try_clone-in-Some-clause-ok c =
     let viewed : IsViewed now c.args.number ops (Some view) = subst (IsViewed now c.args.number ops) c.in-Some.is c.requires in
     let is : IsViewNow now ops view = viewed.made c.if-view-number.true in
     let at : view.moment ≡ Some c.args.moment = at_moment view.moment c.args.moment c.if-eq.ensures in
-    let before = is.carried c.if-view.true in
+    let before = is.carried c.if-view-2.true in
     record {
       light = subst (AreLight now ops) at (is.light c.if-view.true);
       trees = c.in_ok-try_clone-in-Some.ensures ∙ subst (λ (m : Option ℕ). IsMade now ops m view.trees) at is.made;

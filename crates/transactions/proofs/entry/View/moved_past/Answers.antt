@@ -17,8 +17,8 @@ loop-op-preserved c =
     let moment = c.args.moment in
     let before = c.loop-op.invariant in
     let grown : done ≡ front ++ op ∷ [] = take_more change c.loop-op.op-index op c.loop-op-test.true ∙ ap (λ x. front ++ x ∷ []) (sym c.op-item.is) in
-    let moves : MovesView c.loop-op.seen c.loop-op.trees op c.args.number c.in-Some.moved = subst (λ o. IfSome o (MovesView c.loop-op.seen c.loop-op.trees op c.args.number)) c.in-Some.is c.in_ok-moved.ensures in (
-      stays_more c.either_order.ensures.but_for_times c.stay_legal.ensures now c.loop-op.trees front done op moment c.args.number c.args.self.now c.loop-op.seen c.in-Some.moved before.0
+    let moves : MovesView c.loop-op.seen c.loop-op.trees op moment c.args.number c.in-Some.moved = subst (λ o. IfSome o (MovesView c.loop-op.seen c.loop-op.trees op moment c.args.number)) c.in-Some.is c.in_ok-moved.ensures in (
+      stays_more (record { exact = c.either_order.ensures.exact; unwritten = c.either_order.ensures.unwritten; written = c.either_order.ensures.written; but_for_times = c.either_order.ensures.but_for_times }) c.stay_legal.ensures now c.loop-op.trees front done op moment c.args.number c.args.self.now c.loop-op.seen c.in-Some.moved before.0
           (carried_front now change (c.loop-op.op-index + 1) moment c.requires) (before.2 c.loop-op-test.true) moves grown,
       moves.numbered,
       λ further. elim c.if-change-gt1.branch [
