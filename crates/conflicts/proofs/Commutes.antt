@@ -1,18 +1,14 @@
 -- Two operations whose claims do not conflict may be carried out in either order, each at its own moment: but for which of them writes a key last,
 -- they make the same of a tree.
-use Rattle.std.proofs.Common.{◌≡◌, inl, inr, ℕ, ◌+◌, ◌-◌, ◌<◌, ◌≤◌, Bool, true, false, ◌&&◌, cond, List, [], ◌∷◌, ◌++◌, length, take, drop, Option, Some, None, IsSome, is_some, Ok, refl, sym, ◌∙◌, ap, subst, arith, append-nil, append_assoc}
-use Rattle.std.specs.Prelude.{nat_lt, slice_index_or, ⊤}
+use Rattle.std.proofs.Common.{◌≡◌, inl, inr, ℕ, ◌+◌, ◌-◌, ◌<◌, ◌≤◌, Bool, true, false, ◌&&◌, cond, List, [], ◌∷◌, ◌++◌, length, take, drop, Some, None, IsSome, is_some, Ok, refl, sym, ◌∙◌, ap, subst, arith, append-nil, append_assoc}
+use Rattle.std.specs.Prelude.{nat_lt, ⊤}
 use Rattle.std.specs.Ordering.{eq_by_cmp}
 use Rattle.std.proofs.lemmas.Bool.{cases_lt, true≢false}
 use Rattle.std.proofs.lemmas.List.{take-append-drop, length-take-le}
 use Rattle.reg_names.specs.Names.{folded_path}
 use Rattle.reg_tree_parts.specs.Orders.{path_order}
-use Rattle.reg_tree_parts.proofs.Keys.{paths_total, paths_apart}
-use Rattle.std.specs.FinMap.{same_map}
-use Rattle.reg_tree_parts.specs.Rows.{Row, ValueMap}
-use Rattle.reg_tree_parts.specs.NewRows.{new_row}
-use Rattle.reg_tree_parts.specs.ValueEdits.{values_with, values_without}
-use Rattle.reg_tree_parts.specs.Nodes.{begins_path, one_below}
+use Rattle.reg_tree_parts.specs.Rows.{Row}
+use Rattle.reg_tree_parts.specs.Nodes.{begins_path}
 use Rattle.reg_tree.specs.Maps.{TreeMap, row, IsTree}
 use Rattle.reg_tree.specs.Operations.{depth_there, descriptor_of, tree_after, hive_of}
 use Rattle.reg_tree.specs.Judgement.{judged}

@@ -24,11 +24,11 @@ use Rattle.reg_tree.specs.declared.op.Op.TheVariants.{CreateKey, DeleteKey, SetV
 use Rattle.reg_tree.specs.declared.op.Legality.TheVariants.{Legal}
 use Rattle.reg_tree.proofs.OthersStay.{hives_stay, trees_stay_one}
 use Rattle.reg_tree.proofs.TreesStay.{changed_stays}
-use Rattle.reg_tree.proofs.Times.{levels_alike, applied_same, moments_alike, same_untimed}
+use Rattle.reg_tree.proofs.Times.{applied_same, moments_alike, same_untimed}
 use Rattle.reg_tree.proofs.Paths.{eq_is, eq_self, told as by_bool}
 use Rattle.reg_tree.proofs.Stamps.{row-stamped}
 use Rattle.claims_law.proofs.Tests.{never}
-use Rattle.conflicts.specs.Skeletons.{judged_if, judged_in, AreCarriedOut, AreApart, MakesAlike}
+use Rattle.conflicts.specs.Skeletons.{judged_if, judged_in, AreCarriedOut, AreApart, MakesAlike, IsBeside}
 use Rattle.conflicts.proofs.KeyDepths.{levels, depth_is}
 use Rattle.conflicts.proofs.OnSkeletons.{Found, found, set_here}
 use Rattle.conflicts.proofs.StaysLegal.{LawOfClaims, past_one, trees_stay}
@@ -308,7 +308,7 @@ module _ (the_law : LawOfClaims) where
   one_apart [] b apart = tt
   one_apart (a ∷ ops) b apart = (apart.0.0, one_apart ops b apart.1)
 
-  module _ (trees : List TreeMap) (ops : List Op) (change : Op) (m n : ℕ) (are : AreTrees trees) (apart : AreApart ops (change ∷ [])) (carried : AreCarriedOut trees ops m) (legal : judged_in trees change ≡ Ok Legal) (alike : MakesAlike change (applied trees ops m) trees) where
+  module _ (trees : List TreeMap) (ops : List Op) (change : Op) (m n : ℕ) (beside : IsBeside trees ops change m) where
     abbrev after_ops : List TreeMap
     after_ops = applied trees ops m
 
@@ -322,20 +322,20 @@ module _ (the_law : LawOfClaims) where
     its_hive = hive_of change
 
     known : (judged_in after_ops change ≡ Ok Legal) × AreOrders m (makes_in (slice_get trees its_hive) change) (slice_get trees its_hive) (slice_get after_ops its_hive) (slice_get change_last its_hive) (slice_get change_first its_hive)
-    known = past trees are ops change m n carried legal (one_apart ops change apart) alike
+    known = past trees beside.are ops change m n beside.carried beside.legal (one_apart ops change beside.apart) beside.alike
 
     on : Found after_ops change
     on = found after_ops change known.0
 
     was : Found trees change
-    was = found trees change legal
+    was = found trees change beside.legal
 
     -- what the change does to a row past the operations
     abbrev y : List (List ℕ) → Deed
     y q = its on.tree change q
 
     is : IsTree on.tree
-    is = trees_stay trees ops m are its_hive on.tree on.at
+    is = trees_stay trees ops m beside.are its_hive on.tree on.at
 
     fits_seen : (q : List (List ℕ)) → FitsRow (y q) (row on.tree q)
     fits_seen = fits on.tree is change on.legal
@@ -345,7 +345,7 @@ module _ (the_law : LawOfClaims) where
 
     -- it makes there what it makes before them
     makes_same : (q : List (List ℕ)) → makes_in (slice_get trees its_hive) change q ≡ makes (y q)
-    makes_same q = ap (λ o. makes_in o change q) was.at ∙ by_case change (stays_as_long trees after_ops change was.tree on.tree was.at on.at alike)
+    makes_same q = ap (λ o. makes_in o change q) was.at ∙ by_case change (stays_as_long trees after_ops change was.tree on.tree was.at on.at beside.alike)
       where
         by_case : (op : Op) → StaysAsLong op was.tree on.tree → makes (its was.tree op q) ≡ makes (its on.tree op q)
         by_case (CreateKey hive spelled) same = ap (λ d. begins_path q (folded_path spelled) && nat_lt d (length q)) (sym same)
@@ -462,20 +462,11 @@ module _ (the_law : LawOfClaims) where
       | inr w ↦ sym (w.0 ∙ ap (λ k. option_map (touched m) (done k (y q) (row on.tree q))) (sym same) ∙ done_at m (y q) (row on.tree q) w.1.0 w.1.1 w.2 ∙ ap (λ k. done k (y q) (row on.tree q)) same)
     ])
 
-  pub at_one_moment : (trees : List TreeMap) (ops : List Op) (change : Op) (m : ℕ) → AreTrees trees → AreApart ops (change ∷ []) → AreCarriedOut trees ops m → judged_in trees change ≡ Ok Legal → MakesAlike change (applied trees ops m) trees →
-      applied_one (applied trees ops m) change m ≡ applied (applied_one trees change m) ops m
-  at_one_moment trees ops change m are apart carried legal alike = at_once trees ops change m m are apart carried legal alike refl
+  pub at_one_moment : (trees : List TreeMap) (ops : List Op) (change : Op) (m : ℕ) → IsBeside trees ops change m → applied_one (applied trees ops m) change m ≡ applied (applied_one trees change m) ops m
+  at_one_moment trees ops change m beside = at_once trees ops change m m beside refl
 
-  -- trees that differ in times alone make a creation's keys alike
-  alike_seen : (change : Op) (seen others trees : List TreeMap) → SameButTimes seen others → MakesAlike change seen trees → MakesAlike change others trees
-  alike_seen (CreateKey hive spelled) seen others trees same alike = sym (levels_alike seen others same hive (folded_path spelled)) ∙ alike
-  alike_seen (DeleteKey hive spelled) seen others trees same alike = tt
-  alike_seen (SetValue hive spelled name kind bytes) seen others trees same alike = tt
-  alike_seen (DeleteValue hive spelled name) seen others trees same alike = tt
-
-  pub but_for_times : (trees seen : List TreeMap) (ops : List Op) (change : Op) (m n k l : ℕ) → AreTrees trees → AreApart ops (change ∷ []) → AreCarriedOut trees ops m → judged_in trees change ≡ Ok Legal → SameButTimes seen (applied trees ops m) → MakesAlike change seen trees →
-      SameButTimes (applied_one seen change n) (applied (applied_one trees change k) ops l)
-  but_for_times trees seen ops change m n k l are apart carried legal same alike =
+  pub but_for_times : (trees seen : List TreeMap) (ops : List Op) (change : Op) (m n k l : ℕ) → IsBeside trees ops change m → SameButTimes seen (applied trees ops m) → SameButTimes (applied_one seen change n) (applied (applied_one trees change k) ops l)
+  but_for_times trees seen ops change m n k l beside same =
       applied_same seen (applied trees ops m) same (change ∷ []) n m
-      ∙ ap (map untimed) (at_one_moment trees ops change m are apart carried legal (alike_seen change seen (applied trees ops m) trees same alike))
+      ∙ ap (map untimed) (at_one_moment trees ops change m beside)
       ∙ applied_same (applied_one trees change m) (applied_one trees change k) (moments_alike trees (change ∷ []) m k) ops m l

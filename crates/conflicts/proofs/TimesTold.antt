@@ -7,7 +7,7 @@ use Rattle.std.proofs.lemmas.Bool.{cases_eq}
 use Rattle.reg_tree_parts.specs.Rows.{Row, ValueMap}
 use Rattle.reg_tree_parts.specs.NewRows.{new_row}
 use Rattle.reg_tree.specs.Maps.{TreeMap, row}
-use Rattle.reg_tree.specs.Operations.{hive_of, touched, depth_there, descriptor_of, tree_after}
+use Rattle.reg_tree.specs.Operations.{hive_of, touched, descriptor_of, tree_after}
 use Rattle.reg_tree.specs.Judgement.{judged, changed, changed_if, applied, applied_one, applied_if}
 use Rattle.reg_tree.specs.Times.{timeless, untimed}
 use Rattle.reg_tree.specs.declared.op.Op.{Op}

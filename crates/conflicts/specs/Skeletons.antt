@@ -9,7 +9,8 @@ use Rattle.refusals.specs.declared.limits.TheConstants.{MOST_VALUE_BYTES}
 use Rattle.reg_tree_parts.specs.Rows.{Row}
 use Rattle.reg_tree.specs.Maps.{TreeMap, row}
 use Rattle.reg_tree.specs.Operations.{hive_of}
-use Rattle.reg_tree.specs.Judgement.{judged, applied_one}
+use Rattle.reg_tree.specs.Judgement.{judged, applied, applied_one}
+use Rattle.reg_tree.specs.Sequences.{AreTrees}
 use Rattle.reg_tree.specs.TreeLists.{levels_in}
 use Rattle.reg_tree.specs.declared.op.Op.{Op}
 use Rattle.reg_tree.specs.declared.op.Op.TheVariants.{CreateKey, DeleteKey, SetValue, DeleteValue}
@@ -81,3 +82,12 @@ MakesAlike (CreateKey hive path) trees others = levels_in trees hive (folded_pat
 MakesAlike (DeleteKey hive path) trees others = ⊤
 MakesAlike (SetValue hive path name kind bytes) trees others = ⊤
 MakesAlike (DeleteValue hive path name) trees others = ⊤
+
+-- A change beside operations that are carried out one after another on trees which have their roots and parents: none of their claims conflicts with its
+-- own, it may be carried out before them, and it makes as many keys after them as before them.
+pub record IsBeside (trees : List TreeMap) (ops : List Op) (change : Op) (moment : ℕ) : Type 0 where
+  pub are : AreTrees trees
+  pub apart : AreApart ops (change ∷ [])
+  pub carried : AreCarriedOut trees ops moment
+  pub legal : judged_in trees change ≡ Ok Legal
+  pub alike : MakesAlike change (applied trees ops moment) trees

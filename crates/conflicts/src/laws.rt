@@ -17,7 +17,7 @@ ghost use Rattle.reg_tree.specs.declared.op.Op.{Op};
 ghost use Rattle.reg_tree.specs.declared.op.Legality.TheVariants.{Legal};
 ghost use Rattle.claims_law.specs.Skeleton.{apply, Claim};
 ghost use Rattle.claims_law.specs.Legal as law;
-ghost use Rattle.conflicts.specs.Skeletons.{skeleton, outline, judged_in, FitsData, AreCarriedOut, AreApart, MakesAlike};
+ghost use Rattle.conflicts.specs.Skeletons.{skeleton, outline, judged_in, FitsData, AreCarriedOut, AreApart, IsBeside};
 ghost use Rattle.conflicts.specs.Holders.{Held, with_claim, without_owner, holders_of, IsHolder};
 
 /// Operations that may be carried out one after another may be so after any others none of whose claims conflicts
@@ -53,22 +53,16 @@ pub fn but_for_weight()
 /// - `but_for_times`: at whatever moments, it is the same but for times; so it is of trees that are those after the
 ///   operations but for times.
 pub fn either_order()
-    ensures exact { (trees : List TreeMap) (ops : List Op) (change : Op) (m : ℕ) → AreTrees trees →
-        AreApart ops (change ∷ []) →
-        AreCarriedOut trees ops m → judged_in trees change ≡ Ok Legal →
-        MakesAlike change (applied trees ops m) trees →
+    ensures exact { (trees : List TreeMap) (ops : List Op) (change : Op) (m : ℕ) →
+        IsBeside trees ops change m →
         applied_one (applied trees ops m) change m ≡ applied (applied_one trees change m) ops m }
     ensures unwritten { (trees : List TreeMap) (ops : List Op) (change : Op) (m n : ℕ) →
-        AreTrees trees → AreApart ops (change ∷ []) →
-        AreCarriedOut trees ops m → judged_in trees change ≡ Ok Legal →
-        MakesAlike change (applied trees ops m) trees →
+        IsBeside trees ops change m →
         time_in (applied trees ops m) (hive_of change)
         (home_of change (levels_made (applied trees ops m) change)) ≢ Some m →
         applied_one (applied trees ops m) change n ≡ applied (applied_one trees change n) ops m }
     ensures written { (trees : List TreeMap) (ops : List Op) (change : Op) (m n : ℕ) →
-        AreTrees trees → AreApart ops (change ∷ []) →
-        AreCarriedOut trees ops m → judged_in trees change ≡ Ok Legal →
-        MakesAlike change (applied trees ops m) trees →
+        IsBeside trees ops change m →
         time_in (applied trees ops m) (hive_of change)
         (home_of change (levels_made (applied trees ops m) change)) ≡ Some m →
         time_in trees (hive_of change)
@@ -77,11 +71,8 @@ pub fn either_order()
         (home_of change (levels_made (applied trees ops m) change)) m
         ≡ applied (applied_one trees change n) ops m }
     ensures but_for_times { (trees seen : List TreeMap) (ops : List Op) (change : Op)
-        (m n k l : ℕ) → AreTrees trees →
-        AreApart ops (change ∷ []) →
-        AreCarriedOut trees ops m → judged_in trees change ≡ Ok Legal →
+        (m n k l : ℕ) → IsBeside trees ops change m →
         SameButTimes seen (applied trees ops m) →
-        MakesAlike change seen trees →
         SameButTimes (applied_one seen change n) (applied (applied_one trees change k) ops l) }
 {
     claims_law::stays_legal();
