@@ -100,7 +100,6 @@ struct Kept {
 ///
 /// Claims are numbered as they are added. A claim that may conflict with another is found by its key, and a
 /// transaction's claims by the transaction, so that no call goes through the claims of all.
-#[derive(Drop)]
 pub struct ClaimTable {
     // the claims by their numbers
     kept: BTreeMap<u64, Kept>,
@@ -111,6 +110,18 @@ pub struct ClaimTable {
     owned: BTreeSet<(u64, u64)>,
     // as long as claims were added; it takes no memory
     added: Vec<()>,
+}
+
+impl Drop for ClaimTable {
+    // one drop for all that own a table of claims, whose proofs see no more of it than that
+    fn drop(self) {
+        let ClaimTable {
+            kept: _,
+            spots: _,
+            owned: _,
+            added: _,
+        } = self;
+    }
 }
 
 impl Model for ClaimTable {

@@ -12,9 +12,15 @@ pub const CHANGE_BYTES: u64 = 16;
 const _: () = prove!(CHANGE_BYTES == 16);
 
 /// One or more operations, in their order.
-#[derive(Drop)]
 pub struct Ops {
     items: Vec<Op>,
+}
+
+impl Drop for Ops {
+    // one drop for all that own operations, whose proofs see no more of it than that
+    fn drop(self) {
+        let Ops { items: _ } = self;
+    }
 }
 
 impl Model for Ops {
@@ -60,12 +66,18 @@ impl Ops {
 }
 
 /// An accepted change: a moment, and the operations that are applied at it in their order.
-#[derive(Drop)]
 pub struct Element {
     /// The moment, which is written into the keys that the change touches.
     pub moment: u64,
     /// The operations.
     pub ops: Ops,
+}
+
+impl Drop for Element {
+    // one drop for all that own a change, whose proofs see no more of it than that
+    fn drop(self) {
+        let Element { moment: _, ops: _ } = self;
+    }
 }
 
 impl Element {

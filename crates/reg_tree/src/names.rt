@@ -5,9 +5,15 @@ use reg_names::Name;
 use std::marker::Model;
 
 /// Names in their order.
-#[derive(Drop)]
 pub struct Names {
     names: Vec<Name>,
+}
+
+impl Drop for Names {
+    // one drop for all that own names, whose proofs see no more of it than that
+    fn drop(self) {
+        let Names { names: _ } = self;
+    }
 }
 
 impl Model for Names {

@@ -7,7 +7,6 @@ use reg_names::{Path, ValueName};
 use reg_tree_parts::Data;
 
 /// An operation on one hive.
-#[derive(Drop)]
 pub enum Op {
     /// Creates all missing keys of the path.
     CreateKey {
@@ -45,6 +44,27 @@ pub enum Op {
         /// The value's name.
         name: ValueName,
     },
+}
+
+impl Drop for Op {
+    // one drop for all that own an operation, whose proofs see no more of it than that
+    fn drop(self) {
+        match self {
+            Op::CreateKey { hive: _, path: _ } | Op::DeleteKey { hive: _, path: _ } => {}
+            Op::SetValue {
+                hive: _,
+                path: _,
+                name: _,
+                kind: _,
+                data: _,
+            } => {}
+            Op::DeleteValue {
+                hive: _,
+                path: _,
+                name: _,
+            } => {}
+        }
+    }
 }
 
 impl Op {

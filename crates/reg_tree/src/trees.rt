@@ -19,9 +19,15 @@ use std::marker::Model;
 /// The trees of all hives, by the hives' numbers: 1 to 17 of them.
 ///
 /// A change makes new trees, which share all that stays.
-#[derive(Drop)]
 pub struct Trees {
     hives: Vec<Tree>,
+}
+
+impl Drop for Trees {
+    // one drop for all that own trees, whose proofs see no more of it than that
+    fn drop(self) {
+        let Trees { hives: _ } = self;
+    }
 }
 
 impl Model for Trees {

@@ -1,8 +1,9 @@
 -- One step of a path: from a key to its subkey.
-use Rattle.std.proofs.Common.{◌≡◌, ℕ, ◌+◌, ◌<◌, suc, Bool, true, false, ◌&&◌, cond, ◌⊎◌, inl, inr, List, [], ◌∷◌, ◌++◌, length, take, Option, Some, None, IfSome, IfNone, refl, sym, ◌∙◌, ap, subst, arith}
+use Rattle.std.proofs.Common.{◌≡◌, ℕ, ◌+◌, ◌<◌, suc, Bool, true, false, ◌&&◌, cond, ◌⊎◌, inl, inr, List, [], ◌∷◌, ◌++◌, length, take, Option, Some, None, Result, Ok, Err, IfOk, IfSome, IfNone, refl, sym, ◌∙◌, ap, subst, arith}
 use Rattle.std.specs.Ordering.{eq_by_cmp}
 use Rattle.reg_names.specs.Names.{folded, folded_path}
 use Rattle.reg_tree_parts.specs.Orders.{name_order}
+use Rattle.reg_tree_parts.specs.Rows.{Row}
 use Rattle.reg_tree_parts.specs.NewRows.{new_row}
 use Rattle.reg_tree_parts.specs.Nodes.{Entries, root_name, row_at, begins_path, branch_row}
 use Rattle.reg_tree_parts.proofs.Keys.{names_apart}
@@ -57,6 +58,14 @@ rows_branch made leaf child name next bytes rest time here root below others alo
       | inr apart ↦
           others m q (ap (eq_by_cmp name_order m) root ∙ apart) ∙ alone m q ∙ sym (ap (λ b. cond b (branch_row next rest bytes time q) None) apart)
     ])
+
+-- so it is of what is made, where anything is
+pub branches : {E : Type 0} (r : Result Entries E) (leaf child : Entries) (key : Row) (name next bytes : List ℕ) (rest further : List (List ℕ)) (time : ℕ) → key ≡ new_row name bytes time → root_name child ≡ folded next
+    → ((m : List ℕ) (q : List (List ℕ)) → row_at leaf (m ∷ q) ≡ None) → ((p : List (List ℕ)) → row_at child p ≡ branch_row next rest bytes time p) → further ≡ next ∷ rest
+    → IfOk r (λ made. row_at made [] ≡ Some key) → IfOk r (λ made. (q : List (List ℕ)) → row_at made (root_name child ∷ q) ≡ row_at child q)
+    → IfOk r (λ made. (m : List ℕ) (q : List (List ℕ)) → eq_by_cmp name_order m (root_name child) ≡ false → row_at made (m ∷ q) ≡ row_at leaf (m ∷ q)) → IfOk r (λ made. (path : List (List ℕ)) → row_at made path ≡ branch_row name further bytes time path)
+branches (Err e) leaf child key name next bytes rest further time is root alone rows whole here below others = tt
+branches (Ok made) leaf child key name next bytes rest further time is root alone rows whole here below others = rows_branch made leaf child name next bytes rest time (here ∙ ap Some is) root below others alone rows further whole
 
 -- and at any other path
 pub others_step : (made self new old : Entries) (name : List ℕ) (rest : List (List ℕ)) (path : List (List ℕ)) → path ≡ name ∷ rest → row_at made [] ≡ row_at self [] → root_name new ≡ folded name

@@ -13,7 +13,6 @@ use std::marker::Model;
 use std::sync::Arc;
 
 /// What a key holds: its name as spelled, class, flags, security descriptor, last written time and values.
-#[derive(Drop)]
 pub struct Key {
     name: Name,
     /// The class and the flags.
@@ -21,6 +20,19 @@ pub struct Key {
     descriptor: Descriptor,
     time: u64,
     values: Values,
+}
+
+impl Drop for Key {
+    // one drop for all that own a key, whose proofs see no more of it than that
+    fn drop(self) {
+        let Key {
+            name: _,
+            uncommon: _,
+            descriptor: _,
+            time: _,
+            values: _,
+        } = self;
+    }
 }
 
 impl Model for Key {

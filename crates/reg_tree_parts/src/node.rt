@@ -21,11 +21,21 @@ use std::sync::Arc;
 /// A key and all keys below it, shared by `Arc`.
 ///
 /// What is read of the keys beside a change stands first, next to the pointer's own counts.
-#[derive(Drop)]
 pub struct Node {
     weight: u64,
     key: Key,
     subkeys: SharedMap<Node>,
+}
+
+impl Drop for Node {
+    // one drop for all that own a node, whose proofs see no more of it than that
+    fn drop(self) {
+        let Node {
+            weight: _,
+            key: _,
+            subkeys: _,
+        } = self;
+    }
 }
 
 impl Model for Node {
@@ -267,14 +277,13 @@ impl Node {
         ensures root { IfOk result (λ made. root_name made ≡ folded name.now) }
         ensures node { IfOk result IsNode }
     {
-        let leaf = Node::leaf(Key::fresh(name, descriptor, time)?);
+        let key = Key::fresh(name, descriptor, time)?;
         let Some((next, rest)) = further.split_first() else {
-            return Ok(leaf);
+            return Ok(Node::leaf(key));
         };
         let child = Node::branch(alloc, next, rest, descriptor, time)?;
-        let key = leaf.key.clone()?;
-        let made = leaf.with_child(alloc, key, Arc::new(alloc, child)?)?;
-        Ok(made)
+        let leaf = Node::leaf(key.clone()?);
+        leaf.with_new_child(alloc, key, child)
     }
 
     // a key with these subkeys

@@ -17,9 +17,15 @@ use std::sync::Arc;
 /// The values of one key: a map from folded names, in whose order they are listed.
 ///
 /// A change makes a new list that shares the other values; a clone shares the list itself.
-#[derive(Drop)]
 pub struct Values {
     items: SharedMap<Value>,
+}
+
+impl Drop for Values {
+    // one drop for all that own values, whose proofs see no more of it than that
+    fn drop(self) {
+        let Values { items: _ } = self;
+    }
 }
 
 impl Model for Values {

@@ -17,9 +17,15 @@ use std::alloc::{AllocError, Global};
 use std::sync::Arc;
 
 /// Entries in the order of their folded names, shared and never changed.
-#[derive(Drop)]
 pub struct SharedMap<E> {
     held: Held<E>,
+}
+
+impl<E: Drop> Drop for SharedMap<E> {
+    // one drop for all that own a map, whose proofs see no more of it than that
+    fn drop(self) {
+        let SharedMap { held: _ } = self;
+    }
 }
 
 #[derive(Drop)]
