@@ -7,7 +7,7 @@ use Rattle.std.specs.declared.alloc.Global.{Global}
 use Rattle.std.specs.Arc.{arc_value}
 use Rattle.shared_map.specs.declared.leaf.Leaf.{Leaf}
 use Rattle.shared_map.specs.declared.map.Held.{Held}
-use Rattle.shared_map.specs.declared.map.Held.TheVariants.{Empty, Few, Several, Many, Vast}
+use Rattle.shared_map.specs.declared.map.Held.TheVariants.{Empty, Few, Many}
 use Rattle.shared_map.specs.Listings.{held_entries, leaf_entries, group_entries}
 use Rattle.shared_map.specs.ListingFalls.{capped, capped_part, most_items, most_parts}
 use Rattle.reg_tree_parts.specs.Rows.{Row}
@@ -34,15 +34,7 @@ items_fall leaf = most_items measure root_name (λ x. length (arc_value x) + 1) 
 held_falls : (key : Row) (held : Held Entries) (weight : ℕ) → deep-Node (record { weight = weight; key = key; subkeys = record { held = held } }) ≤ most measure (held_entries root_name held)
 held_falls key Empty weight = omega arith
 held_falls key (Few leaf) weight = capped (capped (capped (capped_part (capped (items_fall (arc_value leaf).body)))))
-held_falls key (Several group) weight =
-    capped (capped (capped (capped_part (capped (most_parts measure _ (leaf_entries root_name) (λ q. capped_part (capped (items_fall (arc_value q).body))) (arc_value group).body.parts.items)))))
 held_falls key (Many whole) weight =
-    capped (capped (capped (capped_part (capped (most_parts measure _ (group_entries (group_entries (leaf_entries root_name)))
-    (λ o. capped_part (capped (most_parts measure _ (group_entries (leaf_entries root_name))
-    (λ p. capped_part (capped (most_parts measure _ (leaf_entries root_name) (λ q. capped_part (capped (items_fall (arc_value q).body))) (arc_value p).body.parts.items)))
-    (arc_value o).body.parts.items)))
-    (arc_value whole).body.parts.items)))))
-held_falls key (Vast whole) weight =
     capped (capped (capped (capped_part (capped (most_parts measure _ (group_entries (group_entries (group_entries (leaf_entries root_name))))
     (λ n. capped_part (capped (most_parts measure _ (group_entries (group_entries (leaf_entries root_name)))
     (λ o. capped_part (capped (most_parts measure _ (group_entries (leaf_entries root_name))

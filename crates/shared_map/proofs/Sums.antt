@@ -1,5 +1,5 @@
 -- Groups of parts have the entries of their parts, and are parts themselves.
-use Rattle.std.proofs.Common.{◌≡◌, ℕ, ◌+◌, ◌<◌, List, [], ◌∷◌, ◌++◌, length, min, sum_by, get_or, refl, sym, ◌∙◌, ap, subst, arith, length-append}
+use Rattle.std.proofs.Common.{◌≡◌, ℕ, ◌+◌, ◌<◌, List, [], ◌∷◌, ◌++◌, length, map, min, sum_by, get_or, refl, sym, ◌∙◌, ap, subst, arith, length-append}
 use Rattle.std.proofs.lemmas.List.Sums.{sum_by-append, sum_by-cons}
 use Rattle.reg_names.specs.Names.{folded}
 use Rattle.std.specs.declared.sync.Arc.{Arc}
@@ -65,3 +65,16 @@ module _ {A P : Type 0} (list : P → List (List ℕ × A)) (load : A → ℕ) (
       let split : EachIsPart list load Fits (sums.0 ++ sums.1.0) = subst (EachIsPart list load Fits) sums.1.1.0 fit in
       let front = fit_front list load Fits sums.0 sums.1.0 split in
       (sum_part sums.0 (arc_value whole) front sums.1.1.1.0, sum_fits sums.0 (arc_value whole) front sums.1.1.1.0, sums_fit sums.1.0 wholes (fit_back list load Fits sums.0 sums.1.0 split) sums.1.1.1.1)
+
+-- three levels of groups over parts
+module _ {A P : Type 0} (list : P → List (List ℕ × A)) (load : A → ℕ) (Fits : P → Type 0) (parts : List (Arc (Part P) Global)) (groups : List (Arc (Part (Group P)) Global)) (clusters : List (Arc (Part (Group (Group P))) Global)) (regions : List (Arc (Part (Group (Group (Group P)))) Global)) where
+  pub three_fit : AreParts list load Fits parts → AreSums (map arc_value parts) groups → AreSums (map arc_value groups) clusters → AreSums (map arc_value clusters) regions →
+      AreParts (group_entries (group_entries (group_entries list))) load (FitsGroup (group_entries (group_entries list)) load (FitsGroup (group_entries list) load (FitsGroup list load Fits))) regions
+  three_fit fit one two three =
+      sums_fit (group_entries (group_entries list)) load (FitsGroup (group_entries list) load (FitsGroup list load Fits)) (map arc_value clusters) regions
+      (sums_fit (group_entries list) load (FitsGroup list load Fits) (map arc_value groups) clusters (sums_fit list load Fits (map arc_value parts) groups fit one) two) three
+
+  pub three_entries : AreSums (map arc_value parts) groups → AreSums (map arc_value groups) clusters → AreSums (map arc_value clusters) regions → parts_entries (group_entries (group_entries (group_entries list))) regions ≡ parts_entries list parts
+  three_entries one two three =
+      sums_entries (group_entries (group_entries list)) load (FitsGroup (group_entries list) load (FitsGroup list load Fits)) (map arc_value clusters) regions three
+      ∙ sums_entries (group_entries list) load (FitsGroup list load Fits) (map arc_value groups) clusters two ∙ sums_entries list load Fits (map arc_value parts) groups one

@@ -7,7 +7,7 @@ use Rattle.shared_map.specs.declared.leaf.Leaf.{Leaf}
 use Rattle.shared_map.specs.declared.parts.Part.{Part}
 use Rattle.shared_map.specs.declared.parts.Group.{Group}
 use Rattle.shared_map.specs.declared.map.Held.{Held}
-use Rattle.shared_map.specs.declared.map.Held.TheVariants.{Empty, Few, Several, Many, Vast}
+use Rattle.shared_map.specs.declared.map.Held.TheVariants.{Empty, Few, Many}
 use Rattle.shared_map.specs.declared.map.SharedMap.{SharedMap}
 use Rattle.shared_map.specs.Listings.{keyed_all, leaf_entries, entries_in, group_entries, held_entries, entries}
 
@@ -41,10 +41,7 @@ module _ {A : Type 0} (key : A → List ℕ) where
   held_keyed : (held : Held A) → AreKeyed key (held_entries key held)
   held_keyed Empty = tt
   held_keyed (Few leaf) = of_leaf (arc_value leaf).body
-  held_keyed (Several group) = of_group (arc_value group).body
   held_keyed (Many whole) =
-      group_keyed (group_entries (group_entries (leaf_entries key))) (group_keyed (group_entries (leaf_entries key)) of_group) (arc_value whole).body
-  held_keyed (Vast whole) =
       group_keyed (group_entries (group_entries (group_entries (leaf_entries key)))) (group_keyed (group_entries (group_entries (leaf_entries key))) (group_keyed (group_entries (leaf_entries key)) of_group)) (arc_value whole).body
 
   -- a map's are

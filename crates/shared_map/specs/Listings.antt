@@ -9,7 +9,7 @@ use Rattle.shared_map.specs.declared.parts.Group.{Group}
 use Rattle.shared_map.specs.declared.parts.Pieces.{Pieces}
 use Rattle.shared_map.specs.declared.parts.Pieces.TheVariants.{Gone, One, Two}
 use Rattle.shared_map.specs.declared.map.Held.{Held}
-use Rattle.shared_map.specs.declared.map.Held.TheVariants.{Empty, Few, Several, Many, Vast}
+use Rattle.shared_map.specs.declared.map.Held.TheVariants.{Empty, Few, Many}
 use Rattle.shared_map.specs.declared.map.SharedMap.{SharedMap}
 
 -- an entry: a shared thing under its folded name
@@ -47,9 +47,7 @@ group_entries list group = parts_entries list group.parts.items
 abbrev pub held_entries : {A : Type 0} → (A → List ℕ) → Held A → List (List ℕ × A)
 held_entries key Empty = []
 held_entries key (Few leaf) = leaf_entries key (arc_value leaf).body
-held_entries key (Several group) = group_entries (leaf_entries key) (arc_value group).body
-held_entries key (Many whole) = group_entries (group_entries (group_entries (leaf_entries key))) (arc_value whole).body
-held_entries key (Vast whole) = group_entries (group_entries (group_entries (group_entries (leaf_entries key)))) (arc_value whole).body
+held_entries key (Many whole) = group_entries (group_entries (group_entries (group_entries (leaf_entries key)))) (arc_value whole).body
 
 -- the entries of a map, by the names of what it lists
 abbrev pub entries : {A : Type 0} → (A → List ℕ) → SharedMap A → List (List ℕ × A)

@@ -10,7 +10,7 @@ use Rattle.shared_map.specs.declared.leaf.Leaf.{Leaf}
 use Rattle.shared_map.specs.declared.parts.Part.{Part}
 use Rattle.shared_map.specs.declared.parts.Group.{Group}
 use Rattle.shared_map.specs.declared.map.Held.{Held}
-use Rattle.shared_map.specs.declared.map.Held.TheVariants.{Empty, Few, Several, Many, Vast}
+use Rattle.shared_map.specs.declared.map.Held.TheVariants.{Empty, Few, Many}
 use Rattle.shared_map.specs.declared.map.SharedMap.{SharedMap}
 use Rattle.shared_map.specs.Orders.{name_order}
 use Rattle.shared_map.specs.Listings.{leaf_entries, group_entries}
@@ -49,13 +49,7 @@ FitsGroup list load Fits group = AreParts list load Fits group.parts.items
 abbrev pub FitsHeld : {A : Type 0} → (A → List ℕ) → (A → ℕ) → Held A → Type 0
 FitsHeld key load Empty = Unit {0}
 FitsHeld key load (Few leaf) = IsPart (leaf_entries key) load (arc_value leaf) × FitsLeaf (arc_value leaf).body
-FitsHeld key load (Several group) =
-    IsPart (group_entries (leaf_entries key)) load (arc_value group)
-    × FitsGroup (leaf_entries key) load FitsLeaf (arc_value group).body
 FitsHeld key load (Many whole) =
-    IsPart (group_entries (group_entries (group_entries (leaf_entries key)))) load (arc_value whole)
-    × FitsGroup (group_entries (group_entries (leaf_entries key))) load (FitsGroup (group_entries (leaf_entries key)) load (FitsGroup (leaf_entries key) load FitsLeaf)) (arc_value whole).body
-FitsHeld key load (Vast whole) =
     IsPart (group_entries (group_entries (group_entries (group_entries (leaf_entries key))))) load (arc_value whole)
     × FitsGroup (group_entries (group_entries (group_entries (leaf_entries key)))) load (FitsGroup (group_entries (group_entries (leaf_entries key))) load (FitsGroup (group_entries (leaf_entries key)) load (FitsGroup (leaf_entries key) load FitsLeaf))) (arc_value whole).body
 

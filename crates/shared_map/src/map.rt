@@ -1,4 +1,4 @@
-//! The map: a leaf, a group of leaves, or three or four levels of groups.
+//! The map: a leaf, or four levels of groups of leaves.
 ghost use Rattle.std.specs.Prelude.{◌≡◌, ℕ, T, not, ◌<◌, List, [], min, length, IfOk, IfSome, map, slice_get};
 ghost use Rattle.std.specs.Option.{option_copied, option_map};
 ghost use Rattle.std.specs.FinMap.Entries.{find, is_sorted, where_key};
@@ -10,7 +10,7 @@ ghost use Rattle.shared_map.specs.Parts.{load_of, AreParts, FitsLeaf, FitsGroup,
 ghost use Rattle.shared_map.specs.Writes.{written};
 
 use crate::leaf::{Leaf, Listed, add_leaves, one_leaf};
-use crate::parts::{Group, MOST_PARTS, Part, Pieces, group_part, grouped};
+use crate::parts::{Group, Part, Pieces, group_part, grouped};
 use crate::piece::{Piece, with_in, without_in};
 use reg_names::Name;
 use std::alloc::{AllocError, Global};
@@ -32,9 +32,7 @@ impl<E: Drop> Drop for SharedMap<E> {
 enum Held<E> {
     Empty,
     Few(Arc<Part<Leaf<E>>>),
-    Several(Arc<Part<Group<Leaf<E>>>>),
-    Many(Arc<Part<Group<Group<Group<Leaf<E>>>>>>),
-    Vast(Arc<Part<Group<Group<Group<Group<Leaf<E>>>>>>>),
+    Many(Arc<Part<Group<Group<Group<Group<Leaf<E>>>>>>>),
 }
 
 impl<E: Listed> SharedMap<E> {
@@ -58,16 +56,8 @@ impl<E: Listed> SharedMap<E> {
                 let held = Held::Few(leaf.clone()?);
                 Ok(SharedMap { held })
             }
-            Held::Several(group) => {
-                let held = Held::Several(group.clone()?);
-                Ok(SharedMap { held })
-            }
             Held::Many(whole) => {
                 let held = Held::Many(whole.clone()?);
-                Ok(SharedMap { held })
-            }
-            Held::Vast(whole) => {
-                let held = Held::Vast(whole.clone()?);
                 Ok(SharedMap { held })
             }
         }
@@ -81,9 +71,7 @@ impl<E: Listed> SharedMap<E> {
         match &self.held {
             Held::Empty => 0,
             Held::Few(leaf) => leaf.count(),
-            Held::Several(group) => group.count(),
             Held::Many(whole) => whole.count(),
-            Held::Vast(whole) => whole.count(),
         }
     }
 
@@ -95,9 +83,7 @@ impl<E: Listed> SharedMap<E> {
         match &self.held {
             Held::Empty => 0,
             Held::Few(leaf) => leaf.weight(),
-            Held::Several(group) => group.weight(),
             Held::Many(whole) => whole.weight(),
-            Held::Vast(whole) => whole.weight(),
         }
     }
 
@@ -112,9 +98,7 @@ impl<E: Listed> SharedMap<E> {
         match &self.held {
             Held::Empty => None,
             Held::Few(leaf) => leaf.body().find(name),
-            Held::Several(group) => group.body().find(name),
             Held::Many(whole) => whole.body().find(name),
-            Held::Vast(whole) => whole.body().find(name),
         }
     }
 
@@ -126,9 +110,7 @@ impl<E: Listed> SharedMap<E> {
         match &self.held {
             Held::Empty => None,
             Held::Few(leaf) => leaf.body().at(index),
-            Held::Several(group) => group.body().at(index),
             Held::Many(whole) => whole.body().at(index),
-            Held::Vast(whole) => whole.body().at(index),
         }
     }
 
@@ -154,9 +136,7 @@ impl<E: Listed> SharedMap<E> {
         match &self.held {
             Held::Empty => of_pieces(alloc, one_leaf(alloc, new)?),
             Held::Few(leaf) => of_pieces(alloc, leaf.body().with(alloc, new)?),
-            Held::Several(group) => of_leaves(alloc, with_in(alloc, group.body().parts(), new)?),
-            Held::Many(whole) => of_clusters(alloc, with_in(alloc, whole.body().parts(), new)?),
-            Held::Vast(whole) => of_regions(alloc, with_in(alloc, whole.body().parts(), new)?),
+            Held::Many(whole) => of_regions(alloc, with_in(alloc, whole.body().parts(), new)?),
         }
     }
 
@@ -171,15 +151,7 @@ impl<E: Listed> SharedMap<E> {
         match &self.held {
             Held::Empty => Ok(SharedMap { held: Held::Empty }),
             Held::Few(leaf) => of_pieces(alloc, leaf.body().without(alloc, name)?),
-            Held::Several(group) => {
-                let leaves = without_in(alloc, group.body().parts(), name)?;
-                of_leaves(alloc, leaves)
-            }
             Held::Many(whole) => {
-                let clusters = without_in(alloc, whole.body().parts(), name)?;
-                of_clusters(alloc, clusters)
-            }
-            Held::Vast(whole) => {
                 let regions = without_in(alloc, whole.body().parts(), name)?;
                 of_regions(alloc, regions)
             }
@@ -225,34 +197,8 @@ fn of_leaves<E: Listed>(
         let held = Held::Few(leaves[0].clone()?);
         return Ok(SharedMap { held });
     }
-    if leaves.len() <= MOST_PARTS {
-        let held = Held::Several(group_part(alloc, leaves)?);
-        return Ok(SharedMap { held });
-    }
     let groups = grouped(alloc, &leaves)?;
     let clusters = grouped(alloc, &groups)?;
-    let made = of_clusters(alloc, clusters)?;
-    Ok(made)
-}
-
-// a map of these groups of groups
-fn of_clusters<E: Listed>(
-    alloc: Global,
-    clusters: Vec<Arc<Part<Group<Group<Leaf<E>>>>>>,
-) -> Result<SharedMap<E>, AllocError>
-    requires { AreParts (group_entries (group_entries (leaf_entries E.key))) E.load (FitsGroup
-        (group_entries (leaf_entries E.key)) E.load (FitsGroup (leaf_entries E.key) E.load FitsLeaf)) clusters.items }
-    ensures entries { IfOk result (λ made. entries E.key made
-        ≡ parts_entries (group_entries (group_entries (leaf_entries E.key))) clusters.items) }
-    ensures fits { IfOk result (FitsMap E.key E.load) }
-{
-    if clusters.is_empty() {
-        return Ok(SharedMap { held: Held::Empty });
-    }
-    if clusters.len() <= MOST_PARTS {
-        let held = Held::Many(group_part(alloc, clusters)?);
-        return Ok(SharedMap { held });
-    }
     let regions = grouped(alloc, &clusters)?;
     let made = of_regions(alloc, regions)?;
     Ok(made)
@@ -273,6 +219,6 @@ fn of_regions<E: Listed>(
     if regions.is_empty() {
         return Ok(SharedMap { held: Held::Empty });
     }
-    let held = Held::Vast(group_part(alloc, regions)?);
+    let held = Held::Many(group_part(alloc, regions)?);
     Ok(SharedMap { held })
 }
