@@ -19,7 +19,7 @@ use Rattle.conflicts.proofs.Members.{none_empty}
 use Rattle.machine.specs.Transactions.{Transaction, Puts, at, is_active, with_op}
 use Rattle.transactions.specs.Entries.{transaction_of, places_of, IsEntry, IsSameEntry, HasTwoSpare, IsViewed, IsViewNow, AreKept}
 use Rattle.transactions.specs.declared.entry.Entry.{Entry}
-use Rattle.transactions.specs.declared.entry.View.{View}
+use Rattle.transactions.specs.declared.view.View.{View}
 use Rattle.transactions.proofs.Slots.{slot, at_of, puts, entries_put, entries_moved, entries_begun}
 use Rattle.transactions.proofs.Claimed.{some_same, claimed_same, claimed_put, claimed_dropped, claimed_added, none_inactive, none_there}
 

@@ -8,7 +8,7 @@ use Rattle.reg_tree.specs.Maps.{TreeMap}
 use Rattle.machine.specs.Transactions.{Puts, at}
 use Rattle.transactions.specs.Entries.{transaction_of, places_of, IsViewed, IsEntry}
 use Rattle.transactions.specs.declared.entry.Entry.{Entry}
-use Rattle.transactions.specs.declared.entry.View.{View}
+use Rattle.transactions.specs.declared.view.View.{View}
 
 abbrev pub slot : List (Option Entry) → ℕ → Option Entry
 slot slots place = slice_index_or slots place None

@@ -22,9 +22,9 @@ use Rattle.machine.specs.declared.handle.Tx.{Tx}
 use Rattle.machine.specs.declared.handle.Outcome.{Outcome}
 use Rattle.machine.specs.declared.handle.Outcome.TheVariants.{RolledBack}
 use Rattle.transactions.specs.Tables.{Table, EndsWith, Begins, rolled_back_if}
-use Rattle.transactions.specs.Entries.{transaction_of, places_of, IsEntry, IsViewed, IsJudged, IsJudgedBy, IsJudgedOf, judge_refusal, illegal}
+use Rattle.transactions.specs.Entries.{transaction_of, places_of, IsEntry, IsViewed, IsJudged, IsJudgedBy, IsJudgedOf, MayAdd, judge_refusal, illegal}
 use Rattle.transactions.specs.declared.entry.Entry.{Entry}
-use Rattle.transactions.specs.declared.entry.Judged.{Judged}
+use Rattle.transactions.specs.declared.view.Judged.{Judged}
 use Rattle.transactions.proofs.Slots.{slot, at_of, puts}
 use Rattle.transactions.proofs.Kept.{at_slot}
 
@@ -161,6 +161,18 @@ pub judge_ok : (table : Table) (session : ℕ) (tx : Tx) (op : Op) (one : Transa
 judge_ok table session tx op one its active (Ok judged) h =
     (subst (λ o. IfSome o (IsJudgedBy table.trees table.number op judged)) (sym its) record { active = active; told = h }, subst IsSome (sym its) refl)
 judge_ok table session tx op one its active (Err why) h = tt
+
+-- so an operation that was judged may be added
+pub may_add : (table : Table) (session : ℕ) (tx : Tx) (op : Op) (judged : Judged) → IsJudgedOf table session tx op (Some judged) → MayAdd table tx.place op judged.made
+may_add table session tx op judged h = by_place (at table.places tx.place) refl h.0 h.1
+  where
+    by_place : (o : Option Transaction) → at table.places tx.place ≡ o → IfSome (own_if session tx.generation o) (IsJudgedBy table.trees table.number op (Some judged)) → IsSome (own_if session tx.generation o) → MayAdd table tx.place op judged.made
+    by_place None there told some = cc
+    by_place (Some one) there told some = by_test (one.session == session && one.generation == tx.generation) told some
+      where
+        by_test : (b : Bool) → IfSome (cond b (Some one) None) (IsJudgedBy table.trees table.number op (Some judged)) → IsSome (cond b (Some one) None) → MayAdd table tx.place op judged.made
+        by_test true told some = record { one = one; there = there; active = told.active; short = told.told.short; numbered = told.told.numbered; seen = told.told.seen }
+        by_test false told some = cc
 
 pub judge_refused : (table : Table) (session : ℕ) (tx : Tx) (op : Op) (one : Transaction) → own table.places session tx ≡ Some one → is_active one ≡ true → (r : Result (Option Judged) Refusal) →
     IfErr r (λ why. (illegal table.trees op one ≡ Some why) ⊎ (why ≡ NoMemory)) →

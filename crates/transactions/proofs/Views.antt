@@ -28,15 +28,17 @@ use Rattle.reg_tree.proofs.OthersStay.{one_by_one, trees_stay_one}
 use Rattle.claims_law.specs.Skeleton as law
 use Rattle.claims_law.proofs.Tests.{conflict_sym}
 use Rattle.conflicts.specs.Claims.{claim_of, meets}
-use Rattle.conflicts.specs.Skeletons.{judged_in, judged_if, AreCarriedOut, AreApart, MakesAlike}
+use Rattle.conflicts.specs.Skeletons.{judged_in, judged_if, AreCarriedOut, AreApart, MakesAlike, IsBeside}
 use Rattle.conflicts.proofs.StaysLegal.{more, one_more, any_moment}
 use Rattle.conflicts.proofs.Meets.{conflict_meets}
 use Rattle.machine.specs.Machine.{too_long}
 use Rattle.machine.specs.Transactions.{Transaction, Places, at, is_active, holds, view}
-use Rattle.transactions.specs.Entries.{IsMade, AreCarried, AreAfter, AreLight, IsViewNow, IsViewed, WritesView, MovesView, IsTimed, KeepsTimes, StaysView, IsLegalIn, IsMovedTo, AreMoved, moment_of}
+use Rattle.transactions.specs.Entries.{IsMade, AreCarried, AreAfter, AreLight, AreKnown, IsViewNow, IsViewed, WritesView, MovesView, IsTimed, KeepsTimes, StaysView, IsLegalIn, IsMovedTo, AreMoved, moment_of}
 use Rattle.transactions.specs.Tables.{MeetNone}
-use Rattle.transactions.specs.declared.entry.Judged.{Judged}
-use Rattle.transactions.specs.declared.entry.View.{View}
+use Rattle.transactions.specs.declared.view.Judged.{Judged}
+use Rattle.transactions.specs.declared.view.View.{View}
+use Rattle.transactions.specs.declared.view.Known.{Known}
+use Rattle.transactions.specs.declared.view.Known.TheVariants.{Nothing, Carried, Light}
 
 -- whatever its moment, a view differs from the operations applied at another in times alone
 pub seen_at : (now : List TreeMap) (ops : List Op) (moment : Option ℕ) (trees : List TreeMap) (n : ℕ) → IsMade now ops moment trees → SameButTimes trees (applied now ops n)
@@ -79,18 +81,23 @@ pub written_view : (now : List TreeMap) (ops : List Op) (view made : View) (op :
     IsViewNow now (ops ++ op ∷ []) made
 written_view now ops view made op is allowed written = subst (IsViewNow now (ops ++ op ∷ [])) (sym written) record {
   made = by_moment view.moment view.trees is.made;
-  carried = λ c.
-      let before : AreCarried now ops = is.carried c in
-      record {
-        are = before.are;
-        carried = one_more now ops op 0 0 before.are before.carried (judged_of_legal (applied now ops 0) op (sym (legal_alike view.trees (applied now ops 0) (seen_at now ops view.moment view.trees 0 is.made) op) ∙ allowed));
-      };
-  light = λ l. light_at view.moment view.trees is.made (is.light l) allowed;
+  known = by_known view.known is.known;
 }
   where
+    one_carried : AreCarried now ops → AreCarried now (ops ++ op ∷ [])
+    one_carried before = record {
+      are = before.are;
+      carried = one_more now ops op 0 0 before.are before.carried (judged_of_legal (applied now ops 0) op (sym (legal_alike view.trees (applied now ops 0) (seen_at now ops view.moment view.trees 0 is.made) op) ∙ allowed));
+    }
+
     light_at : (moment : Option ℕ) (trees : List TreeMap) → IsMade now ops moment trees → AreLight now ops moment → legal trees op ≡ Ok Legal → AreLight now (ops ++ op ∷ []) moment
     light_at None trees h light e = tt
     light_at (Some m) trees h light e = none_heavy now ops op m light (not_heavy (applied now ops m) op m (ap (λ ts. legal ts op) (sym h) ∙ e))
+
+    by_known : (known : Known) → AreKnown now ops view.moment known → AreKnown now (ops ++ op ∷ []) view.moment known
+    by_known Nothing k = tt
+    by_known Carried k = one_carried k
+    by_known Light k = (one_carried k.0, light_at view.moment view.trees is.made k.1 allowed)
 
     by_moment : (moment : Option ℕ) (trees : List TreeMap) → IsMade now ops moment trees → IsMade now (ops ++ op ∷ []) moment (applied_one trees op (moment_of moment))
     by_moment None trees h = applied_same trees (applied now ops 0) h (op ∷ []) 0 0 ∙ ap (map untimed) (sym (one_by_one now ops (op ∷ []) 0))
@@ -98,16 +105,14 @@ written_view now ops view made op is allowed written = subst (IsViewNow now (ops
 
 -- the laws of claims, as they are handed in
 abbrev pub OnceInOrder : (List TreeMap → Op → ℕ → ℕ → List TreeMap → List TreeMap → Type 0) → Type 0
-OnceInOrder Then = (trees : List TreeMap) (ops : List Op) (change : Op) (m n : ℕ) → AreTrees trees → AreApart ops (change ∷ []) → AreCarriedOut trees ops m → judged_in trees change ≡ Ok Legal → MakesAlike change (applied trees ops m) trees → Then trees change m n (applied trees ops m) (applied (applied_one trees change n) ops m)
+OnceInOrder Then = (trees : List TreeMap) (ops : List Op) (change : Op) (m n : ℕ) → IsBeside trees ops change m → Then trees change m n (applied trees ops m) (applied (applied_one trees change n) ops m)
 
 pub record EitherOrder : Type 0 where
-  pub exact : (trees : List TreeMap) (ops : List Op) (change : Op) (m : ℕ) → AreTrees trees → AreApart ops (change ∷ []) → AreCarriedOut trees ops m → judged_in trees change ≡ Ok Legal → MakesAlike change (applied trees ops m) trees →
-      applied_one (applied trees ops m) change m ≡ applied (applied_one trees change m) ops m
+  pub exact : (trees : List TreeMap) (ops : List Op) (change : Op) (m : ℕ) → IsBeside trees ops change m → applied_one (applied trees ops m) change m ≡ applied (applied_one trees change m) ops m
   pub unwritten : OnceInOrder (λ trees change m n seen all. (time_in seen (hive_of change) (home_of change (levels_made seen change)) ≡ Some m → ⊥) → applied_one seen change n ≡ all)
   pub written : OnceInOrder (λ trees change m n seen all. time_in seen (hive_of change) (home_of change (levels_made seen change)) ≡ Some m → (time_in trees (hive_of change) (home_of change (levels_made seen change)) ≡ Some m → ⊥) →
       stamped (applied_one seen change n) (hive_of change) (home_of change (levels_made seen change)) m ≡ all)
-  pub but_for_times : (trees seen : List TreeMap) (ops : List Op) (change : Op) (m n k l : ℕ) → AreTrees trees → AreApart ops (change ∷ []) → AreCarriedOut trees ops m → judged_in trees change ≡ Ok Legal → SameButTimes seen (applied trees ops m) → MakesAlike change seen trees →
-      SameButTimes (applied_one seen change n) (applied (applied_one trees change k) ops l)
+  pub but_for_times : (trees seen : List TreeMap) (ops : List Op) (change : Op) (m n k l : ℕ) → IsBeside trees ops change m → SameButTimes seen (applied trees ops m) → SameButTimes (applied_one seen change n) (applied (applied_one trees change k) ops l)
 
 abbrev pub StaysLegal : Type 0
 StaysLegal = (trees : List TreeMap) (first ops : List Op) (m n k : ℕ) → AreTrees trees → AreApart first ops → AreCarriedOut trees ops m → AreCarriedOut (applied trees first n) ops k
@@ -122,15 +127,26 @@ apart_back : (ops : List Op) (change : Op) → AreApart ops (change ∷ []) → 
 apart_back [] change apart = tt
 apart_back (op ∷ ops) change apart = (λ c. apart.0.0 (conflict_sym (claim_of change) (claim_of op) c), apart_back ops change apart.1)
 
+levels_same : (trees others : List TreeMap) → SameButTimes trees others → (op : Op) → levels_made trees op ≡ levels_made others op
+levels_same trees others same (CreateKey hive path) = levels_alike trees others same hive (folded_path path)
+levels_same trees others same (DeleteKey hive path) = refl
+levels_same trees others same (SetValue hive path name kind bytes) = refl
+levels_same trees others same (DeleteValue hive path name) = refl
+
 -- trees with operations and a change, whose times stay exact, are those of the change and then the operations
-kept_times : EitherOrder → (now : List TreeMap) (ops : List Op) (op : Op) (own moment : ℕ) → AreTrees now → AreApart ops (op ∷ []) → AreCarriedOut now ops own → judged_in now op ≡ Ok Legal → (seen after : List TreeMap) → seen ≡ applied now ops own → MakesAlike op seen now → KeepsTimes seen now op moment own after →
-    after ≡ applied (applied_one now op moment) ops own
-kept_times either now ops op own moment are apart carried allowed seen after made =
-    subst (λ ts. MakesAlike op ts now → KeepsTimes ts now op moment own after → after ≡ applied (applied_one now op moment) ops own) (sym made) (λ alike keeps. elim keeps [
-      | inl once ↦ once.1 ∙ ap (applied_one (applied now ops own) op) (sym once.0) ∙ either.exact now ops op own are apart carried allowed alike ∙ ap (λ m. applied (applied_one now op m) ops own) once.0
-      | inr (inl other) ↦ other.1 ∙ either.unwritten now ops op own moment are apart carried allowed alike other.0
-      | inr (inr again) ↦ again.2 ∙ either.written now ops op own moment are apart carried allowed alike again.0 again.1
+kept_times : EitherOrder → (now : List TreeMap) (ops : List Op) (op : Op) (own moment : ℕ) → IsBeside now ops op own → (seen after : List TreeMap) → seen ≡ applied now ops own → KeepsTimes seen now op moment own after → after ≡ applied (applied_one now op moment) ops own
+kept_times either now ops op own moment beside seen after made =
+    subst (λ ts. KeepsTimes ts now op moment own after → after ≡ applied (applied_one now op moment) ops own) (sym made) (λ keeps. elim keeps [
+      | inl once ↦ once.1 ∙ ap (applied_one (applied now ops own) op) (sym once.0) ∙ either.exact now ops op own beside ∙ ap (λ m. applied (applied_one now op m) ops own) once.0
+      | inr (inl other) ↦ other.1 ∙ either.unwritten now ops op own moment beside other.0
+      | inr (inr again) ↦ again.2 ∙ either.written now ops op own moment beside again.0 again.1
     ])
+
+-- operations of which anything is known could be carried out
+known_carried : (now : List TreeMap) (ops : List Op) (moment : Option ℕ) (known : Known) → (known ≡ Nothing → ⊥) → AreKnown now ops moment known → AreCarried now ops
+known_carried now ops moment Nothing some k = absurd (some refl)
+known_carried now ops moment Carried some k = k
+known_carried now ops moment Light some k = k.0
 
 -- the view after a change that meets no claim of the operations
 pub moved_view : EitherOrder → StaysLegal → (now : List TreeMap) (ops : List Op) (view after : View) (op : Op) (number moment : ℕ) → IsViewNow now ops view → AreApart ops (op ∷ []) → judged_in now op ≡ Ok Legal → MovesView view now op moment number after →
@@ -138,25 +154,29 @@ pub moved_view : EitherOrder → StaysLegal → (now : List TreeMap) (ops : List
 moved_view either stays now ops view after op number moment is apart allowed moves =
     record {
       made = by_moment after.moment moves.timed;
-      carried = λ c. record {
+      known = subst (AreKnown (applied_one now op moment) ops after.moment) (sym moves.known) record {
         are = trees_stay_one now op moment before.are;
         carried = stays now (op ∷ []) ops 0 moment 0 before.are (apart_back ops op apart, tt) before.carried;
       };
-      light = λ l. absurd (true≢false (sym l ∙ moves.unweighed));
     }
   where
     before : AreCarried now ops
-    before = is.carried moves.carried
+    before = known_carried now ops view.moment view.known moves.carried is.known
 
-    alike : MakesAlike op view.trees now
-    alike = alike_made op view.trees now moves.alike
+    beside : (own : ℕ) → IsBeside now ops op own
+    beside own = record {
+      are = before.are;
+      apart = apart;
+      carried = any_moment now before.are ops 0 own before.carried;
+      legal = allowed;
+      alike = alike_made op (applied now ops own) now (sym (levels_same view.trees (applied now ops own) (seen_at now ops view.moment view.trees own is.made) op) ∙ moves.alike);
+    }
 
     by_moment : (m : Option ℕ) → IsTimed view now op moment m after.trees → IsMade (applied_one now op moment) ops m after.trees
     by_moment None timed =
         subst (λ ts. SameButTimes ts (applied (applied_one now op moment) ops 0)) (sym timed)
-        (either.but_for_times now view.trees ops op 0 moment moment 0 before.are apart before.carried allowed (seen_at now ops view.moment view.trees 0 is.made) alike)
-    by_moment (Some own) timed =
-        kept_times either now ops op own moment before.are apart (any_moment now before.are ops 0 own before.carried) allowed view.trees after.trees (subst (λ m. IsMade now ops m view.trees) timed.0 is.made) alike timed.1
+        (either.but_for_times now view.trees ops op 0 moment moment 0 (beside 0) (seen_at now ops view.moment view.trees 0 is.made))
+    by_moment (Some own) timed = kept_times either now ops op own moment (beside own) view.trees after.trees (subst (λ m. IsMade now ops m view.trees) timed.0 is.made) timed.1
 
 -- a view that was made anew, whose operations were carried out
 pub fresh_carried : (now : List TreeMap) (ops : List Op) (m : ℕ) → AreTrees now → AreCarriedOut now ops m → AreCarried now ops
@@ -172,12 +192,6 @@ carried_more now front done op m trees made before allowed is all = subst (λ (o
   where
     may : legal (applied now front m) op ≡ Ok Legal
     may = ap (λ ts. legal ts op) (sym before.made) ∙ allowed
-
-levels_same : (trees others : List TreeMap) → SameButTimes trees others → (op : Op) → levels_made trees op ≡ levels_made others op
-levels_same trees others same (CreateKey hive path) = levels_alike trees others same hive (folded_path path)
-levels_same trees others same (DeleteKey hive path) = refl
-levels_same trees others same (SetValue hive path name kind bytes) = refl
-levels_same trees others same (DeleteValue hive path name) = refl
 
 -- what a view tells of an operation is so of what the transaction sees
 pub legal_seen : (now : List TreeMap) (one : Transaction) (v : View) (op : Op) → IsViewNow now one.ops v → legal v.trees op ≡ legal (view now one) op

@@ -27,8 +27,10 @@ use Rattle.transactions.specs.declared.table.Written.{Written}
 use Rattle.transactions.specs.declared.table.Written.TheVariants.{Added}
 use Rattle.transactions.specs.declared.entry.Entry.{Entry}
 use Rattle.transactions.specs.declared.entry.Committed.{Committed}
-use Rattle.transactions.specs.declared.entry.Judged.{Judged}
-use Rattle.transactions.specs.declared.entry.View.{View}
+use Rattle.transactions.specs.declared.view.Judged.{Judged}
+use Rattle.transactions.specs.declared.view.View.{View}
+use Rattle.transactions.specs.declared.view.Known.{Known}
+use Rattle.transactions.specs.declared.view.Known.TheVariants.{Nothing, Carried, Light}
 
 -- the transaction that an entry keeps
 abbrev pub transaction_of : Entry → Transaction
@@ -58,11 +60,16 @@ pub record AreAfter (now : List TreeMap) (ops : List Op) (moment : ℕ) (trees :
   pub carried : AreCarriedOut now ops moment
   pub light : any_outweighs now ops moment ≡ false
 
+-- what is known of the operations of a view at its moment
+abbrev pub AreKnown : List TreeMap → List Op → Option ℕ → Known → Type 0
+AreKnown now ops moment Nothing = ⊤
+AreKnown now ops moment Carried = AreCarried now ops
+AreKnown now ops moment Light = AreCarried now ops × AreLight now ops moment
+
 -- a view of the trees of now
 pub record IsViewNow (now : List TreeMap) (ops : List Op) (view : View) : Type 0 where
   pub made : IsMade now ops view.moment view.trees
-  pub carried : view.carried ≡ true → AreCarried now ops
-  pub light : view.light ≡ true → AreLight now ops view.moment
+  pub known : AreKnown now ops view.moment view.known
 
 -- a view that was just made
 pub record IsFresh (now : List TreeMap) (ops : List Op) (moment number : ℕ) (view : View) : Type 0 where
@@ -123,10 +130,10 @@ IsTimed view now op moment (Some own) trees = (view.moment ≡ Some own) × Keep
 
 -- a change is carried out on a view's trees, where it makes as many keys as on the trees of now
 pub record MovesView (view : View) (now : List TreeMap) (op : Op) (moment number : ℕ) (after : View) : Type 0 where
-  pub carried : view.carried ≡ true
+  pub carried : view.known ≢ Nothing
   pub alike : levels_made view.trees op ≡ levels_made now op
   pub timed : IsTimed view now op moment after.moment after.trees
-  pub unweighed : after.light ≡ false
+  pub known : after.known ≡ Carried
   pub numbered : after.number ≡ number
 
 -- what was a view of operations is one after a change none of whose operations meets a claim of theirs

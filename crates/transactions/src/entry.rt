@@ -1,24 +1,22 @@
-//! One transaction as a table keeps it: its operations, and the trees that it sees.
-ghost use Rattle.std.specs.Prelude.{◌≡◌, true, false, ◌⊎◌, ◌+◌, ◌≤◌, ◌==◌, ◌&&◌, ◌<◌, ◌-◌, ◌^◌, ◌∷◌, [], ℕ, IfOk, IfSome, OnErr, OnOk, Some, None, Ok, Err, IfErr, slice_get};
+//! One transaction as a table keeps it: its operations, and its view.
+ghost use Rattle.std.specs.Prelude.{◌≡◌, true, false, ◌⊎◌, ◌+◌, ◌≤◌, ◌==◌, ◌&&◌, ◌<◌, ◌-◌, ◌^◌, IfOk, IfSome, OnErr, OnOk, Some, None, Ok, Err, IfErr};
 ghost use Rattle.refusals.specs.declared.limits.TheConstants.{MOST_ELEMENT_BYTES};
 ghost use Rattle.refusals.specs.declared.refusal.Refusal.TheVariants.{NoMemory, NotFound, TooLarge};
 ghost use Rattle.reg_tree.specs.Texts.{op_text_len, ops_text_len};
 ghost use Rattle.reg_names.specs.Names.{folded_path};
-ghost use Rattle.reg_tree.specs.Judgement.{legal, applied, applied_one, any_outweighs};
-ghost use Rattle.reg_tree.specs.Maps.{TreeMap, IsTree};
-ghost use Rattle.reg_tree.specs.Sequences.{AreTrees};
-ghost use Rattle.reg_tree.specs.Stamps.{home_of};
+ghost use Rattle.reg_tree.specs.Judgement.{applied, any_outweighs};
 ghost use Rattle.conflicts.specs.Skeletons.{AreCarriedOut, AreApart};
 ghost use Rattle.reg_tree.specs.Reads.{IsMissingOrNoMemory};
-ghost use Rattle.reg_tree.specs.TreeLists.{info_in, levels_made};
-ghost use Rattle.transactions.specs.Entries.{transaction_of, AreAfter, IsCommitted, StaysView, IsViewed, IsFresh, HasView, HasViewAt, Tells, TellsInfo, WritesView, MovesView, IsTimed, IsJudged, illegal, IsSameEntry, HasRoom, HasTwoSpare};
+ghost use Rattle.reg_tree.specs.TreeLists.{info_in};
+ghost use Rattle.transactions.specs.Entries.{transaction_of, IsCommitted, IsViewed, HasView, HasViewAt, IsJudged, illegal, IsSameEntry, HasRoom, HasTwoSpare};
 ghost use Rattle.machine.specs.Machine.{looked_up, read_refusal, too_long};
 ghost use Rattle.machine.specs.Transactions.{view, with_op, ended, is_active, fresh_transaction};
 
-use machine::{Found, Outcome, Question, levels_made, look_up};
+use crate::view::{Judged, View, carry_out};
+use machine::{Found, Outcome, Question, look_up};
 use refusals::Refusal;
 use refusals::limits::MOST_ELEMENT_BYTES;
-use reg_names::{Name, Path};
+use reg_names::Path;
 use reg_tree::{CHANGE_BYTES, Info, Op, Trees};
 use std::alloc::{AllocError, Global};
 use std::mem;
@@ -32,31 +30,10 @@ const _: () = prove!(SPARE_OPS == 2);
 /// A moment that no clock comes to: no key has it as its time, unless a caller gives it.
 const NO_CLOCKS_MOMENT: u64 = u64::MAX;
 
-/// The trees that a transaction sees, but for the times of keys, when the last accepted change had a number.
-#[derive(Drop)]
-pub(crate) struct View {
-    /// The trees.
-    pub(crate) trees: Trees,
-    /// The moment that the keys have as their time which the operations wrote; nothing where that isn't known of each of them,
-    /// so that times are nobody's.
-    pub(crate) moment: Option<u64>,
-    /// The number of the last accepted change.
-    pub(crate) number: u64,
-    /// Whether each operation is known to be one that could be carried out where it was applied: then a change that
-    /// meets no claim of theirs may be applied after them.
-    pub(crate) carried: bool,
-    /// Whether none of them is known to leave a tree too heavy. A change that was applied after them was weighed after them,
-    /// and it comes before them.
-    pub(crate) light: bool,
-    /// How many operations of others were applied since the view was last asked.
-    pub(crate) unasked: usize,
-}
-
 /// A transaction, how long it is as journal text, and its view, where one was made. The view's moment may be an
 /// earlier one than the transaction's: what a write or a read asks of it depends on no moment, but for the time that a
 /// key tells. So a write costs one operation, whatever moments the writes have. A change of others that meets no claim of
 /// the transaction is applied to its view too.
-#[derive(Drop)]
 pub(crate) struct Entry {
     pub(crate) session: u32,
     pub(crate) id: Uuid,
@@ -68,259 +45,28 @@ pub(crate) struct Entry {
     pub(crate) view: Option<View>,
 }
 
+impl Drop for Entry {
+    // one drop for all that own a transaction, whose proofs see no more of it than that
+    fn drop(self) {
+        let Entry {
+            session: _,
+            id: _,
+            generation: _,
+            outcome: _,
+            ops: _,
+            moment: _,
+            length: _,
+            view: _,
+        } = self;
+    }
+}
+
 /// The trees after a transaction's operations.
 #[derive(Drop)]
 pub(crate) struct Committed {
     pub(crate) trees: Trees,
     /// Whether each operation is known to be one that could be carried out.
     pub(crate) carried: bool,
-}
-
-/// A view's trees after a change, and the moment that is theirs as it is a view's.
-#[derive(Drop)]
-struct Timed {
-    trees: Trees,
-    moment: Option<u64>,
-}
-
-/// What an operation that is legal would do.
-#[derive(Drop)]
-pub(crate) struct Judged {
-    /// The trees after it, at the view's moment.
-    pub(crate) made: View,
-    /// How many keys it makes, where it creates one.
-    pub(crate) levels: Option<usize>,
-}
-
-impl View {
-    /// The view of trees with operations applied at a moment.
-    fn make(
-        alloc: Global,
-        now: &Trees,
-        ops: &[Op],
-        moment: u64,
-        number: u64,
-    ) -> Result<View, AllocError>
-        ensures { IfOk result (IsFresh now.now ops.now moment number) }
-    {
-        know_trees(now);
-        if let Some(trees) = carry_out(alloc, now, ops, moment)? {
-            return Ok(View {
-                trees,
-                moment: Some(moment),
-                number,
-                carried: true,
-                light: true,
-                unasked: 0,
-            });
-        }
-        Ok(View {
-            trees: now.apply_ops(alloc, ops, moment)?,
-            moment: Some(moment),
-            number,
-            carried: false,
-            light: false,
-            unasked: 0,
-        })
-    }
-
-    /// What is told of a key, with the time that it would have if the view had been made at another moment: a key that the
-    /// operations write has the moment as its time, every other one the time that it has in the trees of now. Nothing
-    /// where the two can't be told apart, since the trees of now have the key with the view's own moment as its time.
-    /// Refused with `NotFound` exactly where the view has no such hive or key.
-    fn info_at(
-        &self,
-        now: &Trees,
-        hive: u8,
-        path: &Path,
-        moment: u64,
-    ) -> Result<Option<Info>, Refusal>
-        ensures told { IfOk result
-            (TellsInfo self.now now.now hive (folded_path path.now) moment) }
-        ensures refused { IfErr result (λ refusal.
-            (refusal ≡ NotFound)
-            × Tells self.now now.now hive (folded_path path.now) moment None) }
-    {
-        let info = self.trees.query_info(hive, path)?;
-        let Some(made_at) = self.moment else {
-            return Ok(None);
-        };
-        if made_at == moment || info.time != made_at {
-            return Ok(Some(info));
-        }
-        match now.query_info(hive, path) {
-            Ok(was) if was.time == made_at => Ok(None),
-            _ => Ok(Some(Info {
-                time: moment,
-                ..info
-            })),
-        }
-    }
-
-    /// The view after one operation more and how many keys that made, or nothing where it opens a key; judged and carried out
-    /// at the view's moment.
-    fn write(&self, alloc: Global, op: &Op) -> Result<Option<Judged>, Refusal>
-        ensures ok { IfOk result (WritesView self.now op.now) }
-        ensures refused { IfErr result (λ refusal.
-            (legal self.now.trees op.now ≡ Err refusal) ⊎ (refusal ≡ NoMemory)) }
-    {
-        match self
-            .trees
-            .write_counted(alloc, op, self.moment.unwrap_or(0))
-        {
-            Ok(Some((trees, levels))) => Ok(Some(Judged {
-                made: View {
-                    trees,
-                    moment: self.moment,
-                    number: self.number,
-                    carried: self.carried,
-                    light: self.light,
-                    unasked: 0,
-                },
-                levels,
-            })),
-            Ok(None) => Ok(None),
-            Err(refusal) => Err(refusal),
-        }
-    }
-
-    /// The view after the change of this number at a moment, which meets no claim of the operations: the change is applied to
-    /// it too. Nothing where that is not known to be the same: where it makes fewer keys here than on the trees of now, since
-    /// the operations made the others, and then spelled them.
-    fn moved(
-        &self,
-        alloc: Global,
-        now: &Trees,
-        op: &Op,
-        moment: u64,
-        number: u64,
-    ) -> Result<Option<View>, AllocError>
-        ensures { IfOk result (λ moved.
-            IfSome moved (MovesView self.now now.now op.now moment number)) }
-    {
-        if !self.carried {
-            return Ok(None);
-        }
-        let (made, levels) = match self.trees.write_counted(alloc, op, moment) {
-            Ok(Some(written)) => written,
-            Err(Refusal::NoMemory) => return Err(AllocError),
-            _ => return Ok(None),
-        };
-        if levels != levels_made(now, op) {
-            return Ok(None);
-        }
-        let timed = self.timed(alloc, now, op, op.home(levels), made, moment)?;
-        Ok(Some(View {
-            trees: timed.trees,
-            moment: timed.moment,
-            number,
-            carried: true,
-            light: false,
-            unasked: self.unasked.saturating_add(1),
-        }))
-    }
-
-    /// The view's trees after a change at a moment of its own, with the times that they would have if it came before the
-    /// operations: they differ in that of its home alone, the key that it writes beside those that it makes. Where the operations
-    /// wrote that too, theirs is the later write. They did where it has their moment in the view, and had another time in the
-    /// trees of now; where it has their moment in both nobody knows, and so the view's times are nobody's from then on.
-    fn timed(
-        &self,
-        alloc: Global,
-        now: &Trees,
-        op: &Op,
-        home: &[Name],
-        made: Trees,
-        moment: u64,
-    ) -> Result<Timed, AllocError>
-        requires made { made ≡ applied_one self.now.trees op.now moment }
-        requires home { folded_path home.now ≡ home_of op.now (levels_made self.now.trees op.now) }
-        ensures { IfOk result (λ timed.
-            IsTimed self.now now.now op.now moment timed.moment timed.trees) }
-    {
-        let kept = Timed {
-            trees: made,
-            moment: self.moment,
-        };
-        let Some(own) = self.moment else {
-            return Ok(kept);
-        };
-        if own == moment || self.trees.time_at(op.hive(), home) != Some(own) {
-            return Ok(kept);
-        }
-        if now.time_at(op.hive(), home) == Some(own) {
-            return Ok(Timed {
-                moment: None,
-                ..kept
-            });
-        }
-        Ok(Timed {
-            trees: kept.trees.stamped(alloc, op.hive(), home, own)?,
-            moment: Some(own),
-        })
-    }
-
-    /// The view after the change of this number, none of whose operations meets a claim of the view's: each is applied to it
-    /// in turn. The trees of now go along, for how many keys an operation makes there at its turn. A change of one
-    /// operation needs no such trees.
-    fn moved_past(
-        &self,
-        alloc: Global,
-        now: &Trees,
-        change: &[Op],
-        moment: u64,
-        number: u64,
-    ) -> Result<Option<View>, AllocError>
-        requires { AreCarriedOut now.now change.now moment }
-        ensures { IfOk result (λ moved. IfSome moved (λ after.
-            StaysView now.now change.now moment self.now after × (after.number ≡ number))) }
-    {
-        conflicts::laws::either_order();
-        conflicts::laws::stay_legal();
-        let mut trees = now.try_clone(alloc)?;
-        let mut seen = View {
-            trees: self.trees.try_clone(alloc)?,
-            moment: self.moment,
-            number,
-            carried: self.carried,
-            light: self.light,
-            unasked: self.unasked,
-        };
-        for op in change {
-            let Some(moved) = seen.moved(alloc, &trees, op, moment, number)? else {
-                return Ok(None);
-            };
-            seen = moved;
-            if change.len() > 1 {
-                trees = match trees.write(alloc, op, moment) {
-                    Ok(Some(made)) => made,
-                    Err(Refusal::NoMemory) => return Err(AllocError),
-                    _ => return Ok(None),
-                };
-            }
-        }
-        Ok(Some(seen))
-    }
-}
-
-// the trees after operations, where each can be carried out on those after the ones before it
-fn carry_out(
-    alloc: Global,
-    now: &Trees,
-    ops: &[Op],
-    moment: u64,
-) -> Result<Option<Trees>, AllocError>
-    ensures { IfOk result (λ made. IfSome made (AreAfter now.now ops.now moment)) }
-{
-    let mut trees = now.try_clone(alloc)?;
-    for op in ops {
-        match trees.write(alloc, op, moment) {
-            Ok(Some(made)) => trees = made,
-            Err(Refusal::NoMemory) => return Err(AllocError),
-            _ => return Ok(None),
-        }
-    }
-    Ok(Some(trees))
 }
 
 // the trees after operations that are made for them
@@ -340,24 +86,6 @@ fn commit_anew(alloc: Global, now: &Trees, ops: &[Op], moment: u64) -> Result<Co
         trees: now.apply_within(alloc, ops, moment)?,
         carried: false,
     })
-}
-
-// trees have their roots, and with a key its parent; no others are ever made
-fn know_trees(trees: &Trees)
-    ensures { AreTrees trees.now }
-{
-    for hive in 0..trees.len() {
-        know_tree(trees, hive as u8);
-    }
-}
-
-// so it is of a hive's tree
-fn know_tree(trees: &Trees, hive: u8)
-    ensures { (tree : TreeMap) → slice_get trees.now hive ≡ Some tree → IsTree tree }
-{
-    if let Some(tree) = trees.tree(hive) {
-        let _ = tree.root();
-    }
 }
 
 impl Entry {
@@ -404,32 +132,26 @@ impl Entry {
                 view.unasked = 0;
                 Ok(())
             }
-            _ => self.see_anew(alloc, now, number),
+            _ => self.see_at(alloc, now, number, self.moment),
         }
     }
 
-    /// Makes the view at the transaction's own moment.
-    fn see_anew(&mut self, alloc: Global, now: &Trees, number: u64) -> Result<(), AllocError>
+    /// Makes the view at a moment.
+    fn see_at(
+        &mut self,
+        alloc: Global,
+        now: &Trees,
+        number: u64,
+        moment: u64,
+    ) -> Result<(), AllocError>
         ensures rest { self.new ≡ record self.old { view = self.new.view } }
         ensures same { OnErr result (self.new ≡ self.old) }
         ensures kept { OnOk result (IsViewed now.now number self.new.ops.items self.new.view) }
-        ensures seen { OnOk result (HasViewAt now.now number self.new.ops.items self.new.moment
+        ensures seen { OnOk result (HasViewAt now.now number self.new.ops.items moment
             self.new.view) }
         ensures some { OnOk result (HasView now.now number self.new.ops.items self.new.view) }
     {
-        self.view = Some(View::make(alloc, now, &self.ops, self.moment, number)?);
-        Ok(())
-    }
-
-    /// Makes the view at a moment that no clock comes to, so that of each key it can be told whether the operations wrote it, also
-    /// after others write it, at whatever moments these are.
-    fn see_apart(&mut self, alloc: Global, now: &Trees, number: u64) -> Result<(), AllocError>
-        ensures rest { self.new ≡ record self.old { view = self.new.view } }
-        ensures same { OnErr result (self.new ≡ self.old) }
-        ensures kept { OnOk result (IsViewed now.now number self.new.ops.items self.new.view) }
-        ensures some { OnOk result (HasView now.now number self.new.ops.items self.new.view) }
-    {
-        self.view = Some(View::make(alloc, now, &self.ops, NO_CLOCKS_MOMENT, number)?);
+        self.view = Some(View::make(alloc, now, &self.ops, moment, number)?);
         Ok(())
     }
 
@@ -500,7 +222,8 @@ impl Entry {
     }
 
     /// What is told of a key, with the time that the transaction sees. Where the view can't tell it, it is made again at a
-    /// moment that no clock comes to; and where the key has that as its time in the trees of now, at the transaction's own.
+    /// moment that no clock comes to, so that of each key it can be told whether the operations wrote it, also after others write it,
+    /// at whatever moments these are; and where the key has that as its time in the trees of now, at the transaction's own.
     fn info(
         &mut self,
         alloc: Global,
@@ -522,11 +245,11 @@ impl Entry {
         if let Some(info) = self.told(now, number, hive, path)? {
             return Ok(info);
         }
-        self.see_apart(alloc, now, number)?;
+        self.see_at(alloc, now, number, NO_CLOCKS_MOMENT)?;
         if let Some(info) = self.told(now, number, hive, path)? {
             return Ok(info);
         }
-        self.see_anew(alloc, now, number)?;
+        self.see_at(alloc, now, number, self.moment)?;
         let Some(view) = &self.view else {
             unreachable!();
         };
@@ -601,16 +324,13 @@ impl Entry {
             ⊎ (refusal ≡ NoMemory)) }
     {
         match &self.view {
-            Some(view)
-                if view.number == number
-                    && view.moment == Some(moment)
-                    && view.light
-                    && view.carried => {
-                Ok(Committed {
-                    trees: view.trees.try_clone(alloc)?,
-                    carried: true,
-                })
-            }
+            Some(view) if view.number == number && view.moment == Some(moment) && view.is_light() =>
+                {
+                    Ok(Committed {
+                        trees: view.trees.try_clone(alloc)?,
+                        carried: true,
+                    })
+                }
             _ => commit_anew(alloc, now, &self.ops, moment),
         }
     }

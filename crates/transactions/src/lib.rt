@@ -10,6 +10,7 @@ mod prepared;
 mod short;
 mod store;
 mod table;
+mod view;
 
 pub use prepared::Prepared;
 pub use store::Store;

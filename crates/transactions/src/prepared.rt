@@ -2,8 +2,8 @@
 ghost use Rattle.std.specs.Prelude.{◌≡◌, IfOk};
 ghost use Rattle.transactions.specs.Prepared.{will_show};
 
-use crate::entry::View;
 use crate::table::Holders;
+use crate::view::View;
 use element_text::ChangeText;
 use machine::{Event, Reply, Tx};
 use reg_tree::Trees;

@@ -1,5 +1,5 @@
 //! A store in memory: what it answers to each event that makes no step, and what it is told of those that do.
-ghost use Rattle.std.specs.Prelude.{◌≡◌, ◌<◌, ◌≤◌, ◌+◌, ◌-◌, ◌⊎◌, ◌==◌, ℕ, [], drop, max, true, false, Some, None, IfOk, IfErr, OnOk, OnSome};
+ghost use Rattle.std.specs.Prelude.{◌≡◌, ◌<◌, ◌≤◌, ◌+◌, ◌-◌, ◌==◌, ℕ, [], drop, max, true, false, Some, None, IfOk, IfErr, OnOk, OnSome};
 ghost use Rattle.std.specs.List.{AllByRecursion, list_any};
 ghost use Rattle.refusals.specs.declared.refusal.Refusal.TheVariants.{NoMemory, NoSuchHandle};
 ghost use Rattle.machine.specs.declared.event.Reply.TheVariants as reply;
@@ -34,7 +34,6 @@ use uuid::Uuid;
 /// it how far changes are durable ([`settle`](Store::settle)), what room is free again ([`free`](Store::free)), and that the
 /// device has failed ([`fail`](Store::fail)). An event that may accept a change may be made in two parts: [`prepare`](Store::prepare)
 /// makes all that it grows, and [`finish`](Store::finish) answers it and takes no memory.
-#[derive(Drop)]
 pub struct Store {
     alloc: Global,
     opened: Snapshot<Trees>,
@@ -46,6 +45,24 @@ pub struct Store {
     room: u64,
     faulted: bool,
     bounds: Bounds,
+}
+
+impl Drop for Store {
+    // one drop for all that own a store, whose proofs see no more of it than that
+    fn drop(self) {
+        let Store {
+            alloc: _,
+            opened: _,
+            before: _,
+            history: _,
+            sessions: _,
+            table: _,
+            durable: _,
+            room: _,
+            faulted: _,
+            bounds: _,
+        } = self;
+    }
 }
 
 impl Model for Store {

@@ -1,22 +1,22 @@
 //! The transactions of a store.
-ghost use Rattle.std.specs.Prelude.{◌≡◌, ◌⊎◌, ◌+◌, ◌<◌, ◌≤◌, ◌^◌, ◌-◌, ◌||◌, ◌==◌, [], ℕ, nat_le, length, vec_capacity, IfOk, IfSome, OnOk, OnErr, Some, None, Ok, true, false, IfErr};
+ghost use Rattle.std.specs.Prelude.{◌≡◌, ◌⊎◌, ◌+◌, ◌<◌, ◌≤◌, ◌^◌, ◌-◌, ◌==◌, [], ℕ, length, vec_capacity, IfOk, IfSome, OnOk, OnErr, Some, None, Ok, true, false, IfErr};
 ghost use Rattle.std.specs.Option.{option_map, option_copied};
 ghost use Rattle.refusals.specs.declared.limits.TheConstants.{MOST_ELEMENT_BYTES, MOST_TRANSACTIONS};
 ghost use Rattle.refusals.specs.declared.refusal.Refusal.TheVariants.{NoMemory, NoSeat, TooLarge, Conflict};
 ghost use Rattle.reg_tree.specs.Texts.{ops_text_len};
 ghost use Rattle.reg_tree.specs.Judgement.{legal, applied, any_outweighs};
-ghost use Rattle.reg_tree.specs.declared.op.Legality.TheVariants.{Legal};
 ghost use Rattle.conflicts.specs.Claims.{claim_of};
 ghost use Rattle.conflicts.specs.Holders.{AsksFor};
 ghost use Rattle.conflicts.specs.Skeletons.{AreCarriedOut};
 ghost use Rattle.machine.specs.Ends.{refusal_of};
 ghost use Rattle.transactions.specs.Entries.{transaction_of, IsViewed, IsCommitted, IsSameEntry, HasRoom, MayAdd, AddsTo, IsNotAdded, IsJudgedOf, judge_refusal, IsMovedTo, AreMoved};
 ghost use Rattle.machine.specs.Acts.{Finishes, Closes};
-ghost use Rattle.machine.specs.Machine.{refused_if, first_of, read_refusal, seen, seat_refusal, added_refusal_if};
+ghost use Rattle.machine.specs.Machine.{first_of, read_refusal, seen, seat_refusal, added_refusal_if};
 ghost use Rattle.transactions.specs.Tables.{Denies, Begins, ChangesPlaces, Writes, EndsWith, IsNotEnded, IsPending, is_of, holds_if, is_listed, MeetNone, rolled_back_if};
-ghost use Rattle.machine.specs.Transactions.{Transaction, at, own, is_active_outcome, Becomes, Puts, gone_with, count_held, missing_refusal, inactive_refusal};
+ghost use Rattle.machine.specs.Transactions.{at, own, is_active_outcome, Becomes, Puts, gone_with, inactive_refusal};
 
-use crate::entry::{Committed, Entry, Judged, View};
+use crate::entry::{Committed, Entry};
+use crate::view::{Judged, View};
 use conflicts::{ClaimTable, Owner, claims};
 use machine::{Found, NoSuchTransaction, NotEnded, Outcome, Question, Tx};
 use refusals::Refusal;
@@ -32,7 +32,6 @@ use uuid::Uuid;
 ///
 /// Contracts see the trees of now and the number of the last accepted change, the transaction at each place, and how
 /// many were begun.
-#[derive(Drop)]
 pub struct TxTable {
     alloc: Global,
     trees: Trees,
@@ -40,6 +39,20 @@ pub struct TxTable {
     begun: u64,
     places: Slab<Entry>,
     claims: ClaimTable,
+}
+
+impl Drop for TxTable {
+    // one drop for all that own a table, whose proofs see no more of it than that
+    fn drop(self) {
+        let TxTable {
+            alloc: _,
+            trees: _,
+            number: _,
+            begun: _,
+            places: _,
+            claims: _,
+        } = self;
+    }
 }
 
 impl Model for TxTable {
@@ -86,9 +99,15 @@ pub struct Pending<'a> {
 }
 
 /// The transactions that hold a claim which conflicts with that of an operation, by their places.
-#[derive(Drop)]
 pub struct Holders {
     owners: Vec<Owner>,
+}
+
+impl Drop for Holders {
+    // one drop for all that own holders, whose proofs see no more of it than that
+    fn drop(self) {
+        let Holders { owners: _ } = self;
+    }
 }
 
 impl Model for Holders {

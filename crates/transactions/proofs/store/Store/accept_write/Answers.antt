@@ -13,16 +13,16 @@ use Rattle.transactions.specs.Tables.{Table}
 use Rattle.transactions.proofs.Stored.{accepts, below_most, tied_more}
 use Rattle.transactions.proofs.store.Store.accept_write.Goals as goal
 
-abbrev old_store : (c : goal.After-drop-holders-inside) → Machine
+abbrev old_store : (c : goal.After-drop-holders) → Machine
 old_store c = store_of c.self.inside.opened.value c.self.inside.before c.self.inside.history.changes c.self.inside.sessions c.self.inside.table c.self.inside.durable c.self.inside.room c.self.inside.faulted c.self.inside.bounds
 
-seen : (c : goal.After-drop-holders-inside) (session moment : ℕ) (op : Op) → IsReadyWrite c.args.self.now.machine session moment op c.args.write → IsReadyWrite (old_store c) session moment op c.args.write
+seen : (c : goal.After-drop-holders) (session moment : ℕ) (op : Op) → IsReadyWrite c.args.self.now.machine session moment op c.args.write → IsReadyWrite (old_store c) session moment op c.args.write
 seen c session moment op ready = subst (λ (v : StoreView). IsReadyWrite v.machine session moment op c.args.write) (sym c.self.view_is) ready
 
-added : (c : goal.After-drop-holders-inside) (session moment : ℕ) (op : Op) → IsReadyWrite (old_store c) session moment op c.args.write → c.push_reserved.new.self.changes ≡ c.self.inside.history.changes ++ change moment op ∷ []
+added : (c : goal.After-drop-holders) (session moment : ℕ) (op : Op) → IsReadyWrite (old_store c) session moment op c.args.write → c.push_reserved.new.self.changes ≡ c.self.inside.history.changes ++ change moment op ∷ []
 added c session moment op ready = c.push_reserved.ensures.changes ∙ ap (λ (e : Element). c.self.inside.history.changes ++ e ∷ []) ready.element
 
-tied : (c : goal.After-drop-holders-inside) → IsTied c.roll_back_all.new.self (store_of c.self.inside.opened.value c.self.inside.before c.push_reserved.new.self.changes c.self.inside.sessions c.roll_back_all.new.self c.self.inside.durable c.args.write.room c.self.inside.faulted c.self.inside.bounds)
+tied : (c : goal.After-drop-holders) → IsTied c.roll_back_all.new.self (store_of c.self.inside.opened.value c.self.inside.before c.push_reserved.new.self.changes c.self.inside.sessions c.roll_back_all.new.self c.self.inside.durable c.args.write.room c.self.inside.faulted c.self.inside.bounds)
 tied c =
     let session = c.requires.ready.0 in
     let moment = c.requires.ready.1 in

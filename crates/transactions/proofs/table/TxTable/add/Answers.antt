@@ -16,10 +16,10 @@ use Rattle.transactions.proofs.Slots.{slot, puts}
 use Rattle.transactions.proofs.table.TxTable.add.Goals as goal
 
 -- the entry before and after room was made, where the claim is not held
-there : (c : goal.Joined-op) → slot c.self.inside.places.slots c.args.place ≡ Some c.in-Some.entry.now
+there : (c : goal.After-drop-op) → slot c.self.inside.places.slots c.args.place ≡ Some c.in-Some.entry.now
 there c = sym c.in-Some.ensures.value
 
-same : (c : goal.Joined-op) → places_of (with_value c.self.inside.places c.args.place c.hold.new.entry).slots ≡ places_of c.self.inside.places.slots
+same : (c : goal.After-drop-op) → places_of (with_value c.self.inside.places c.args.place c.hold.new.entry).slots ≡ places_of c.self.inside.places.slots
 same c = same_places c.self.inside.places.slots c.args.place c.in-Some.entry.now c.hold.new.entry (there c) (reserved_same c.in-Some.entry.now c.hold.new.entry c.in_err-hold.ensures.same)
 
 pub invariant_of-self : goal.invariant_of-self

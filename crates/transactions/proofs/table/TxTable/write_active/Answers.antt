@@ -1,6 +1,8 @@
-use Rattle.std.proofs.Common.{inl, inr}
+use Rattle.std.proofs.Common.{inl, inr, sym, subst}
 use Rattle.machine.specs.Transactions.{own}
-use Rattle.transactions.proofs.TableChanges.{judged_refused}
+use Rattle.transactions.specs.Entries.{IsJudgedOf, MayAdd}
+use Rattle.transactions.specs.Tables.{Table}
+use Rattle.transactions.proofs.TableChanges.{judged_refused, may_add}
 use Rattle.transactions.proofs.Kept.{if_err}
 use Rattle.transactions.proofs.table.TxTable.write_active.Goals as goal
 
@@ -13,3 +15,8 @@ returns-in_err-judged-clause-refused c =
       ],
       c.in_err-judged.ensures.same,
     )
+
+pub add-requires : goal.add-requires
+add-requires c =
+    subst (λ (t : Table). MayAdd t c.args.tx.place c.args.op c.in-Some.judged.made) (sym c.in_ok-judged.ensures.same)
+    (may_add c.args.self.now c.args.session c.args.tx c.args.op c.in-Some.judged (subst (IsJudgedOf c.args.self.now c.args.session c.args.tx c.args.op) c.in-Some.is c.in_ok-judged.ensures.ok))

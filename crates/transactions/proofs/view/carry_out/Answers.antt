@@ -1,7 +1,7 @@
 use Rattle.std.proofs.lemmas.List.{take_more}
 use Rattle.std.proofs.Common.{◌+◌, ◌++◌, ◌∷◌, [], take, sym, ◌∙◌, ap}
 use Rattle.transactions.proofs.Views.{carried_more}
-use Rattle.transactions.proofs.entry.carry_out.Goals as goal
+use Rattle.transactions.proofs.view.carry_out.Goals as goal
 
 pub loop-op-preserved : goal.loop-op-preserved
 loop-op-preserved c =

@@ -1,7 +1,7 @@
 use Rattle.std.proofs.Common.{◌≡◌, ◌<◌, take, length}
 use Rattle.reg_tree.specs.Judgement.{applied}
 use Rattle.transactions.specs.Entries.{StaysView}
-use Rattle.transactions.proofs.entry.View.moved_past.Given as goal
+use Rattle.transactions.proofs.view.View.moved_past.Given as goal
 
 -- the trees are those of now before the next operation, where there is one
 abbrev pub invariant-loop-op : goal.invariant-loop-op

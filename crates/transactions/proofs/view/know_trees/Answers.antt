@@ -2,7 +2,7 @@ use Rattle.std.proofs.Common.{◌≡◌, inl, inr, ap, arith, ◌∙◌}
 use Rattle.std.specs.Prelude.{slice_get}
 use Rattle.std.proofs.lemmas.Bool.{cases_lt}
 use Rattle.std.proofs.lemmas.Option.{slice_get_within}
-use Rattle.transactions.proofs.entry.know_trees.Goals as goal
+use Rattle.transactions.proofs.view.know_trees.Goals as goal
 
 pub loop-hive-preserved : goal.loop-hive-preserved
 loop-hive-preserved c = λ hive tree below there. elim (cases_lt hive c.loop-hive.hive) [

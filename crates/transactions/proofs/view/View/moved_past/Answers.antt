@@ -4,8 +4,8 @@ use Rattle.std.specs.Prelude.{IfSome}
 use Rattle.reg_tree.specs.Judgement.{legal, applied_one, IsWritten}
 use Rattle.transactions.specs.Entries.{MovesView}
 use Rattle.transactions.proofs.Views.{carried_front, stays_more, trees_more}
-use Rattle.transactions.proofs.entry.View.moved_past.Goals as goal
-use Rattle.transactions.proofs.entry.View.moved_past.Goals.{then-change-gt1+in-Ok-Some, else-change-gt1}
+use Rattle.transactions.proofs.view.View.moved_past.Goals as goal
+use Rattle.transactions.proofs.view.View.moved_past.Goals.{then-change-gt1+in-Ok-Some, else-change-gt1}
 
 pub loop-op-preserved : goal.loop-op-preserved
 loop-op-preserved c =

@@ -1,0 +1,325 @@
+//! The trees that a transaction sees, and what becomes of them as the transaction writes and as others do.
+ghost use Rattle.std.specs.Prelude.{◌≡◌, ◌⊎◌, true, IfOk, IfSome, Some, None, Ok, Err, IfErr, slice_get};
+ghost use Rattle.refusals.specs.declared.refusal.Refusal.TheVariants.{NoMemory, NotFound};
+ghost use Rattle.reg_names.specs.Names.{folded_path};
+ghost use Rattle.reg_tree.specs.Judgement.{legal, applied_one};
+ghost use Rattle.reg_tree.specs.Maps.{TreeMap, IsTree};
+ghost use Rattle.reg_tree.specs.Sequences.{AreTrees};
+ghost use Rattle.reg_tree.specs.Stamps.{home_of};
+ghost use Rattle.reg_tree.specs.TreeLists.{levels_made};
+ghost use Rattle.conflicts.specs.Skeletons.{AreCarriedOut};
+ghost use Rattle.transactions.specs.declared.view.Known.TheVariants.{Light};
+ghost use Rattle.transactions.specs.Entries.{AreAfter, StaysView, IsFresh, Tells, TellsInfo, WritesView, MovesView, IsTimed};
+
+use machine::levels_made;
+use refusals::Refusal;
+use reg_names::{Name, Path};
+use reg_tree::{Info, Op, Trees};
+use std::alloc::{AllocError, Global};
+
+/// What is known of the operations of a view.
+#[derive(Clone, Copy)]
+pub(crate) enum Known {
+    /// Nothing: one of them may have been refused where it was applied, or have changed nothing.
+    Nothing,
+    /// Each is one that could be carried out: then a change that meets no claim of theirs may be applied after them.
+    Carried,
+    /// Besides, none leaves a tree too heavy. A change that was applied after them was weighed after them, and it comes before
+    /// them: past it this isn't known any more.
+    Light,
+}
+
+/// The trees that a transaction sees, but for the times of keys, when the last accepted change had a number.
+pub(crate) struct View {
+    /// The trees.
+    pub(crate) trees: Trees,
+    /// The moment that the keys have as their time which the operations wrote; nothing where that isn't known of each of them,
+    /// so that times are nobody's.
+    pub(crate) moment: Option<u64>,
+    /// The number of the last accepted change.
+    pub(crate) number: u64,
+    /// What is known of the operations.
+    pub(crate) known: Known,
+    /// How many operations of others were applied since the view was last asked.
+    pub(crate) unasked: usize,
+}
+
+impl Drop for View {
+    // one drop for all that own a view, whose proofs see no more of it than that
+    fn drop(self) {
+        let View {
+            trees: _,
+            moment: _,
+            number: _,
+            known: _,
+            unasked: _,
+        } = self;
+    }
+}
+
+/// A view's trees after a change, and the moment that is theirs as it is a view's.
+#[derive(Drop)]
+struct Timed {
+    trees: Trees,
+    moment: Option<u64>,
+}
+
+/// What an operation that is legal would do.
+#[derive(Drop)]
+pub(crate) struct Judged {
+    /// The trees after it, at the view's moment.
+    pub(crate) made: View,
+    /// How many keys it makes, where it creates one.
+    pub(crate) levels: Option<usize>,
+}
+
+impl View {
+    /// The view of trees with operations applied at a moment.
+    pub(crate) fn make(
+        alloc: Global,
+        now: &Trees,
+        ops: &[Op],
+        moment: u64,
+        number: u64,
+    ) -> Result<View, AllocError>
+        ensures { IfOk result (IsFresh now.now ops.now moment number) }
+    {
+        know_trees(now);
+        if let Some(trees) = carry_out(alloc, now, ops, moment)? {
+            return Ok(View {
+                trees,
+                moment: Some(moment),
+                number,
+                known: Known::Light,
+                unasked: 0,
+            });
+        }
+        Ok(View {
+            trees: now.apply_ops(alloc, ops, moment)?,
+            moment: Some(moment),
+            number,
+            known: Known::Nothing,
+            unasked: 0,
+        })
+    }
+
+    /// Whether it is known that each operation could be carried out and none leaves a tree too heavy.
+    pub(crate) fn is_light(&self) -> bool
+        ensures { result ≡ true → self.now.known ≡ Light }
+    {
+        matches!(self.known, Known::Light)
+    }
+
+    /// What is told of a key, with the time that it would have if the view had been made at another moment: a key that the
+    /// operations write has the moment as its time, every other one the time that it has in the trees of now. Nothing
+    /// where the two can't be told apart, since the trees of now have the key with the view's own moment as its time.
+    /// Refused with `NotFound` exactly where the view has no such hive or key.
+    pub(crate) fn info_at(
+        &self,
+        now: &Trees,
+        hive: u8,
+        path: &Path,
+        moment: u64,
+    ) -> Result<Option<Info>, Refusal>
+        ensures told { IfOk result
+            (TellsInfo self.now now.now hive (folded_path path.now) moment) }
+        ensures refused { IfErr result (λ refusal.
+            (refusal ≡ NotFound)
+            × Tells self.now now.now hive (folded_path path.now) moment None) }
+    {
+        let info = self.trees.query_info(hive, path)?;
+        let Some(made_at) = self.moment else {
+            return Ok(None);
+        };
+        if made_at == moment || info.time != made_at {
+            return Ok(Some(info));
+        }
+        match now.query_info(hive, path) {
+            Ok(was) if was.time == made_at => Ok(None),
+            _ => Ok(Some(Info {
+                time: moment,
+                ..info
+            })),
+        }
+    }
+
+    /// The view after one operation more and how many keys that made, or nothing where it opens a key; judged and carried out
+    /// at the view's moment.
+    pub(crate) fn write(&self, alloc: Global, op: &Op) -> Result<Option<Judged>, Refusal>
+        ensures ok { IfOk result (WritesView self.now op.now) }
+        ensures refused { IfErr result (λ refusal.
+            (legal self.now.trees op.now ≡ Err refusal) ⊎ (refusal ≡ NoMemory)) }
+    {
+        match self
+            .trees
+            .write_counted(alloc, op, self.moment.unwrap_or(0))
+        {
+            Ok(Some((trees, levels))) => Ok(Some(Judged {
+                made: View {
+                    trees,
+                    moment: self.moment,
+                    number: self.number,
+                    known: self.known,
+                    unasked: 0,
+                },
+                levels,
+            })),
+            Ok(None) => Ok(None),
+            Err(refusal) => Err(refusal),
+        }
+    }
+
+    /// The view after the change of this number at a moment, which meets no claim of the operations: the change is applied to
+    /// it too. Nothing where that is not known to be the same: where it makes fewer keys here than on the trees of now, since
+    /// the operations made the others, and then spelled them.
+    fn moved(
+        &self,
+        alloc: Global,
+        now: &Trees,
+        op: &Op,
+        moment: u64,
+        number: u64,
+    ) -> Result<Option<View>, AllocError>
+        ensures { IfOk result (λ moved.
+            IfSome moved (MovesView self.now now.now op.now moment number)) }
+    {
+        if let Known::Nothing = self.known {
+            return Ok(None);
+        }
+        let (made, levels) = match self.trees.write_counted(alloc, op, moment) {
+            Ok(Some(written)) => written,
+            Err(Refusal::NoMemory) => return Err(AllocError),
+            _ => return Ok(None),
+        };
+        if levels != levels_made(now, op) {
+            return Ok(None);
+        }
+        let timed = self.timed(alloc, now, op, op.home(levels), made, moment)?;
+        Ok(Some(View {
+            trees: timed.trees,
+            moment: timed.moment,
+            number,
+            known: Known::Carried,
+            unasked: self.unasked.saturating_add(1),
+        }))
+    }
+
+    /// The view's trees after a change at a moment of its own, with the times that they would have if it came before the
+    /// operations: they differ in that of its home alone, the key that it writes beside those that it makes. Where the operations
+    /// wrote that too, theirs is the later write. They did where it has their moment in the view, and had another time in the
+    /// trees of now; where it has their moment in both nobody knows, and so the view's times are nobody's from then on.
+    fn timed(
+        &self,
+        alloc: Global,
+        now: &Trees,
+        op: &Op,
+        home: &[Name],
+        made: Trees,
+        moment: u64,
+    ) -> Result<Timed, AllocError>
+        requires made { made ≡ applied_one self.now.trees op.now moment }
+        requires home { folded_path home.now ≡ home_of op.now (levels_made self.now.trees op.now) }
+        ensures { IfOk result (λ timed.
+            IsTimed self.now now.now op.now moment timed.moment timed.trees) }
+    {
+        let kept = Timed {
+            trees: made,
+            moment: self.moment,
+        };
+        let Some(own) = self.moment else {
+            return Ok(kept);
+        };
+        if own == moment || self.trees.time_at(op.hive(), home) != Some(own) {
+            return Ok(kept);
+        }
+        if now.time_at(op.hive(), home) == Some(own) {
+            return Ok(Timed {
+                moment: None,
+                ..kept
+            });
+        }
+        Ok(Timed {
+            trees: kept.trees.stamped(alloc, op.hive(), home, own)?,
+            moment: Some(own),
+        })
+    }
+
+    /// The view after the change of this number, none of whose operations meets a claim of the view's: each is applied to it
+    /// in turn. The trees of now go along, for how many keys an operation makes there at its turn. A change of one
+    /// operation needs no such trees.
+    pub(crate) fn moved_past(
+        &self,
+        alloc: Global,
+        now: &Trees,
+        change: &[Op],
+        moment: u64,
+        number: u64,
+    ) -> Result<Option<View>, AllocError>
+        requires { AreCarriedOut now.now change.now moment }
+        ensures { IfOk result (λ moved. IfSome moved (λ after.
+            StaysView now.now change.now moment self.now after × (after.number ≡ number))) }
+    {
+        conflicts::laws::either_order();
+        conflicts::laws::stay_legal();
+        let mut trees = now.try_clone(alloc)?;
+        let mut seen = View {
+            trees: self.trees.try_clone(alloc)?,
+            moment: self.moment,
+            number,
+            known: self.known,
+            unasked: self.unasked,
+        };
+        for op in change {
+            let Some(moved) = seen.moved(alloc, &trees, op, moment, number)? else {
+                return Ok(None);
+            };
+            seen = moved;
+            if change.len() > 1 {
+                trees = match trees.write(alloc, op, moment) {
+                    Ok(Some(made)) => made,
+                    Err(Refusal::NoMemory) => return Err(AllocError),
+                    _ => return Ok(None),
+                };
+            }
+        }
+        Ok(Some(seen))
+    }
+}
+
+/// The trees after operations, where each can be carried out on those after the ones before it
+pub(crate) fn carry_out(
+    alloc: Global,
+    now: &Trees,
+    ops: &[Op],
+    moment: u64,
+) -> Result<Option<Trees>, AllocError>
+    ensures { IfOk result (λ made. IfSome made (AreAfter now.now ops.now moment)) }
+{
+    let mut trees = now.try_clone(alloc)?;
+    for op in ops {
+        match trees.write(alloc, op, moment) {
+            Ok(Some(made)) => trees = made,
+            Err(Refusal::NoMemory) => return Err(AllocError),
+            _ => return Ok(None),
+        }
+    }
+    Ok(Some(trees))
+}
+
+// trees have their roots, and with a key its parent; no others are ever made
+fn know_trees(trees: &Trees)
+    ensures { AreTrees trees.now }
+{
+    for hive in 0..trees.len() {
+        know_tree(trees, hive as u8);
+    }
+}
+
+// so it is of a hive's tree
+fn know_tree(trees: &Trees, hive: u8)
+    ensures { (tree : TreeMap) → slice_get trees.now hive ≡ Some tree → IsTree tree }
+{
+    if let Some(tree) = trees.tree(hive) {
+        let _ = tree.root();
+    }
+}
