@@ -1,12 +1,12 @@
 -- Parts and groups that are added to others.
-use Rattle.std.proofs.Common.{◌≡◌, ℕ, List, [], ◌∷◌, ◌++◌, map, take, drop, refl, sym, ◌∙◌, ap, subst, append_assoc}
+use Rattle.std.proofs.Common.{◌≡◌, ℕ, List, [], ◌∷◌, ◌++◌, map, take, drop, refl, sym, ◌∙◌, ap, subst, append_assoc, append-nil}
 use Rattle.std.specs.declared.sync.Arc.{Arc}
 use Rattle.std.specs.declared.alloc.Global.{Global}
 use Rattle.std.specs.Arc.{arc_value}
 use Rattle.shared_map.specs.declared.parts.Part.{Part}
 use Rattle.shared_map.specs.declared.parts.Group.{Group}
 use Rattle.shared_map.specs.Listings.{parts_entries}
-use Rattle.shared_map.specs.Parts.{AreParts, AreSums, IsMoreSums}
+use Rattle.shared_map.specs.Parts.{AreParts, IsSum, AreSums, IsMoreSums}
 use Rattle.shared_map.proofs.Halves.{map-halves}
 
 pub parts-append : {E P : Type 0} (list : P → List E) (xs ys : List (Arc (Part P) Global)) → parts_entries list (xs ++ ys) ≡ parts_entries list xs ++ parts_entries list ys
@@ -22,6 +22,11 @@ module _ {P : Type 0} where
   sums-join xs ys [] vs f g = subst (λ zs. AreSums (zs ++ ys) vs) (sym f) g
   sums-join xs ys (w ∷ ws) vs f g =
       (f.0, (f.1.0 ++ ys, (ap (λ zs. zs ++ ys) f.1.1.0 ∙ append_assoc f.0 f.1.0 ys, (f.1.1.1.0, sums-join f.1.0 ys ws vs f.1.1.1.1 g))))
+
+  -- one group of parts, of which it has copies, is added
+  pub more_one : (parts same : List (Arc (Part P) Global)) (group : Arc (Part (Group P)) Global) (old new : List (Arc (Part (Group P)) Global)) → map arc_value same ≡ map arc_value parts → IsSum (map arc_value same) (arc_value group) → new ≡ old ++ (group ∷ []) → IsMoreSums (map arc_value parts) old new
+  more_one parts same group old new copied sum pushed =
+      (group ∷ [], (pushed, (map arc_value parts, ([], (sym (append-nil (map arc_value parts)), (subst (λ s. IsSum s (arc_value group)) copied sum, refl))))))
 
   -- groups of the front and then of the back of parts are groups of them all
   pub more_join : (parts front back : List (Arc (Part P) Global)) (h : ℕ) (old mid new : List (Arc (Part (Group P)) Global)) → front ≡ take h parts → back ≡ drop h parts → IsMoreSums (map arc_value front) old mid → IsMoreSums (map arc_value back) mid new → IsMoreSums (map arc_value parts) old new

@@ -7,3 +7,5 @@ pub mod Steps
 pub mod Sums
 pub mod Places
 pub mod Adds
+pub mod Copies
+pub mod Helds

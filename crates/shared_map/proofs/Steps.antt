@@ -11,7 +11,9 @@ use Rattle.shared_map.specs.declared.parts.Part.{Part}
 use Rattle.shared_map.specs.Orders.{name_order}
 use Rattle.shared_map.specs.Listings.{entries_in, parts_entries}
 use Rattle.shared_map.specs.Parts.{StartsAt, IsPart, EachIsPart, AreParts, IsPlace}
-use Rattle.shared_map.specs.Writes.{laid, written}
+use Rattle.shared_map.specs.declared.edit.Edit.{Edit}
+use Rattle.shared_map.specs.declared.edit.Edit.TheVariants.{Put, Remove}
+use Rattle.shared_map.specs.Writes.{laid, written, edit_name, edited}
 use Rattle.shared_map.proofs.Names.{names_total}
 use Rattle.shared_map.proofs.SortedLists.{front_of, less_of}
 use Rattle.shared_map.proofs.Halves.{map-around, map-from, map-past, item_at}
@@ -131,17 +133,24 @@ module _ {A P : Type 0} (list : P → List (List ℕ × A)) (load : A → ℕ) (
           ∙ sym (ap (put name_order name v) entries_split ∙ put_within name_order names_total name _ _ _ less above v)
 
       -- what is written in the part is written in the whole
-      pub written_step : (key : A → List ℕ) (over : A → A → A) (new_thing : A) → key new_thing ≡ name → entries_in list new ≡ written key over new_thing (list (arc_value part).body) → entries_in list made ≡ written key over new_thing (parts_entries list parts)
+      written_step : (key : A → List ℕ) (over : A → A → A) (new_thing : A) → key new_thing ≡ name → entries_in list new ≡ written key over new_thing (list (arc_value part).body) → entries_in list made ≡ written key over new_thing (parts_entries list parts)
       written_step key over new_thing is is_written =
           let as_named : (es : List (List ℕ × A)) → written key over new_thing es ≡ put name_order name (laid over (find name_order name es) new_thing) es = λ es. ap (λ k. put name_order k (laid over (find name_order k es) new_thing) es) is in
           put_step (laid over (find name_order name (parts_entries list parts)) new_thing) (is_written ∙ as_named (list (arc_value part).body) ∙ ap (λ f. put name_order name (laid over f new_thing) (list (arc_value part).body)) (sym find_step))
           ∙ sym (as_named (parts_entries list parts))
 
       -- what is taken out of the part is taken out of the whole
-      pub where_step : entries_in list new ≡ where_key name_order (λ x. not (eq_by_cmp name_order name x)) (list (arc_value part).body) → entries_in list made ≡ where_key name_order (λ x. not (eq_by_cmp name_order name x)) (parts_entries list parts)
+      where_step : entries_in list new ≡ where_key name_order (λ x. not (eq_by_cmp name_order name x)) (list (arc_value part).body) → entries_in list made ≡ where_key name_order (λ x. not (eq_by_cmp name_order name x)) (parts_entries list parts)
       where_step is_taken =
           made_entries ∙ ap (λ es. entries_in list (map arc_value (take i parts)) ++ (es ++ entries_in list (map arc_value (drop (i + 1) parts)))) is_taken
           ∙ sym (ap (where_key name_order (λ x. not (eq_by_cmp name_order name x))) entries_split ∙ where_within name_order names_total name _ _ _ less above)
+
+      -- so an edit of the part is one of the whole
+      pub edited_step : (key : A → List ℕ) (over : A → A → A) (edit : Edit A) → edit_name key edit ≡ name → entries_in list new ≡ edited key over edit (list (arc_value part).body) → entries_in list made ≡ edited key over edit (parts_entries list parts)
+      edited_step key over (Put thing) is is_edited = written_step key over (arc_value thing) is is_edited
+      edited_step key over (Remove named) is is_edited =
+          let without : List ℕ → List (List ℕ × A) → List (List ℕ × A) = λ k es. where_key name_order (λ x. not (eq_by_cmp name_order k x)) es in
+          where_step (is_edited ∙ ap (λ k. without k (list (arc_value part).body)) is) ∙ ap (λ k. without k (parts_entries list parts)) (sym is)
 
       -- and the parts stay parts
       pub fit_step : EachIsPart list load Fits new → EachIsPart list load Fits made

@@ -1,5 +1,5 @@
 -- Groups of parts have the entries of their parts, and are parts themselves.
-use Rattle.std.proofs.Common.{◌≡◌, ℕ, ◌+◌, ◌<◌, List, [], ◌∷◌, ◌++◌, length, map, min, sum_by, get_or, refl, sym, ◌∙◌, ap, subst, arith, length-append}
+use Rattle.std.proofs.Common.{◌≡◌, ℕ, zero, suc, ◌+◌, ◌<◌, List, [], ◌∷◌, ◌++◌, length, map, take, min, sum_by, get_or, refl, sym, ◌∙◌, ap, subst, arith, add-one, length-append}
 use Rattle.std.proofs.lemmas.List.Sums.{sum_by-append, sum_by-cons}
 use Rattle.reg_names.specs.Names.{folded}
 use Rattle.std.specs.declared.sync.Arc.{Arc}
@@ -10,6 +10,16 @@ use Rattle.shared_map.specs.declared.parts.Group.{Group}
 use Rattle.shared_map.specs.Listings.{entries_in, parts_entries, group_entries}
 use Rattle.shared_map.specs.Parts.{StartsAt, load_of, IsPart, EachIsPart, AreParts, FitsGroup, IsSum, AreSums}
 use Rattle.shared_map.proofs.Steps.{entries_in-append, fit_front, fit_back}
+
+-- one part more adds what it has
+sum_after : {P : Type 0} (of : Part P → ℕ) (parts : List (Arc (Part P) Global)) (i : ℕ) (part : Arc (Part P) Global) → i < length parts → part ≡ get_or parts i part → sum_by of (map arc_value (take (suc i) parts)) ≡ sum_by of (map arc_value (take i parts)) + of (arc_value part)
+sum_after of [] i part below is = absurd (omega arith)
+sum_after of (first ∷ parts) zero part below is = omega (arith, sum_by-cons of (arc_value first) [], ap (λ (p : Arc (Part _) Global). of (arc_value p)) is)
+sum_after of (first ∷ parts) (suc i) part below is =
+    omega (arith, sum_by-cons of (arc_value first) (map arc_value (take (suc i) parts)), sum_by-cons of (arc_value first) (map arc_value (take i parts)), sum_after of parts i part (omega arith) is)
+
+pub sum_next : {P : Type 0} (of : Part P → ℕ) (parts : List (Arc (Part P) Global)) (i : ℕ) (part : Arc (Part P) Global) → i < length parts → part ≡ get_or parts i part → sum_by of (map arc_value (take (i + 1) parts)) ≡ sum_by of (map arc_value (take i parts)) + of (arc_value part)
+sum_next of parts i part below is = rw add-one (sum_after of parts i part below is)
 
 least_twice : (a b m : ℕ) → min (min a m + min b m) m ≡ min (a + b) m
 least_twice a b m = omega arith

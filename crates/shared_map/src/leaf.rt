@@ -1,5 +1,5 @@
 //! Leaves: a few entries in order.
-ghost use Rattle.std.specs.Prelude.{◌≡◌, ℕ, T, not, List, [], ◌∷◌, ◌<◌, min, length, slice_get, IfOk, IfSome, OnOk, ◌++◌, MatchResult, sum_by, map};
+ghost use Rattle.std.specs.Prelude.{◌≡◌, ℕ, T, not, List, [], ◌<◌, min, length, slice_get, IfOk, IfSome, OnOk, ◌++◌, MatchResult, sum_by, map};
 ghost use Rattle.std.specs.Option.{option_copied, option_map};
 ghost use Rattle.std.specs.Arc.{arc_value};
 ghost use Rattle.std.specs.FinMap.Entries.{find, is_sorted, where_key};
@@ -9,9 +9,10 @@ ghost use Rattle.shared_map.specs.Orders.{name_order};
 ghost use Rattle.shared_map.specs.Searches.{IsFound, IsGap};
 ghost use Rattle.shared_map.specs.Listings.{keyed_all, leaf_entries, parts_entries, parts_of};
 ghost use Rattle.shared_map.specs.Parts.{IsPart, AreParts, FitsLeaf, load_of};
-ghost use Rattle.shared_map.specs.Writes.{written};
+ghost use Rattle.shared_map.specs.Writes.{written, edited};
 
-use crate::parts::{Part, Pieces};
+use crate::edit::Edit;
+use crate::parts::{Part, Pieces, copied};
 use crate::piece::Piece;
 use reg_names::Name;
 use std::alloc::{AllocError, Global};
@@ -114,30 +115,25 @@ impl<E: Listed> Piece<E> for Leaf<E> {
         }
     }
 
-    fn with(&self, alloc: Global, new: Arc<E>) -> Result<Pieces<Leaf<E>>, AllocError>
+    fn edit(&self, alloc: Global, edit: Edit<'_, E>) -> Result<Pieces<Leaf<E>>, AllocError>
         requires fits { FitsLeaf self.now }
         requires sorted { T (is_sorted name_order (leaf_entries E.key self.now)) }
         requires some { 0 < length (leaf_entries E.key self.now) }
         ensures entries { IfOk result (λ made. parts_entries (leaf_entries E.key) (parts_of made)
-            ≡ written E.key E.over new.value (leaf_entries E.key self.now)) }
+            ≡ edited E.key E.over edit.entry (leaf_entries E.key self.now)) }
         ensures parts { IfOk result (λ made. AreParts (leaf_entries E.key) E.load FitsLeaf (parts_of made)) }
     {
-        let (items, weight) = self.with_item(alloc, new)?;
-        leaf_parts(alloc, items, weight)
-    }
-
-    fn without(&self, alloc: Global, name: &Name) -> Result<Pieces<Leaf<E>>, AllocError>
-        requires fits { FitsLeaf self.now }
-        requires sorted { T (is_sorted name_order (leaf_entries E.key self.now)) }
-        requires some { 0 < length (leaf_entries E.key self.now) }
-        ensures entries { IfOk result (λ made. parts_entries (leaf_entries E.key) (parts_of made)
-            ≡ where_key name_order (λ key. not (eq_by_cmp name_order (folded name.now) key))
-            (leaf_entries E.key self.now)) }
-        ensures parts { IfOk result (λ made. AreParts (leaf_entries E.key) E.load FitsLeaf (parts_of made)) }
-    {
-        let items = self.without_item(alloc, name)?;
-        let weight = weight_of(&items);
-        leaf_parts(alloc, items, weight)
+        match edit {
+            Edit::Put(new) => {
+                let (items, weight) = self.with_item(alloc, new)?;
+                leaf_parts(alloc, items, weight)
+            }
+            Edit::Remove(name) => {
+                let items = self.without_item(alloc, name)?;
+                let weight = weight_of(&items);
+                leaf_parts(alloc, items, weight)
+            }
+        }
     }
 }
 
@@ -164,16 +160,24 @@ fn leaf_parts<E: Listed>(
     Ok(Pieces::Two(front, back))
 }
 
-/// The parts of this entry alone.
-pub(crate) fn one_leaf<E: Listed>(alloc: Global, new: Arc<E>) -> Result<Pieces<Leaf<E>>, AllocError>
+/// The parts of an edit of nothing.
+pub(crate) fn edit_of_none<E: Listed>(
+    alloc: Global,
+    edit: Edit<'_, E>,
+) -> Result<Pieces<Leaf<E>>, AllocError>
     ensures entries { IfOk result (λ made. parts_entries (leaf_entries E.key) (parts_of made)
-        ≡ (E.key new.value, new.value) ∷ []) }
+        ≡ edited E.key E.over edit.entry []) }
     ensures parts { IfOk result (λ made. AreParts (leaf_entries E.key) E.load FitsLeaf (parts_of made)) }
 {
-    let weight = new.weight();
-    let mut items = Vec::new(alloc);
-    items.push(new)?;
-    leaf_parts(alloc, items, weight)
+    match edit {
+        Edit::Put(new) => {
+            let weight = new.weight();
+            let mut items = Vec::new(alloc);
+            items.push(new)?;
+            leaf_parts(alloc, items, weight)
+        }
+        Edit::Remove(_) => Ok(Pieces::Gone),
+    }
 }
 
 /// Adds the leaves of these entries.
@@ -240,21 +244,6 @@ fn weight_of<E: Listed>(items: &[Arc<E>]) -> u64
         weight = weight.saturating_add(item.weight());
     }
     weight
-}
-
-// a vector of the same entries, with room for some more
-fn copied<E: Listed>(
-    alloc: Global,
-    items: &[Arc<E>],
-    room: usize,
-) -> Result<Vec<Arc<E>>, AllocError>
-    ensures { IfOk result (λ made. map arc_value made.items ≡ map arc_value items.now) }
-{
-    let mut made = Vec::with_capacity(alloc, items.len().saturating_add(room))?;
-    for item in items {
-        made.push(item.clone()?)?;
-    }
-    Ok(made)
 }
 
 // where the entry of this name stands, or where it would go

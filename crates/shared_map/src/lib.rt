@@ -1,6 +1,7 @@
 //! Entries in the order of their folded names, shared and never changed.
 #![tactic(auto)]
 
+mod edit;
 mod leaf;
 mod map;
 mod parts;

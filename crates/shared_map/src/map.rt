@@ -7,11 +7,12 @@ ghost use Rattle.reg_names.specs.Names.{folded};
 ghost use Rattle.shared_map.specs.Orders.{name_order};
 ghost use Rattle.shared_map.specs.Listings.{entries, keyed_all, leaf_entries, group_entries, parts_entries, parts_of};
 ghost use Rattle.shared_map.specs.Parts.{load_of, AreParts, FitsLeaf, FitsGroup, FitsMap};
-ghost use Rattle.shared_map.specs.Writes.{written};
+ghost use Rattle.shared_map.specs.Writes.{written, edited};
 
-use crate::leaf::{Leaf, Listed, add_leaves, one_leaf};
-use crate::parts::{Group, Part, Pieces, group_part, grouped};
-use crate::piece::{Piece, with_in, without_in};
+use crate::edit::Edit;
+use crate::leaf::{Leaf, Listed, add_leaves, edit_of_none};
+use crate::parts::{Group, Part, Pieces, add_pieces, group_part, grouped};
+use crate::piece::{Piece, edit_in};
 use reg_names::Name;
 use std::alloc::{AllocError, Global};
 use std::sync::Arc;
@@ -133,11 +134,7 @@ impl<E: Listed> SharedMap<E> {
             ≡ written E.key E.over new.value (entries E.key self.now)) }
         ensures fits { IfOk result (FitsMap E.key E.load) }
     {
-        match &self.held {
-            Held::Empty => of_pieces(alloc, one_leaf(alloc, new)?),
-            Held::Few(leaf) => of_pieces(alloc, leaf.body().with(alloc, new)?),
-            Held::Many(whole) => of_regions(alloc, with_in(alloc, whole.body().parts(), new)?),
-        }
+        self.edit(alloc, Edit::Put(new))
     }
 
     /// The map without the entry of this name.
@@ -148,13 +145,21 @@ impl<E: Listed> SharedMap<E> {
             (eq_by_cmp name_order (folded name.now) key)) (entries E.key self.now)) }
         ensures fits { IfOk result (FitsMap E.key E.load) }
     {
+        self.edit(alloc, Edit::Remove(name))
+    }
+
+    // the map after an edit
+    fn edit(&self, alloc: Global, edit: Edit<'_, E>) -> Result<SharedMap<E>, AllocError>
+        requires fits { FitsMap E.key E.load self.now }
+        requires sorted { T (is_sorted name_order (entries E.key self.now)) }
+        ensures entries { IfOk result (λ made. entries E.key made
+            ≡ edited E.key E.over edit.entry (entries E.key self.now)) }
+        ensures fits { IfOk result (FitsMap E.key E.load) }
+    {
         match &self.held {
-            Held::Empty => Ok(SharedMap { held: Held::Empty }),
-            Held::Few(leaf) => of_pieces(alloc, leaf.body().without(alloc, name)?),
-            Held::Many(whole) => {
-                let regions = without_in(alloc, whole.body().parts(), name)?;
-                of_regions(alloc, regions)
-            }
+            Held::Empty => of_pieces(alloc, edit_of_none(alloc, edit)?),
+            Held::Few(leaf) => of_pieces(alloc, leaf.body().edit(alloc, edit)?),
+            Held::Many(whole) => of_regions(alloc, edit_in(alloc, whole.body().parts(), edit)?),
         }
     }
 }
@@ -167,15 +172,14 @@ fn of_pieces<E: Listed>(alloc: Global, pieces: Pieces<Leaf<E>>) -> Result<Shared
     ensures fits { IfOk result (FitsMap E.key E.load) }
 {
     match pieces {
-        Pieces::Gone => Ok(SharedMap { held: Held::Empty }),
         Pieces::One(leaf) => Ok(SharedMap {
             held: Held::Few(leaf),
         }),
-        Pieces::Two(front, back) => {
-            let mut leaves = Vec::with_capacity(alloc, 2)?;
-            leaves.push(front)?;
-            leaves.push(back)?;
-            of_leaves(alloc, leaves)
+        none_or_two => {
+            let mut leaves = Vec::new(alloc);
+            add_pieces(&mut leaves, none_or_two)?;
+            let made = of_leaves(alloc, leaves)?;
+            Ok(made)
         }
     }
 }

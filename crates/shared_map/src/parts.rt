@@ -85,19 +85,33 @@ impl<P> Part<P> {
     }
 }
 
-// adds the same parts
-fn extend<P: Drop>(made: &mut Vec<Arc<Part<P>>>, parts: &[Arc<Part<P>>]) -> Result<(), AllocError>
+// adds the same things
+fn extend<T: Drop>(made: &mut Vec<Arc<T>>, items: &[Arc<T>]) -> Result<(), AllocError>
     ensures { OnOk result
-        (map arc_value made.new.items ≡ map arc_value made.old.items ++ map arc_value parts.now) }
+        (map arc_value made.new.items ≡ map arc_value made.old.items ++ map arc_value items.now) }
 {
-    for part in parts {
-        made.push(part.clone()?)?;
-    }
+    made.extend_with_clones(items)?;
     Ok(())
 }
 
-// adds what an edit left
-fn add_pieces<P: Drop>(made: &mut Vec<Arc<Part<P>>>, new: Pieces<P>) -> Result<(), AllocError>
+/// The same things, with room for some more.
+pub(crate) fn copied<T: Drop>(
+    alloc: Global,
+    items: &[Arc<T>],
+    room: usize,
+) -> Result<Vec<Arc<T>>, AllocError>
+    ensures { IfOk result (λ made. map arc_value made.items ≡ map arc_value items.now) }
+{
+    let mut made = Vec::with_capacity(alloc, items.len().saturating_add(room))?;
+    extend(&mut made, items)?;
+    Ok(made)
+}
+
+/// Adds what an edit left.
+pub(crate) fn add_pieces<P: Drop>(
+    made: &mut Vec<Arc<Part<P>>>,
+    new: Pieces<P>,
+) -> Result<(), AllocError>
     ensures { OnOk result (made.new.items ≡ made.old.items ++ parts_of new) }
 {
     match new {
@@ -159,7 +173,7 @@ fn add_groups<P: Drop>(
         return Ok(());
     }
     if parts.len() <= MOST_PARTS {
-        made.push(group_part(alloc, copied(alloc, parts)?)?)?;
+        made.push(group_part(alloc, copied(alloc, parts, 0)?)?)?;
         return Ok(());
     }
     let (front, back) = parts.split_at(parts.len() / 2);
@@ -210,18 +224,9 @@ pub(crate) fn group_parts<P: Drop>(
         return Ok(Pieces::One(group_part(alloc, parts)?));
     }
     let half = parts.len() / 2;
-    let front = group_part(alloc, copied(alloc, &parts[..half])?)?;
-    let back = group_part(alloc, copied(alloc, &parts[half..])?)?;
+    let front = group_part(alloc, copied(alloc, &parts[..half], 0)?)?;
+    let back = group_part(alloc, copied(alloc, &parts[half..], 0)?)?;
     Ok(Pieces::Two(front, back))
-}
-
-// the same parts
-fn copied<P: Drop>(alloc: Global, parts: &[Arc<Part<P>>]) -> Result<Vec<Arc<Part<P>>>, AllocError>
-    ensures { IfOk result (λ made. map arc_value made.items ≡ map arc_value parts.now) }
-{
-    let mut made = Vec::with_capacity(alloc, parts.len())?;
-    extend(&mut made, parts)?;
-    Ok(made)
 }
 
 /// The part of one group of these parts. Refused also where 64 bits don't hold the count.
@@ -233,33 +238,33 @@ pub(crate) fn group_part<P: Drop>(
     ensures { IfOk result (λ made. IsSum (map arc_value parts.items) (arc_value made)) }
 {
     let first = parts[0].first.clone()?;
-    let count = count_of(&parts)?;
-    let weight = weight_of(&parts);
+    let Totals { count, weight } = totals_of(&parts)?;
     let part = Arc::new(alloc, Part::new(Group { parts }, first, count, weight))?;
     Ok(part)
 }
 
-/// How many entries these parts have together. Refused where 64 bits don't hold it.
-pub(crate) fn count_of<P>(parts: &[Arc<Part<P>>]) -> Result<usize, AllocError>
-    ensures { IfOk result (λ count. count ≡ sum_by (λ part. part.count) (map arc_value parts.now)) }
+/// How many entries parts have together, and what they weigh.
+#[derive(Clone, Copy)]
+pub(crate) struct Totals {
+    count: usize,
+    weight: u64,
+}
+
+/// The totals of these parts. Refused where 64 bits don't hold the count.
+pub(crate) fn totals_of<P>(parts: &[Arc<Part<P>>]) -> Result<Totals, AllocError>
+    ensures count { IfOk result (λ all.
+        all.count ≡ sum_by (λ part. part.count) (map arc_value parts.now)) }
+    ensures weight { IfOk result (λ all.
+        all.weight ≡ min (sum_by (λ part. part.weight) (map arc_value parts.now)) u64.MAX) }
 {
     let mut count = 0usize;
+    let mut weight = 0u64;
     for part in parts {
         count = match count.checked_add(part.count) {
             Some(count) => count,
             None => return Err(AllocError),
         };
-    }
-    Ok(count)
-}
-
-// the weight of these parts together
-fn weight_of<P>(parts: &[Arc<Part<P>>]) -> u64
-    ensures { result ≡ min (sum_by (λ part. part.weight) (map arc_value parts.now)) u64.MAX }
-{
-    let mut weight = 0u64;
-    for part in parts {
         weight = weight.saturating_add(part.weight);
     }
-    weight
+    Ok(Totals { count, weight })
 }

@@ -1,16 +1,16 @@
 //! Pieces: what a part holds, a leaf or a group of parts that hold pieces in their turn.
-ghost use Rattle.std.specs.Prelude.{◌≡◌, ℕ, T, not, List, ◌<◌, length, slice_get, IfOk, IfSome};
+ghost use Rattle.std.specs.Prelude.{◌≡◌, ℕ, T, List, ◌<◌, length, slice_get, IfOk, IfSome};
 ghost use Rattle.std.specs.Option.{option_copied, option_map};
-ghost use Rattle.std.specs.FinMap.Entries.{find, is_sorted, where_key};
-ghost use Rattle.std.specs.Ordering.{eq_by_cmp};
+ghost use Rattle.std.specs.FinMap.Entries.{find, is_sorted};
 ghost use Rattle.reg_names.specs.Names.{folded};
 ghost use Rattle.shared_map.specs.Orders.{name_order};
 ghost use Rattle.shared_map.specs.Listings.{parts_entries, parts_of, group_entries};
 ghost use Rattle.shared_map.specs.Parts.{AreParts, FitsGroup};
-ghost use Rattle.shared_map.specs.Writes.{written};
+ghost use Rattle.shared_map.specs.Writes.{edited};
 
+use crate::edit::Edit;
 use crate::leaf::Listed;
-use crate::parts::{Group, Part, Pieces, count_of, group_parts, nth, place, spliced};
+use crate::parts::{Group, Part, Pieces, group_parts, nth, place, spliced, totals_of};
 use reg_names::Name;
 use std::alloc::{AllocError, Global};
 use std::sync::Arc;
@@ -38,22 +38,13 @@ pub trait Piece<E: Listed>: Drop {
         ensures { option_copied result
             ≡ option_map (λ e. e.1) (slice_get (list self.now) index) };
 
-    /// The parts of the entries with this one in the place of its name.
-    fn with(&self, alloc: Global, new: Arc<E>) -> Result<Pieces<Self>, AllocError>
+    /// The parts of the entries after an edit.
+    fn edit(&self, alloc: Global, edit: Edit<'_, E>) -> Result<Pieces<Self>, AllocError>
         requires fits { Fits self.now }
         requires sorted { T (is_sorted name_order (list self.now)) }
         requires some { 0 < length (list self.now) }
         ensures entries { IfOk result (λ made. parts_entries list (parts_of made)
-            ≡ written E.key E.over new.value (list self.now)) }
-        ensures parts { IfOk result (λ made. AreParts list E.load Fits (parts_of made)) };
-
-    /// The parts of the entries without the one of this name.
-    fn without(&self, alloc: Global, name: &Name) -> Result<Pieces<Self>, AllocError>
-        requires fits { Fits self.now }
-        requires sorted { T (is_sorted name_order (list self.now)) }
-        requires some { 0 < length (list self.now) }
-        ensures entries { IfOk result (λ made. parts_entries list (parts_of made) ≡ where_key name_order
-            (λ key. not (eq_by_cmp name_order (folded name.now) key)) (list self.now)) }
+            ≡ edited E.key E.over edit.entry (list self.now)) }
         ensures parts { IfOk result (λ made. AreParts list E.load Fits (parts_of made)) };
 }
 
@@ -76,72 +67,38 @@ impl<E: Listed, P: Piece<E>> Piece<E> for Group<P> {
         }
     }
 
-    fn with(&self, alloc: Global, new: Arc<E>) -> Result<Pieces<Group<P>>, AllocError>
+    fn edit(&self, alloc: Global, edit: Edit<'_, E>) -> Result<Pieces<Group<P>>, AllocError>
         requires fits { FitsGroup P.list E.load P.Fits self.now }
         requires sorted { T (is_sorted name_order (group_entries P.list self.now)) }
         requires some { 0 < length (group_entries P.list self.now) }
         ensures entries { IfOk result (λ made. parts_entries (group_entries P.list) (parts_of made)
-            ≡ written E.key E.over new.value (group_entries P.list self.now)) }
+            ≡ edited E.key E.over edit.entry (group_entries P.list self.now)) }
         ensures parts { IfOk result (λ made. AreParts (group_entries P.list) E.load (FitsGroup
             P.list E.load P.Fits) (parts_of made)) }
     {
-        let pieces = with_in(alloc, self.parts(), new)?;
-        let made = group_parts(alloc, pieces)?;
-        Ok(made)
-    }
-
-    fn without(&self, alloc: Global, name: &Name) -> Result<Pieces<Group<P>>, AllocError>
-        requires fits { FitsGroup P.list E.load P.Fits self.now }
-        requires sorted { T (is_sorted name_order (group_entries P.list self.now)) }
-        requires some { 0 < length (group_entries P.list self.now) }
-        ensures entries { IfOk result (λ made. parts_entries (group_entries P.list) (parts_of made)
-            ≡ where_key name_order (λ key. not (eq_by_cmp name_order (folded name.now) key))
-            (group_entries P.list self.now)) }
-        ensures parts { IfOk result (λ made. AreParts (group_entries P.list) E.load (FitsGroup
-            P.list E.load P.Fits) (parts_of made)) }
-    {
-        let pieces = without_in(alloc, self.parts(), name)?;
+        let pieces = edit_in(alloc, self.parts(), edit)?;
         let made = group_parts(alloc, pieces)?;
         Ok(made)
     }
 }
 
-/// The parts with this entry in the place of its name.
-pub(crate) fn with_in<E: Listed, P: Piece<E>>(
+/// The parts after an edit of their entries.
+pub(crate) fn edit_in<E: Listed, P: Piece<E>>(
     alloc: Global,
     parts: &[Arc<Part<P>>],
-    new: Arc<E>,
+    edit: Edit<'_, E>,
 ) -> Result<Vec<Arc<Part<P>>>, AllocError>
     requires fits { AreParts P.list E.load P.Fits parts.now }
     requires sorted { T (is_sorted name_order (parts_entries P.list parts.now)) }
     requires some { 0 < length (parts_entries P.list parts.now) }
     ensures entries { IfOk result (λ made. parts_entries P.list made.items
-        ≡ written E.key E.over new.value (parts_entries P.list parts.now)) }
+        ≡ edited E.key E.over edit.entry (parts_entries P.list parts.now)) }
     ensures parts { IfOk result (λ made. AreParts P.list E.load P.Fits made.items) }
 {
     // each part is looked at before one is sought and pointers to them are taken, which would wait for the memory of one after the other
-    let _ = count_of(parts)?;
-    let at = place(parts, new.name());
-    let pieces = parts[at].body().with(alloc, new)?;
-    let made = spliced(alloc, parts, at, pieces)?;
-    Ok(made)
-}
-
-/// The parts without the entry of this name.
-pub(crate) fn without_in<E: Listed, P: Piece<E>>(
-    alloc: Global,
-    parts: &[Arc<Part<P>>],
-    name: &Name,
-) -> Result<Vec<Arc<Part<P>>>, AllocError>
-    requires fits { AreParts P.list E.load P.Fits parts.now }
-    requires sorted { T (is_sorted name_order (parts_entries P.list parts.now)) }
-    requires some { 0 < length (parts_entries P.list parts.now) }
-    ensures entries { IfOk result (λ made. parts_entries P.list made.items ≡ where_key name_order
-        (λ key. not (eq_by_cmp name_order (folded name.now) key)) (parts_entries P.list parts.now)) }
-    ensures parts { IfOk result (λ made. AreParts P.list E.load P.Fits made.items) }
-{
-    let at = place(parts, name);
-    let pieces = parts[at].body().without(alloc, name)?;
+    let _ = totals_of(parts)?;
+    let at = place(parts, edit.name());
+    let pieces = parts[at].body().edit(alloc, edit)?;
     let made = spliced(alloc, parts, at, pieces)?;
     Ok(made)
 }

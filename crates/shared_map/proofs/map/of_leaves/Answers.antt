@@ -1,7 +1,7 @@
 use Rattle.std.proofs.Common.{map, ◌∙◌}
 use Rattle.std.specs.Arc.{arc_value}
-use Rattle.shared_map.specs.Listings.{leaf_entries, group_entries}
-use Rattle.shared_map.specs.Parts.{AreSums, FitsLeaf, FitsGroup}
+use Rattle.shared_map.specs.Listings.{leaf_entries}
+use Rattle.shared_map.specs.Parts.{AreSums, FitsLeaf}
 use Rattle.shared_map.proofs.Sums.{three_entries, three_fit}
 use Rattle.shared_map.proofs.map.of_leaves.Goals as goal
 

@@ -1,6 +1,0 @@
-use Rattle.std.proofs.Common.{◌≡◌, min, map, take, sum_by}
-use Rattle.std.specs.Arc.{arc_value}
-use Rattle.shared_map.proofs.parts.weight_of.Given as goal
-
-abbrev pub invariant-loop-part : goal.invariant-loop-part
-invariant-loop-part g l = l.weight ≡ min (sum_by (λ part. part.weight) (map arc_value (take l.part-index l.parts))) 18446744073709551615
