@@ -1,5 +1,5 @@
 -- What a list of shared things in order says of its entries, and what an edit of it does.
-use Rattle.std.proofs.Common.{◌≡◌, ℕ, ◌+◌, not, T, List, [], ◌∷◌, get_or, set, map, sum_by, Some, None, refl, sym, ◌∙◌, ap, subst, length}
+use Rattle.std.proofs.Common.{◌≡◌, ℕ, ◌+◌, not, T, List, [], ◌∷◌, ◌++◌, take, drop, append-nil, get_or, set, map, sum_by, Some, None, refl, sym, ◌∙◌, ap, subst, length}
 use Rattle.std.specs.List.{insert, remove}
 use Rattle.std.specs.declared.sync.Arc.{Arc}
 use Rattle.std.specs.declared.alloc.Global.{Global}
@@ -14,6 +14,7 @@ use Rattle.shared_map.specs.Searches.{IsFound, IsGap}
 use Rattle.shared_map.specs.Listings.{keyed, keyed_all}
 use Rattle.shared_map.specs.Parts.{load_of}
 use Rattle.shared_map.specs.Writes.{laid, written}
+use Rattle.shared_map.proofs.Halves.{map-halves}
 use Rattle.shared_map.proofs.Names.{names_total}
 use Rattle.shared_map.proofs.SortedLists.{find_at, find_gap, put_at, put_gap, without_at, without_gap}
 
@@ -26,6 +27,11 @@ module _ {A : Type 0} (key : A → List ℕ) where
   pub same_entries : (xs ys : List (Arc A Global)) → map arc_value xs ≡ map arc_value ys → keyed_all key xs ≡ keyed_all key ys
   unfolding named
   same_entries xs ys e = sym (map-map named arc_value xs) ∙ ap (map named) e ∙ map-map named arc_value ys
+
+  -- what two leaves of the halves of a list have is what the list has
+  pub halves_entries : (items xs ys : List (Arc A Global)) (h : ℕ) (front back : List (List ℕ × A)) → xs ≡ take h items → ys ≡ drop h items → front ≡ keyed_all key xs → back ≡ keyed_all key ys → front ++ (back ++ []) ≡ keyed_all key items
+  halves_entries items xs ys h front back is_front is_back of_front of_back =
+      ap (λ es. front ++ es) (append-nil back) ∙ ap (λ es. es ++ back) (of_front ∙ ap (keyed_all key) is_front) ∙ ap (λ es. keyed_all key (take h items) ++ es) (of_back ∙ ap (keyed_all key) is_back) ∙ map-halves (keyed key) h items
 
   -- the weight of things is that of their entries
   pub load-items : (load : A → ℕ) (items : List (Arc A Global)) → sum_by (λ item. load (arc_value item)) items ≡ load_of load (keyed_all key items)

@@ -4,6 +4,7 @@ use Rattle.std.specs.declared.sync.Arc.{Arc}
 use Rattle.std.specs.declared.alloc.Global.{Global}
 use Rattle.std.specs.Arc.{arc_value}
 use Rattle.std.specs.Option.{option_map}
+use Rattle.std.proofs.lemmas.List.{get_or_default}
 use Rattle.std.proofs.lemmas.Option.{slice_get-map, slice_get-get_or}
 use Rattle.shared_map.specs.declared.parts.Part.{Part}
 use Rattle.shared_map.specs.Listings.{keyed, keyed_all, entries_in, parts_entries}
@@ -26,6 +27,10 @@ pub past_end : {X : Type 0} (xs : List X) (i : ℕ) → length xs ≤ i → slic
 past_end [] i past = refl
 past_end (x ∷ xs) zero past = absurd (omega arith)
 past_end (x ∷ xs) (suc i) past = past_end xs i (omega arith)
+
+-- an item is the same, whatever stands for none
+pub nth_within : {P : Type 0} (parts : List (Arc (Part P) Global)) (i j : ℕ) (part : Arc (Part P) Global) (seen : Part P) → i < length parts → part ≡ get_or parts i part → seen ≡ arc_value part → j < seen.count → (d : Arc (Part P) Global) → let p = arc_value (get_or parts i d) in j < p.count
+nth_within parts i j part seen below is at less d = subst (λ (p : Part _). j < p.count) (at ∙ ap arc_value (is ∙ get_or_default parts i part d below)) less
 
 -- in a leaf
 pub leaf_at : {A : Type 0} (key : A → List ℕ) (items : List (Arc A Global)) (i : ℕ) (item : Arc A Global) → i < length items → item ≡ get_or items i item → Some (arc_value item) ≡ option_map (λ e. e.1) (slice_get (keyed_all key items) i)

@@ -194,9 +194,6 @@ fn of_leaves<E: Listed>(
         ≡ parts_entries (leaf_entries E.key) leaves.items) }
     ensures fits { IfOk result (FitsMap E.key E.load) }
 {
-    if leaves.is_empty() {
-        return Ok(SharedMap { held: Held::Empty });
-    }
     if leaves.len() == 1 {
         let held = Held::Few(leaves[0].clone()?);
         return Ok(SharedMap { held });

@@ -223,10 +223,11 @@ pub(crate) fn group_parts<P: Drop>(
     if parts.len() <= MOST_PARTS {
         return Ok(Pieces::One(group_part(alloc, parts)?));
     }
-    let half = parts.len() / 2;
-    let front = group_part(alloc, copied(alloc, &parts[..half], 0)?)?;
-    let back = group_part(alloc, copied(alloc, &parts[half..], 0)?)?;
-    Ok(Pieces::Two(front, back))
+    let mut front = parts;
+    let half = front.len() / 2;
+    let back = group_part(alloc, copied(alloc, &front[half..], 0)?)?;
+    front.truncate(half);
+    Ok(Pieces::Two(group_part(alloc, front)?, back))
 }
 
 /// The part of one group of these parts. Refused also where 64 bits don't hold the count.

@@ -1,4 +1,4 @@
-use Rattle.std.proofs.Common.{arith, ◌≡◌, subst, ◌∙◌, ap}
+use Rattle.std.proofs.Common.{arith, rules, ◌≡◌, subst, ◌∙◌, ap}
 use Rattle.std.specs.Arc.{arc_value}
 use Rattle.reg_names.specs.Names.{folded}
 use Rattle.shared_map.specs.Orders.{name_order}
@@ -26,3 +26,6 @@ pub returns-in_ok-insert-in-Err-clause-weighs : goal.returns-in_ok-insert-in-Err
 returns-in_ok-insert-in-Err-clause-weighs g c =
     rw (c.in_ok-insert-in-Err.ensures.items, load-insert g.E.Listed.key g.E.Listed.load c.args.self.now.items.items c.in_ok-made.made.items (rw c.deref-2.ensures.value at c.in_ok-made.ensures) c.args.new c.in-Err.at)
     (omega (arith, c.saturating_add-weight.ensures, (rw c.deref.ensures.value at c.weight_of-old.ensures), (rw c.deref-in-Err.ensures at c.weight.ensures)))
+
+pub returns-in_ok-new-in-Ok-clause-weighs : goal.returns-in_ok-new-in-Ok-clause-weighs
+returns-in_ok-new-in-Ok-clause-weighs g c = search rules
