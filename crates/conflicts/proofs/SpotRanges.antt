@@ -1,5 +1,5 @@
 -- What goes on from a text lies between two spots.
-use Rattle.std.proofs.Common.{◌≡◌, ◌⊎◌, inl, inr, ℕ, zero, suc, ◌<◌, ◌≤◌, Bool, true, false, not, ◌&&◌, eqb, List, [], ◌∷◌, ◌++◌, map, length, take, min, append_assoc, refl, sym, ◌∙◌, ap, subst, arith}
+use Rattle.std.proofs.Common.{◌≡◌, ◌⊎◌, inl, inr, ℕ, zero, suc, ◌<◌, ◌≤◌, Bool, true, false, not, ◌&&◌, eqb, List, [], ◌∷◌, ◌++◌, map, length, take, min, append-nil, append_assoc, refl, sym, ◌∙◌, ap, subst, arith}
 use Rattle.std.specs.Prelude.{filter, Contains}
 use Rattle.std.specs.Ordering.{nat_cmp, ordering_then, is_gt, is_le, is_lt, is_eq, eq_by_cmp}
 use Rattle.std.specs.FinMap.{nat_cmp-IsAntisymmetric}
@@ -155,3 +155,12 @@ module _ (owner number : ℕ) where
       both_true : (a b : Bool) → a ≡ true → b ≡ true → (a && b) ≡ true
       both_true true b e f = f
       both_true false b e f = e
+
+-- one number more is gathered
+pub one_gathered : (found more all : List ℕ) (spot : Spot) (left next : List Spot) → left ≡ spot ∷ next → more ≡ found ++ spot.1 ∷ [] → found ++ map (λ (s : Spot). s.1) left ≡ all → more ++ map (λ (s : Spot). s.1) next ≡ all
+one_gathered found more all spot left next step put before =
+    ap (λ xs. xs ++ map (λ (s : Spot). s.1) next) put ∙ append_assoc found (spot.1 ∷ []) (map (λ (s : Spot). s.1) next) ∙ sym (ap (λ xs. found ++ map (λ (s : Spot). s.1) xs) step) ∙ before
+
+-- when none is left, all are
+pub all_gathered : (found all : List ℕ) (left : List Spot) → left ≡ [] → found ++ map (λ (s : Spot). s.1) left ≡ all → found ≡ all
+all_gathered found all left none before = sym (append-nil found) ∙ sym (ap (λ xs. found ++ map (λ (s : Spot). s.1) xs) none) ∙ before

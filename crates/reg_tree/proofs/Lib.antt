@@ -14,3 +14,4 @@ pub mod Weighing
 pub mod Spelling
 pub mod Ways
 pub mod Stamps
+pub mod Places

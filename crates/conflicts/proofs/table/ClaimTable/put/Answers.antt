@@ -12,6 +12,7 @@ use Rattle.conflicts.specs.Spots.{Spot, spot_order, pair_order, spot_text}
 use Rattle.conflicts.specs.Filed.{Numbered, claims_of, AreFiled}
 use Rattle.conflicts.proofs.Apart.{one_more_apart}
 use Rattle.conflicts.proofs.Filing.{insert_keeps, pair_brought, spot_brought, put_last, take_last, widened, put_in}
+use Rattle.refusals.proofs.Refused.{none_done, holds_on}
 use Rattle.conflicts.proofs.table.ClaimTable.put.Goals as goal
 
 pub invariant_of-self-in_err-insert : goal.invariant_of-self-in_err-insert
@@ -74,3 +75,30 @@ returns-in-Ok-clause-ok c =
     let below = λ (m : ℕ) (h : Kept) (has : Contains c.self.inside.kept.entries (m, h)). subst (λ n. m < n) (sym c.len.ensures) ((c.self.invariant.filed.filed m h has).below) in
     ap claims_of (c.in_ok-insert-2.ensures.entries ∙ put_last c.self.inside.kept.entries c.len.result k below) ∙ map-append (λ (e : Numbered). e.1.entry) c.self.inside.kept.entries ((c.len.result, k) ∷ [])
     ∙ ap (λ xs. xs ++ c.in_ok-entry.entry ∷ []) c.self.view_is ∙ ap (λ h. c.args.self.now ++ h ∷ []) c.in_ok-entry.ensures
+
+pub returns-in_err-entry-clause-ok : goal.returns-in_err-entry-clause-ok
+returns-in_err-entry-clause-ok c = none_done c.from_residual.result _ _ c.from_residual.ensures.1
+
+pub returns-in_err-spot-clause-ok : goal.returns-in_err-spot-clause-ok
+returns-in_err-spot-clause-ok c = none_done c.from_residual-in_err-spot.result _ _ c.from_residual-in_err-spot.ensures.1
+
+pub returns-in_err-copy-clause-ok : goal.returns-in_err-copy-clause-ok
+returns-in_err-copy-clause-ok c = none_done c.from_residual-in_err-copy.result _ _ c.from_residual-in_err-copy.ensures.1
+
+pub returns-in_err-push-clause-ok : goal.returns-in_err-push-clause-ok
+returns-in_err-push-clause-ok c = none_done c.from_residual-in_err-push.result _ _ c.from_residual-in_err-push.ensures.1
+
+pub returns-in_err-insert-clause-ok : goal.returns-in_err-insert-clause-ok
+returns-in_err-insert-clause-ok c = none_done c.from_residual-in_err-insert.result _ _ c.from_residual-in_err-insert.ensures.1
+
+pub returns-in_err-insert-2-clause-ok : goal.returns-in_err-insert-2-clause-ok
+returns-in_err-insert-2-clause-ok c = none_done c.from_residual-in_err-insert-2.result _ _ c.from_residual-in_err-insert-2.ensures.1
+
+pub returns-in_err-push-clause-err : goal.returns-in_err-push-clause-err
+returns-in_err-push-clause-err c = holds_on c.from_residual-in_err-push.result _ c.self.view_is
+
+pub returns-in_err-insert-clause-err : goal.returns-in_err-insert-clause-err
+returns-in_err-insert-clause-err c = holds_on c.from_residual-in_err-insert.result _ c.self.view_is
+
+pub returns-in_err-insert-2-clause-err : goal.returns-in_err-insert-2-clause-err
+returns-in_err-insert-2-clause-err c = holds_on c.from_residual-in_err-insert-2.result _ (ap claims_of c.in_err-insert-2.ensures.err ∙ c.self.view_is)
