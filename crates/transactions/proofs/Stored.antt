@@ -1,9 +1,10 @@
 -- What a store in memory answers, and what it shows after each change.
-use Rattle.std.proofs.Common.{◌≡◌, ◌⊎◌, inl, inr, ℕ, ◌+◌, ◌<◌, ◌≤◌, ◌==◌, ◌&&◌, min, Bool, true, false, not, cond, List, [], ◌∷◌, ◌++◌, length, Option, Some, None, Result, Ok, Err, refl, sym, ◌∙◌, ap, subst, arith}
+use Rattle.std.proofs.Common.{◌≡◌, ◌⊎◌, inl, inr, ℕ, ◌+◌, ◌-◌, ◌^◌, ◌<◌, ◌≤◌, ◌==◌, ◌&&◌, min, Bool, true, false, not, cond, List, [], ◌∷◌, ◌++◌, length, Option, Some, None, Result, Ok, Err, refl, sym, ◌∙◌, ap, subst, arith}
 use Rattle.std.specs.Prelude.{IsErrAnd, IfSome, ◌||◌, nat_le, nat_lt, is_some, slice_get}
 use Rattle.std.specs.Option.{option_and_then}
 use Rattle.std.specs.List.{list_any}
 use Rattle.std.proofs.lemmas.Bool.Decides.{nat_tests}
+use Rattle.std.proofs.lemmas.Bool.{leb-false}
 use Rattle.std.proofs.lemmas.Option.{none-some, slice_get_past, slice_get-get_or}
 use Rattle.std.proofs.lemmas.List.{length-append, length-set}
 use Rattle.refusals.specs.declared.refusal.Refusal.{Refusal}
@@ -206,6 +207,15 @@ pub below_most : (m : Machine) (long : ℕ) → room_refusal m long ≡ None →
 below_most m long e =
     let open_history = not_full (nat_le m.bounds.changes (length m.accepted)) (nat_le GREATEST_NUMBER (last_number m)) _ e in
     grind (arith, nat_tests, open_history)
+
+not_last : (full last : Bool) (room : Option Refusal) → first_of (refused_if (full || last) HistoryFull) room ≡ None → last ≡ false
+not_last true last room e = absurd (none-some HistoryFull (sym e))
+not_last false true room e = absurd (none-some HistoryFull (sym e))
+not_last false false room e = refl
+
+-- nor is its last number the greatest
+pub below_greatest : (m : Machine) (long number : ℕ) → number ≡ last_number m → room_refusal m long ≡ None → number < 2 ^ 64 - 1
+below_greatest m long number is e = omega (arith, is, leb-false GREATEST_NUMBER (last_number m) (not_last (nat_le m.bounds.changes (length m.accepted)) (nat_le GREATEST_NUMBER (last_number m)) _ e))
 
 -- a table that has moved on is tied to the store with one change more
 pub tied_more : (o : List TreeMap) (n : ℕ) (a b : List Element) (s : List ℕ) (t u : Table) (d r q : ℕ) (f : Bool) (w : Bounds) (element : Element) → IsTied t (store_of o n a s t d r f w) → length a < w.changes →

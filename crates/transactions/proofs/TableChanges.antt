@@ -17,13 +17,15 @@ use Rattle.reg_tree.specs.declared.op.Legality.TheVariants.{Legal, Opened}
 use Rattle.conflicts.specs.Claims.{claim_of}
 use Rattle.reg_tree.specs.declared.op.Op.{Op}
 use Rattle.machine.specs.Transactions.{Transaction, Places, Puts, view, is_claimed, at, own, own_if, ended, is_active, inactive_refusal, fresh_transaction, count_held}
+use Rattle.machine.specs.Acts.{Adds}
 use Rattle.machine.specs.Machine.{seat_refusal, refused_if, first_of, refusal_by, too_long, added_refusal, added_refusal_if}
 use Rattle.machine.specs.declared.handle.Tx.{Tx}
 use Rattle.machine.specs.declared.handle.Outcome.{Outcome}
 use Rattle.machine.specs.declared.handle.Outcome.TheVariants.{RolledBack}
-use Rattle.transactions.specs.Tables.{Table, EndsWith, Begins, rolled_back_if}
-use Rattle.transactions.specs.Entries.{transaction_of, places_of, IsEntry, IsViewed, IsJudged, IsJudgedBy, IsJudgedOf, MayAdd, judge_refusal, illegal}
+use Rattle.transactions.specs.Tables.{Table, EndsWith, Begins, Writes, rolled_back_if}
+use Rattle.transactions.specs.Entries.{transaction_of, places_of, IsEntry, IsViewed, IsJudged, IsJudgedBy, IsJudgedOf, MayAdd, AddsTo, with_op_if, judge_refusal, illegal}
 use Rattle.transactions.specs.declared.entry.Entry.{Entry}
+use Rattle.transactions.specs.declared.table.Written.{Written}
 use Rattle.transactions.specs.declared.view.Judged.{Judged}
 use Rattle.transactions.proofs.Slots.{slot, at_of, puts}
 use Rattle.transactions.proofs.Kept.{at_slot}
@@ -173,6 +175,29 @@ may_add table session tx op judged h = by_place (at table.places tx.place) refl 
         by_test : (b : Bool) → IfSome (cond b (Some one) None) (IsJudgedBy table.trees table.number op (Some judged)) → IsSome (cond b (Some one) None) → MayAdd table tx.place op judged.made
         by_test true told some = record { one = one; there = there; active = told.active; short = told.told.short; numbered = told.told.numbered; seen = told.told.seen }
         by_test false told some = cc
+
+-- and once it was, it is its transaction's last
+pub adds : (old new : Table) (session : ℕ) (tx : Tx) (moment : ℕ) (op : Op) (judged : Judged) (r : Result Written Refusal) → IsJudgedOf old session tx op (Some judged) → IfOk r (AddsTo old tx.place moment op judged.levels new) → IfOk r (λ written. Writes old session tx moment op written new)
+adds old new session tx moment op judged (Err why) j a = tt
+adds old new session tx moment op judged (Ok written) j a = subst (λ w. Writes old session tx moment op w new) (sym a.0) (by_place (at old.places tx.place) refl j.0 j.1, a.2)
+  where
+    by_place : (o : Option Transaction) → at old.places tx.place ≡ o → IfSome (own_if session tx.generation o) (IsJudgedBy old.trees old.number op (Some judged)) → IsSome (own_if session tx.generation o) → Adds old.trees old.places (own_if session tx.generation (at old.places tx.place)) tx.place moment op judged.levels new.places
+    by_place None there told some = cc
+    by_place (Some one) there told some = by_test (one.session == session && one.generation == tx.generation) refl told some
+      where
+        by_test : (b : Bool) → (one.session == session && one.generation == tx.generation) ≡ b → IfSome (cond b (Some one) None) (IsJudgedBy old.trees old.number op (Some judged)) → IsSome (cond b (Some one) None) → Adds old.trees old.places (own_if session tx.generation (at old.places tx.place)) tx.place moment op judged.levels new.places
+        by_test true its told some = record {
+          one = one;
+          found = ap (own_if session tx.generation) there ∙ ap (λ b. cond b (Some one) None) its;
+          free = ap (λ o. first_of o (added_refusal old.trees old.places tx.place op one)) (may_end one told.active)
+              ∙ ap (λ l. refusal_by l (first_of (refused_if (too_long one op) TooLarge) (refused_if (is_claimed old.places tx.place (claim_of op)) Conflict))) told.told.is_legal
+              ∙ ap (λ b. first_of (refused_if b TooLarge) (refused_if (is_claimed old.places tx.place (claim_of op)) Conflict)) told.told.short
+              ∙ ap (λ b. refused_if b Conflict) a.1;
+          is_legal = told.told.is_legal;
+          made = told.told.made;
+          put = subst (λ (o : Option Transaction). Puts old.places new.places tx.place (with_op_if op moment o)) there a.3;
+        }
+        by_test false its told some = cc
 
 pub judge_refused : (table : Table) (session : ℕ) (tx : Tx) (op : Op) (one : Transaction) → own table.places session tx ≡ Some one → is_active one ≡ true → (r : Result (Option Judged) Refusal) →
     IfErr r (λ why. (illegal table.trees op one ≡ Some why) ⊎ (why ≡ NoMemory)) →

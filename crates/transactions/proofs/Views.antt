@@ -261,6 +261,10 @@ pub none_moved : (now : List TreeMap) (number : ℕ) (there : Option Transaction
 none_moved now number None = tt
 none_moved now number (Some one) = tt
 
+-- where no view was moved
+pub nothing_moved : (now : List TreeMap) (number : ℕ) (places : Places) → AreMoved now number places []
+nothing_moved now number places place = none_moved now number (at places place)
+
 at_next : {A : Type 0} (xs : List A) (x d : A) (place : ℕ) → (slice_index_or (xs ++ x ∷ []) place d ≡ slice_index_or xs place d) ⊎ ((place ≡ length xs) × (slice_index_or (xs ++ x ∷ []) place d ≡ x))
 at_next [] x d zero = inr (refl, refl)
 at_next [] x d (suc place) = inl refl

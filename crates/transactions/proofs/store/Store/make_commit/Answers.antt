@@ -1,16 +1,21 @@
-use Rattle.std.proofs.Common.{◌≡◌, ◌⊎◌, true, sym, ◌∙◌, ap, subst, refl, Err}
+use Rattle.std.proofs.Common.{◌≡◌, ◌⊎◌, ◌+◌, true, sym, ◌∙◌, ap, subst, refl, List, Option, Err}
+use Rattle.std.specs.Global.{Vec}
 use Rattle.refusals.specs.declared.refusal.Refusal.TheVariants.{NoMemory, TooLarge}
-use Rattle.reg_tree.specs.Judgement.{any_outweighs}
+use Rattle.reg_tree.specs.Judgement.{any_outweighs, applied}
+use Rattle.reg_tree.specs.Maps.{TreeMap}
 use Rattle.machine.specs.Ends.{refusal_of}
-use Rattle.machine.specs.Machine.{is_open, trees_now}
+use Rattle.machine.specs.Machine.{is_open, trees_now, last_number}
 use Rattle.machine.specs.Transactions.{at, own, inactive_refusal}
 use Rattle.machine.specs.declared.event.Event.TheVariants as event
-use Rattle.transactions.specs.Entries.{IsCommitted}
+use Rattle.transactions.specs.Entries.{IsCommitted, AreMoved}
 use Rattle.transactions.specs.Tables.{IsPending}
-use Rattle.transactions.specs.Stores.{StoreView}
+use Rattle.transactions.specs.Stores.{IsTied, StoreView, store_of}
+use Rattle.transactions.specs.declared.view.View.{View}
+use Rattle.transactions.proofs.Views.{nothing_moved}
 use Rattle.transactions.proofs.Holding.{pending_there}
-use Rattle.transactions.proofs.Stored.{closed_commit, crowded_commit, heavy_commit, not_ended, of_pending, pending_len, unready}
+use Rattle.transactions.proofs.Stored.{below_greatest, closed_commit, crowded_commit, heavy_commit, not_ended, of_pending, pending_len, unready}
 use Rattle.transactions.proofs.store.Store.make_commit.Goals as goal
+use Rattle.transactions.proofs.store.Store.make_commit.Goals.{then-made+in_ok-moved, else-made}
 
 pub returns-in_err-open-clause-made : goal.returns-in_err-open-clause-made
 returns-in_err-open-clause-made c =
@@ -73,3 +78,76 @@ move_others-requires-clause-pending c = (
   c.in_ok-pending.pending.text_len,
   pending_there c.args.session c.args.tx.generation (at c.self.inside.table.places c.args.tx.place) c.in_ok-pending.pending.ops.now c.in_ok-pending.pending.text_len c.in_ok-pending.ensures.ok,
 )
+
+-- what the others see after the commit
+moved : (c : goal.In_ok-reserve) → c.in_ok-made.made.trees ≡ applied c.self.inside.table.trees c.in_ok-pending.pending.ops.now c.args.moment → AreMoved c.in_ok-made.made.trees (c.self.inside.table.number + 1) c.self.inside.table.places c.if-made.moved.items
+moved c made = elim c.if-made.branch [
+  | then-made+in_ok-moved w ↦ subst (λ (v : Vec (Option View)). AreMoved c.in_ok-made.made.trees (c.self.inside.table.number + 1) c.self.inside.table.places v.items) (sym w.moved-is)
+      (subst (λ trees. AreMoved trees (c.self.inside.table.number + 1) c.self.inside.table.places w.in_ok-moved.moved.items) (sym made) w.in_ok-moved.ensures)
+  | else-made w ↦ subst (AreMoved c.in_ok-made.made.trees (c.self.inside.table.number + 1) c.self.inside.table.places) (sym (ap (λ (v : Vec (Option View)). v.items) w.moved-is ∙ w.new-moved.ensures.items))
+      (nothing_moved c.in_ok-made.made.trees (c.self.inside.table.number + 1) c.self.inside.table.places)
+]
+
+pub returns-clause-made : goal.returns-clause-made
+returns-clause-made c =
+    let m = c.args.self.now.machine in
+    let ops = c.in_ok-pending.pending.ops.now in
+    let long = c.in_ok-pending.pending.text_len in
+    let moment = c.args.moment in
+    let now : c.self.inside.table.trees ≡ trees_now m = c.self.invariant.trees ∙ ap (λ (v : StoreView). trees_now v.machine) c.self.view_is in
+    let committed : IsCommitted c.self.inside.table.trees ops moment c.in_ok-made.made =
+    of_pending (λ ops. IsCommitted c.self.inside.table.trees ops moment c.in_ok-made.made) (own c.self.inside.table.places c.args.session c.args.tx) ops long c.in_ok-pending.ensures.ok c.in_ok-made.ensures.ok in (
+      c.in_ok-reserve.ensures.spare,
+      refl,
+      record {
+        ops = ops;
+        text_len = long;
+        free = c.requires.free;
+        there = ap (λ (v : StoreView). is_open v.machine c.args.session) (sym c.self.view_is) ∙ c.in_ok-open.ensures.ok;
+        pending = subst (λ (v : StoreView). IsPending (own v.machine.places c.args.session c.args.tx) ops long) c.self.view_is c.in_ok-pending.ensures.ok;
+        some = sym c.is_empty.ensures ∙ c.if-is_empty.false;
+        element = c.in_ok-element.ensures;
+        short = c.in_ok-pending.ensures.short;
+        light = ap (λ (trees : List TreeMap). any_outweighs trees ops moment) (sym now) ∙ committed.light;
+        trees = committed.trees ∙ ap (λ (trees : List TreeMap). applied trees ops moment) now;
+        moved = subst (λ (v : StoreView). AreMoved c.in_ok-made.made.trees (last_number v.machine + 1) v.machine.places c.if-made.moved.items) c.self.view_is
+            (subst (λ n. AreMoved c.in_ok-made.made.trees (n + 1) c.self.inside.table.places c.if-made.moved.items) c.self.invariant.number (moved c committed.trees));
+        roomy = c.in_ok-room.ensures.ok.0;
+        room = c.in_ok-room.ensures.ok.1;
+      },
+    )
+
+pub move_others-requires-clause-carried : goal.move_others-requires-clause-carried
+move_others-requires-clause-carried c =
+    (of_pending (λ ops. IsCommitted c.self.inside.table.trees ops c.args.moment c.in_ok-made.made) (own c.self.inside.table.places c.args.session c.args.tx) c.in_ok-pending.pending.ops.now c.in_ok-pending.pending.text_len c.in_ok-pending.ensures.ok c.in_ok-made.ensures.ok).carried c.if-made.true
+
+pub move_others-requires-clause-below : goal.move_others-requires-clause-below
+move_others-requires-clause-below c =
+    below_greatest c.args.self.now.machine c.in_ok-pending.pending.text_len c.self.inside.table.number (c.self.invariant.number ∙ ap (λ (v : StoreView). last_number v.machine) c.self.view_is) c.in_ok-room.ensures.ok.0
+
+-- the history has more place, and the same changes
+pub invariant_of-self : goal.invariant_of-self
+invariant_of-self c =
+    let s = c.self.inside in
+    subst (λ changes. IsTied s.table (store_of s.opened.value s.before changes s.sessions s.table s.durable s.room s.faulted s.bounds)) (sym c.reserve.ensures.changes) c.self.invariant
+
+pub invariant_of-self-2 : goal.invariant_of-self-2
+invariant_of-self-2 c =
+    let s = c.self.inside in
+    subst (λ changes. IsTied s.table (store_of s.opened.value s.before changes s.sessions s.table s.durable s.room s.faulted s.bounds)) (sym c.reserve.ensures.changes) c.self.invariant
+
+pub returns-in_err-reserve-clause-machine : goal.returns-in_err-reserve-clause-machine
+returns-in_err-reserve-clause-machine c =
+    let s = c.self.inside in
+    ap (λ changes. store_of s.opened.value s.before changes s.sessions s.table s.durable s.room s.faulted s.bounds) c.reserve.ensures.changes ∙ ap (λ (v : StoreView). v.machine) c.self.view_is
+
+pub returns-in_err-reserve-clause-at_hand : goal.returns-in_err-reserve-clause-at_hand
+returns-in_err-reserve-clause-at_hand c = ap (λ n. c.self.inside.before + n) c.reserve.ensures.at_hand ∙ ap (λ (v : StoreView). v.at_hand) c.self.view_is
+
+pub returns-clause-machine : goal.returns-clause-machine
+returns-clause-machine c =
+    let s = c.self.inside in
+    ap (λ changes. store_of s.opened.value s.before changes s.sessions s.table s.durable s.room s.faulted s.bounds) c.reserve.ensures.changes ∙ ap (λ (v : StoreView). v.machine) c.self.view_is
+
+pub returns-clause-at_hand : goal.returns-clause-at_hand
+returns-clause-at_hand c = ap (λ n. c.self.inside.before + n) c.reserve.ensures.at_hand ∙ ap (λ (v : StoreView). v.at_hand) c.self.view_is
