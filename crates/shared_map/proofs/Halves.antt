@@ -1,33 +1,11 @@
 -- Lists cut in two.
-use Rattle.std.proofs.Common.{◌≡◌, ℕ, zero, suc, ◌+◌, ◌<◌, ◌≤◌, List, [], ◌∷◌, ◌++◌, map, take, drop, get_or, length, refl, sym, ap, subst, append-nil, arith, add-one}
-use Rattle.std.specs.declared.sync.Arc.{Arc}
-use Rattle.std.specs.declared.alloc.Global.{Global}
-use Rattle.std.specs.Arc.{arc_value}
+use Rattle.std.proofs.Common.{◌≡◌, ℕ, zero, suc, ◌+◌, ◌<◌, ◌≤◌, List, [], ◌∷◌, ◌++◌, map, take, drop, get_or, length, refl, sym, ap, arith, add-one}
 use Rattle.shared_map.specs.declared.parts.Part.{Part}
-use Rattle.shared_map.specs.declared.parts.Group.{Group}
-use Rattle.shared_map.specs.Parts.{IsSum, AreSums}
 
 pub map-halves : {A B : Type 0} (f : A → B) (h : ℕ) (xs : List A) → map f (take h xs) ++ map f (drop h xs) ≡ map f xs
 map-halves f zero xs = refl
 map-halves f (suc h) [] = refl
 map-halves f (suc h) (x ∷ xs) = ap (λ ys. f x ∷ ys) (map-halves f h xs)
-
--- two groups of the halves of parts take them all
-pub group_halves : {P : Type 0} (parts xs ys : List (Arc (Part P) Global)) (h : ℕ) → map arc_value xs ≡ map arc_value (take h parts) → map arc_value ys ≡ map arc_value (drop h parts)
-    → (p q : Arc (Part (Group P)) Global) → IsSum (map arc_value xs) (arc_value p) → IsSum (map arc_value ys) (arc_value q) → AreSums (map arc_value parts) (p ∷ q ∷ [])
-group_halves parts xs ys h front back p q ps qs = (
-  map arc_value (take h parts),
-  (
-    map arc_value (drop h parts),
-    (
-      sym (map-halves arc_value h parts),
-      (
-        subst (λ s. IsSum s (arc_value p)) front ps,
-        (map arc_value (drop h parts), ([], (sym (append-nil (map arc_value (drop h parts))), (subst (λ s. IsSum s (arc_value q)) back qs, refl)))),
-      ),
-    ),
-  ),
-)
 
 -- a list around one of its items
 around : {A B : Type 0} (f : A → B) (xs : List A) (i : ℕ) (x : A) → i < length xs → x ≡ get_or xs i x → map f xs ≡ map f (take i xs) ++ (f x ∷ map f (drop (suc i) xs))

@@ -31,16 +31,13 @@ at_index es i = sym (slice_get-map (λ (e : List ℕ × _). e.1) es i)
 
 module _ {A : Type 0} (key : A → List ℕ) (shared : SharedMap A) where
   -- a map that holds a leaf
-  pub few_entries : (leaf : Arc (Part (Leaf A)) Global) (part : Part (Leaf A)) (body : Leaf A) → shared.held ≡ Few leaf → part ≡ arc_value leaf → body ≡ part.body → entries key shared ≡ leaf_entries key body
-  few_entries leaf part body is at holds = ap (held_entries key) is ∙ ap (leaf_entries key) (sym (holds ∙ same_body part (arc_value leaf) at))
+  pub few_entries : (leaf : Arc (Part (Leaf A)) Global) (part : Part (Leaf A)) → shared.held ≡ Few leaf → part ≡ arc_value leaf → entries key shared ≡ leaf_entries key part.body
+  few_entries leaf part is at = ap (held_entries key) is ∙ ap (leaf_entries key) (sym (same_body part (arc_value leaf) at))
 
   -- a map that holds the group of all
-  module _ (whole : Arc (Part (Whole A)) Global) (part : Part (Whole A)) (body : Whole A) (is : shared.held ≡ Many whole) (at : part ≡ arc_value whole) (holds : body ≡ part.body) where
-    many_body : body ≡ (arc_value whole).body
-    many_body = holds ∙ same_body part (arc_value whole) at
+  module _ (whole : Arc (Part (Whole A)) Global) (part : Part (Whole A)) (is : shared.held ≡ Many whole) (at : part ≡ arc_value whole) where
+    pub many_entries : entries key shared ≡ group_entries (region_entries key) part.body
+    many_entries = ap (held_entries key) is ∙ ap (group_entries (region_entries key)) (sym (same_body part (arc_value whole) at))
 
-    pub many_entries : entries key shared ≡ group_entries (region_entries key) body
-    many_entries = ap (held_entries key) is ∙ ap (group_entries (region_entries key)) (sym many_body)
-
-    pub many_fits : (load : A → ℕ) → FitsMap key load shared → FitsGroup (region_entries key) load (FitsRegion key load) body
-    many_fits load fits = subst (FitsGroup (region_entries key) load (FitsRegion key load)) (sym many_body) (subst (FitsHeld key load) is fits).1
+    pub many_fits : (load : A → ℕ) → FitsMap key load shared → FitsGroup (region_entries key) load (FitsRegion key load) part.body
+    many_fits load fits = subst (FitsGroup (region_entries key) load (FitsRegion key load)) (sym (same_body part (arc_value whole) at)) (subst (FitsHeld key load) is fits).1

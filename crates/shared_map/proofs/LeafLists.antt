@@ -1,5 +1,5 @@
 -- What a list of shared things in order says of its entries, and what an edit of it does.
-use Rattle.std.proofs.Common.{◌≡◌, ℕ, ◌+◌, not, T, List, [], ◌∷◌, ◌++◌, take, drop, append-nil, get_or, set, map, sum_by, Some, None, refl, sym, ◌∙◌, ap, subst, length}
+use Rattle.std.proofs.Common.{◌≡◌, ℕ, ◌+◌, not, T, List, [], ◌∷◌, ◌++◌, take, drop, get_or, set, map, sum_by, Some, None, refl, sym, ◌∙◌, ap, subst, length}
 use Rattle.std.specs.List.{insert, remove}
 use Rattle.std.specs.declared.sync.Arc.{Arc}
 use Rattle.std.specs.declared.alloc.Global.{Global}
@@ -28,10 +28,10 @@ module _ {A : Type 0} (key : A → List ℕ) where
   unfolding named
   same_entries xs ys e = sym (map-map named arc_value xs) ∙ ap (map named) e ∙ map-map named arc_value ys
 
-  -- what two leaves of the halves of a list have is what the list has
-  pub halves_entries : (items xs ys : List (Arc A Global)) (h : ℕ) (front back : List (List ℕ × A)) → xs ≡ take h items → ys ≡ drop h items → front ≡ keyed_all key xs → back ≡ keyed_all key ys → front ++ (back ++ []) ≡ keyed_all key items
-  halves_entries items xs ys h front back is_front is_back of_front of_back =
-      ap (λ es. front ++ es) (append-nil back) ∙ ap (λ es. es ++ back) (of_front ∙ ap (keyed_all key) is_front) ∙ ap (λ es. keyed_all key (take h items) ++ es) (of_back ∙ ap (keyed_all key) is_back) ∙ map-halves (keyed key) h items
+  -- the entries of the halves of a list are those of the list
+  pub halves_entries : (items xs ys : List (Arc A Global)) (h : ℕ) → xs ≡ take h items → ys ≡ drop h items → keyed_all key xs ++ keyed_all key ys ≡ keyed_all key items
+  halves_entries items xs ys h is_front is_back =
+      ap (λ zs. keyed_all key zs ++ keyed_all key ys) is_front ∙ ap (λ zs. keyed_all key (take h items) ++ keyed_all key zs) is_back ∙ map-halves (keyed key) h items
 
   -- the weight of things is that of their entries
   pub load-items : (load : A → ℕ) (items : List (Arc A Global)) → sum_by (λ item. load (arc_value item)) items ≡ load_of load (keyed_all key items)

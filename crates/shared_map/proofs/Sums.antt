@@ -8,7 +8,7 @@ use Rattle.std.specs.Arc.{arc_value}
 use Rattle.shared_map.specs.declared.parts.Part.{Part}
 use Rattle.shared_map.specs.declared.parts.Group.{Group}
 use Rattle.shared_map.specs.Listings.{entries_in, parts_entries, group_entries}
-use Rattle.shared_map.specs.Parts.{StartsAt, load_of, IsPart, EachIsPart, AreParts, FitsGroup, IsSum, AreSums}
+use Rattle.shared_map.specs.Parts.{StartsAt, load_of, IsPart, EachIsPart, AreParts, FitsGroup, IsSum, AreSums, IsMoreParts, IsMoreSums}
 use Rattle.shared_map.proofs.Steps.{entries_in-append, fit_front, fit_back}
 
 -- one part more adds what it has
@@ -75,6 +75,10 @@ module _ {A P : Type 0} (list : P → List (List ℕ × A)) (load : A → ℕ) (
       let split : EachIsPart list load Fits (sums.0 ++ sums.1.0) = subst (EachIsPart list load Fits) sums.1.1.0 fit in
       let front = fit_front list load Fits sums.0 sums.1.0 split in
       (sum_part sums.0 (arc_value whole) front sums.1.1.1.0, sum_fits sums.0 (arc_value whole) front sums.1.1.1.0, sums_fit sums.1.0 wholes (fit_back list load Fits sums.0 sums.1.0 split) sums.1.1.1.1)
+
+  -- groups that are added list what their parts do
+  pub sums_added : (es : List (List ℕ × A)) (parts : List (Part P)) (old new : List (Arc (Part (Group P)) Global)) → EachIsPart list load Fits parts → entries_in list parts ≡ es → IsMoreSums parts old new → IsMoreParts (group_entries list) load (FitsGroup list load Fits) es old new
+  sums_added es parts old new fit are m = (m.0, (m.1.0, (sums_entries parts m.0 m.1.1 ∙ are, sums_fit parts m.0 fit m.1.1)))
 
 -- three levels of groups over parts
 module _ {A P : Type 0} (list : P → List (List ℕ × A)) (load : A → ℕ) (Fits : P → Type 0) (parts : List (Arc (Part P) Global)) (groups : List (Arc (Part (Group P)) Global)) (clusters : List (Arc (Part (Group (Group P))) Global)) (regions : List (Arc (Part (Group (Group (Group P)))) Global)) where

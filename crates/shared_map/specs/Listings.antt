@@ -6,8 +6,6 @@ use Rattle.std.specs.Arc.{arc_value}
 use Rattle.shared_map.specs.declared.leaf.Leaf.{Leaf}
 use Rattle.shared_map.specs.declared.parts.Part.{Part}
 use Rattle.shared_map.specs.declared.parts.Group.{Group}
-use Rattle.shared_map.specs.declared.parts.Pieces.{Pieces}
-use Rattle.shared_map.specs.declared.parts.Pieces.TheVariants.{Gone, One, Two}
 use Rattle.shared_map.specs.declared.map.Held.{Held}
 use Rattle.shared_map.specs.declared.map.Held.TheVariants.{Empty, Few, Many}
 use Rattle.shared_map.specs.declared.map.SharedMap.{SharedMap}
@@ -32,12 +30,6 @@ entries_in list (part ∷ parts) = list part.body ++ entries_in list parts
 -- the entries of shared parts
 abbrev pub parts_entries : {E P : Type 0} → (P → List E) → List (Arc (Part P) Global) → List E
 parts_entries list parts = entries_in list (map arc_value parts)
-
--- the parts that an edit leaves of one
-abbrev pub parts_of : {P : Type 0} → Pieces P → List (Arc (Part P) Global)
-parts_of Gone = []
-parts_of (One part) = part ∷ []
-parts_of (Two front back) = front ∷ back ∷ []
 
 -- the entries of a group of parts
 abbrev pub group_entries : {E P : Type 0} → (P → List E) → Group P → List E

@@ -13,7 +13,7 @@ use Rattle.shared_map.specs.declared.map.Held.{Held}
 use Rattle.shared_map.specs.declared.map.Held.TheVariants.{Empty, Few, Many}
 use Rattle.shared_map.specs.declared.map.SharedMap.{SharedMap}
 use Rattle.shared_map.specs.Orders.{name_order}
-use Rattle.shared_map.specs.Listings.{leaf_entries, group_entries}
+use Rattle.shared_map.specs.Listings.{leaf_entries, parts_entries, group_entries}
 
 -- the weight of entries together
 abbrev pub load_of : {A : Type 0} → (A → ℕ) → List (List ℕ × A) → ℕ
@@ -37,6 +37,10 @@ EachIsPart list load Fits (part ∷ parts) = IsPart list load part × Fits part.
 
 abbrev pub AreParts : {A P : Type 0} → (P → List (List ℕ × A)) → (A → ℕ) → (P → Type 0) → List (Arc (Part P) Global) → Type 0
 AreParts list load Fits parts = EachIsPart list load Fits (map arc_value parts)
+
+-- parts of these entries were added to those that were there
+abbrev pub IsMoreParts : {A P : Type 0} → (P → List (List ℕ × A)) → (A → ℕ) → (P → Type 0) → List (List ℕ × A) → List (Arc (Part P) Global) → List (Arc (Part P) Global) → Type 0
+IsMoreParts {P = P} list load Fits es old new = (more : List (Arc (Part P) Global)) × ((new ≡ old ++ more) × ((parts_entries list more ≡ es) × AreParts list load Fits more))
 
 -- a leaf keeps nothing beside its entries
 abbrev pub FitsLeaf : {A : Type 0} → Leaf A → Type 0

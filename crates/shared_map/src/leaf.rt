@@ -7,12 +7,12 @@ ghost use Rattle.std.specs.Ordering.{eq_by_cmp};
 ghost use Rattle.reg_names.specs.Names.{folded};
 ghost use Rattle.shared_map.specs.Orders.{name_order};
 ghost use Rattle.shared_map.specs.Searches.{IsFound, IsGap};
-ghost use Rattle.shared_map.specs.Listings.{keyed_all, leaf_entries, parts_entries, parts_of};
-ghost use Rattle.shared_map.specs.Parts.{IsPart, AreParts, FitsLeaf, load_of};
+ghost use Rattle.shared_map.specs.Listings.{keyed_all, leaf_entries};
+ghost use Rattle.shared_map.specs.Parts.{IsPart, IsMoreParts, FitsLeaf, load_of};
 ghost use Rattle.shared_map.specs.Writes.{written, edited};
 
 use crate::edit::Edit;
-use crate::parts::{Part, Pieces, copied};
+use crate::parts::{Part, copied};
 use crate::piece::Piece;
 use reg_names::Name;
 use std::alloc::{AllocError, Global};
@@ -52,6 +52,39 @@ pub struct Leaf<E> {
 const MOST_ENTRIES: usize = 16;
 
 impl<E: Listed> Leaf<E> {
+    /// A leaf of nothing, which takes no memory.
+    pub(crate) fn new(alloc: Global) -> Leaf<E>
+        ensures { leaf_entries E.key result ≡ [] }
+    {
+        Leaf {
+            items: Vec::new(alloc),
+        }
+    }
+
+    /// Adds the leaves of the entries after an edit.
+    pub(crate) fn edit_entries(
+        &self,
+        alloc: Global,
+        edit: Edit<'_, E>,
+        made: &mut Vec<Arc<Part<Leaf<E>>>>,
+    ) -> Result<(), AllocError>
+        requires { T (is_sorted name_order (leaf_entries E.key self.now)) }
+        ensures { OnOk result (IsMoreParts (leaf_entries E.key) E.load FitsLeaf (edited E.key E.over
+            edit.entry (leaf_entries E.key self.now)) made.old.items made.new.items) }
+    {
+        match edit {
+            Edit::Put(new) => {
+                let (items, weight) = self.with_item(alloc, new)?;
+                add_leaf(alloc, items, weight, made)
+            }
+            Edit::Remove(name) => {
+                let items = self.without_item(alloc, name)?;
+                let weight = weight_of(&items);
+                add_leaf(alloc, items, weight, made)
+            }
+        }
+    }
+
     // the entries with this one in the place of its name, and their weight
     fn with_item(&self, alloc: Global, new: Arc<E>) -> Result<(Vec<Arc<E>>, u64), AllocError>
         requires { T (is_sorted name_order (leaf_entries E.key self.now)) }
@@ -115,69 +148,39 @@ impl<E: Listed> Piece<E> for Leaf<E> {
         }
     }
 
-    fn edit(&self, alloc: Global, edit: Edit<'_, E>) -> Result<Pieces<Leaf<E>>, AllocError>
+    fn edit(
+        &self,
+        alloc: Global,
+        edit: Edit<'_, E>,
+        made: &mut Vec<Arc<Part<Leaf<E>>>>,
+    ) -> Result<(), AllocError>
         requires fits { FitsLeaf self.now }
         requires sorted { T (is_sorted name_order (leaf_entries E.key self.now)) }
         requires some { 0 < length (leaf_entries E.key self.now) }
-        ensures entries { IfOk result (λ made. parts_entries (leaf_entries E.key) (parts_of made)
-            ≡ edited E.key E.over edit.entry (leaf_entries E.key self.now)) }
-        ensures parts { IfOk result (λ made. AreParts (leaf_entries E.key) E.load FitsLeaf (parts_of made)) }
+        ensures { OnOk result (IsMoreParts (leaf_entries E.key) E.load FitsLeaf (edited E.key E.over
+            edit.entry (leaf_entries E.key self.now)) made.old.items made.new.items) }
     {
-        match edit {
-            Edit::Put(new) => {
-                let (items, weight) = self.with_item(alloc, new)?;
-                leaf_parts(alloc, items, weight)
-            }
-            Edit::Remove(name) => {
-                let items = self.without_item(alloc, name)?;
-                let weight = weight_of(&items);
-                leaf_parts(alloc, items, weight)
-            }
-        }
+        self.edit_entries(alloc, edit, made)
     }
 }
 
-// the parts of these entries, which have this weight: none, one leaf, or two halves
-fn leaf_parts<E: Listed>(
+// adds the leaf of these entries, which have this weight; the leaves of their halves where they are too many for one, and none where
+// there are none
+fn add_leaf<E: Listed>(
     alloc: Global,
     items: Vec<Arc<E>>,
     weight: u64,
-) -> Result<Pieces<Leaf<E>>, AllocError>
+    made: &mut Vec<Arc<Part<Leaf<E>>>>,
+) -> Result<(), AllocError>
     requires { weight ≡ min (load_of E.load (keyed_all E.key items.items)) u64.MAX }
-    ensures entries { IfOk result (λ made. parts_entries (leaf_entries E.key) (parts_of made)
-        ≡ keyed_all E.key items.items) }
-    ensures parts { IfOk result (λ made. AreParts (leaf_entries E.key) E.load FitsLeaf (parts_of made)) }
+    ensures { OnOk result (IsMoreParts (leaf_entries E.key) E.load FitsLeaf (keyed_all E.key
+        items.items) made.old.items made.new.items) }
 {
-    if items.is_empty() {
-        return Ok(Pieces::Gone);
+    if items.is_empty() || items.len() > MOST_ENTRIES {
+        return add_leaves(alloc, &items, made);
     }
-    if items.len() <= MOST_ENTRIES {
-        return Ok(Pieces::One(leaf_part(alloc, items, weight)?));
-    }
-    let (front, back) = items.split_at(items.len() / 2);
-    let front = leaf_of(alloc, front)?;
-    let back = leaf_of(alloc, back)?;
-    Ok(Pieces::Two(front, back))
-}
-
-/// The parts of an edit of nothing.
-pub(crate) fn edit_of_none<E: Listed>(
-    alloc: Global,
-    edit: Edit<'_, E>,
-) -> Result<Pieces<Leaf<E>>, AllocError>
-    ensures entries { IfOk result (λ made. parts_entries (leaf_entries E.key) (parts_of made)
-        ≡ edited E.key E.over edit.entry []) }
-    ensures parts { IfOk result (λ made. AreParts (leaf_entries E.key) E.load FitsLeaf (parts_of made)) }
-{
-    match edit {
-        Edit::Put(new) => {
-            let weight = new.weight();
-            let mut items = Vec::new(alloc);
-            items.push(new)?;
-            leaf_parts(alloc, items, weight)
-        }
-        Edit::Remove(_) => Ok(Pieces::Gone),
-    }
+    made.push(leaf_part(alloc, items, weight)?)?;
+    Ok(())
 }
 
 /// Adds the leaves of these entries.
@@ -186,11 +189,8 @@ pub(crate) fn add_leaves<E: Listed>(
     items: &[Arc<E>],
     made: &mut Vec<Arc<Part<Leaf<E>>>>,
 ) -> Result<(), AllocError>
-    requires { AreParts (leaf_entries E.key) E.load FitsLeaf made.old.items }
-    ensures entries { OnOk result (parts_entries (leaf_entries E.key) made.new.items
-        ≡ parts_entries (leaf_entries E.key) made.old.items ++ keyed_all E.key items.now) }
-    ensures parts { OnOk result (AreParts (leaf_entries E.key) E.load FitsLeaf
-        made.new.items) }
+    ensures { OnOk result (IsMoreParts (leaf_entries E.key) E.load FitsLeaf (keyed_all E.key
+        items.now) made.old.items made.new.items) }
 {
     if items.is_empty() {
         return Ok(());
@@ -231,7 +231,16 @@ fn leaf_part<E: Listed>(
 {
     let first = items[0].name().clone()?;
     let count = items.len();
-    let part = Arc::new(alloc, Part::new(Leaf { items }, first, count, weight))?;
+    let body = Leaf { items };
+    let part = Arc::new(
+        alloc,
+        Part {
+            count,
+            weight,
+            first,
+            body,
+        },
+    )?;
     Ok(part)
 }
 

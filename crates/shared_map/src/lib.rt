@@ -9,4 +9,4 @@ mod piece;
 
 pub use leaf::{Leaf, Listed};
 pub use map::SharedMap;
-pub use parts::{Group, Part, Pieces};
+pub use parts::{Group, Part};

@@ -5,13 +5,13 @@ ghost use Rattle.std.specs.FinMap.Entries.{find, is_sorted, where_key};
 ghost use Rattle.std.specs.Ordering.{eq_by_cmp};
 ghost use Rattle.reg_names.specs.Names.{folded};
 ghost use Rattle.shared_map.specs.Orders.{name_order};
-ghost use Rattle.shared_map.specs.Listings.{entries, keyed_all, leaf_entries, group_entries, parts_entries, parts_of};
+ghost use Rattle.shared_map.specs.Listings.{entries, keyed_all, leaf_entries, group_entries, parts_entries};
 ghost use Rattle.shared_map.specs.Parts.{load_of, AreParts, FitsLeaf, FitsGroup, FitsMap};
 ghost use Rattle.shared_map.specs.Writes.{written, edited};
 
 use crate::edit::Edit;
-use crate::leaf::{Leaf, Listed, add_leaves, edit_of_none};
-use crate::parts::{Group, Part, Pieces, add_pieces, group_part, grouped};
+use crate::leaf::{Leaf, Listed, add_leaves};
+use crate::parts::{Group, Part, group_part, grouped};
 use crate::piece::{Piece, edit_in};
 use reg_names::Name;
 use std::alloc::{AllocError, Global};
@@ -71,8 +71,8 @@ impl<E: Listed> SharedMap<E> {
     {
         match &self.held {
             Held::Empty => 0,
-            Held::Few(leaf) => leaf.count(),
-            Held::Many(whole) => whole.count(),
+            Held::Few(leaf) => leaf.count,
+            Held::Many(whole) => whole.count,
         }
     }
 
@@ -83,8 +83,8 @@ impl<E: Listed> SharedMap<E> {
     {
         match &self.held {
             Held::Empty => 0,
-            Held::Few(leaf) => leaf.weight(),
-            Held::Many(whole) => whole.weight(),
+            Held::Few(leaf) => leaf.weight,
+            Held::Many(whole) => whole.weight,
         }
     }
 
@@ -98,8 +98,8 @@ impl<E: Listed> SharedMap<E> {
     {
         match &self.held {
             Held::Empty => None,
-            Held::Few(leaf) => leaf.body().find(name),
-            Held::Many(whole) => whole.body().find(name),
+            Held::Few(leaf) => leaf.body.find(name),
+            Held::Many(whole) => whole.body.find(name),
         }
     }
 
@@ -110,8 +110,8 @@ impl<E: Listed> SharedMap<E> {
     {
         match &self.held {
             Held::Empty => None,
-            Held::Few(leaf) => leaf.body().at(index),
-            Held::Many(whole) => whole.body().at(index),
+            Held::Few(leaf) => leaf.body.at(index),
+            Held::Many(whole) => whole.body.at(index),
         }
     }
 
@@ -157,31 +157,28 @@ impl<E: Listed> SharedMap<E> {
         ensures fits { IfOk result (FitsMap E.key E.load) }
     {
         match &self.held {
-            Held::Empty => of_pieces(alloc, edit_of_none(alloc, edit)?),
-            Held::Few(leaf) => of_pieces(alloc, leaf.body().edit(alloc, edit)?),
-            Held::Many(whole) => of_regions(alloc, edit_in(alloc, whole.body().parts(), edit)?),
+            Held::Empty => edit_of_leaf(alloc, &Leaf::new(alloc), edit),
+            Held::Few(leaf) => edit_of_leaf(alloc, &leaf.body, edit),
+            Held::Many(whole) => of_regions(alloc, edit_in(alloc, &whole.body.parts, edit)?),
         }
     }
 }
 
-// a map of what an edit left of a leaf
-fn of_pieces<E: Listed>(alloc: Global, pieces: Pieces<Leaf<E>>) -> Result<SharedMap<E>, AllocError>
-    requires { AreParts (leaf_entries E.key) E.load FitsLeaf (parts_of pieces) }
+// a map of a leaf's entries after an edit
+fn edit_of_leaf<E: Listed>(
+    alloc: Global,
+    leaf: &Leaf<E>,
+    edit: Edit<'_, E>,
+) -> Result<SharedMap<E>, AllocError>
+    requires { T (is_sorted name_order (leaf_entries E.key leaf.now)) }
     ensures entries { IfOk result (λ made. entries E.key made
-        ≡ parts_entries (leaf_entries E.key) (parts_of pieces)) }
+        ≡ edited E.key E.over edit.entry (leaf_entries E.key leaf.now)) }
     ensures fits { IfOk result (FitsMap E.key E.load) }
 {
-    match pieces {
-        Pieces::One(leaf) => Ok(SharedMap {
-            held: Held::Few(leaf),
-        }),
-        none_or_two => {
-            let mut leaves = Vec::new(alloc);
-            add_pieces(&mut leaves, none_or_two)?;
-            let made = of_leaves(alloc, leaves)?;
-            Ok(made)
-        }
-    }
+    let mut leaves = Vec::new(alloc);
+    leaf.edit_entries(alloc, edit, &mut leaves)?;
+    let made = of_leaves(alloc, leaves)?;
+    Ok(made)
 }
 
 // a map of these leaves
@@ -198,9 +195,9 @@ fn of_leaves<E: Listed>(
         let held = Held::Few(leaves[0].clone()?);
         return Ok(SharedMap { held });
     }
-    let groups = grouped(alloc, &leaves)?;
-    let clusters = grouped(alloc, &groups)?;
-    let regions = grouped(alloc, &clusters)?;
+    let groups = grouped(alloc, leaves)?;
+    let clusters = grouped(alloc, groups)?;
+    let regions = grouped(alloc, clusters)?;
     let made = of_regions(alloc, regions)?;
     Ok(made)
 }

@@ -1,8 +1,7 @@
 //! Parts: what is kept of a piece of a map, and groups of such pieces.
-ghost use Rattle.std.specs.Prelude.{◌≡◌, ℕ, ◌+◌, ◌<◌, List, ◌++◌, length, min, map, take, drop, IfOk, OnOk, MatchOption, ◌≤◌, sum_by, slice_index_or};
+ghost use Rattle.std.specs.Prelude.{◌≡◌, ℕ, ◌<◌, List, ◌++◌, length, min, map, IfOk, OnOk, MatchOption, ◌≤◌, sum_by};
 ghost use Rattle.std.specs.Arc.{arc_value};
 ghost use Rattle.reg_names.specs.Names.{folded};
-ghost use Rattle.shared_map.specs.Listings.{parts_of};
 ghost use Rattle.shared_map.specs.Parts.{IsPlace, IsNth, IsSum, AreSums, IsMoreSums};
 
 use reg_names::Name;
@@ -14,79 +13,23 @@ use std::sync::Arc;
 /// What is read of the parts beside a change stands first, next to the pointer's own counts.
 #[derive(Drop)]
 pub struct Part<P> {
-    count: usize,
-    weight: u64,
-    first: Name,
-    body: P,
+    pub(crate) count: usize,
+    pub(crate) weight: u64,
+    pub(crate) first: Name,
+    pub(crate) body: P,
 }
 
 /// Some parts in order, each shared as one thing: another group has it by one more pointer.
 #[derive(Drop)]
 pub struct Group<P> {
-    parts: Vec<Arc<Part<P>>>,
-}
-
-impl<P: Drop> Group<P> {
-    /// The parts.
-    pub(crate) fn parts(&self) -> &[Arc<Part<P>>]
-        ensures { result.now ≡ self.now.parts.items }
-    {
-        &self.parts
-    }
-}
-
-/// What an edit leaves of a part: nothing, one part, or two halves.
-#[derive(Drop)]
-pub enum Pieces<P> {
-    /// Nothing is left.
-    Gone,
-    /// This is.
-    One(Arc<Part<P>>),
-    /// These are, in order.
-    Two(Arc<Part<P>>, Arc<Part<P>>),
+    pub(crate) parts: Vec<Arc<Part<P>>>,
 }
 
 /// The most parts of a group that is no map's whole.
 pub(crate) const MOST_PARTS: usize = 16;
 
-impl<P> Part<P> {
-    /// A part of these.
-    pub(crate) fn new(body: P, first: Name, count: usize, weight: u64) -> Part<P>
-        ensures { result
-            ≡ record { body = body; first = first; count = count; weight = weight } }
-    {
-        Part {
-            body,
-            first,
-            count,
-            weight,
-        }
-    }
-
-    /// What it holds.
-    pub(crate) fn body(&self) -> &P
-        ensures { result.now ≡ self.now.body }
-    {
-        &self.body
-    }
-
-    /// How many entries it has.
-    pub(crate) fn count(&self) -> usize
-        ensures { result ≡ self.now.count }
-    {
-        self.count
-    }
-
-    /// The weight of its entries.
-    pub(crate) fn weight(&self) -> u64
-        ensures { result ≡ self.now.weight }
-    {
-        self.weight
-    }
-}
-
-// adds the same things
-fn extend<T: Drop>(made: &mut Vec<Arc<T>>, items: &[Arc<T>]) -> Result<(), AllocError>
+/// Adds the same things.
+pub(crate) fn extend<T: Drop>(made: &mut Vec<Arc<T>>, items: &[Arc<T>]) -> Result<(), AllocError>
     ensures { OnOk result
         (map arc_value made.new.items ≡ map arc_value made.old.items ++ map arc_value items.now) }
 {
@@ -104,42 +47,6 @@ pub(crate) fn copied<T: Drop>(
 {
     let mut made = Vec::with_capacity(alloc, items.len().saturating_add(room))?;
     extend(&mut made, items)?;
-    Ok(made)
-}
-
-/// Adds what an edit left.
-pub(crate) fn add_pieces<P: Drop>(
-    made: &mut Vec<Arc<Part<P>>>,
-    new: Pieces<P>,
-) -> Result<(), AllocError>
-    ensures { OnOk result (made.new.items ≡ made.old.items ++ parts_of new) }
-{
-    match new {
-        Pieces::Gone => {}
-        Pieces::One(part) => made.push(part)?,
-        Pieces::Two(front, back) => {
-            made.push(front)?;
-            made.push(back)?;
-        }
-    }
-    Ok(())
-}
-
-/// The parts with what an edit left of one in its place.
-pub(crate) fn spliced<P: Drop>(
-    alloc: Global,
-    parts: &[Arc<Part<P>>],
-    at: usize,
-    new: Pieces<P>,
-) -> Result<Vec<Arc<Part<P>>>, AllocError>
-    requires { at < length parts.now }
-    ensures { IfOk result (λ made. map arc_value made.items ≡ map arc_value (take at parts.now)
-        ++ (map arc_value (parts_of new) ++ map arc_value (drop (at + 1) parts.now))) }
-{
-    let mut made = Vec::with_capacity(alloc, parts.len().saturating_add(1))?;
-    extend(&mut made, &parts[..at])?;
-    add_pieces(&mut made, new)?;
-    extend(&mut made, &parts[at + 1..])?;
     Ok(made)
 }
 
@@ -185,12 +92,12 @@ fn add_groups<P: Drop>(
 /// The groups of these parts.
 pub(crate) fn grouped<P: Drop>(
     alloc: Global,
-    parts: &[Arc<Part<P>>],
+    parts: Vec<Arc<Part<P>>>,
 ) -> Result<Vec<Arc<Part<Group<P>>>>, AllocError>
-    ensures { IfOk result (λ made. AreSums (map arc_value parts.now) made.items) }
+    ensures { IfOk result (λ made. AreSums (map arc_value parts.items) made.items) }
 {
     let mut made = Vec::new(alloc);
-    add_groups(alloc, parts, &mut made)?;
+    add_groups(alloc, &parts, &mut made)?;
     Ok(made)
 }
 
@@ -210,24 +117,19 @@ pub(crate) fn nth<P>(parts: &[Arc<Part<P>>], index: usize) -> Option<(usize, usi
     None
 }
 
-/// The parts of groups of these parts: none, one, or two halves.
-pub(crate) fn group_parts<P: Drop>(
+/// Adds the group of these parts; the groups of their halves where they are too many for one, and none where there are none.
+pub(crate) fn add_group<P: Drop>(
     alloc: Global,
     parts: Vec<Arc<Part<P>>>,
-) -> Result<Pieces<Group<P>>, AllocError>
-    ensures { IfOk result (λ made. AreSums (map arc_value parts.items) (parts_of made)) }
+    made: &mut Vec<Arc<Part<Group<P>>>>,
+) -> Result<(), AllocError>
+    ensures { OnOk result (IsMoreSums (map arc_value parts.items) made.old.items made.new.items) }
 {
-    if parts.is_empty() {
-        return Ok(Pieces::Gone);
+    if parts.is_empty() || parts.len() > MOST_PARTS {
+        return add_groups(alloc, &parts, made);
     }
-    if parts.len() <= MOST_PARTS {
-        return Ok(Pieces::One(group_part(alloc, parts)?));
-    }
-    let mut front = parts;
-    let half = front.len() / 2;
-    let back = group_part(alloc, copied(alloc, &front[half..], 0)?)?;
-    front.truncate(half);
-    Ok(Pieces::Two(group_part(alloc, front)?, back))
+    made.push(group_part(alloc, parts)?)?;
+    Ok(())
 }
 
 /// The part of one group of these parts. Refused also where 64 bits don't hold the count.
@@ -238,9 +140,18 @@ pub(crate) fn group_part<P: Drop>(
     requires { 0 < length parts.items }
     ensures { IfOk result (λ made. IsSum (map arc_value parts.items) (arc_value made)) }
 {
-    let first = parts[0].first.clone()?;
     let Totals { count, weight } = totals_of(&parts)?;
-    let part = Arc::new(alloc, Part::new(Group { parts }, first, count, weight))?;
+    let first = parts[0].first.clone()?;
+    let body = Group { parts };
+    let part = Arc::new(
+        alloc,
+        Part {
+            count,
+            weight,
+            first,
+            body,
+        },
+    )?;
     Ok(part)
 }
 

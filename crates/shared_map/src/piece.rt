@@ -1,16 +1,16 @@
 //! Pieces: what a part holds, a leaf or a group of parts that hold pieces in their turn.
-ghost use Rattle.std.specs.Prelude.{◌≡◌, ℕ, T, List, ◌<◌, length, slice_get, IfOk, IfSome};
+ghost use Rattle.std.specs.Prelude.{◌≡◌, ℕ, T, List, ◌<◌, length, slice_get, IfOk, IfSome, OnOk};
 ghost use Rattle.std.specs.Option.{option_copied, option_map};
 ghost use Rattle.std.specs.FinMap.Entries.{find, is_sorted};
 ghost use Rattle.reg_names.specs.Names.{folded};
 ghost use Rattle.shared_map.specs.Orders.{name_order};
-ghost use Rattle.shared_map.specs.Listings.{parts_entries, parts_of, group_entries};
-ghost use Rattle.shared_map.specs.Parts.{AreParts, FitsGroup};
+ghost use Rattle.shared_map.specs.Listings.{parts_entries, group_entries};
+ghost use Rattle.shared_map.specs.Parts.{AreParts, FitsGroup, IsMoreParts};
 ghost use Rattle.shared_map.specs.Writes.{edited};
 
 use crate::edit::Edit;
 use crate::leaf::Listed;
-use crate::parts::{Group, Part, Pieces, group_parts, nth, place, spliced, totals_of};
+use crate::parts::{Group, Part, add_group, extend, nth, place, totals_of};
 use reg_names::Name;
 use std::alloc::{AllocError, Global};
 use std::sync::Arc;
@@ -38,14 +38,18 @@ pub trait Piece<E: Listed>: Drop {
         ensures { option_copied result
             ≡ option_map (λ e. e.1) (slice_get (list self.now) index) };
 
-    /// The parts of the entries after an edit.
-    fn edit(&self, alloc: Global, edit: Edit<'_, E>) -> Result<Pieces<Self>, AllocError>
+    /// Adds the parts of the entries after an edit.
+    fn edit(
+        &self,
+        alloc: Global,
+        edit: Edit<'_, E>,
+        made: &mut Vec<Arc<Part<Self>>>,
+    ) -> Result<(), AllocError>
         requires fits { Fits self.now }
         requires sorted { T (is_sorted name_order (list self.now)) }
         requires some { 0 < length (list self.now) }
-        ensures entries { IfOk result (λ made. parts_entries list (parts_of made)
-            ≡ edited E.key E.over edit.entry (list self.now)) }
-        ensures parts { IfOk result (λ made. AreParts list E.load Fits (parts_of made)) };
+        ensures { OnOk result (IsMoreParts list E.load Fits (edited E.key E.over edit.entry (list
+            self.now)) made.old.items made.new.items) };
 }
 
 impl<E: Listed, P: Piece<E>> Piece<E> for Group<P> {
@@ -54,31 +58,32 @@ impl<E: Listed, P: Piece<E>> Piece<E> for Group<P> {
     ghost Fits = { FitsGroup P.list E.load P.Fits };
 
     fn find(&self, name: &Name) -> Option<&E> {
-        let parts = self.parts();
-        let at = place(parts, name);
-        parts[at].body().find(name)
+        let at = place(&self.parts, name);
+        self.parts[at].body.find(name)
     }
 
     fn at(&self, index: usize) -> Option<&E> {
-        let parts = self.parts();
-        match nth(parts, index) {
-            Some((at, rest)) => parts[at].body().at(rest),
+        match nth(&self.parts, index) {
+            Some((at, rest)) => self.parts[at].body.at(rest),
             None => None,
         }
     }
 
-    fn edit(&self, alloc: Global, edit: Edit<'_, E>) -> Result<Pieces<Group<P>>, AllocError>
+    fn edit(
+        &self,
+        alloc: Global,
+        edit: Edit<'_, E>,
+        made: &mut Vec<Arc<Part<Group<P>>>>,
+    ) -> Result<(), AllocError>
         requires fits { FitsGroup P.list E.load P.Fits self.now }
         requires sorted { T (is_sorted name_order (group_entries P.list self.now)) }
         requires some { 0 < length (group_entries P.list self.now) }
-        ensures entries { IfOk result (λ made. parts_entries (group_entries P.list) (parts_of made)
-            ≡ edited E.key E.over edit.entry (group_entries P.list self.now)) }
-        ensures parts { IfOk result (λ made. AreParts (group_entries P.list) E.load (FitsGroup
-            P.list E.load P.Fits) (parts_of made)) }
+        ensures { OnOk result (IsMoreParts (group_entries P.list) E.load (FitsGroup P.list E.load
+            P.Fits) (edited E.key E.over edit.entry (group_entries P.list self.now)) made.old.items
+            made.new.items) }
     {
-        let pieces = edit_in(alloc, self.parts(), edit)?;
-        let made = group_parts(alloc, pieces)?;
-        Ok(made)
+        let parts = edit_in(alloc, &self.parts, edit)?;
+        add_group(alloc, parts, made)
     }
 }
 
@@ -98,7 +103,9 @@ pub(crate) fn edit_in<E: Listed, P: Piece<E>>(
     // each part is looked at before one is sought and pointers to them are taken, which would wait for the memory of one after the other
     let _ = totals_of(parts)?;
     let at = place(parts, edit.name());
-    let pieces = parts[at].body().edit(alloc, edit)?;
-    let made = spliced(alloc, parts, at, pieces)?;
+    let mut made = Vec::with_capacity(alloc, parts.len().saturating_add(1))?;
+    extend(&mut made, &parts[..at])?;
+    parts[at].body.edit(alloc, edit, &mut made)?;
+    extend(&mut made, &parts[at + 1..])?;
     Ok(made)
 }
