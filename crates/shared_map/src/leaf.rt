@@ -1,6 +1,5 @@
 //! Leaves: a few entries in order.
-ghost use Rattle.std.specs.Prelude.{◌≡◌, ℕ, T, not, List, [], ◌<◌, min, length, slice_get, IfOk, IfSome, OnOk, ◌++◌, MatchResult, sum_by, map};
-ghost use Rattle.std.specs.Option.{option_copied, option_map};
+ghost use Rattle.std.specs.Prelude.{◌≡◌, ℕ, T, not, List, [], ◌<◌, min, length, IfOk, OnOk, MatchResult, map};
 ghost use Rattle.std.specs.Arc.{arc_value};
 ghost use Rattle.std.specs.FinMap.Entries.{find, is_sorted, where_key};
 ghost use Rattle.std.specs.Ordering.{eq_by_cmp};
@@ -49,7 +48,7 @@ pub struct Leaf<E> {
 }
 
 /// The most entries of a leaf.
-const MOST_ENTRIES: usize = 16;
+pub(crate) const MOST_ENTRIES: usize = 16;
 
 impl<E: Listed> Leaf<E> {
     /// A leaf of nothing, which takes no memory.
@@ -61,26 +60,24 @@ impl<E: Listed> Leaf<E> {
         }
     }
 
-    /// Adds the leaves of the entries after an edit.
-    pub(crate) fn edit_entries(
+    /// The entries after an edit, and their weight.
+    pub(crate) fn edited(
         &self,
         alloc: Global,
         edit: Edit<'_, E>,
-        made: &mut Vec<Arc<Part<Leaf<E>>>>,
-    ) -> Result<(), AllocError>
+    ) -> Result<(Vec<Arc<E>>, u64), AllocError>
         requires { T (is_sorted name_order (leaf_entries E.key self.now)) }
-        ensures { OnOk result (IsMoreParts (leaf_entries E.key) E.load FitsLeaf (edited E.key E.over
-            edit.entry (leaf_entries E.key self.now)) made.old.items made.new.items) }
+        ensures entries { IfOk result (λ made. keyed_all E.key made.0.items
+            ≡ edited E.key E.over edit.entry (leaf_entries E.key self.now)) }
+        ensures weighs { IfOk result (λ made. made.1
+            ≡ min (load_of E.load (keyed_all E.key made.0.items)) u64.MAX) }
     {
         match edit {
-            Edit::Put(new) => {
-                let (items, weight) = self.with_item(alloc, new)?;
-                add_leaf(alloc, items, weight, made)
-            }
+            Edit::Put(new) => self.with_item(alloc, new),
             Edit::Remove(name) => {
                 let items = self.without_item(alloc, name)?;
                 let weight = weight_of(&items);
-                add_leaf(alloc, items, weight, made)
+                Ok((items, weight))
             }
         }
     }
@@ -160,27 +157,13 @@ impl<E: Listed> Piece<E> for Leaf<E> {
         ensures { OnOk result (IsMoreParts (leaf_entries E.key) E.load FitsLeaf (edited E.key E.over
             edit.entry (leaf_entries E.key self.now)) made.old.items made.new.items) }
     {
-        self.edit_entries(alloc, edit, made)
+        let (items, weight) = self.edited(alloc, edit)?;
+        if items.is_empty() || items.len() > MOST_ENTRIES {
+            return add_leaves(alloc, &items, made);
+        }
+        made.push(leaf_part(alloc, items, weight)?)?;
+        Ok(())
     }
-}
-
-// adds the leaf of these entries, which have this weight; the leaves of their halves where they are too many for one, and none where
-// there are none
-fn add_leaf<E: Listed>(
-    alloc: Global,
-    items: Vec<Arc<E>>,
-    weight: u64,
-    made: &mut Vec<Arc<Part<Leaf<E>>>>,
-) -> Result<(), AllocError>
-    requires { weight ≡ min (load_of E.load (keyed_all E.key items.items)) u64.MAX }
-    ensures { OnOk result (IsMoreParts (leaf_entries E.key) E.load FitsLeaf (keyed_all E.key
-        items.items) made.old.items made.new.items) }
-{
-    if items.is_empty() || items.len() > MOST_ENTRIES {
-        return add_leaves(alloc, &items, made);
-    }
-    made.push(leaf_part(alloc, items, weight)?)?;
-    Ok(())
 }
 
 /// Adds the leaves of these entries.
@@ -217,8 +200,8 @@ fn leaf_of<E: Listed>(alloc: Global, items: &[Arc<E>]) -> Result<Arc<Part<Leaf<E
     Ok(part)
 }
 
-// the part of a leaf of these entries, which have this weight
-fn leaf_part<E: Listed>(
+/// The part of a leaf of these entries, which have this weight.
+pub(crate) fn leaf_part<E: Listed>(
     alloc: Global,
     items: Vec<Arc<E>>,
     weight: u64,
@@ -244,8 +227,8 @@ fn leaf_part<E: Listed>(
     Ok(part)
 }
 
-// the weight of these entries together
-fn weight_of<E: Listed>(items: &[Arc<E>]) -> u64
+/// The weight of these entries together.
+pub(crate) fn weight_of<E: Listed>(items: &[Arc<E>]) -> u64
     ensures { result ≡ min (load_of E.load (keyed_all E.key items.now)) u64.MAX }
 {
     let mut weight = 0u64;

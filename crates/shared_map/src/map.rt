@@ -1,6 +1,6 @@
 //! The map: a leaf, or four levels of groups of leaves.
-ghost use Rattle.std.specs.Prelude.{◌≡◌, ℕ, T, not, ◌<◌, List, [], min, length, IfOk, IfSome, map, slice_get};
-ghost use Rattle.std.specs.Option.{option_copied, option_map};
+ghost use Rattle.std.specs.Prelude.{◌≡◌, T, not, ◌<◌, [], min, length, IfOk, IfSome, map, slice_get};
+ghost use Rattle.std.specs.Option.{option_copied};
 ghost use Rattle.std.specs.FinMap.Entries.{find, is_sorted, where_key};
 ghost use Rattle.std.specs.Ordering.{eq_by_cmp};
 ghost use Rattle.reg_names.specs.Names.{folded};
@@ -10,7 +10,7 @@ ghost use Rattle.shared_map.specs.Parts.{load_of, AreParts, FitsLeaf, FitsGroup,
 ghost use Rattle.shared_map.specs.Writes.{written, edited};
 
 use crate::edit::Edit;
-use crate::leaf::{Leaf, Listed, add_leaves};
+use crate::leaf::{Leaf, Listed, MOST_ENTRIES, add_leaves, leaf_part, weight_of};
 use crate::parts::{Group, Part, group_part, grouped};
 use crate::piece::{Piece, edit_in};
 use reg_names::Name;
@@ -120,10 +120,8 @@ impl<E: Listed> SharedMap<E> {
         ensures entries { IfOk result (λ made. entries E.key made ≡ keyed_all E.key items.items) }
         ensures fits { IfOk result (FitsMap E.key E.load) }
     {
-        let mut leaves = Vec::new(alloc);
-        add_leaves(alloc, &items, &mut leaves)?;
-        let made = of_leaves(alloc, leaves)?;
-        Ok(made)
+        let weight = weight_of(&items);
+        of_items(alloc, items, weight)
     }
 
     /// The map with this entry in the place of its name.
@@ -175,8 +173,29 @@ fn edit_of_leaf<E: Listed>(
         ≡ edited E.key E.over edit.entry (leaf_entries E.key leaf.now)) }
     ensures fits { IfOk result (FitsMap E.key E.load) }
 {
+    let (items, weight) = leaf.edited(alloc, edit)?;
+    of_items(alloc, items, weight)
+}
+
+// a map of these entries, which have this weight
+fn of_items<E: Listed>(
+    alloc: Global,
+    items: Vec<Arc<E>>,
+    weight: u64,
+) -> Result<SharedMap<E>, AllocError>
+    requires { weight ≡ min (load_of E.load (keyed_all E.key items.items)) u64.MAX }
+    ensures entries { IfOk result (λ made. entries E.key made ≡ keyed_all E.key items.items) }
+    ensures fits { IfOk result (FitsMap E.key E.load) }
+{
+    if items.is_empty() {
+        return Ok(SharedMap { held: Held::Empty });
+    }
+    if items.len() <= MOST_ENTRIES {
+        let held = Held::Few(leaf_part(alloc, items, weight)?);
+        return Ok(SharedMap { held });
+    }
     let mut leaves = Vec::new(alloc);
-    leaf.edit_entries(alloc, edit, &mut leaves)?;
+    add_leaves(alloc, &items, &mut leaves)?;
     let made = of_leaves(alloc, leaves)?;
     Ok(made)
 }
@@ -191,10 +210,6 @@ fn of_leaves<E: Listed>(
         ≡ parts_entries (leaf_entries E.key) leaves.items) }
     ensures fits { IfOk result (FitsMap E.key E.load) }
 {
-    if leaves.len() == 1 {
-        let held = Held::Few(leaves[0].clone()?);
-        return Ok(SharedMap { held });
-    }
     let groups = grouped(alloc, leaves)?;
     let clusters = grouped(alloc, groups)?;
     let regions = grouped(alloc, clusters)?;

@@ -1,5 +1,5 @@
 //! Parts: what is kept of a piece of a map, and groups of such pieces.
-ghost use Rattle.std.specs.Prelude.{◌≡◌, ℕ, ◌<◌, List, ◌++◌, length, min, map, IfOk, OnOk, MatchOption, ◌≤◌, sum_by};
+ghost use Rattle.std.specs.Prelude.{◌≡◌, ◌<◌, ◌++◌, length, min, map, IfOk, OnOk, MatchOption, ◌≤◌, sum_by};
 ghost use Rattle.std.specs.Arc.{arc_value};
 ghost use Rattle.reg_names.specs.Names.{folded};
 ghost use Rattle.shared_map.specs.Parts.{IsPlace, IsNth, IsSum, AreSums, IsMoreSums};
