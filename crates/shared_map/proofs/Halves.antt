@@ -1,6 +1,5 @@
 -- Lists cut in two.
 use Rattle.std.proofs.Common.{◌≡◌, ℕ, zero, suc, ◌+◌, ◌<◌, ◌≤◌, List, [], ◌∷◌, ◌++◌, map, take, drop, get_or, length, refl, sym, ap, arith, add-one}
-use Rattle.shared_map.specs.declared.parts.Part.{Part}
 
 pub map-halves : {A B : Type 0} (f : A → B) (h : ℕ) (xs : List A) → map f (take h xs) ++ map f (drop h xs) ≡ map f xs
 map-halves f zero xs = refl
@@ -37,7 +36,3 @@ pub item_at : {A : Type 0} (xs : List A) (i : ℕ) → i < length xs → (x : A)
 item_at [] i lt = absurd (omega arith)
 item_at (y ∷ xs) zero lt = (y, λ d. refl)
 item_at (y ∷ xs) (suc i) lt = item_at xs i (omega arith)
-
--- the same part holds the same
-pub same_body : {P : Type 0} (p q : Part P) → p ≡ q → p.body ≡ q.body
-same_body p q e = ap (λ (x : Part _). x.body) e

@@ -1,11 +1,10 @@
-pub mod SortedLists
 pub mod Names
-pub mod LeafLists
+pub mod SortedLists
 pub mod Halves
+pub mod Copies
 pub mod Spans
 pub mod Steps
 pub mod Sums
 pub mod Places
 pub mod Adds
-pub mod Copies
-pub mod Helds
+pub mod Entries

@@ -1,16 +1,15 @@
--- The entry at an index, over parts.
+-- The entry at an index, over pieces.
 use Rattle.std.proofs.Common.{◌≡◌, ℕ, zero, suc, ◌+◌, ◌<◌, ◌≤◌, List, [], ◌∷◌, ◌++◌, map, take, drop, get_or, length, slice_get, Some, None, sum_by, refl, sym, ◌∙◌, ap, subst, arith}
 use Rattle.std.specs.declared.sync.Arc.{Arc}
 use Rattle.std.specs.declared.alloc.Global.{Global}
 use Rattle.std.specs.Arc.{arc_value}
 use Rattle.std.specs.Option.{option_map}
 use Rattle.std.proofs.lemmas.List.{get_or_default}
-use Rattle.std.proofs.lemmas.Option.{slice_get-map, slice_get-get_or}
-use Rattle.shared_map.specs.declared.parts.Part.{Part}
-use Rattle.shared_map.specs.Listings.{keyed, keyed_all, entries_in, parts_entries}
-use Rattle.shared_map.specs.Parts.{EachIsPart, AreParts, IsPart, IsNth}
+use Rattle.std.proofs.lemmas.Option.{slice_get-map}
+use Rattle.shared_map.specs.Listings.{entries_in, pieces_entries}
+use Rattle.shared_map.specs.Pieces.{Kind, EachIsPiece, ArePieces, IsPiece, IsNth}
 use Rattle.shared_map.proofs.Halves.{map-around}
-use Rattle.shared_map.proofs.Steps.{entries_in-append, fit_front, fit_back}
+use Rattle.shared_map.proofs.Steps.{entries_in-append, all_front, all_back}
 use Rattle.shared_map.proofs.Sums.{counts}
 
 get-past : {X : Type 0} (xs ys : List X) (n j : ℕ) → n ≡ length xs + j → slice_get (xs ++ ys) n ≡ slice_get ys j
@@ -23,47 +22,44 @@ get-front [] ys j lt = absurd (omega arith)
 get-front (x ∷ xs) ys zero lt = refl
 get-front (x ∷ xs) ys (suc j) lt = get-front xs ys j (omega arith)
 
-pub past_end : {X : Type 0} (xs : List X) (i : ℕ) → length xs ≤ i → slice_get xs i ≡ None
+past_end : {X : Type 0} (xs : List X) (i : ℕ) → length xs ≤ i → slice_get xs i ≡ None
 past_end [] i past = refl
 past_end (x ∷ xs) zero past = absurd (omega arith)
 past_end (x ∷ xs) (suc i) past = past_end xs i (omega arith)
 
 -- an item is the same, whatever stands for none
-pub nth_within : {P : Type 0} (parts : List (Arc (Part P) Global)) (i j : ℕ) (part : Arc (Part P) Global) (seen : Part P) → i < length parts → part ≡ get_or parts i part → seen ≡ arc_value part → j < seen.count → (d : Arc (Part P) Global) → let p = arc_value (get_or parts i d) in j < p.count
-nth_within parts i j part seen below is at less d = subst (λ (p : Part _). j < p.count) (at ∙ ap arc_value (is ∙ get_or_default parts i part d below)) less
+pub nth_within : {P : Type 0} (count : P → ℕ) (pieces : List (Arc P Global)) (i j : ℕ) (piece : Arc P Global) → i < length pieces → piece ≡ get_or pieces i piece → j < count (arc_value piece) → (d : Arc P Global) → j < count (arc_value (get_or pieces i d))
+nth_within count pieces i j piece below is less d = subst (λ p. j < count (arc_value p)) (is ∙ get_or_default pieces i piece d below) less
 
--- in a leaf
-pub leaf_at : {A : Type 0} (key : A → List ℕ) (items : List (Arc A Global)) (i : ℕ) (item : Arc A Global) → i < length items → item ≡ get_or items i item → Some (arc_value item) ≡ option_map (λ e. e.1) (slice_get (keyed_all key items) i)
-leaf_at key items i item below is = sym (ap (option_map (λ e. e.1)) (slice_get-map (keyed key) items i ∙ ap (option_map (keyed key)) (slice_get-get_or items i item below ∙ ap Some (sym is))))
+module _ {A P : Type 0} (kind : Kind A P) (pieces : List (Arc P Global)) (are : ArePieces kind pieces) where
+  -- in the piece that has it
+  module _ (index i j : ℕ) (place : IsNth kind.count pieces index i j) (piece : Arc P Global) (is : piece ≡ get_or pieces i piece) where
+    split : map arc_value pieces ≡ map arc_value (take i pieces) ++ (arc_value piece ∷ map arc_value (drop (i + 1) pieces))
+    split = map-around arc_value pieces i piece place.in_range is
 
-pub leaf_past : {A : Type 0} (key : A → List ℕ) (items : List (Arc A Global)) (i : ℕ) → length items ≤ i → None ≡ option_map (λ e. e.1) (slice_get (keyed_all key items) i)
-leaf_past key items i past = sym (ap (option_map (λ e. e.1)) (slice_get-map (keyed key) items i ∙ ap (option_map (keyed key)) (past_end items i past)))
+    are_split : EachIsPiece kind (map arc_value (take i pieces) ++ (arc_value piece ∷ map arc_value (drop (i + 1) pieces)))
+    are_split = subst (EachIsPiece kind) split are
 
-module _ {A P : Type 0} (list : P → List (List ℕ × A)) (load : A → ℕ) (Fits : P → Type 0) (parts : List (Arc (Part P) Global)) (fit : AreParts list load Fits parts) where
-  -- in the part that has it
-  module _ (index i j : ℕ) (place : IsNth parts index i j) (part : Arc (Part P) Global) (is : part ≡ get_or parts i part) where
-    split : map arc_value parts ≡ map arc_value (take i parts) ++ (arc_value part ∷ map arc_value (drop (i + 1) parts))
-    split = map-around arc_value parts i part place.in_range is
+    pub nth_is : IsPiece kind (arc_value piece)
+    nth_is = (all_back kind (map arc_value (take i pieces)) _ are_split).0
 
-    fit_split : EachIsPart list load Fits (map arc_value (take i parts) ++ (arc_value part ∷ map arc_value (drop (i + 1) parts)))
-    fit_split = subst (EachIsPart list load Fits) split fit
+    within : j < kind.count (arc_value piece)
+    within = subst (λ (p : Arc P Global). j < kind.count (arc_value p)) (sym is) (place.within piece)
 
-    part_is : IsPart list load (arc_value part)
-    part_is = (fit_back list load Fits (map arc_value (take i parts)) _ fit_split).0
-
-    pub nth_fits : Fits (arc_value part).body
-    nth_fits = (fit_back list load Fits (map arc_value (take i parts)) _ fit_split).1
-
-    within : j < (arc_value part).count
-    within = subst (λ (p : Arc (Part P) Global). j < (arc_value p).count) (sym is) (place.within part)
-
-    pub nth_step : slice_get (parts_entries list parts) index ≡ slice_get (list (arc_value part).body) j
+    nth_step : slice_get (pieces_entries kind.list pieces) index ≡ slice_get (kind.list (arc_value piece)) j
     nth_step =
-        ap (λ ss. slice_get (entries_in list ss) index) split
-        ∙ ap (λ es. slice_get es index) (entries_in-append list (map arc_value (take i parts)) (arc_value part ∷ map arc_value (drop (i + 1) parts)))
-        ∙ get-past (entries_in list (map arc_value (take i parts))) _ index j (sym place.before ∙ ap (λ n. n + j) (counts list load Fits (map arc_value (take i parts)) (fit_front list load Fits (map arc_value (take i parts)) _ fit_split)))
-        ∙ get-front (list (arc_value part).body) _ j (subst (λ n. j < n) part_is.count within)
+        ap (λ ss. slice_get (entries_in kind.list ss) index) split
+        ∙ ap (λ es. slice_get es index) (entries_in-append kind.list (map arc_value (take i pieces)) (arc_value piece ∷ map arc_value (drop (i + 1) pieces)))
+        ∙ get-past (entries_in kind.list (map arc_value (take i pieces))) _ index j (sym place.before ∙ ap (λ n. n + j) (counts kind (map arc_value (take i pieces)) (all_front kind (map arc_value (take i pieces)) _ are_split)))
+        ∙ get-front (kind.list (arc_value piece)) _ j (subst (λ n. j < n) nth_is.count within)
+
+    -- its things are those of all
+    pub nth_thing : slice_get (map (λ e. e.1) (pieces_entries kind.list pieces)) index ≡ slice_get (map (λ e. e.1) (kind.list (arc_value piece))) j
+    nth_thing = slice_get-map (λ (e : List ℕ × A). e.1) (pieces_entries kind.list pieces) index ∙ ap (option_map (λ e. e.1)) nth_step ∙ sym (slice_get-map (λ (e : List ℕ × A). e.1) (kind.list (arc_value piece)) j)
 
   -- past the last
-  pub nth_past : (index : ℕ) → sum_by (λ (part : Part P). part.count) (map arc_value parts) ≤ index → slice_get (parts_entries list parts) index ≡ None
-  nth_past index past = past_end (parts_entries list parts) index (subst (λ n. n ≤ index) (counts list load Fits (map arc_value parts) fit) past)
+  nth_past : (index : ℕ) → sum_by kind.count (map arc_value pieces) ≤ index → slice_get (pieces_entries kind.list pieces) index ≡ None
+  nth_past index past = past_end (pieces_entries kind.list pieces) index (subst (λ n. n ≤ index) (counts kind (map arc_value pieces) are) past)
+
+  pub no_thing : (index : ℕ) → sum_by kind.count (map arc_value pieces) ≤ index → slice_get (map (λ e. e.1) (pieces_entries kind.list pieces)) index ≡ None
+  no_thing index past = slice_get-map (λ (e : List ℕ × A). e.1) (pieces_entries kind.list pieces) index ∙ ap (option_map (λ e. e.1)) (nth_past index past)

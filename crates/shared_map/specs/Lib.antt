@@ -1,7 +1,6 @@
 pub mod Orders
-pub mod Searches
 pub mod Listings
 pub mod ListingFalls
-pub mod Parts
+pub mod Pieces
 pub mod Writes
 pub mod Keyed

@@ -3,9 +3,7 @@ use Rattle.std.specs.Prelude.{ℕ, List, [], ◌∷◌, ◌++◌, map}
 use Rattle.std.specs.declared.sync.Arc.{Arc}
 use Rattle.std.specs.declared.alloc.Global.{Global}
 use Rattle.std.specs.Arc.{arc_value}
-use Rattle.shared_map.specs.declared.leaf.Leaf.{Leaf}
-use Rattle.shared_map.specs.declared.parts.Part.{Part}
-use Rattle.shared_map.specs.declared.parts.Group.{Group}
+use Rattle.shared_map.specs.declared.group.Group.{Group}
 use Rattle.shared_map.specs.declared.map.Held.{Held}
 use Rattle.shared_map.specs.declared.map.Held.TheVariants.{Empty, Few, Many}
 use Rattle.shared_map.specs.declared.map.SharedMap.{SharedMap}
@@ -18,28 +16,32 @@ keyed key shared = (key (arc_value shared), arc_value shared)
 abbrev pub keyed_all : {A : Type 0} → (A → List ℕ) → List (Arc A Global) → List (List ℕ × A)
 keyed_all key items = map (keyed key) items
 
--- the entries of a leaf
-abbrev pub leaf_entries : {A : Type 0} → (A → List ℕ) → Leaf A → List (List ℕ × A)
-leaf_entries key leaf = keyed_all key leaf.items.items
+-- the entries of one thing
+abbrev pub entry_list : {A : Type 0} → (A → List ℕ) → A → List (List ℕ × A)
+entry_list key thing = (key thing, thing) ∷ []
 
--- the entries of parts, one after the other
-abbrev pub entries_in : {E P : Type 0} → (P → List E) → List (Part P) → List E
+-- the entries of pieces, one after the other
+abbrev pub entries_in : {E P : Type 0} → (P → List E) → List P → List E
 entries_in list [] = []
-entries_in list (part ∷ parts) = list part.body ++ entries_in list parts
+entries_in list (piece ∷ pieces) = list piece ++ entries_in list pieces
 
--- the entries of shared parts
-abbrev pub parts_entries : {E P : Type 0} → (P → List E) → List (Arc (Part P) Global) → List E
-parts_entries list parts = entries_in list (map arc_value parts)
+-- the entries of shared pieces
+abbrev pub pieces_entries : {E P : Type 0} → (P → List E) → List (Arc P Global) → List E
+pieces_entries list pieces = entries_in list (map arc_value pieces)
 
--- the entries of a group of parts
+-- the entries of a group of pieces
 abbrev pub group_entries : {E P : Type 0} → (P → List E) → Group P → List E
-group_entries list group = parts_entries list group.parts.items
+group_entries list group = pieces_entries list group.pieces.items
+
+-- the entries of what the group of a whole map holds
+abbrev pub region_entries : {A : Type 0} → (A → List ℕ) → Group (Group (Group (Group A))) → List (List ℕ × A)
+region_entries key = group_entries (group_entries (group_entries (group_entries (entry_list key))))
 
 -- the entries of what a map holds
 abbrev pub held_entries : {A : Type 0} → (A → List ℕ) → Held A → List (List ℕ × A)
 held_entries key Empty = []
-held_entries key (Few leaf) = leaf_entries key (arc_value leaf).body
-held_entries key (Many whole) = group_entries (group_entries (group_entries (group_entries (leaf_entries key)))) (arc_value whole).body
+held_entries key (Few few) = group_entries (entry_list key) (arc_value few)
+held_entries key (Many whole) = group_entries (region_entries key) (arc_value whole)
 
 -- the entries of a map, by the names of what it lists
 abbrev pub entries : {A : Type 0} → (A → List ℕ) → SharedMap A → List (List ℕ × A)

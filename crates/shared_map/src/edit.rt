@@ -1,10 +1,12 @@
 //! Edits: what is asked of a map's entries.
-ghost use Rattle.std.specs.Prelude.{◌≡◌};
+ghost use Rattle.std.specs.Prelude.{◌≡◌, [], IfOk};
 ghost use Rattle.reg_names.specs.Names.{folded};
-ghost use Rattle.shared_map.specs.Writes.{edit_name};
+ghost use Rattle.shared_map.specs.Listings.{keyed_all};
+ghost use Rattle.shared_map.specs.Writes.{edit_name, edited};
 
-use crate::leaf::Listed;
+use crate::listed::Listed;
 use reg_names::Name;
+use std::alloc::{AllocError, Global};
 use std::sync::Arc;
 
 /// What is asked of entries.
@@ -24,6 +26,21 @@ impl<'a, E: Listed> Edit<'a, E> {
         match self {
             Edit::Put(new) => new.name(),
             Edit::Remove(name) => name,
+        }
+    }
+
+    /// The entries where there was none.
+    pub(crate) fn of_nothing(self, alloc: Global) -> Result<Vec<Arc<E>>, AllocError>
+        ensures { IfOk result (λ made. keyed_all E.key made.items
+            ≡ edited E.key E.over self.entry []) }
+    {
+        match self {
+            Edit::Put(new) => {
+                let mut made = Vec::with_capacity(alloc, 1)?;
+                made.push(new)?;
+                Ok(made)
+            }
+            Edit::Remove(_) => Ok(Vec::new(alloc)),
         }
     }
 }

@@ -2,11 +2,11 @@
 #![tactic(auto)]
 
 mod edit;
-mod leaf;
+mod group;
+mod listed;
 mod map;
-mod parts;
 mod piece;
 
-pub use leaf::{Leaf, Listed};
+pub use group::Group;
+pub use listed::Listed;
 pub use map::SharedMap;
-pub use parts::{Group, Part};

@@ -1,17 +1,17 @@
-//! The map: a leaf, or four levels of groups of leaves.
+//! The map: a group of entries, or five levels of groups.
 ghost use Rattle.std.specs.Prelude.{◌≡◌, T, not, ◌<◌, [], min, length, IfOk, IfSome, map, slice_get};
 ghost use Rattle.std.specs.Option.{option_copied};
 ghost use Rattle.std.specs.FinMap.Entries.{find, is_sorted, where_key};
 ghost use Rattle.std.specs.Ordering.{eq_by_cmp};
 ghost use Rattle.reg_names.specs.Names.{folded};
 ghost use Rattle.shared_map.specs.Orders.{name_order};
-ghost use Rattle.shared_map.specs.Listings.{entries, keyed_all, leaf_entries, group_entries, parts_entries};
-ghost use Rattle.shared_map.specs.Parts.{load_of, AreParts, FitsLeaf, FitsGroup, FitsMap};
+ghost use Rattle.shared_map.specs.Listings.{entries, keyed_all, entry_list, pieces_entries, group_entries, region_entries};
+ghost use Rattle.shared_map.specs.Pieces.{load_of, ArePieces, entry_kind, group_kind, region_kind, FitsMap};
 ghost use Rattle.shared_map.specs.Writes.{written, edited};
 
 use crate::edit::Edit;
-use crate::leaf::{Leaf, Listed, MOST_ENTRIES, add_leaves, leaf_part, weight_of};
-use crate::parts::{Group, Part, group_part, grouped};
+use crate::group::{Group, MOST_PIECES, group_of, grouped};
+use crate::listed::Listed;
 use crate::piece::{Piece, edit_in};
 use reg_names::Name;
 use std::alloc::{AllocError, Global};
@@ -32,8 +32,8 @@ impl<E: Drop> Drop for SharedMap<E> {
 #[derive(Drop)]
 enum Held<E> {
     Empty,
-    Few(Arc<Part<Leaf<E>>>),
-    Many(Arc<Part<Group<Group<Group<Group<Leaf<E>>>>>>>),
+    Few(Arc<Group<E>>),
+    Many(Arc<Group<Group<Group<Group<Group<E>>>>>>),
 }
 
 impl<E: Listed> SharedMap<E> {
@@ -53,8 +53,8 @@ impl<E: Listed> SharedMap<E> {
     {
         match &self.held {
             Held::Empty => Ok(SharedMap { held: Held::Empty }),
-            Held::Few(leaf) => {
-                let held = Held::Few(leaf.clone()?);
+            Held::Few(few) => {
+                let held = Held::Few(few.clone()?);
                 Ok(SharedMap { held })
             }
             Held::Many(whole) => {
@@ -71,7 +71,7 @@ impl<E: Listed> SharedMap<E> {
     {
         match &self.held {
             Held::Empty => 0,
-            Held::Few(leaf) => leaf.count,
+            Held::Few(few) => few.count,
             Held::Many(whole) => whole.count,
         }
     }
@@ -83,7 +83,7 @@ impl<E: Listed> SharedMap<E> {
     {
         match &self.held {
             Held::Empty => 0,
-            Held::Few(leaf) => leaf.weight,
+            Held::Few(few) => few.weight,
             Held::Many(whole) => whole.weight,
         }
     }
@@ -98,8 +98,8 @@ impl<E: Listed> SharedMap<E> {
     {
         match &self.held {
             Held::Empty => None,
-            Held::Few(leaf) => leaf.body.find(name),
-            Held::Many(whole) => whole.body.find(name),
+            Held::Few(few) => few.find(name),
+            Held::Many(whole) => whole.find(name),
         }
     }
 
@@ -110,8 +110,8 @@ impl<E: Listed> SharedMap<E> {
     {
         match &self.held {
             Held::Empty => None,
-            Held::Few(leaf) => leaf.body.at(index),
-            Held::Many(whole) => whole.body.at(index),
+            Held::Few(few) => few.at(index),
+            Held::Many(whole) => whole.at(index),
         }
     }
 
@@ -120,8 +120,8 @@ impl<E: Listed> SharedMap<E> {
         ensures entries { IfOk result (λ made. entries E.key made ≡ keyed_all E.key items.items) }
         ensures fits { IfOk result (FitsMap E.key E.load) }
     {
-        let weight = weight_of(&items);
-        of_items(alloc, items, weight)
+        let made = of_entries(alloc, items)?;
+        Ok(made)
     }
 
     /// The map with this entry in the place of its name.
@@ -155,83 +155,61 @@ impl<E: Listed> SharedMap<E> {
         ensures fits { IfOk result (FitsMap E.key E.load) }
     {
         match &self.held {
-            Held::Empty => edit_of_leaf(alloc, &Leaf::new(alloc), edit),
-            Held::Few(leaf) => edit_of_leaf(alloc, &leaf.body, edit),
-            Held::Many(whole) => of_regions(alloc, edit_in(alloc, &whole.body.parts, edit)?),
+            Held::Empty => SharedMap::from_vec(alloc, edit.of_nothing(alloc)?),
+            Held::Few(few) => of_entries(alloc, edit_in(alloc, &few.pieces, edit)?),
+            Held::Many(whole) => of_regions(alloc, edit_in(alloc, &whole.pieces, edit)?),
         }
     }
 }
 
-// a map of a leaf's entries after an edit
-fn edit_of_leaf<E: Listed>(
-    alloc: Global,
-    leaf: &Leaf<E>,
-    edit: Edit<'_, E>,
-) -> Result<SharedMap<E>, AllocError>
-    requires { T (is_sorted name_order (leaf_entries E.key leaf.now)) }
+// a map of these entries
+fn of_entries<E: Listed>(alloc: Global, items: Vec<Arc<E>>) -> Result<SharedMap<E>, AllocError>
+    requires { ArePieces (entry_kind E.key E.load) items.items }
     ensures entries { IfOk result (λ made. entries E.key made
-        ≡ edited E.key E.over edit.entry (leaf_entries E.key leaf.now)) }
-    ensures fits { IfOk result (FitsMap E.key E.load) }
-{
-    let (items, weight) = leaf.edited(alloc, edit)?;
-    of_items(alloc, items, weight)
-}
-
-// a map of these entries, which have this weight
-fn of_items<E: Listed>(
-    alloc: Global,
-    items: Vec<Arc<E>>,
-    weight: u64,
-) -> Result<SharedMap<E>, AllocError>
-    requires { weight ≡ min (load_of E.load (keyed_all E.key items.items)) u64.MAX }
-    ensures entries { IfOk result (λ made. entries E.key made ≡ keyed_all E.key items.items) }
+        ≡ pieces_entries (entry_list E.key) items.items) }
     ensures fits { IfOk result (FitsMap E.key E.load) }
 {
     if items.is_empty() {
         return Ok(SharedMap { held: Held::Empty });
     }
-    if items.len() <= MOST_ENTRIES {
-        let held = Held::Few(leaf_part(alloc, items, weight)?);
+    if items.len() <= MOST_PIECES {
+        let held = Held::Few(group_of(alloc, items)?);
         return Ok(SharedMap { held });
     }
-    let mut leaves = Vec::new(alloc);
-    add_leaves(alloc, &items, &mut leaves)?;
-    let made = of_leaves(alloc, leaves)?;
+    let made = of_groups(alloc, grouped(alloc, items)?)?;
     Ok(made)
 }
 
-// a map of these leaves
-fn of_leaves<E: Listed>(
+// a map of these groups of entries
+fn of_groups<E: Listed>(
     alloc: Global,
-    leaves: Vec<Arc<Part<Leaf<E>>>>,
+    groups: Vec<Arc<Group<E>>>,
 ) -> Result<SharedMap<E>, AllocError>
-    requires { AreParts (leaf_entries E.key) E.load FitsLeaf leaves.items }
+    requires { ArePieces (group_kind (entry_kind E.key E.load)) groups.items }
     ensures entries { IfOk result (λ made. entries E.key made
-        ≡ parts_entries (leaf_entries E.key) leaves.items) }
+        ≡ pieces_entries (group_entries (entry_list E.key)) groups.items) }
     ensures fits { IfOk result (FitsMap E.key E.load) }
 {
-    let groups = grouped(alloc, leaves)?;
     let clusters = grouped(alloc, groups)?;
-    let regions = grouped(alloc, clusters)?;
+    let provinces = grouped(alloc, clusters)?;
+    let regions = grouped(alloc, provinces)?;
     let made = of_regions(alloc, regions)?;
     Ok(made)
 }
 
-// a map of these groups of groups of groups
+// a map of these groups of groups of groups of groups
 fn of_regions<E: Listed>(
     alloc: Global,
-    regions: Vec<Arc<Part<Group<Group<Group<Leaf<E>>>>>>>,
+    regions: Vec<Arc<Group<Group<Group<Group<E>>>>>>,
 ) -> Result<SharedMap<E>, AllocError>
-    requires { AreParts (group_entries (group_entries (group_entries (leaf_entries E.key)))) E.load
-        (FitsGroup (group_entries (group_entries (leaf_entries E.key))) E.load (FitsGroup
-        (group_entries (leaf_entries E.key)) E.load (FitsGroup (leaf_entries E.key) E.load FitsLeaf))) regions.items }
-    ensures entries { IfOk result (λ made. entries E.key made ≡ parts_entries (group_entries
-        (group_entries (group_entries (leaf_entries E.key)))) regions.items) }
+    requires { ArePieces (region_kind E.key E.load) regions.items }
+    ensures entries { IfOk result (λ made. entries E.key made
+        ≡ pieces_entries (region_entries E.key) regions.items) }
     ensures fits { IfOk result (FitsMap E.key E.load) }
 {
     if regions.is_empty() {
         return Ok(SharedMap { held: Held::Empty });
     }
-    let held = Held::Many(group_part(alloc, regions)?);
+    let held = Held::Many(group_of(alloc, regions)?);
     Ok(SharedMap { held })
 }

@@ -1,111 +1,203 @@
-//! Pieces: what a part holds, a leaf or a group of parts that hold pieces in their turn.
-ghost use Rattle.std.specs.Prelude.{◌≡◌, ℕ, T, List, ◌<◌, length, slice_get, IfOk, IfSome, OnOk};
-ghost use Rattle.std.specs.Option.{option_copied, option_map};
+//! Pieces: an entry, or a group of pieces.
+ghost use Rattle.std.specs.Prelude.{◌≡◌, T, map, ◌<◌, length, slice_get, IfOk, IfSome, OnOk};
+ghost use Rattle.std.specs.Arc.{arc_value};
+ghost use Rattle.std.specs.Option.{option_copied};
 ghost use Rattle.std.specs.FinMap.Entries.{find, is_sorted};
 ghost use Rattle.reg_names.specs.Names.{folded};
 ghost use Rattle.shared_map.specs.Orders.{name_order};
-ghost use Rattle.shared_map.specs.Listings.{parts_entries, group_entries};
-ghost use Rattle.shared_map.specs.Parts.{AreParts, FitsGroup, IsMoreParts};
-ghost use Rattle.shared_map.specs.Writes.{edited};
+ghost use Rattle.shared_map.specs.Listings.{entry_list, pieces_entries, group_entries};
+ghost use Rattle.shared_map.specs.Pieces.{Kind, entry_kind, group_kind, IsPiece, ArePieces, IsMore};
+ghost use Rattle.shared_map.specs.Writes.{written, edited};
 
 use crate::edit::Edit;
-use crate::leaf::Listed;
-use crate::parts::{Group, Part, add_group, extend, nth, place, totals_of};
+use crate::group::{Group, add_group, extend, nth, place, totals_of};
+use crate::listed::Listed;
 use reg_names::Name;
 use std::alloc::{AllocError, Global};
+use std::cmp::Ordering;
 use std::sync::Arc;
 
 /// A piece of a map: it lists entries in the order of their folded names, and never changes.
 pub trait Piece<E: Listed>: Drop {
-    /// The entries.
-    ghost list: { Self → List (List ℕ × E) };
+    /// What it lists, and what is kept beside that.
+    ghost kind: { Kind E Self };
 
-    /// What is kept beside the entries is that of them.
-    ghost Fits: { Self → Type 0 };
+    /// The name of its first entry.
+    fn first(&self) -> &Name
+        ensures { folded result.now ≡ kind.first self.now };
+
+    /// How many entries it has.
+    fn count(&self) -> usize
+        ensures { result ≡ kind.count self.now };
+
+    /// What its entries weigh together, or the greatest number of 64 bits where it is more.
+    fn load(&self) -> u64
+        ensures { result ≡ kind.weight self.now };
 
     /// The entry of this name.
     fn find(&self, name: &Name) -> Option<&E>
-        requires fits { Fits self.now }
-        requires sorted { T (is_sorted name_order (list self.now)) }
-        requires some { 0 < length (list self.now) }
+        requires piece { IsPiece kind self.now }
+        requires sorted { T (is_sorted name_order (kind.list self.now)) }
         ensures found { option_copied result
-            ≡ find name_order (folded name.now) (list self.now) }
+            ≡ find name_order (folded name.now) (kind.list self.now) }
         ensures named { IfSome result (λ entry. E.key entry.now ≡ folded name.now) };
 
     /// The entry at this index.
     fn at(&self, index: usize) -> Option<&E>
-        requires { Fits self.now }
+        requires { IsPiece kind self.now }
         ensures { option_copied result
-            ≡ option_map (λ e. e.1) (slice_get (list self.now) index) };
+            ≡ slice_get (map (λ e. e.1) (kind.list self.now)) index };
 
-    /// Adds the parts of the entries after an edit.
+    /// Adds the pieces of the entries after an edit.
     fn edit(
-        &self,
+        this: &Arc<Self>,
         alloc: Global,
         edit: Edit<'_, E>,
-        made: &mut Vec<Arc<Part<Self>>>,
+        made: &mut Vec<Arc<Self>>,
     ) -> Result<(), AllocError>
-        requires fits { Fits self.now }
-        requires sorted { T (is_sorted name_order (list self.now)) }
-        requires some { 0 < length (list self.now) }
-        ensures { OnOk result (IsMoreParts list E.load Fits (edited E.key E.over edit.entry (list
-            self.now)) made.old.items made.new.items) };
+        requires piece { IsPiece kind this.now.value }
+        requires sorted { T (is_sorted name_order (kind.list this.now.value)) }
+        ensures { OnOk result (IsMore kind (edited E.key E.over edit.entry (kind.list
+            this.now.value)) made.old.items made.new.items) };
 }
 
-impl<E: Listed, P: Piece<E>> Piece<E> for Group<P> {
-    ghost list = { group_entries P.list };
+impl<E: Listed> Piece<E> for E {
+    ghost kind = { entry_kind E.key E.load };
 
-    ghost Fits = { FitsGroup P.list E.load P.Fits };
+    fn first(&self) -> &Name {
+        self.name()
+    }
+
+    fn count(&self) -> usize {
+        1
+    }
+
+    fn load(&self) -> u64 {
+        self.weight()
+    }
 
     fn find(&self, name: &Name) -> Option<&E> {
-        let at = place(&self.parts, name);
-        self.parts[at].body.find(name)
+        if name.cmp(self.name()).is_eq() {
+            Some(self)
+        } else {
+            None
+        }
     }
 
     fn at(&self, index: usize) -> Option<&E> {
-        match nth(&self.parts, index) {
-            Some((at, rest)) => self.parts[at].body.at(rest),
+        if index == 0 { Some(self) } else { None }
+    }
+
+    fn edit(
+        this: &Arc<E>,
+        alloc: Global,
+        edit: Edit<'_, E>,
+        made: &mut Vec<Arc<E>>,
+    ) -> Result<(), AllocError>
+        requires piece { IsPiece (entry_kind E.key E.load) this.now.value }
+        requires sorted { T (is_sorted name_order (entry_list E.key this.now.value)) }
+        ensures { OnOk result (IsMore (entry_kind E.key E.load) (edited E.key E.over edit.entry
+            (entry_list E.key this.now.value)) made.old.items made.new.items) }
+    {
+        match edit {
+            Edit::Put(new) => put(alloc, this, new, made),
+            Edit::Remove(name) => {
+                if name.cmp(this.name()).is_eq() {
+                    return Ok(());
+                }
+                made.push(this.clone()?)?;
+                Ok(())
+            }
+        }
+    }
+}
+
+// adds an entry and a new one in their order, or what the new one makes of it where it has the same name
+fn put<E: Listed>(
+    alloc: Global,
+    old: &Arc<E>,
+    new: Arc<E>,
+    made: &mut Vec<Arc<E>>,
+) -> Result<(), AllocError>
+    ensures { OnOk result (IsMore (entry_kind E.key E.load) (written E.key E.over new.value
+        (entry_list E.key old.now.value)) made.old.items made.new.items) }
+{
+    match new.name().cmp(old.name()) {
+        Ordering::Less => {
+            made.push(new)?;
+            made.push(old.clone()?)?;
+        }
+        Ordering::Equal => made.push(old.replaced_by(alloc, new)?)?,
+        Ordering::Greater => {
+            made.push(old.clone()?)?;
+            made.push(new)?;
+        }
+    }
+    Ok(())
+}
+
+impl<E: Listed, P: Piece<E>> Piece<E> for Group<P> {
+    ghost kind = { group_kind P.kind };
+
+    fn first(&self) -> &Name {
+        &self.first
+    }
+
+    fn count(&self) -> usize {
+        self.count
+    }
+
+    fn load(&self) -> u64 {
+        self.weight
+    }
+
+    fn find(&self, name: &Name) -> Option<&E> {
+        let at = place(&self.pieces, name);
+        self.pieces[at].find(name)
+    }
+
+    fn at(&self, index: usize) -> Option<&E> {
+        match nth(&self.pieces, index) {
+            Some((at, rest)) => self.pieces[at].at(rest),
             None => None,
         }
     }
 
     fn edit(
-        &self,
+        this: &Arc<Group<P>>,
         alloc: Global,
         edit: Edit<'_, E>,
-        made: &mut Vec<Arc<Part<Group<P>>>>,
+        made: &mut Vec<Arc<Group<P>>>,
     ) -> Result<(), AllocError>
-        requires fits { FitsGroup P.list E.load P.Fits self.now }
-        requires sorted { T (is_sorted name_order (group_entries P.list self.now)) }
-        requires some { 0 < length (group_entries P.list self.now) }
-        ensures { OnOk result (IsMoreParts (group_entries P.list) E.load (FitsGroup P.list E.load
-            P.Fits) (edited E.key E.over edit.entry (group_entries P.list self.now)) made.old.items
-            made.new.items) }
+        requires piece { IsPiece (group_kind P.kind) this.now.value }
+        requires sorted { T (is_sorted name_order (group_entries P.kind.list this.now.value)) }
+        ensures { OnOk result (IsMore (group_kind P.kind) (edited E.key E.over edit.entry
+            (group_entries P.kind.list this.now.value)) made.old.items made.new.items) }
     {
-        let parts = edit_in(alloc, &self.parts, edit)?;
-        add_group(alloc, parts, made)
+        let pieces = edit_in(alloc, &this.pieces, edit)?;
+        add_group(alloc, pieces, made)
     }
 }
 
-/// The parts after an edit of their entries.
+/// The pieces after an edit of their entries.
 pub(crate) fn edit_in<E: Listed, P: Piece<E>>(
     alloc: Global,
-    parts: &[Arc<Part<P>>],
+    pieces: &[Arc<P>],
     edit: Edit<'_, E>,
-) -> Result<Vec<Arc<Part<P>>>, AllocError>
-    requires fits { AreParts P.list E.load P.Fits parts.now }
-    requires sorted { T (is_sorted name_order (parts_entries P.list parts.now)) }
-    requires some { 0 < length (parts_entries P.list parts.now) }
-    ensures entries { IfOk result (λ made. parts_entries P.list made.items
-        ≡ edited E.key E.over edit.entry (parts_entries P.list parts.now)) }
-    ensures parts { IfOk result (λ made. AreParts P.list E.load P.Fits made.items) }
+) -> Result<Vec<Arc<P>>, AllocError>
+    requires pieces { ArePieces P.kind pieces.now }
+    requires sorted { T (is_sorted name_order (pieces_entries P.kind.list pieces.now)) }
+    requires some { 0 < length pieces.now }
+    ensures entries { IfOk result (λ made. pieces_entries P.kind.list made.items
+        ≡ edited E.key E.over edit.entry (pieces_entries P.kind.list pieces.now)) }
+    ensures pieces { IfOk result (λ made. ArePieces P.kind made.items) }
 {
-    // each part is looked at before one is sought and pointers to them are taken, which would wait for the memory of one after the other
-    let _ = totals_of(parts)?;
-    let at = place(parts, edit.name());
-    let mut made = Vec::with_capacity(alloc, parts.len().saturating_add(1))?;
-    extend(&mut made, &parts[..at])?;
-    parts[at].body.edit(alloc, edit, &mut made)?;
-    extend(&mut made, &parts[at + 1..])?;
+    // each piece is looked at before one is sought and pointers to them are taken, which would wait for the memory of one after the other
+    let _ = totals_of(pieces)?;
+    let at = place(pieces, edit.name());
+    let mut made = Vec::with_capacity(alloc, pieces.len().saturating_add(1))?;
+    extend(&mut made, &pieces[..at])?;
+    P::edit(&pieces[at], alloc, edit, &mut made)?;
+    extend(&mut made, &pieces[at + 1..])?;
     Ok(made)
 }

@@ -1,0 +1,17 @@
+use Rattle.std.proofs.Common.{rules, ◌/◌, length}
+use Rattle.shared_map.specs.Listings.{pieces_entries, group_entries}
+use Rattle.shared_map.specs.Pieces.{group_kind}
+use Rattle.shared_map.proofs.Adds.{added_join, halves_entries, front_pieces, back_pieces}
+use Rattle.shared_map.proofs.group.+add_groups.Goals as goal
+
+pub add_groups-requires : goal.add_groups-requires
+add_groups-requires g t c κs within = (search rules, (search rules, (search rules, front_pieces g.P.Piece.kind c.args.pieces.now c.split_at.result.0.now c.split_at.result.1.now (length c.args.pieces.now / 2) c.split_at.ensures.front c.split_at.ensures.back c.requires)))
+
+pub add_groups-requires-2 : goal.add_groups-requires-2
+add_groups-requires-2 g t c κs within = (search rules, (search rules, (search rules, back_pieces g.P.Piece.kind c.args.pieces.now c.split_at.result.0.now c.split_at.result.1.now (length c.args.pieces.now / 2) c.split_at.ensures.front c.split_at.ensures.back c.requires)))
+
+pub returns : goal.returns
+returns g t c =
+    added_join (group_kind g.P.Piece.kind) (pieces_entries g.P.Piece.kind.list c.split_at.result.0.now) (pieces_entries g.P.Piece.kind.list c.split_at.result.1.now) (pieces_entries g.P.Piece.kind.list c.args.pieces.now) c.args.made.now.items c.add_groups.new.made.items c.add_groups-2.new.made.items
+    (halves_entries g.P.Piece.kind c.args.pieces.now c.split_at.result.0.now c.split_at.result.1.now (length c.args.pieces.now / 2) c.split_at.ensures.front c.split_at.ensures.back)
+    c.in_ok-add_groups.ensures c.in_ok-add_groups-2.ensures
