@@ -5,11 +5,11 @@ use denote.Param.Weighed.{most}
 use Rattle.std.specs.declared.sync.Arc.{Arc}
 use Rattle.std.specs.declared.alloc.Global.{Global}
 use Rattle.std.specs.Arc.{arc_value}
-use Rattle.shared_map.specs.declared.leaf.Leaf.{Leaf}
+use Rattle.shared_map.specs.declared.group.Group.{Group}
 use Rattle.shared_map.specs.declared.map.Held.{Held}
 use Rattle.shared_map.specs.declared.map.Held.TheVariants.{Empty, Few, Many}
-use Rattle.shared_map.specs.Listings.{held_entries, leaf_entries, group_entries}
-use Rattle.shared_map.specs.ListingFalls.{capped, capped_part, most_items, most_parts}
+use Rattle.shared_map.specs.Listings.{held_entries, entry_list, group_entries}
+use Rattle.shared_map.specs.ListingFalls.{capped, capped_group, most_pieces}
 use Rattle.reg_tree_parts.specs.Rows.{Row}
 use Rattle.reg_tree_parts.specs.Nodes.{Entries, below, all_below, root_name}
 use Rattle.reg_tree_parts.specs.declared.node.Node.TheDeep.{deep-Node}
@@ -27,21 +27,21 @@ most_below : (subkeys : List (List ℕ × Entries)) → most measure subkeys ≤
 most_below [] = omega arith
 most_below (k ∷ ks) = omega (arith, most_below ks, length-append (below k.0 k.1) (all_below ks), length-below k.0 k.1)
 
--- the measure of what a leaf has
-items_fall : (leaf : Leaf Entries) → most (λ (x : Arc Entries Global). length (arc_value x) + 1) leaf.items.items ≤ most measure (leaf_entries root_name leaf)
-items_fall leaf = most_items measure root_name (λ x. length (arc_value x) + 1) (λ x. omega arith) leaf.items.items
+-- the measure of what a group of subkeys has
+group_falls : (group : Group Entries) → most (λ (x : Arc Entries Global). length (arc_value x) + 1) group.pieces.items ≤ most measure (group_entries (entry_list root_name) group)
+group_falls group = most_pieces measure _ (entry_list root_name) (λ x. omega arith) group.pieces.items
 
 held_falls : (key : Row) (held : Held Entries) (weight : ℕ) → deep-Node (record { weight = weight; key = key; subkeys = record { held = held } }) ≤ most measure (held_entries root_name held)
 held_falls key Empty weight = omega arith
-held_falls key (Few leaf) weight = capped (capped (capped (capped_part (capped (items_fall (arc_value leaf).body)))))
+held_falls key (Few few) weight = capped (capped (capped (capped_group (group_falls (arc_value few)))))
 held_falls key (Many whole) weight =
-    capped (capped (capped (capped_part (capped (most_parts measure _ (group_entries (group_entries (group_entries (leaf_entries root_name))))
-    (λ n. capped_part (capped (most_parts measure _ (group_entries (group_entries (leaf_entries root_name)))
-    (λ o. capped_part (capped (most_parts measure _ (group_entries (leaf_entries root_name))
-    (λ p. capped_part (capped (most_parts measure _ (leaf_entries root_name) (λ q. capped_part (capped (items_fall (arc_value q).body))) (arc_value p).body.parts.items)))
-    (arc_value o).body.parts.items)))
-    (arc_value n).body.parts.items)))
-    (arc_value whole).body.parts.items)))))
+    capped (capped (capped (capped_group (most_pieces measure _ (group_entries (group_entries (group_entries (group_entries (entry_list root_name)))))
+    (λ m. capped_group (most_pieces measure _ (group_entries (group_entries (group_entries (entry_list root_name))))
+    (λ n. capped_group (most_pieces measure _ (group_entries (group_entries (entry_list root_name)))
+    (λ o. capped_group (most_pieces measure _ (group_entries (entry_list root_name)) (λ p. capped_group (group_falls (arc_value p))) (arc_value o).pieces.items))
+    (arc_value n).pieces.items))
+    (arc_value m).pieces.items))
+    (arc_value whole).pieces.items))))
 
 -- no subkey has more entries than the node
 pub node_falls : (node : Inside) → deep-Node node ≤ suc (length (all_below (held_entries root_name node.subkeys.held)))

@@ -7,7 +7,7 @@ ghost use Rattle.reg_names.specs.Names.{folded, folded_path};
 ghost use Rattle.reg_tree_parts.specs.Orders.{name_order};
 ghost use Rattle.reg_tree_parts.specs.Rows.{Row};
 ghost use Rattle.shared_map.specs.Listings.{entries};
-ghost use Rattle.shared_map.specs.Parts.{FitsMap};
+ghost use Rattle.shared_map.specs.Pieces.{FitsMap};
 ghost use Rattle.reg_tree_parts.specs.Nodes.{Entries, entries_of, entries_weight, subkey_entries, root_name, row_at, names_below, spelled_root, begins_path, branch_row, subkeys_of, HasSubkeys, IsNode, AreNodes};
 
 use crate::descriptor::Descriptor;
