@@ -1,5 +1,5 @@
 -- The entry at an index, over pieces.
-use Rattle.std.proofs.Common.{◌≡◌, ℕ, zero, suc, ◌+◌, ◌<◌, ◌≤◌, List, [], ◌∷◌, ◌++◌, map, take, drop, get_or, length, slice_get, Some, None, sum_by, refl, sym, ◌∙◌, ap, subst, arith}
+use Rattle.std.proofs.Common.{◌≡◌, ℕ, zero, suc, ◌+◌, ◌<◌, ◌≤◌, List, [], ◌∷◌, ◌++◌, map, take, drop, get_or, length, slice_get, Option, None, sum_by, refl, sym, ◌∙◌, ap, subst, arith}
 use Rattle.std.specs.declared.sync.Arc.{Arc}
 use Rattle.std.specs.declared.alloc.Global.{Global}
 use Rattle.std.specs.Arc.{arc_value}
@@ -53,9 +53,11 @@ module _ {A P : Type 0} (kind : Kind A P) (pieces : List (Arc P Global)) (are : 
         ∙ get-past (entries_in kind.list (map arc_value (take i pieces))) _ index j (sym place.before ∙ ap (λ n. n + j) (counts kind (map arc_value (take i pieces)) (all_front kind (map arc_value (take i pieces)) _ are_split)))
         ∙ get-front (kind.list (arc_value piece)) _ j (subst (λ n. j < n) nth_is.count within)
 
-    -- its things are those of all
-    pub nth_thing : slice_get (map (λ e. e.1) (pieces_entries kind.list pieces)) index ≡ slice_get (map (λ e. e.1) (kind.list (arc_value piece))) j
-    nth_thing = slice_get-map (λ (e : List ℕ × A). e.1) (pieces_entries kind.list pieces) index ∙ ap (option_map (λ e. e.1)) nth_step ∙ sym (slice_get-map (λ (e : List ℕ × A). e.1) (kind.list (arc_value piece)) j)
+    -- what is told of a thing of the piece is told of the whole
+    pub nth_answer : (p : P) (answer : Option A) → p ≡ arc_value piece → answer ≡ slice_get (map (λ e. e.1) (kind.list p)) j → answer ≡ slice_get (map (λ e. e.1) (pieces_entries kind.list pieces)) index
+    nth_answer p answer at told =
+        told ∙ ap (λ q. slice_get (map (λ e. e.1) (kind.list q)) j) at ∙ slice_get-map (λ (e : List ℕ × A). e.1) (kind.list (arc_value piece)) j
+        ∙ sym (slice_get-map (λ (e : List ℕ × A). e.1) (pieces_entries kind.list pieces) index ∙ ap (option_map (λ e. e.1)) nth_step)
 
   -- past the last
   nth_past : (index : ℕ) → sum_by kind.count (map arc_value pieces) ≤ index → slice_get (pieces_entries kind.list pieces) index ≡ None

@@ -1,5 +1,5 @@
 -- One step down a map: the piece in which a name belongs decides what is found and what an edit leaves.
-use Rattle.std.proofs.Common.{◌≡◌, ℕ, suc, ◌+◌, ◌<◌, true, false, not, T, List, [], ◌∷◌, ◌++◌, map, take, drop, get_or, length, refl, sym, ◌∙◌, ap, subst, arith, inl, inr, append_assoc}
+use Rattle.std.proofs.Common.{◌≡◌, ℕ, suc, ◌+◌, ◌<◌, true, false, not, T, Option, List, [], ◌∷◌, ◌++◌, map, take, drop, get_or, length, refl, sym, ◌∙◌, ap, subst, arith, inl, inr, append_assoc}
 use Rattle.std.proofs.lemmas.Bool.{cases_lt}
 use Rattle.std.specs.Ordering.{is_lt, eq_by_cmp}
 use Rattle.std.specs.FinMap.Entries.{find, put, where_key, is_sorted, below_all}
@@ -111,8 +111,11 @@ module _ {A P : Type 0} (kind : Kind A P) where
         back_sorted = sorted_back name_order (kind.list (arc_value piece)) _ (sorted_back name_order (entries_in kind.list (map arc_value (take i pieces))) _ sorted_split)
 
     -- the piece decides what is found
-    pub find_step : find name_order name (pieces_entries kind.list pieces) ≡ find name_order name (kind.list (arc_value piece))
+    find_step : find name_order name (pieces_entries kind.list pieces) ≡ find name_order name (kind.list (arc_value piece))
     find_step = ap (find name_order name) entries_split ∙ find_within name_order names_total name _ _ _ less above
+
+    pub find_answer : (p : P) (answer : Option A) → p ≡ arc_value piece → answer ≡ find name_order name (kind.list p) → answer ≡ find name_order name (pieces_entries kind.list pieces)
+    find_answer p answer at told = told ∙ ap (λ q. find name_order name (kind.list q)) at ∙ sym find_step
 
     module _ (new made : List P) (spliced : made ≡ map arc_value (take i pieces) ++ (new ++ map arc_value (drop (i + 1) pieces))) where
       made_entries : entries_in kind.list made ≡ entries_in kind.list (map arc_value (take i pieces)) ++ (entries_in kind.list new ++ entries_in kind.list (map arc_value (drop (i + 1) pieces)))

@@ -1,5 +1,5 @@
 //! Groups: a few pieces of a map, with what is kept of them together.
-ghost use Rattle.std.specs.Prelude.{◌≡◌, ◌<◌, ◌++◌, length, min, map, IfOk, OnOk, MatchOption, ◌≤◌, sum_by};
+ghost use Rattle.std.specs.Prelude.{◌≡◌, ◌<◌, [], ◌∷◌, ◌++◌, length, min, map, IfOk, OnOk, MatchOption, ◌≤◌, sum_by};
 ghost use Rattle.std.specs.Arc.{arc_value};
 ghost use Rattle.reg_names.specs.Names.{folded};
 ghost use Rattle.shared_map.specs.Listings.{pieces_entries, group_entries};
@@ -25,6 +25,14 @@ pub struct Group<P> {
 
 /// The most pieces of a group that is no map's whole.
 pub(crate) const MOST_PIECES: usize = 16;
+
+/// Adds one thing.
+pub(crate) fn add<T: Drop>(made: &mut Vec<Arc<T>>, item: Arc<T>) -> Result<(), AllocError>
+    ensures { OnOk result (made.new.items ≡ made.old.items ++ (item ∷ [])) }
+{
+    made.push(item)?;
+    Ok(())
+}
 
 /// Adds the same things.
 pub(crate) fn extend<T: Drop>(made: &mut Vec<Arc<T>>, items: &[Arc<T>]) -> Result<(), AllocError>
@@ -106,8 +114,7 @@ pub(crate) fn add_group<E: Listed, P: Piece<E>>(
     if pieces.is_empty() || pieces.len() > MOST_PIECES {
         return add_groups(alloc, &pieces, made);
     }
-    made.push(group_of(alloc, pieces)?)?;
-    Ok(())
+    add(made, group_of(alloc, pieces)?)
 }
 
 // adds the groups of these pieces
@@ -124,8 +131,7 @@ fn add_groups<E: Listed, P: Piece<E>>(
         return Ok(());
     }
     if pieces.len() <= MOST_PIECES {
-        made.push(group_of(alloc, copied(alloc, pieces)?)?)?;
-        return Ok(());
+        return add(made, group_of(alloc, copied(alloc, pieces)?)?);
     }
     let (front, back) = pieces.split_at(pieces.len() / 2);
     add_groups(alloc, front, made)?;

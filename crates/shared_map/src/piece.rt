@@ -10,7 +10,7 @@ ghost use Rattle.shared_map.specs.Pieces.{Kind, entry_kind, group_kind, IsPiece,
 ghost use Rattle.shared_map.specs.Writes.{written, edited};
 
 use crate::edit::Edit;
-use crate::group::{Group, add_group, extend, nth, place, totals_of};
+use crate::group::{Group, add, add_group, extend, nth, place, totals_of};
 use crate::listed::Listed;
 use reg_names::Name;
 use std::alloc::{AllocError, Global};
@@ -105,8 +105,7 @@ impl<E: Listed> Piece<E> for E {
                 if name.cmp(this.name()).is_eq() {
                     return Ok(());
                 }
-                made.push(this.clone()?)?;
-                Ok(())
+                add(made, this.clone()?)
             }
         }
     }
@@ -124,16 +123,15 @@ fn put<E: Listed>(
 {
     match new.name().cmp(old.name()) {
         Ordering::Less => {
-            made.push(new)?;
-            made.push(old.clone()?)?;
+            add(made, new)?;
+            add(made, old.clone()?)
         }
-        Ordering::Equal => made.push(old.replaced_by(alloc, new)?)?,
+        Ordering::Equal => add(made, old.replaced_by(alloc, new)?),
         Ordering::Greater => {
-            made.push(old.clone()?)?;
-            made.push(new)?;
+            add(made, old.clone()?)?;
+            add(made, new)
         }
     }
-    Ok(())
 }
 
 impl<E: Listed, P: Piece<E>> Piece<E> for Group<P> {

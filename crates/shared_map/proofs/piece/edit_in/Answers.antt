@@ -1,7 +1,7 @@
 use Rattle.std.proofs.Common.{◌≡◌, ℕ, List, ◌++◌, refl, ◌∙◌, ap, subst, map, take}
 use Rattle.std.specs.Arc.{arc_value}
 use Rattle.shared_map.specs.Pieces.{IsPlace}
-use Rattle.shared_map.specs.Writes.{edit_name, edited}
+use Rattle.shared_map.specs.Writes.{edit_name}
 use Rattle.shared_map.proofs.Copies.{spliced}
 use Rattle.shared_map.proofs.Steps.{piece_is, piece_sorted, edited_step, are_step}
 use Rattle.shared_map.proofs.piece.edit_in.Goals as goal

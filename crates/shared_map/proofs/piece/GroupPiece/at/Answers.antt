@@ -1,6 +1,6 @@
-use Rattle.std.proofs.Common.{slice_get, map, sym, ◌∙◌, ap, subst}
+use Rattle.std.proofs.Common.{sym, subst}
 use Rattle.shared_map.specs.Pieces.{IsPiece, IsNth}
-use Rattle.shared_map.proofs.Places.{nth_is, nth_thing, no_thing}
+use Rattle.shared_map.proofs.Places.{nth_is, nth_answer, no_thing}
 use Rattle.shared_map.proofs.piece.GroupPiece.at.Goals as goal
 
 pub at-requires : goal.at-requires
@@ -11,8 +11,7 @@ at-requires g c =
 pub returns-in-Some : goal.returns-in-Some
 returns-in-Some g c =
     let nth : IsNth g.P.Piece.kind.count c.args.self.now.pieces.items c.args.index c.in-Some.at c.in-Some.rest = rw c.deref.ensures.value at c.in-Some.ensures in
-    c.at.ensures ∙ ap (λ p. slice_get (map (λ e. e.1) (g.P.Piece.kind.list p)) c.in-Some.rest) c.deref-in-Some.ensures
-    ∙ sym (nth_thing g.P.Piece.kind c.args.self.now.pieces.items c.requires.fits c.args.index c.in-Some.at c.in-Some.rest nth c.index.result.now c.index.ensures)
+    nth_answer g.P.Piece.kind c.args.self.now.pieces.items c.requires.fits c.args.index c.in-Some.at c.in-Some.rest nth c.index.result.now c.index.ensures c.deref-in-Some.result.now _ c.deref-in-Some.ensures c.at.ensures
 
 pub returns-in-None : goal.returns-in-None
 returns-in-None g c = sym (no_thing g.P.Piece.kind c.args.self.now.pieces.items c.requires.fits c.args.index (rw c.deref.ensures.value at c.in-None.ensures))

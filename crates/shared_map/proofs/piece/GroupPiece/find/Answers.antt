@@ -1,9 +1,6 @@
-use Rattle.std.proofs.Common.{sym, ◌∙◌, ap}
-use Rattle.std.specs.FinMap.Entries.{find}
 use Rattle.reg_names.specs.Names.{folded}
-use Rattle.shared_map.specs.Orders.{name_order}
 use Rattle.shared_map.specs.Pieces.{IsPlace}
-use Rattle.shared_map.proofs.Steps.{piece_is, piece_sorted, find_step}
+use Rattle.shared_map.proofs.Steps.{piece_is, piece_sorted, find_answer}
 use Rattle.shared_map.proofs.piece.GroupPiece.find.Goals as goal
 
 pub find-requires-clause-piece : goal.find-requires-clause-piece
@@ -19,5 +16,4 @@ find-requires-clause-sorted g c =
 pub returns-clause-found : goal.returns-clause-found
 returns-clause-found g c =
     let place : IsPlace g.P.Piece.kind.first c.args.self.now.pieces.items (folded c.args.name.now) c.place-at.result = rw c.deref.ensures.value at c.place-at.ensures in
-    c.find.ensures.found ∙ ap (λ p. find name_order (folded c.args.name.now) (g.P.Piece.kind.list p)) c.deref-2.ensures
-    ∙ sym (find_step g.P.Piece.kind c.args.self.now.pieces.items c.requires.piece.fits c.requires.sorted (folded c.args.name.now) c.place-at.result place c.index.result.now c.index.ensures)
+    find_answer g.P.Piece.kind c.args.self.now.pieces.items c.requires.piece.fits c.requires.sorted (folded c.args.name.now) c.place-at.result place c.index.result.now c.index.ensures c.deref-2.result.now _ c.deref-2.ensures c.find.ensures.found
