@@ -1,5 +1,5 @@
 //! A store in memory: what it answers to each event that makes no step, and what it is told of those that do.
-ghost use Rattle.std.specs.Prelude.{◌≡◌, ◌<◌, ◌≤◌, ◌+◌, ◌-◌, ◌==◌, ℕ, [], drop, max, true, false, Some, None, IfOk, IfErr, OnOk, OnSome};
+ghost use Rattle.std.specs.Prelude.{◌≡◌, ◌<◌, ◌≤◌, ◌+◌, ◌-◌, ◌==◌, ℕ, [], drop, max, true, false, nat_le, Some, None, IfOk, IfErr, OnOk, OnSome};
 ghost use Rattle.std.specs.List.{AllByRecursion, list_any};
 ghost use Rattle.refusals.specs.declared.refusal.Refusal.TheVariants.{NoMemory, NoSuchHandle};
 ghost use Rattle.machine.specs.declared.event.Reply.TheVariants as reply;
@@ -480,10 +480,7 @@ impl Store {
         self.table.take_views(moved);
         self.table.roll_back_all(&holders);
         self.room = room;
-        Reply::Accepted {
-            levels,
-            number: self.table.number(),
-        }
+        accepted(&self.table, levels)
     }
 
     // refuses a hive that calls may not name
@@ -714,16 +711,33 @@ impl Store {
         }
     }
 
+    // whether the change of a number is durable
+    fn is_durable(&self, number: u64) -> bool
+        ensures { result ≡ nat_le number self.now.machine.durable }
+    {
+        number <= self.durable
+    }
+
     fn acked(&self, number: u64) -> Result<Reply, Refusal>
         ensures { Answers self.now.machine (Event.Acked number) result self.now.machine }
     {
-        if number <= self.durable {
+        if self.is_durable(number) {
             return Ok(Reply::Receipt { number });
         }
         if self.faulted {
             return Err(Refusal::Faulted);
         }
         Ok(Reply::NotYet)
+    }
+}
+
+// how an operation is answered that was accepted by itself, as the last change
+fn accepted(table: &TxTable, levels: Option<usize>) -> Reply
+    ensures { result ≡ reply.Accepted levels table.now.number }
+{
+    Reply::Accepted {
+        levels,
+        number: table.number(),
     }
 }
 

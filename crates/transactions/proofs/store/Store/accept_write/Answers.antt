@@ -1,11 +1,13 @@
-use Rattle.std.proofs.Common.{◌≡◌, ◌+◌, ℕ, [], ◌∷◌, ◌++◌, ◌∙◌, ap, sym, subst}
+use Rattle.std.proofs.Common.{◌≡◌, ◌+◌, ℕ, [], ◌∷◌, ◌++◌, ◌∙◌, ap, refl, sym, subst}
 use Rattle.reg_tree.specs.Judgement.{legal, applied_one}
 use Rattle.reg_tree.specs.TreeLists.{levels_made}
 use Rattle.reg_tree.specs.declared.element.Element.{Element}
 use Rattle.reg_tree.specs.declared.op.Op.{Op}
 use Rattle.reg_tree.specs.Texts.{element_text_len}
 use Rattle.machine.specs.Machine.{Machine, change}
-use Rattle.machine.specs.Steps.{Accepts}
+use Rattle.machine.specs.Steps.{Accepts, Step}
+use Rattle.machine.specs.declared.event.Event.TheVariants as event
+use Rattle.machine.specs.declared.event.Reply.{Reply}
 use Rattle.transactions.specs.Entries.{AreMoved}
 use Rattle.transactions.specs.Prepared.{IsReadyWrite}
 use Rattle.transactions.specs.Stores.{IsTied, StoreView, store_of}
@@ -39,12 +41,14 @@ invariant_of-self c = tied c
 pub returns-clause-step : goal.returns-clause-step
 returns-clause-step c = λ session moment op told.
     let ready = seen c session moment op told in
-    subst (λ (v : StoreView). Accepts v.machine session moment op c.args.write.levels c.number.result
-    (store_of c.self.inside.opened.value c.self.inside.before c.push_reserved.new.self.changes c.self.inside.sessions c.roll_back_all.new.self c.self.inside.durable c.args.write.room c.self.inside.faulted c.self.inside.bounds)) c.self.view_is
+    let number = c.roll_back_all.new.self.number in
+    let new = store_of c.self.inside.opened.value c.self.inside.before c.push_reserved.new.self.changes c.self.inside.sessions c.roll_back_all.new.self c.self.inside.durable c.args.write.room c.self.inside.faulted c.self.inside.bounds in
+    subst (λ (answer : Reply). Step c.args.self.now.machine (event.Write session moment op) answer new) (sym c.accepted.ensures)
+    (subst (λ (v : StoreView). Accepts v.machine session moment op c.args.write.levels number new) c.self.view_is
     (accepts c.self.inside.opened.value c.self.inside.before c.self.inside.history.changes c.push_reserved.new.self.changes c.self.inside.sessions c.self.inside.table c.take_views.new.self c.roll_back_all.new.self c.self.inside.durable c.self.inside.room c.args.write.room c.self.inside.faulted c.self.inside.bounds
-    ready.free session moment c.number.result op c.args.write.levels c.args.write.trees c.args.write.holders c.self.invariant ready.there ready.named
-    (ap (λ x. legal x op) c.self.invariant.trees ∙ ready.is_legal) ready.roomy (ready.levels ∙ ap (λ x. levels_made x op) (sym c.self.invariant.trees)) c.number.ensures (added c session moment op ready) ready.room
-    (c.take_views.ensures ∙ c.accept.ensures) c.roll_back_all.ensures.rest c.roll_back_all.ensures.rolled_back ready.holders)
+    ready.free session moment number op c.args.write.levels c.args.write.trees c.args.write.holders c.self.invariant ready.there ready.named
+    (ap (λ x. legal x op) c.self.invariant.trees ∙ ready.is_legal) ready.roomy (ready.levels ∙ ap (λ x. levels_made x op) (sym c.self.invariant.trees)) refl (added c session moment op ready) ready.room
+    (c.take_views.ensures ∙ c.accept.ensures) c.roll_back_all.ensures.rest c.roll_back_all.ensures.rolled_back ready.holders))
 
 pub returns-clause-trees : goal.returns-clause-trees
 returns-clause-trees c = sym (tied c).trees ∙ ap (λ (t : Table). t.trees) c.roll_back_all.ensures.rest ∙ ap (λ (t : Table). t.trees) (c.take_views.ensures ∙ c.accept.ensures)

@@ -1,0 +1,6 @@
+use Rattle.std.proofs.Common.{ap}
+use Rattle.machine.specs.declared.event.Reply.TheVariants as reply
+use Rattle.transactions.proofs.store.accepted.Goals as goal
+
+pub returns : goal.returns
+returns c = ap (reply.Accepted c.args.levels) c.number.ensures
