@@ -1,4 +1,5 @@
-use Rattle.std.proofs.Common.{◌≡◌, Some, true, refl, sym, ap, subst}
+use Rattle.std.proofs.lemmas.Grind.{common_steps}
+use Rattle.std.proofs.Common.{◌≡◌, Some, true, refl, sym, ap, subst, arith}
 use Rattle.std.specs.Prelude.{IsSome}
 use Rattle.machine.specs.Transactions.{is_active, at, Puts}
 use Rattle.machine.specs.declared.handle.Outcome.TheVariants.{RolledBack}
@@ -28,3 +29,15 @@ pub returns-in-Some-clause-put : goal.returns-in-Some-clause-put
 returns-in-Some-clause-put c =
     subst (λ (t : Table). Puts t.places (places_of (with_value c.self.inside.places c.args.owner c.end.new.self).slots) c.args.owner (rolled_back_if true (at t.places c.args.owner))) c.self.view_is
     (rolled_back_put c.self.inside.places (with_value c.self.inside.places c.args.owner c.end.new.self) c.args.owner c.in-Some.entry.now c.end.new.self (there c) (sym c.if-is_active.ensures) (changed c) c.end.ensures.kept)
+
+pub invariant_of-self-else-is_active : goal.invariant_of-self-else-is_active
+invariant_of-self-else-is_active c = grind (arith, common_steps)
+
+pub returns-else-is_active-clause-rest : goal.returns-else-is_active-clause-rest
+returns-else-is_active-clause-rest c = grind (arith, common_steps)
+
+pub returns-else-is_active-clause-put : goal.returns-else-is_active-clause-put
+returns-else-is_active-clause-put c = grind (arith, common_steps)
+
+pub returns-clause-put : goal.returns-clause-put
+returns-clause-put c = grind (arith, common_steps)
