@@ -1,5 +1,5 @@
 -- Pieces that are added to others.
-use Rattle.std.proofs.Common.{◌≡◌, ℕ, List, [], ◌∷◌, ◌++◌, map, take, drop, Result, Ok, Err, OnOk, refl, sym, ◌∙◌, ap, subst, append_assoc, append-nil}
+use Rattle.std.proofs.Common.{◌≡◌, ℕ, List, [], ◌∷◌, ◌++◌, map, take, drop, Result, Ok, Err, OnOk, sym, ◌∙◌, ap, subst, append_assoc, append-nil}
 use Rattle.std.specs.declared.sync.Arc.{Arc}
 use Rattle.std.specs.declared.alloc.Global.{Global}
 use Rattle.std.specs.Arc.{arc_value}
@@ -17,10 +17,6 @@ on_ok (Err e) f done = tt
 module _ {A P : Type 0} (kind : Kind A P) where
   appended : (xs ys : List (Arc P Global)) → pieces_entries kind.list (xs ++ ys) ≡ pieces_entries kind.list xs ++ pieces_entries kind.list ys
   appended xs ys = ap (entries_in kind.list) (map-append arc_value xs ys) ∙ entries_in-append kind.list (map arc_value xs) (map arc_value ys)
-
-  -- nothing is added
-  pub none_added : (old : List (Arc P Global)) → IsMore kind [] old old
-  none_added old = ([], (sym (append-nil old), (refl, tt)))
 
   -- one piece is added
   pub piece_added : (es : List (List ℕ × A)) (piece : Arc P Global) (old new : List (Arc P Global)) → new ≡ old ++ (piece ∷ []) → kind.list (arc_value piece) ≡ es → IsPiece kind (arc_value piece) → IsMore kind es old new

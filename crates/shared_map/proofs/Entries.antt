@@ -43,7 +43,7 @@ module _ {A : Type 0} (key : A → List ℕ) where
     added es old new more is all = (more, (is, (singles more ∙ all, entries_are more)))
 
   -- what is written where there is one thing
-  pub one_written : (over : A → A → A) (new old : A) (o : Ordering) → name_order (key new) (key old) ≡ o → written key over new (entry_list key old) ≡ ordered over new old o
+  one_written : (over : A → A → A) (new old : A) (o : Ordering) → name_order (key new) (key old) ≡ o → written key over new (entry_list key old) ≡ ordered over new old o
   one_written over new old o is = ap (ordered over new old) is
 
   module _ (over : A → A → A) (load : A → ℕ) (new old : A) (before mid after : List (Arc A Global)) (x y : Arc A Global) (first : mid ≡ before ++ (x ∷ [])) where

@@ -29,7 +29,7 @@ module _ {K : Type 0} {R : K → K → Ordering} (total : IsTotalOrder R) where
 
 module _ {A K X : Type 0} {R : K → K → Ordering} (total : IsTotalOrder R) (f : A → K × X) where
   -- what is below all is below the one at each place
-  pub below_at : (x : K) (items : List A) (j : ℕ) (d : A) → T (below_all R x (map f items)) → j < length items → R x (f (get_or items j d)).0 ≡ Less
+  below_at : (x : K) (items : List A) (j : ℕ) (d : A) → T (below_all R x (map f items)) → j < length items → R x (f (get_or items j d)).0 ≡ Less
   below_at x [] j d h lt = absurd (omega arith)
   below_at x (a ∷ items) zero d h lt = less_of _ (front_of _ _ h)
   below_at x (a ∷ items) (suc j) d h lt = below_at x items j d (back_of _ _ h) (omega arith)

@@ -1,5 +1,5 @@
 -- One step down a map: the piece in which a name belongs decides what is found and what an edit leaves.
-use Rattle.std.proofs.Common.{◌≡◌, ℕ, suc, ◌+◌, ◌<◌, true, false, not, T, Option, List, [], ◌∷◌, ◌++◌, map, take, drop, get_or, length, refl, sym, ◌∙◌, ap, subst, arith, inl, inr, append_assoc}
+use Rattle.std.proofs.Common.{◌≡◌, ℕ, suc, ◌+◌, true, false, not, T, Option, List, [], ◌∷◌, ◌++◌, map, take, drop, get_or, length, refl, sym, ◌∙◌, ap, subst, arith, inl, inr, append_assoc}
 use Rattle.std.proofs.lemmas.Bool.{cases_lt}
 use Rattle.std.specs.Ordering.{is_lt, eq_by_cmp}
 use Rattle.std.specs.FinMap.Entries.{find, put, where_key, is_sorted, below_all}
@@ -37,11 +37,6 @@ module _ {A : Type 0} where
   pub starts_more : (first : List ℕ) (xs ys : List (List ℕ × A)) → StartsAt first xs → StartsAt first (xs ++ ys)
   starts_more first [] ys starts = absurd starts
   starts_more first (x ∷ xs) ys starts = starts
-
-  -- pieces that list something are some
-  pub some_pieces : {P : Type 0} (list : P → List (List ℕ × A)) (pieces : List (Arc P Global)) (first : List ℕ) → StartsAt first (pieces_entries list pieces) → 0 < length pieces
-  some_pieces list [] first starts = absurd starts
-  some_pieces list (p ∷ pieces) first starts = omega arith
 
 module _ {A P : Type 0} (kind : Kind A P) where
   pub all_join : (xs ys : List P) → EachIsPiece kind xs → EachIsPiece kind ys → EachIsPiece kind (xs ++ ys)

@@ -26,7 +26,7 @@ pub struct Group<P> {
 /// The most pieces of a group that is no map's whole.
 pub(crate) const MOST_PIECES: usize = 16;
 
-/// Adds one thing.
+/// Adds one thing. What `push` hands back where it is refused ends here, in one place for all that add.
 pub(crate) fn add<T: Drop>(made: &mut Vec<Arc<T>>, item: Arc<T>) -> Result<(), AllocError>
     ensures { OnOk result (made.new.items ≡ made.old.items ++ (item ∷ [])) }
 {
