@@ -20,7 +20,10 @@ use Rattle.claims_law.proofs.Tests.{never}
 use Rattle.conflicts.specs.declared.table.Kept.{Kept}
 use Rattle.conflicts.specs.Holders.{without_owner}
 use Rattle.conflicts.specs.Filed.{Numbered, claims_of, IsFiled, AreFiled, TakesOwn, LeavesOthers}
-use Rattle.conflicts.specs.Spots.{Spot, spot_order, pair_order, spot_text}
+use Rattle.conflicts.specs.Spots.{Spot, spot_order, pair_order}
+use Rattle.conflicts.specs.Index.{IsListed, KeepsOthers}
+use Rattle.conflicts.specs.declared.spots.Index.{Index}
+use Rattle.claims_law.specs.Skeleton.{Claim}
 use Rattle.conflicts.proofs.Members.{here, later, first_or_later, none_empty}
 
 -- Sets
@@ -120,13 +123,13 @@ put_or_there (x ∷ kept) last e c = elim (first_or_later x (kept ++ last ∷ []
 -- The whole
 
 -- indexes may have more
-pub widened : (next wider : ℕ) (spots more : List Spot) (owned others : List (ℕ × ℕ)) (kept : List Numbered) → AreFiled next spots owned kept → next ≤ wider → ((s : Spot) → Contains spots s → Contains more s) → ((p : ℕ × ℕ) → Contains owned p → Contains others p)
+pub widened : (next wider : ℕ) (index more : Index) (owned others : List (ℕ × ℕ)) (kept : List Numbered) → AreFiled next index owned kept → next ≤ wider → ((n : ℕ) (claim : Claim) → n < next → IsListed index n claim → IsListed more n claim) → ((p : ℕ × ℕ) → Contains owned p → Contains others p)
     → AreFiled wider more others kept
-widened next wider spots more owned others kept are le all_spots all_owned = record {
+widened next wider index more owned others kept are le all_listed all_owned = record {
   rises = are.rises;
-  filed = λ n k c. let f : IsFiled next spots owned n k.entry = are.filed n k c in
+  filed = λ n k c. let f : IsFiled next index owned n k.entry = are.filed n k c in
       let below : n < next = f.below in
-      record { below = omega (arith, below, le); spot = f.spot; listed = all_spots f.spot f.listed; text = f.text; numbered = f.numbered; owner = all_owned (n_pair k n) (f.owner) };
+      record { below = omega (arith, below, le); listed = all_listed n k.entry.claim below f.listed; owner = all_owned (n_pair k n) (f.owner) };
   spots_known = are.spots_known;
 }
   where
@@ -134,14 +137,14 @@ widened next wider spots more owned others kept are le all_spots all_owned = rec
     n_pair k n = (k.entry.owner, n)
 
 -- one claim more at the end
-pub put_in : (next wider n : ℕ) (spots more : List Spot) (owned others : List (ℕ × ℕ)) (kept all : List Numbered) (k : Kept) → AreFiled next spots owned kept → next ≤ wider → n < wider → ((s : Spot) → Contains spots s → Contains more s) → ((p : ℕ × ℕ) → Contains owned p → Contains others p)
-    → all ≡ kept ++ (n, k) ∷ [] → IsStrictlySortedBy nat_cmp (map (λ (e : Numbered). e.0) all) → ((s : Spot) × Contains more s × (s.0.items ≡ spot_text k.entry.claim) × (s.1 ≡ n)) → Contains others (k.entry.owner, n) → k.spot.1 ≡ n
+pub put_in : (next wider n : ℕ) (index more : Index) (owned others : List (ℕ × ℕ)) (kept all : List Numbered) (k : Kept) → AreFiled next index owned kept → next ≤ wider → n < wider → ((m : ℕ) (claim : Claim) → m < next → IsListed index m claim → IsListed more m claim) → ((p : ℕ × ℕ) → Contains owned p → Contains others p)
+    → all ≡ kept ++ (n, k) ∷ [] → IsStrictlySortedBy nat_cmp (map (λ (e : Numbered). e.0) all) → IsListed more n k.entry.claim → Contains others (k.entry.owner, n) → k.spot.1 ≡ n
     → AreFiled wider more others all
-put_in next wider n spots more owned others kept all k are le lt all_spots all_owned is rises spot own known = record {
+put_in next wider n index more owned others kept all k are le lt all_listed all_owned is rises listed own known = record {
   rises = rises;
   filed = λ m h c. elim (put_or_there kept (n, k) (m, h) (subst (λ xs. Contains xs (m, h)) is c)) [
-    | inl d ↦ let w : AreFiled wider more others kept = widened next wider spots more owned others kept are le all_spots all_owned in w.filed m h d
-    | inr e ↦ subst (λ (x : Numbered). IsFiled wider more others x.0 x.1.entry) e (record { below = lt; spot = spot.0; listed = spot.1; text = spot.2; numbered = spot.3; owner = own })
+    | inl d ↦ let w : AreFiled wider more others kept = widened next wider index more owned others kept are le all_listed all_owned in w.filed m h d
+    | inr e ↦ subst (λ (x : Numbered). IsFiled wider more others x.0 x.1.entry) e (record { below = lt; listed = listed; owner = own })
   ];
   spots_known = λ m h c. elim (put_or_there kept (n, k) (m, h) (subst (λ xs. Contains xs (m, h)) is c)) [
     | inl d ↦ are.spots_known m h d
@@ -151,7 +154,7 @@ put_in next wider n spots more owned others kept all k are le lt all_spots all_o
 
 -- Taking claims out
 
-other_number : (m n : ℕ) → m ≢ n → is_eq (nat_cmp m n) ≡ false
+pub other_number : (m n : ℕ) → m ≢ n → is_eq (nat_cmp m n) ≡ false
 other_number m n ne = by_order (nat_cmp m n) refl
   where
     by_order : (o : Ordering) → nat_cmp m n ≡ o → is_eq o ≡ false
@@ -162,7 +165,7 @@ other_number m n ne = by_order (nat_cmp m n) refl
 same_number : (n : ℕ) → is_eq (nat_cmp n n) ≡ true
 same_number n = ap is_eq (tied_itself nat_cmp_total n)
 
-not_tied : (o p : Ordering) → is_eq p ≡ false → is_eq (ordering_then o p) ≡ false
+pub not_tied : (o p : Ordering) → is_eq p ≡ false → is_eq (ordering_then o p) ≡ false
 not_tied Less p f = refl
 not_tied Equal p f = f
 not_tied Greater p f = refl
@@ -240,7 +243,7 @@ none_left (x ∷ kept) owner h =
     apart false e = e
     apart true e = absurd (h x.0 x.1 (here x kept) (eqb-true x.1.entry.owner owner e))
 
-module _ (next : ℕ) (spots : List Spot) (owned others : List (ℕ × ℕ)) (kept new : List Numbered) (owner n : ℕ) (listed : ℕ × ℕ) (first : listed.0 ≡ owner) (second : listed.1 ≡ n) (removed : others ≡ remove_key (is_at (pair_order listed)) owned) (are : AreFiled next spots owned kept) where
+module _ (next : ℕ) (index : Index) (owned others : List (ℕ × ℕ)) (kept new : List Numbered) (owner n : ℕ) (listed : ℕ × ℕ) (first : listed.0 ≡ owner) (second : listed.1 ≡ n) (removed : others ≡ remove_key (is_at (pair_order listed)) owned) (are : AreFiled next index owned kept) where
   -- a pair with another number stays, and so does one with another owner
   stays_number : (p : ℕ × ℕ) → Contains owned p → n ≢ p.1 → Contains others p
   stays_number p c ne = subst (λ xs. Contains xs p) (sym removed) (remove_keeps pair_order (is_at (pair_order listed)) owned p c (not_tied (nat_cmp listed.0 p.0) (nat_cmp listed.1 p.1) (other_number listed.1 p.1 (λ s. ne (sym second ∙ s)))))
@@ -254,34 +257,28 @@ module _ (next : ℕ) (spots : List Spot) (owned others : List (ℕ × ℕ)) (ke
       first_apart Greater q f = refl
 
   -- after a claim of the owner was taken out, with its spot
-  pub filed_without : (fewer : List Spot) (one : Kept) → TakesOwn kept new owner n one → IsStrictlySortedBy nat_cmp (map (λ (e : Numbered). e.0) new) → fewer ≡ remove_key (is_at (spot_order one.spot)) spots → AreFiled next fewer others new
+  pub filed_without : (fewer : Index) (one : Kept) → TakesOwn kept new owner n one → IsStrictlySortedBy nat_cmp (map (λ (e : Numbered). e.0) new) → KeepsOthers index fewer one.spot.1 → AreFiled next fewer others new
   filed_without fewer one takes rises less = record {
     rises = rises;
     filed = λ m h c. let was = left_over kept are.rises n m h (subst (λ xs. Contains xs (m, h)) takes.is c) in
-        let f : IsFiled next spots owned m h.entry = are.filed m h was.0 in
+        let f : IsFiled next index owned m h.entry = are.filed m h was.0 in
         let known : one.spot.1 ≡ n = are.spots_known n one (lookup_has kept n one takes.was) in
         record {
           below = f.below;
-          spot = f.spot;
-          text = f.text;
-          numbered = f.numbered;
-          listed = subst (λ xs. Contains xs f.spot) (sym less) (remove_keeps spot_order (is_at (spot_order one.spot)) spots f.spot f.listed (not_tied (slice_cmp nat_cmp one.spot.0.items f.spot.0.items) (nat_cmp one.spot.1 f.spot.1) (other_number one.spot.1 f.spot.1 (λ s. was.1 (sym known ∙ s ∙ f.numbered)))));
+          listed = less m h.entry.claim (λ s. was.1 (sym known ∙ s)) f.listed;
           owner = stays_number (h.entry.owner, m) f.owner was.1;
         };
     spots_known = λ m h c. are.spots_known m h (left_over kept are.rises n m h (subst (λ xs. Contains xs (m, h)) takes.is c)).0;
   }
 
   -- and where there was none
-  pub filed_still : LeavesOthers kept new owner n → AreFiled next spots others new
-  filed_still leaves = subst (λ xs. AreFiled next spots others xs) (sym leaves.same) (record {
+  pub filed_still : LeavesOthers kept new owner n → AreFiled next index others new
+  filed_still leaves = subst (λ xs. AreFiled next index others xs) (sym leaves.same) (record {
     rises = are.rises;
-    filed = λ m h c. let f : IsFiled next spots owned m h.entry = are.filed m h c in
+    filed = λ m h c. let f : IsFiled next index owned m h.entry = are.filed m h c in
         record {
           below = f.below;
-          spot = f.spot;
           listed = f.listed;
-          text = f.text;
-          numbered = f.numbered;
           owner = elim (cases_eq n m) [
             | inl s ↦ stays_owner (h.entry.owner, m) f.owner (λ o. leaves.others h (has_lookup kept are.rises n h (subst (λ x. Contains kept (x, h)) (sym s) c)) (sym o))
             | inr ne ↦ stays_number (h.entry.owner, m) f.owner ne
@@ -291,9 +288,9 @@ module _ (next : ℕ) (spots : List Spot) (owned others : List (ℕ × ℕ)) (ke
   })
 
 -- the owner has no claim where no number is listed under it
-pub none_owned : (next : ℕ) (spots : List Spot) (owned : List (ℕ × ℕ)) (kept : List Numbered) (owner : ℕ) → AreFiled next spots owned kept → next < 18446744073709551616 → ((number : ℕ) → number < 18446744073709551616 → Contains owned (owner, number) → ⊥)
+pub none_owned : (next : ℕ) (index : Index) (owned : List (ℕ × ℕ)) (kept : List Numbered) (owner : ℕ) → AreFiled next index owned kept → next < 18446744073709551616 → ((number : ℕ) → number < 18446744073709551616 → Contains owned (owner, number) → ⊥)
     → without_owner (claims_of kept) owner ≡ claims_of kept
-none_owned next spots owned kept owner are small none = none_left kept owner (λ n k c e.
-    let f : IsFiled next spots owned n k.entry = are.filed n k c in
+none_owned next index owned kept owner are small none = none_left kept owner (λ n k c e.
+    let f : IsFiled next index owned n k.entry = are.filed n k c in
     let below : n < next = f.below in
     none n (omega (arith, below, small)) (subst (λ o. Contains owned (o, n)) e f.owner))

@@ -12,6 +12,7 @@ pub mod PathSpots
 pub mod Apart
 pub mod Looks
 pub mod Filing
+pub mod Listed
 pub mod Effects
 pub mod TimesTold
 pub mod Homes

@@ -22,6 +22,8 @@ use Rattle.claims_law.proofs.Tests.{never}
 use Rattle.conflicts.specs.Holders.{Held, same_held, is_some_that, stands_against, asks, with_holder, each_once, holders_of}
 use Rattle.conflicts.specs.Claims.{meets}
 use Rattle.conflicts.specs.Spots.{Spot, spot_order, spot_text}
+use Rattle.conflicts.specs.Index.{IsListed}
+use Rattle.conflicts.specs.declared.spots.Index.{Index}
 use Rattle.conflicts.specs.Filed.{Numbered, claims_of, IsFiled, AreFiled}
 use Rattle.conflicts.proofs.Filing.{has_lookup}
 use Rattle.conflicts.proofs.SpotRanges.{at_text}
@@ -169,12 +171,13 @@ lent_entry None = refl
 lent_entry (Some k) = refl
 
 -- the numbers near a claim are those of all claims that may stand against it
-pub covered : (next : ℕ) (spots : List Spot) (owned : List (ℕ × ℕ)) (kept : List Numbered) → AreFiled next spots owned kept → (asker : Option ℕ) (claim : Claim) (numbers : List ℕ)
-    → ((spot : Spot) (held : Claim) → Contains spots spot → spot.0.items ≡ spot_text held → meets claim held ≡ true → Contains numbers spot.1)
+pub covered : (next : ℕ) (index : Index) (owned : List (ℕ × ℕ)) (kept : List Numbered) → AreFiled next index owned kept → next < 18446744073709551616 → (asker : Option ℕ) (claim : Claim) (numbers : List ℕ)
+    → ((number : ℕ) (held : Claim) → number < 18446744073709551616 → IsListed index number held → meets claim held ≡ true → Contains numbers number)
     → (n : ℕ) (k : Kept) → Contains kept (n, k) → stands_against asker claim k.entry ≡ true → Contains numbers n
-covered next spots owned kept are asker claim numbers complete n k has t =
-    let filed : IsFiled next spots owned n k.entry = are.filed n k has in
-    subst (λ m. Contains numbers m) filed.numbered (complete filed.spot k.entry.claim filed.listed filed.text (parts (not (asks asker k.entry.owner)) (meets claim k.entry.claim) t).1)
+covered next index owned kept are small asker claim numbers complete n k has t =
+    let filed : IsFiled next index owned n k.entry = are.filed n k has in
+    let below : n < next = filed.below in
+    complete n k.entry.claim (omega (arith, below, small)) filed.listed (parts (not (asks asker k.entry.owner)) (meets claim k.entry.claim) t).1
 
 -- Whether some claim passes a test
 
@@ -223,23 +226,23 @@ none_yet p kept numbers i lt was now n c = by_case (take i numbers) was (subst (
     ]
 
 -- so none conflicts, where those of the numbers near don't
-pub none_met : (next : ℕ) (spots : List Spot) (owned : List (ℕ × ℕ)) (kept : List Numbered) → AreFiled next spots owned kept → (asker : Option ℕ) (claim : Claim) (numbers : List ℕ)
-    → ((spot : Spot) (held : Claim) → Contains spots spot → spot.0.items ≡ spot_text held → meets claim held ≡ true → Contains numbers spot.1)
+pub none_met : (next : ℕ) (index : Index) (owned : List (ℕ × ℕ)) (kept : List Numbered) → AreFiled next index owned kept → next < 18446744073709551616 → (asker : Option ℕ) (claim : Claim) (numbers : List ℕ)
+    → ((number : ℕ) (held : Claim) → number < 18446744073709551616 → IsListed index number held → meets claim held ≡ true → Contains numbers number)
     → ((n : ℕ) → Contains numbers n → is_some_that (stands_against asker claim) (look kept n) ≡ false) → list_any (stands_against asker claim) (claims_of kept) ≡ false
-none_met next spots owned kept are asker claim numbers complete none =
-    found_none (stands_against asker claim) kept kept (λ n k c. c) are.rises (λ n k c t. none n (covered next spots owned kept are asker claim numbers complete n k c t))
+none_met next index owned kept are small asker claim numbers complete none =
+    found_none (stands_against asker claim) kept kept (λ n k c. c) are.rises (λ n k c t. none n (covered next index owned kept are small asker claim numbers complete n k c t))
 
 -- and none is the one asked for, where those of the spots at its text aren't
-pub none_same : (next : ℕ) (spots : List Spot) (owned : List (ℕ × ℕ)) (kept : List Numbered) → AreFiled next spots owned kept → next < 18446744073709551616 → (one : Held) (from to : Spot) → from.0.items ≡ spot_text one.claim → from.1 ≡ 0 → to.0.items ≡ from.0.items → to.1 ≡ 18446744073709551615
-    → ((spot : Spot) → Contains (filter (λ s. range_contains spot_order (Included from) (Included to) s) spots) spot → is_some_that (same_held one) (look kept spot.1) ≡ false) → list_any (same_held one) (claims_of kept) ≡ false
-none_same next spots owned kept are small one from to at least same most none =
+pub none_same : (next : ℕ) (index : Index) (owned : List (ℕ × ℕ)) (kept : List Numbered) → AreFiled next index owned kept → next < 18446744073709551616 → (one : Held) (from to : Spot) → from.0.items ≡ spot_text one.claim → from.1 ≡ 0 → to.0.items ≡ from.0.items → to.1 ≡ 18446744073709551615
+    → ((spot : Spot) → Contains (filter (λ s. range_contains spot_order (Included from) (Included to) s) index.spots.keys) spot → is_some_that (same_held one) (look kept spot.1) ≡ false) → list_any (same_held one) (claims_of kept) ≡ false
+none_same next index owned kept are small one from to at least same most none =
     found_none (same_held one) kept kept (λ n k c. c) are.rises (λ n k c t.
-    let filed : IsFiled next spots owned n k.entry = are.filed n k c in
-    let text : filed.spot.0.items ≡ from.0.items = filed.text ∙ ap (λ (h : Held). spot_text h.claim) (sym (held_is one k.entry t)) ∙ sym at in
+    let filed : IsFiled next index owned n k.entry = are.filed n k c in
+    let text : filed.listed.spot.0.items ≡ from.0.items = filed.listed.text ∙ ap (λ (h : Held). spot_text h.claim) (sym (held_is one k.entry t)) ∙ sym at in
     let below : n < next = filed.below in
-    let numbered : filed.spot.1 ≡ n = filed.numbered in
-    subst (λ m. is_some_that (same_held one) (look kept m) ≡ false) filed.numbered
-    (none filed.spot (filter_has (λ s. range_contains spot_order (Included from) (Included to) s) spots filed.spot filed.listed (at_text from to least same most filed.spot text (omega (arith, below, small, numbered))))))
+    let numbered : filed.listed.spot.1 ≡ n = filed.listed.numbered in
+    subst (λ m. is_some_that (same_held one) (look kept m) ≡ false) filed.listed.numbered
+    (none filed.listed.spot (filter_has (λ s. range_contains spot_order (Included from) (Included to) s) index.spots.keys filed.listed.spot filed.listed.listed (at_text from to least same most filed.listed.spot text (omega (arith, below, small, numbered))))))
 
 -- the spots that are still to be gone through
 pub none_before : (p : Held → Bool) (kept : List Numbered) (spots rest : List Spot) (first : Spot) → ((spot : Spot) → Contains spots spot → Contains (first ∷ rest) spot ⊎ (is_some_that p (look kept spot.1) ≡ false)) → is_some_that p (look kept first.1) ≡ false

@@ -6,7 +6,10 @@ use Rattle.std.proofs.lemmas.List.{map-append, take_more, length-map, take-map}
 use Rattle.reg_names.specs.Names.{folded, folded_path}
 use Rattle.claims_law.specs.Skeleton.{Same, Kind, Shape, Hold, Claim, Conflict}
 use Rattle.conflicts.specs.Claims.{meets}
-use Rattle.conflicts.specs.Spots.{Spot, name_text, path_text, key_text, spot_text, past_of, GoesOn}
+use Rattle.conflicts.specs.Spots.{Spot, name_text, path_text, key_text, spot_text, text_hash, numbers_under, past_of, GoesOn}
+use Rattle.conflicts.specs.Index.{IsListed}
+use Rattle.conflicts.specs.declared.spots.Index.{Index}
+use Rattle.conflicts.proofs.SpotRanges.{under_has}
 use Rattle.conflicts.proofs.Members.{here, later, first_or_later, none_empty}
 use Rattle.conflicts.proofs.Meets.{meets_conflict}
 
@@ -37,16 +40,16 @@ module _ (names : List (List ℕ)) (i : ℕ) (name : List ℕ) (lt : i < length 
       ap (λ p. path_text (folded_path p)) taken ∙ ap path_text (map-append folded (take i names) (name ∷ [])) ∙ path_text-append (folded_path (take i names)) (folded name ∷ []) ∙ ap (λ t. path_text (folded_path (take i names)) ++ t) (append-nil (name_text (folded name))) in
       e ∙ ap (λ t. t ++ name_text (folded name)) written ∙ append_assoc before (path_text (folded_path (take i names))) (name_text (folded name)) ∙ ap (λ t. before ++ t) (sym made)
 
-  pub gathered_more : (keys : List Spot) (old more new : List ℕ) → new ≡ old ++ more
-      → ((spot : Spot) (j : ℕ) → Contains keys spot → j < i → GoesOn (before ++ path_text (folded_path (take j names))) 1 spot.0.items → Contains old spot.1)
-      → ((spot : Spot) → Contains keys spot → GoesOn text 1 spot.0.items → Contains more spot.1)
-      → (spot : Spot) (j : ℕ) → Contains keys spot → j < i + 1 → GoesOn (before ++ path_text (folded_path (take j names))) 1 spot.0.items → Contains new spot.1
-  gathered_more keys old more new joined was now spot j has below on =
-      subst (λ xs. Contains xs spot.1) (sym joined) (elim (cases_lt j i) [
-        | inl less ↦ in_front old more spot.1 (was spot j has less on)
+  pub gathered_more : (keys : List (ℕ × ℕ)) (hash : ℕ) (old new : List ℕ) → hash ≡ text_hash (text ++ 0 ∷ []) → new ≡ old ++ numbers_under hash keys
+      → ((number j : ℕ) → number < 18446744073709551616 → j < i → Contains keys (text_hash ((before ++ path_text (folded_path (take j names))) ++ 0 ∷ []), number) → Contains old number)
+      → (number j : ℕ) → number < 18446744073709551616 → j < i + 1 → Contains keys (text_hash ((before ++ path_text (folded_path (take j names))) ++ 0 ∷ []), number) → Contains new number
+  gathered_more keys hash old new hashed joined was number j small below has =
+      subst (λ xs. Contains xs number) (sym joined) (elim (cases_lt j i) [
+        | inl less ↦ in_front old (numbers_under hash keys) number (was number j small less has)
         | inr not_less ↦
             let same : j ≡ i = omega (arith, below, not_less) in
-            behind old more spot.1 (now spot has (subst (λ t. GoesOn t 1 spot.0.items) (ap (λ k. before ++ path_text (folded_path (take k names))) same ∙ sym written) on))
+            let here_is : text_hash ((before ++ path_text (folded_path (take j names))) ++ 0 ∷ []) ≡ hash = ap (λ k. text_hash ((before ++ path_text (folded_path (take k names))) ++ 0 ∷ [])) same ∙ ap (λ t. text_hash (t ++ 0 ∷ [])) (sym written) ∙ sym hashed in
+            behind old (numbers_under hash keys) number (under_has hash number keys small (subst (λ h. Contains keys (h, number)) here_is has))
       ])
 
 -- The spots that may matter to a claim
@@ -66,7 +69,7 @@ at_front (n ∷ p) q = ap (λ xs. n ∷ xs) (at_front p q)
 -- a spot whose claim conflicts with one lies at a key on the way to its key, at its key or, for a Shape, below
 module _ (path : List (List ℕ)) (claim held : Claim) (spelled : claim.key.path ≡ folded_path path) (spot : Spot) (at : spot.0.items ≡ spot_text held) where
   abbrev pub OnTheWay : Type 0
-  OnTheWay = (j : ℕ) × (j < length path) × GoesOn (claim.key.hive ∷ [] ++ path_text (folded_path (take j path))) 1 spot.0.items
+  OnTheWay = (j : ℕ) × (j < length path) × (spot_text held ≡ (claim.key.hive ∷ [] ++ path_text (folded_path (take j path))) ++ 0 ∷ [])
 
   abbrev pub AtOrBelow : Type 0
   AtOrBelow = GoesOn (key_text claim.key) (past_of claim.kind) spot.0.items
@@ -85,20 +88,20 @@ module _ (path : List (List ℕ)) (claim held : Claim) (spelled : claim.key.path
       let longer : folded_path path ≡ held.key.path ++ below.1.0 ∷ below.1.1 = sym spelled ∙ below.1.2 in
       let n : length path ≡ length held.key.path + suc (length below.1.1) = sym (length-map path folded) ∙ ap length longer ∙ more held.key.path below.1.0 below.1.1 in
       let front : folded_path (take (length held.key.path) path) ≡ held.key.path = sym (take-map folded (length held.key.path) path) ∙ ap (take (length held.key.path)) longer ∙ at_front held.key.path (below.1.0 ∷ below.1.1) in
-      inl (length held.key.path, omega (arith, n), (0, [], omega arith, at ∙ (λ i. below.0 i ∷ (path_text (sym front i) ++ 0 ∷ []))))
+      inl (length held.key.path, omega (arith, n), λ i. below.0 i ∷ (path_text (sym front i) ++ 0 ∷ []))
     where
       more : (p : List (List ℕ)) (x : List ℕ) (r : List (List ℕ)) → length (p ++ x ∷ r) ≡ length p + suc (length r)
       more [] x r = omega arith
       more (y ∷ p) x r = let e : length (p ++ x ∷ r) ≡ length p + suc (length r) = more p x r in omega (arith, e)
 
-module _ (path : List (List ℕ)) (claim held : Claim) (spelled : claim.key.path ≡ folded_path path) (spot : Spot) (at : spot.0.items ≡ spot_text held) (keys : List Spot) (has : Contains keys spot)
+module _ (path : List (List ℕ)) (claim held : Claim) (spelled : claim.key.path ≡ folded_path path) (index : Index) (number : ℕ) (small : number < 18446744073709551616) (listed : IsListed index number held)
     (start text : List ℕ) (begun : start ≡ claim.key.hive ∷ []) (written : text ≡ start ++ path_text (folded_path path)) (past : ℕ) (bound : past ≡ past_of claim.kind) (way more joined final : List ℕ)
-    (on_way : (s : Spot) (j : ℕ) → Contains keys s → j < length path → GoesOn (start ++ path_text (folded_path (take j path))) 1 s.0.items → Contains way s.1)
-    (at_key : (s : Spot) → Contains keys s → GoesOn text past s.0.items → Contains more s.1) (both : joined ≡ way ++ more) (keeps : (n : ℕ) → Contains joined n → Contains final n) where
-  pub near_has : meets claim held ≡ true → Contains final spot.1
-  near_has t = keeps spot.1 (subst (λ xs. Contains xs spot.1) (sym both) (elim (where_near path claim held spelled spot at (meets_conflict claim held t)) [
-    | inl w ↦ in_front way more spot.1 (on_way spot w.0 has w.1 (subst (λ x. GoesOn (x ++ path_text (folded_path (take w.0 path))) 1 spot.0.items) (sym begun) w.2))
-    | inr b ↦ behind way more spot.1 (at_key spot has (subst (λ x. GoesOn x past spot.0.items) (sym whole) (subst (λ n. GoesOn (key_text claim.key) n spot.0.items) (sym bound) b)))
+    (on_way : (n j : ℕ) → n < 18446744073709551616 → j < length path → Contains index.hashes.keys (text_hash ((start ++ path_text (folded_path (take j path))) ++ 0 ∷ []), n) → Contains way n)
+    (at_key : (s : Spot) → Contains index.spots.keys s → GoesOn text past s.0.items → Contains more s.1) (both : joined ≡ way ++ more) (keeps : (n : ℕ) → Contains joined n → Contains final n) where
+  pub near_has : meets claim held ≡ true → Contains final number
+  near_has t = keeps number (subst (λ xs. Contains xs number) (sym both) (elim (where_near path claim held spelled listed.spot listed.text (meets_conflict claim held t)) [
+    | inl w ↦ in_front way more number (on_way number w.0 small w.1 (subst (λ x. Contains index.hashes.keys (text_hash x, number)) (w.2 ∙ ap (λ x. (x ++ path_text (folded_path (take w.0 path))) ++ 0 ∷ []) (sym begun)) listed.hashed))
+    | inr b ↦ behind way more number (subst (λ n. Contains more n) listed.numbered (at_key listed.spot listed.listed (subst (λ x. GoesOn x past listed.spot.0.items) (sym whole) (subst (λ n. GoesOn (key_text claim.key) n listed.spot.0.items) (sym bound) b))))
   ]))
     where
       whole : text ≡ key_text claim.key

@@ -1,5 +1,5 @@
 -- What goes on from a text lies between two spots.
-use Rattle.std.proofs.Common.{◌≡◌, ◌⊎◌, inl, inr, ℕ, zero, suc, ◌<◌, ◌≤◌, Bool, true, false, not, ◌&&◌, eqb, List, [], ◌∷◌, ◌++◌, map, length, take, min, append-nil, append_assoc, refl, sym, ◌∙◌, ap, subst, arith}
+use Rattle.std.proofs.Common.{◌≡◌, ◌⊎◌, inl, inr, ℕ, zero, suc, ◌<◌, ◌≤◌, Bool, true, false, not, ◌&&◌, eqb, List, [], ◌∷◌, ◌++◌, map, length, take, drop, ◌-◌, min, append-nil, append_assoc, refl, sym, ◌∙◌, ap, subst, arith}
 use Rattle.std.specs.Prelude.{filter, Contains}
 use Rattle.std.specs.Ordering.{nat_cmp, ordering_then, is_gt, is_le, is_lt, is_eq, eq_by_cmp}
 use Rattle.std.specs.FinMap.{nat_cmp-IsAntisymmetric}
@@ -13,7 +13,10 @@ use Rattle.std.specs.declared.cmp.Ordering.TheVariants.{Less, Equal, Greater}
 use Rattle.std.specs.declared.ops.Bound.TheVariants.{Included}
 use Rattle.std.specs.BTreeMap.Range.{range_contains}
 use Rattle.reg_names.specs.Names.{fold_unit, folded}
-use Rattle.conflicts.specs.Spots.{Spot, spot_order, pair_order, numbers_between, GoesOn, name_text}
+use Rattle.conflicts.specs.Spots.{Spot, spot_order, pair_order, numbers_between, numbers_under, fed_text, GoesOn, name_text}
+use Rattle.std.proofs.lemmas.List.{take_rest}
+use Rattle.std.proofs.lemmas.List.Sums.{fold-append}
+use Rattle.std.proofs.Math.Seq.{drop-append_seam}
 use Rattle.conflicts.proofs.Members.{filter_has, map_has, none_empty}
 
 nat_less : (m n : ℕ) → m < n → nat_cmp m n ≡ Less
@@ -146,21 +149,37 @@ module _ (owner number : ℕ) where
     | inr ge ↦ let same : number ≡ 18446744073709551615 = omega (arith, lt, ge) in ap (λ m. not (is_lt (nat_cmp 18446744073709551615 m))) same
   ]
 
-  -- where none is found between the first and the last, none is listed
-  pub none_listed : (keys found : List (ℕ × ℕ)) → found ≡ filter (range_contains pair_order (Included (from_pair owner)) (Included (to_pair owner))) keys → found ≡ [] → number < 18446744073709551616 → Contains keys (owner, number) → ⊥
-  none_listed keys found e none lt has =
-      none_empty (owner, number) (subst (λ xs. Contains xs (owner, number)) (sym e ∙ none)
-      (filter_has (range_contains pair_order (Included (from_pair owner)) (Included (to_pair owner))) keys (owner, number) has (both_true (is_le (pair_order (from_pair owner) (owner, number))) (not (is_lt (pair_order (to_pair owner) (owner, number)))) from_first (to_last lt))))
+  -- what is listed is found between the first and the last
+  found_between : (keys : List (ℕ × ℕ)) → number < 18446744073709551616 → Contains keys (owner, number) → Contains (filter (range_contains pair_order (Included (from_pair owner)) (Included (to_pair owner))) keys) (owner, number)
+  found_between keys lt has =
+      filter_has (range_contains pair_order (Included (from_pair owner)) (Included (to_pair owner))) keys (owner, number) has (both_true (is_le (pair_order (from_pair owner) (owner, number))) (not (is_lt (pair_order (to_pair owner) (owner, number)))) from_first (to_last lt))
     where
       both_true : (a b : Bool) → a ≡ true → b ≡ true → (a && b) ≡ true
       both_true true b e f = f
       both_true false b e f = e
 
+  -- where none is found there, none is listed
+  pub none_listed : (keys found : List (ℕ × ℕ)) → found ≡ filter (range_contains pair_order (Included (from_pair owner)) (Included (to_pair owner))) keys → found ≡ [] → number < 18446744073709551616 → Contains keys (owner, number) → ⊥
+  none_listed keys found e none lt has = none_empty (owner, number) (subst (λ xs. Contains xs (owner, number)) (sym e ∙ none) (found_between keys lt has))
+
+  pub under_has : (keys : List (ℕ × ℕ)) → number < 18446744073709551616 → Contains keys (owner, number) → Contains (numbers_under owner keys) number
+  under_has keys lt has = map_has (λ (p : ℕ × ℕ). p.1) (filter (range_contains pair_order (Included (from_pair owner)) (Included (to_pair owner))) keys) (owner, number) (found_between keys lt has)
+
+-- a text that is fed after another one is fed behind it
+pub fed_on : (state : _) (before more : List ℕ) → fed_text (fed_text state before) more ≡ fed_text state (before ++ more)
+fed_on state before more = sym (fold-append _ state before more)
+
+-- and so what was written behind a text that was fed
+pub fed_rest : (state : _) (before more after : List ℕ) (n : ℕ) → n ≡ length before → after ≡ before ++ more → fed_text (fed_text state before) (take (length after - n) (drop n after)) ≡ fed_text state after
+fed_rest state before more after n at is =
+    ap (fed_text (fed_text state before)) (take_rest after n ∙ ap (λ k. drop k after) at ∙ ap (drop (length before)) is ∙ drop-append_seam before more)
+    ∙ fed_on state before more ∙ ap (fed_text state) (sym is)
+
 -- one number more is gathered
-pub one_gathered : (found more all : List ℕ) (spot : Spot) (left next : List Spot) → left ≡ spot ∷ next → more ≡ found ++ spot.1 ∷ [] → found ++ map (λ (s : Spot). s.1) left ≡ all → more ++ map (λ (s : Spot). s.1) next ≡ all
-one_gathered found more all spot left next step put before =
-    ap (λ xs. xs ++ map (λ (s : Spot). s.1) next) put ∙ append_assoc found (spot.1 ∷ []) (map (λ (s : Spot). s.1) next) ∙ sym (ap (λ xs. found ++ map (λ (s : Spot). s.1) xs) step) ∙ before
+pub one_gathered : {K : Type 0} (found more all : List ℕ) (one : K × ℕ) (left next : List (K × ℕ)) → left ≡ one ∷ next → more ≡ found ++ one.1 ∷ [] → found ++ map (λ (p : K × ℕ). p.1) left ≡ all → more ++ map (λ (p : K × ℕ). p.1) next ≡ all
+one_gathered {K} found more all one left next step put before =
+    ap (λ xs. xs ++ map (λ (p : K × ℕ). p.1) next) put ∙ append_assoc found (one.1 ∷ []) (map (λ (p : K × ℕ). p.1) next) ∙ sym (ap (λ xs. found ++ map (λ (p : K × ℕ). p.1) xs) step) ∙ before
 
 -- when none is left, all are
-pub all_gathered : (found all : List ℕ) (left : List Spot) → left ≡ [] → found ++ map (λ (s : Spot). s.1) left ≡ all → found ≡ all
-all_gathered found all left none before = sym (append-nil found) ∙ sym (ap (λ xs. found ++ map (λ (s : Spot). s.1) xs) none) ∙ before
+pub all_gathered : {K : Type 0} (found all : List ℕ) (left : List (K × ℕ)) → left ≡ [] → found ++ map (λ (p : K × ℕ). p.1) left ≡ all → found ≡ all
+all_gathered {K} found all left none before = sym (append-nil found) ∙ sym (ap (λ xs. found ++ map (λ (p : K × ℕ). p.1) xs) none) ∙ before

@@ -1,4 +1,4 @@
--- What a table keeps of its indexes: each claim's number is below the next one, the claim has a spot, and its number
+-- What a table keeps of its indexes: each claim's number is below the next one, the claim is listed by its key, and its number
 -- is listed under its owner.
 use Rattle.std.specs.Prelude.{◌≡◌, ℕ, ◌<◌, ◌≢◌, List, map, Contains, Some}
 use Rattle.std.specs.Map.{lookup, remove_entry}
@@ -6,7 +6,8 @@ use Rattle.std.specs.BTreeMap.{is_at}
 use Rattle.std.specs.Ordering.{nat_cmp}
 use Rattle.std.specs.List.Sorted.{IsStrictlySortedBy}
 use Rattle.conflicts.specs.Holders.{Held, StandApart}
-use Rattle.conflicts.specs.Spots.{Spot, spot_text}
+use Rattle.conflicts.specs.Index.{IsListed}
+use Rattle.conflicts.specs.declared.spots.Index.{Index}
 use Rattle.conflicts.specs.declared.table.Kept.{Kept}
 
 -- a claim with its number
@@ -17,23 +18,20 @@ Numbered = ℕ × Kept
 abbrev pub claims_of : List Numbered → List Held
 claims_of kept = map (λ (e : Numbered). e.1.entry) kept
 
-pub record IsFiled (next : ℕ) (spots : List Spot) (owned : List (ℕ × ℕ)) (number : ℕ) (one : Held) : Type 0 where
+pub record IsFiled (next : ℕ) (index : Index) (owned : List (ℕ × ℕ)) (number : ℕ) (one : Held) : Type 0 where
   pub below : number < next
-  pub spot : Spot
-  pub listed : Contains spots spot
-  pub text : spot.0.items ≡ spot_text one.claim
-  pub numbered : spot.1 ≡ number
+  pub listed : IsListed index number one.claim
   pub owner : Contains owned (one.owner, number)
 
 -- all numbers rise, and each claim is filed and knows the number of its spot
-pub record AreFiled (next : ℕ) (spots : List Spot) (owned : List (ℕ × ℕ)) (kept : List Numbered) : Type 0 where
+pub record AreFiled (next : ℕ) (index : Index) (owned : List (ℕ × ℕ)) (kept : List Numbered) : Type 0 where
   pub rises : IsStrictlySortedBy nat_cmp (map (λ e. e.0) kept)
-  pub filed : (number : ℕ) (one : Kept) → Contains kept (number, one) → IsFiled next spots owned number one.entry
+  pub filed : (number : ℕ) (one : Kept) → Contains kept (number, one) → IsFiled next index owned number one.entry
   pub spots_known : (number : ℕ) (one : Kept) → Contains kept (number, one) → one.spot.1 ≡ number
 
 -- the claims are filed, and no transaction's conflicts with another's
-pub record AreHeld (next : ℕ) (spots : List Spot) (owned : List (ℕ × ℕ)) (kept : List Numbered) : Type 0 where
-  pub filed : AreFiled next spots owned kept
+pub record AreHeld (next : ℕ) (index : Index) (owned : List (ℕ × ℕ)) (kept : List Numbered) : Type 0 where
+  pub filed : AreFiled next index owned kept
   pub apart : StandApart (claims_of kept)
 
 -- one claim, which was the owner's and had this number, is taken out

@@ -6,6 +6,10 @@ use Rattle.std.specs.Cmp.Lexicographic.{slice_cmp}
 use Rattle.std.specs.declared.cmp.Ordering.{Ordering}
 use Rattle.std.specs.declared.ops.Bound.TheVariants.{Included}
 use Rattle.std.specs.BTreeMap.Range.{range_contains}
+use Rattle.std.specs.List.{fold}
+use Rattle.std.specs.Hash as fed
+use Rattle.std.specs.Hash.DefaultHasher as sip
+use Rattle.core.specs.declared.hash.sip.DefaultHasher.{DefaultHasher}
 use Rattle.claims_law.specs.Skeleton.{Key, Kind, Shape, Hold, Claim}
 
 -- a name's text: its folded units, each at most 65,534, and a backslash
@@ -49,3 +53,15 @@ numbers_between from to spots = map (λ s. s.1) (filter (λ s. range_contains sp
 -- pairs of numbers, by the first and then the second
 abbrev pub pair_order : ℕ × ℕ → ℕ × ℕ → Ordering
 pair_order p q = ordering_then (nat_cmp p.0 q.0) (nat_cmp p.1 q.1)
+
+-- the numbers of the pairs with a first one
+abbrev pub numbers_under : ℕ → List (ℕ × ℕ) → List ℕ
+numbers_under first pairs = map (λ p. p.1) (filter (λ p. range_contains pair_order (Included (first, 0)) (Included (first, 18446744073709551615)) p) pairs)
+
+-- a hasher's state after the units of a text, one after another
+abbrev pub fed_text : DefaultHasher → List ℕ → DefaultHasher
+fed_text state text = fold (λ s u. fold sip.write s (fed.u16 u)) state text
+
+-- a text's hash: SipHash-1-3 of its units
+abbrev pub text_hash : List ℕ → ℕ
+text_hash text = sip.finish (fed_text sip.initial text)

@@ -1,18 +1,26 @@
 //! Where claims lie: an index in which the claims near a key are found without going through all.
 //!
 //! A claim's spot is the text of its key, with a unit behind it that ends the path, and the claim's number. Spots
-//! are kept in order, so those at a key are one range, and those at or below it are one.
-ghost use Rattle.std.specs.Prelude.{◌≡◌, ◌++◌, ◌∷◌, [], map, min, IfOk, OnOk, Contains, true, false, ◌<◌, ℕ, length, take};
+//! are kept in order, so those at a key are one range, and those at or below it are one. The keys above a key are
+//! looked up by hashes of their texts: one walk along the path gives all of these, and hashes compare in one step.
+//! Texts that begin alike don't.
+ghost use Rattle.std.specs.Prelude.{◌≡◌, ◌++◌, ◌∷◌, ◌^◌, [], map, min, IfOk, OnOk, OnErr, Contains, true, false, ◌<◌, ℕ, length, take};
 ghost use Rattle.std.specs.List.Sorted.{IsStrictlySortedBy};
 ghost use Rattle.reg_names.specs.Names.{folded, folded_path};
-ghost use Rattle.conflicts.specs.Spots.{name_text, path_text, key_text, spot_order, numbers_between, spot_text, past_of, GoesOn};
+ghost use Rattle.conflicts.specs.Spots.{name_text, path_text, key_text, spot_order, pair_order, numbers_between, numbers_under, spot_text, fed_text, text_hash, past_of, GoesOn};
+ghost use Rattle.conflicts.specs.Index.{IsListed, KeepsOthers};
 ghost use Rattle.conflicts.specs.Claims.{meets};
+ghost use Rattle.std.specs.Hash.DefaultHasher as sip;
+ghost use Rattle.std.specs.BTreeMap.{is_at};
+ghost use Rattle.std.specs.BTreeSet.{insert_key};
+ghost use Rattle.std.specs.Set.{remove_key};
 ghost use Rattle.std.specs.Ordering.{is_gt, nat_cmp};
 
 use crate::claim::{Claim, Kind};
 use reg_names::{Name, folded_unit};
 use std::alloc::{AllocError, Global};
 use std::collections::BTreeSet;
+use std::hash::{DefaultHasher, Hasher};
 
 /// The text of a claim's key, with the unit behind it that ends the path, and the claim's number.
 pub(crate) type Spot = (Vec<u16>, u64);
@@ -25,6 +33,104 @@ const NAME_END: u16 = 0x5c;
 
 // above each unit of a text
 const PAST: u16 = u16::MAX;
+
+/// The claims by their keys.
+///
+/// Keys of the same hash are found together. Whoever asks compares what it finds, so a collision costs time and changes no
+/// answer. SipHash keeps many claims from being given one hash on purpose.
+#[derive(Drop)]
+pub(crate) struct Index {
+    // the spots
+    pub(crate) spots: BTreeSet<Spot>,
+    // the hash of each spot's text, and its number
+    hashes: BTreeSet<(u64, u64)>,
+}
+
+impl Index {
+    /// An index of no claims.
+    pub(crate) fn new(alloc: Global) -> Index
+        ensures spots { result.spots.keys ≡ [] }
+        ensures hashes { result.hashes.keys ≡ [] }
+    {
+        Index {
+            spots: BTreeSet::new(alloc),
+            hashes: BTreeSet::new(alloc),
+        }
+    }
+
+    /// Lists a spot. Refused for want of memory alone, and what is listed under other numbers then still is.
+    pub(crate) fn put(&mut self, spot: Spot) -> Result<(), AllocError>
+        ensures spots { OnOk result (self.new.spots.keys
+            ≡ insert_key spot_order self.old.spots.keys spot) }
+        ensures hashes { OnOk result (self.new.hashes.keys
+            ≡ insert_key pair_order self.old.hashes.keys (text_hash spot.0.items, spot.1)) }
+        ensures err { OnErr result (KeepsOthers self.old self.new spot.1) }
+    {
+        let hashed = (hash_of(&spot.0), spot.1);
+        self.hashes.insert(hashed)?;
+        match self.spots.insert(spot) {
+            Ok(_) => Ok(()),
+            Err(refused) => {
+                self.hashes.remove(&hashed);
+                Err(AllocError::from(refused))
+            }
+        }
+    }
+
+    /// Lists a spot no more. Takes no memory.
+    pub(crate) fn take(&mut self, spot: &Spot)
+        ensures spots { self.new.spots.keys
+            ≡ remove_key (is_at (spot_order spot.now)) self.old.spots.keys }
+        ensures hashes { self.new.hashes.keys ≡ remove_key (is_at (pair_order
+            (text_hash spot.now.0.items, spot.now.1))) self.old.hashes.keys }
+    {
+        self.spots.remove(spot);
+        self.hashes.remove(&(hash_of(&spot.0), spot.1));
+    }
+}
+
+// feeds a text to a hasher
+fn feed(hasher: &mut DefaultHasher, text: &[u16])
+    ensures { hasher.new ≡ fed_text hasher.old text.now }
+{
+    for unit in text {
+        hasher.write_u16(*unit);
+    }
+}
+
+// the hash of a text
+fn hash_of(text: &[u16]) -> u64
+    ensures { result ≡ text_hash text.now }
+{
+    let mut hasher = DefaultHasher::new();
+    feed(&mut hasher, text);
+    hasher.finish()
+}
+
+// the hash of the text that a hasher was fed, with the unit behind it that ends the path
+fn hash_at_end(mut hasher: DefaultHasher) -> u64
+    ensures { result ≡ sip.finish (fed_text hasher (0 ∷ [])) }
+{
+    hasher.write_u16(PATH_END);
+    hasher.finish()
+}
+
+// adds the numbers that are listed under a hash
+fn push_numbers_under(
+    found: &mut Vec<u64>,
+    hashes: &BTreeSet<(u64, u64)>,
+    hash: u64,
+) -> Result<(), AllocError>
+    ensures { OnOk result (found.new.items
+        ≡ found.old.items ++ numbers_under hash hashes.now.keys) }
+{
+    let from = (hash, 0);
+    let to = (hash, u64::MAX);
+    for listed in hashes.range(&from..=&to) {
+        found.push(listed.1)?;
+    }
+    Ok(())
+}
 
 // adds a name to a text
 fn write_name(text: &mut Vec<u16>, name: &Name) -> Result<(), AllocError>
@@ -120,48 +226,52 @@ fn write_path(text: &mut Vec<u16>, names: &[Name]) -> Result<(), AllocError>
     Ok(())
 }
 
-/// The numbers of all spots at which a claim may lie that conflicts with this one: those of each key on the way to
-/// its key, of its key, and for a Shape of all keys below it. Each number once, rising. Where there are no spots it takes no memory.
+/// The numbers of all claims that may conflict with this one: those of each key on the way to its key, of its key, and
+/// for a Shape of all keys below it. Each number once, rising. Where there are no claims it takes no memory.
 pub(crate) fn numbers_near(
     alloc: Global,
-    spots: &BTreeSet<Spot>,
+    index: &Index,
     claim: &Claim,
 ) -> Result<Vec<u64>, AllocError>
-    ensures complete { IfOk result (λ found. (spot : _) (held : _) → Contains spots.now.keys spot →
-        spot.0.items ≡ spot_text held → meets claim.now held ≡ true → Contains found.items spot.1) }
+    ensures complete { IfOk result (λ found. (number : ℕ) (held : _) → number < 2 ^ 64 →
+        IsListed index.now number held → meets claim.now held ≡ true →
+        Contains found.items number) }
     ensures rises { IfOk result (λ found. IsStrictlySortedBy nat_cmp found.items) }
 {
-    if spots.is_empty() {
+    if index.spots.is_empty() {
         return Ok(Vec::new(alloc));
     }
     let mut text = Vec::with_capacity(alloc, units_of(claim.path.names()))?;
     text.push(u16::from(claim.hive))?;
-    let mut found = numbers_along(alloc, spots, claim.path.names(), &mut text)?;
-    let more = gather(alloc, spots, &text, past_of(claim))?;
+    let mut found = numbers_along(alloc, &index.hashes, claim.path.names(), &mut text)?;
+    let more = gather(alloc, &index.spots, &text, past_of(claim))?;
     found.extend_from_slice(&more)?;
     put_in_order(&mut found);
     Ok(found)
 }
 
-// the numbers of the spots of each key on the way along a path, which is added to the text
+// the numbers of the claims of each key on the way along a path, which is added to the text
 fn numbers_along(
     alloc: Global,
-    spots: &BTreeSet<Spot>,
+    hashes: &BTreeSet<(u64, u64)>,
     names: &[Name],
     text: &mut Vec<u16>,
 ) -> Result<Vec<u64>, AllocError>
     ensures text { OnOk result (text.new.items
         ≡ text.old.items ++ path_text (folded_path names.now)) }
-    ensures found { IfOk result (λ found. (spot : _) (j : ℕ) → Contains spots.now.keys spot →
-        j < length names.now →
-        GoesOn (text.old.items ++ path_text (folded_path (take j names.now))) 1 spot.0.items →
-        Contains found.items spot.1) }
+    ensures found { IfOk result (λ found. (number : ℕ) (j : ℕ) → number < 2 ^ 64 →
+        j < length names.now → Contains hashes.now.keys
+        (text_hash ((text.old.items ++ path_text (folded_path (take j names.now))) ++ 0 ∷ []),
+        number) → Contains found.items number) }
 {
     let mut found = Vec::new(alloc);
+    let mut hasher = DefaultHasher::new();
+    feed(&mut hasher, text);
     for name in names {
-        let more = gather(alloc, spots, text, PATH_END + 1)?;
-        found.extend_from_slice(&more)?;
+        push_numbers_under(&mut found, hashes, hash_at_end(hasher))?;
+        let written = text.len();
         write_name(text, name)?;
+        feed(&mut hasher, &text[written..]);
     }
     Ok(found)
 }

@@ -8,7 +8,7 @@ ghost use Rattle.conflicts.specs.Filed.{TakesOwn, LeavesOthers};
 ghost use Rattle.conflicts.specs.Holders.{Held, same_held, AsksFor, StandApart, without_owner, stands_against, holds_claim, with_number, with_holder, is_some_that, holders_of};
 
 use crate::claim::{Claim, Kind, conflict, same_claim};
-use crate::spots::{Spot, copy, numbers_near, spot_of};
+use crate::spots::{Index, Spot, copy, numbers_near, spot_of};
 use reg_names::Path;
 use std::alloc::{AllocError, Global};
 use std::collections::{BTreeMap, BTreeSet};
@@ -103,8 +103,8 @@ struct Kept {
 pub struct ClaimTable {
     // the claims by their numbers
     kept: BTreeMap<u64, Kept>,
-    // their spots
-    spots: BTreeSet<Spot>,
+    // the same by their keys
+    index: Index,
     // each owner with the numbers of its claims; after a refused `claim` a number without a claim may stay listed here
     // until `drop_of`, which changes no answer
     owned: BTreeSet<(u64, u64)>,
@@ -117,7 +117,7 @@ impl Drop for ClaimTable {
     fn drop(self) {
         let ClaimTable {
             kept: _,
-            spots: _,
+            index: _,
             owned: _,
             added: _,
         } = self;
@@ -135,7 +135,7 @@ impl Model for ClaimTable {
 
     ghost view = { λ inside. claims_of inside.kept.entries };
 
-    ghost invariant = { λ inside. AreHeld (vec_len inside.added) inside.spots.keys
+    ghost invariant = { λ inside. AreHeld (vec_len inside.added) inside.index
         inside.owned.keys inside.kept.entries };
 }
 
@@ -146,7 +146,7 @@ impl ClaimTable {
     {
         ClaimTable {
             kept: BTreeMap::new(alloc),
-            spots: BTreeSet::new(alloc),
+            index: Index::new(alloc),
             owned: BTreeSet::new(alloc),
             added: Vec::new(alloc),
         }
@@ -185,11 +185,11 @@ impl ClaimTable {
         self.added.push(())?;
         self.owned.insert((owner.0, number))?;
         self.kept.insert(number, Kept { entry, spot })?;
-        match self.spots.insert(copy) {
-            Ok(_) => Ok(()),
+        match self.index.put(copy) {
+            Ok(()) => Ok(()),
             Err(refused) => {
                 self.kept.remove(&number);
-                Err(AllocError::from(refused))
+                Err(refused)
             }
         }
     }
@@ -204,7 +204,7 @@ impl ClaimTable {
         let alloc = *self.added.allocator();
         let from = spot_of(alloc, claim, 0)?;
         let to = (copy(alloc, &from.0)?, u64::MAX);
-        for spot in self.spots.range(&from..=&to) {
+        for spot in self.index.spots.range(&from..=&to) {
             if is_kept(self.kept.get(&spot.1), owner, claim) {
                 return Ok(true);
             }
@@ -217,7 +217,7 @@ impl ClaimTable {
         ensures { IfOk result (λ met. met
             ≡ list_any (stands_against (Some owner.0) claim.now) self.now) }
     {
-        let numbers = numbers_near(*self.added.allocator(), &self.spots, claim)?;
+        let numbers = numbers_near(*self.added.allocator(), &self.index, claim)?;
         for number in &numbers {
             if meets(self.kept.get(number), owner, claim) {
                 return Ok(true);
@@ -241,7 +241,7 @@ impl ClaimTable {
             self.owned.remove(&listed);
             match take_own(&mut self.kept, owner, listed.1) {
                 Some(kept) => {
-                    self.spots.remove(&kept.spot);
+                    self.index.take(&kept.spot);
                 }
                 None => {}
             }
@@ -255,7 +255,7 @@ impl ClaimTable {
             ≡ holders_of self.now (option_map (λ o. o.0) asker) claim.now) }
     {
         let alloc = *self.added.allocator();
-        let numbers = numbers_near(alloc, &self.spots, claim)?;
+        let numbers = numbers_near(alloc, &self.index, claim)?;
         let mut found = Vec::new(alloc);
         for number in &numbers {
             list_holder(&mut found, self.kept.get(number), asker, claim)?;

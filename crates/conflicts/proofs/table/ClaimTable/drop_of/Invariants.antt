@@ -5,7 +5,7 @@ use Rattle.conflicts.proofs.table.ClaimTable.drop_of.Given as goal
 
 abbrev pub invariant-loop-listed : goal.invariant-loop-listed
 invariant-loop-listed l = record {
-  filed : AreFiled (vec_len l.self-inside.added) l.self-inside.spots.keys l.self-inside.owned.keys l.self-inside.kept.entries;
+  filed : AreFiled (vec_len l.self-inside.added) l.self-inside.index l.self-inside.owned.keys l.self-inside.kept.entries;
   others : without_owner (claims_of l.self-inside.kept.entries) l.owner.0 ≡ without_owner (claims_of l.initial.self-inside.kept.entries) l.owner.0;
 }
 

@@ -42,5 +42,5 @@ returns-clause-told c =
     let from : Spot = (c.in_ok-from.from.0, c.in_ok-from.from.1) in
     let to : Spot = (c.in_ok-copy.field-0, 18446744073709551615) in
     sym (ap (λ hs. holds_claim hs one) (sym c.self.view_is)
-    ∙ none_same (vec_len c.self.inside.added) c.self.inside.spots.keys c.self.inside.owned.keys c.self.inside.kept.entries c.self.invariant.filed (omega (arith, c.self.inside.added.small, c.self.inside.added.ok)) one from to c.in_ok-from.ensures.text c.in_ok-from.ensures.number (c.in_ok-copy.ensures ∙ c.deref.ensures.value) refl
+    ∙ none_same (vec_len c.self.inside.added) c.self.inside.index c.self.inside.owned.keys c.self.inside.kept.entries c.self.invariant.filed (omega (arith, c.self.inside.added.small, c.self.inside.added.ok)) one from to c.in_ok-from.ensures.text c.in_ok-from.ensures.number (c.in_ok-copy.ensures ∙ c.deref.ensures.value) refl
     (none_left_over (same_held one) c.self.inside.kept.entries _ c.loop-spot.spot-iterator c.loop-spot.invariant c.in-None.ensures.steps.0))

@@ -1,4 +1,4 @@
-use Rattle.std.proofs.Common.{map, ap, ◌∙◌}
+use Rattle.std.proofs.Common.{map, ap, ◌∙◌, arith}
 use Rattle.std.specs.Option.{option_map}
 use Rattle.conflicts.specs.Holders.{with_holder, holders_of}
 use Rattle.conflicts.proofs.Looks.{looked, all_holders, holders_turn, all_taken, lent_entry, covered}
@@ -13,5 +13,5 @@ pub returns : goal.returns
 returns c =
     c.loop-number.invariant
     ∙ ap (λ ns. holders_of (looked c.self.inside.kept.entries ns) (option_map (λ o. o.0) c.args.asker) c.args.claim.now) (all_taken c.loop-number.number-index c.deref-number-items.result.now c.loop-number-test.false ∙ c.deref-number-items.ensures.value)
-    ∙ all_holders c.self.inside.kept.entries c.in_ok-numbers.numbers.items (option_map (λ o. o.0) c.args.asker) c.args.claim.now c.self.invariant.filed.rises c.in_ok-numbers.ensures.rises (covered _ _ _ c.self.inside.kept.entries c.self.invariant.filed (option_map (λ o. o.0) c.args.asker) c.args.claim.now c.in_ok-numbers.numbers.items c.in_ok-numbers.ensures.complete)
+    ∙ all_holders c.self.inside.kept.entries c.in_ok-numbers.numbers.items (option_map (λ o. o.0) c.args.asker) c.args.claim.now c.self.invariant.filed.rises c.in_ok-numbers.ensures.rises (covered _ _ _ c.self.inside.kept.entries c.self.invariant.filed (omega (arith, c.self.inside.added.small, c.self.inside.added.ok)) (option_map (λ o. o.0) c.args.asker) c.args.claim.now c.in_ok-numbers.numbers.items c.in_ok-numbers.ensures.complete)
     ∙ ap (λ hs. holders_of hs (option_map (λ o. o.0) c.args.asker) c.args.claim.now) c.self.view_is

@@ -1,4 +1,4 @@
-use Rattle.std.proofs.Common.{◌≡◌, true, false, Some, sym, ap, subst, ◌∙◌, get_or}
+use Rattle.std.proofs.Common.{◌≡◌, true, false, Some, sym, ap, subst, ◌∙◌, get_or, arith}
 use Rattle.std.specs.Prelude.{Contains}
 use Rattle.std.specs.Option.{option_map}
 use Rattle.std.specs.List.{list_any}
@@ -25,5 +25,5 @@ loop-number-preserved c =
 pub returns : goal.returns
 returns c =
     sym (ap (list_any (stands_against (Some c.args.owner.0) c.args.claim.now)) (sym c.self.view_is)
-    ∙ none_met _ _ _ c.self.inside.kept.entries c.self.invariant.filed (Some c.args.owner.0) c.args.claim.now c.in_ok-numbers.numbers.items c.in_ok-numbers.ensures.complete
+    ∙ none_met _ _ _ c.self.inside.kept.entries c.self.invariant.filed (omega (arith, c.self.inside.added.small, c.self.inside.added.ok)) (Some c.args.owner.0) c.args.claim.now c.in_ok-numbers.numbers.items c.in_ok-numbers.ensures.complete
     (λ n h. c.loop-number.invariant n (subst (λ xs. Contains xs n) (sym (all_taken c.loop-number.number-index c.deref-number-items.result.now c.loop-number-test.false ∙ c.deref-number-items.ensures.value)) h)))

@@ -8,25 +8,26 @@ use Rattle.std.specs.BTreeMap.{is_at}
 use Rattle.std.specs.BTreeSet.{insert_key}
 use Rattle.conflicts.specs.declared.table.Kept.{Kept}
 use Rattle.conflicts.specs.Holders.{Held, stands_against, StandApart}
-use Rattle.conflicts.specs.Spots.{Spot, spot_order, pair_order, spot_text}
+use Rattle.conflicts.specs.Spots.{Spot, pair_order, spot_text}
 use Rattle.conflicts.specs.Filed.{Numbered, claims_of, AreFiled}
 use Rattle.conflicts.proofs.Apart.{one_more_apart}
-use Rattle.conflicts.proofs.Filing.{insert_keeps, pair_brought, spot_brought, put_last, take_last, widened, put_in}
+use Rattle.conflicts.proofs.Filing.{insert_keeps, pair_brought, put_last, take_last, widened, put_in}
+use Rattle.conflicts.proofs.Listed.{listed_still, listed_now}
 use Rattle.refusals.proofs.Refused.{none_done, holds_on}
 use Rattle.conflicts.proofs.table.ClaimTable.put.Goals as goal
 
 pub invariant_of-self-in_err-insert : goal.invariant_of-self-in_err-insert
 invariant_of-self-in_err-insert c =
     record {
-      filed = widened (vec_len c.self.inside.added) (vec_len c.push.new.self) c.self.inside.spots.keys c.self.inside.spots.keys c.self.inside.owned.keys c.insert.new.self.keys c.self.inside.kept.entries c.self.invariant.filed (omega (arith, c.in_ok-push.ensures.len)) (λ s h. h) (λ p h. subst (λ xs. Contains xs p) (sym c.in_err-insert.ensures.err) h);
+      filed = widened (vec_len c.self.inside.added) (vec_len c.push.new.self) c.self.inside.index c.self.inside.index c.self.inside.owned.keys c.insert.new.self.keys c.self.inside.kept.entries c.self.invariant.filed (omega (arith, c.in_ok-push.ensures.len)) (λ n claim lt h. h) (λ p h. subst (λ xs. Contains xs p) (sym c.in_err-insert.ensures.err) h);
       apart = c.self.invariant.apart;
     }
 
 pub invariant_of-self-in_err-insert-2 : goal.invariant_of-self-in_err-insert-2
 invariant_of-self-in_err-insert-2 c =
     record {
-      filed = subst (λ xs. AreFiled (vec_len c.push.new.self) c.self.inside.spots.keys c.insert.new.self.keys xs) (sym c.in_err-insert-2.ensures.err)
-          (widened (vec_len c.self.inside.added) (vec_len c.push.new.self) c.self.inside.spots.keys c.self.inside.spots.keys c.self.inside.owned.keys c.insert.new.self.keys c.self.inside.kept.entries c.self.invariant.filed (omega (arith, c.in_ok-push.ensures.len)) (λ s h. h) (λ p h. subst (λ xs. Contains xs p) (sym c.in_ok-insert.ensures.keys) (insert_keeps pair_order c.self.inside.owned.keys (c.args.owner.0, c.len.result) p h)));
+      filed = subst (λ xs. AreFiled (vec_len c.push.new.self) c.self.inside.index c.insert.new.self.keys xs) (sym c.in_err-insert-2.ensures.err)
+          (widened (vec_len c.self.inside.added) (vec_len c.push.new.self) c.self.inside.index c.self.inside.index c.self.inside.owned.keys c.insert.new.self.keys c.self.inside.kept.entries c.self.invariant.filed (omega (arith, c.in_ok-push.ensures.len)) (λ n claim lt h. h) (λ p h. subst (λ xs. Contains xs p) (sym c.in_ok-insert.ensures.keys) (insert_keeps pair_order c.self.inside.owned.keys (c.args.owner.0, c.len.result) p h)));
       apart = subst (λ xs. StandApart (claims_of xs)) (sym c.in_err-insert-2.ensures.err) c.self.invariant.apart;
     }
 
@@ -36,8 +37,8 @@ invariant_of-self-in-Err c =
     let below = λ (m : ℕ) (h : Kept) (has : Contains c.self.inside.kept.entries (m, h)). subst (λ n. m < n) (sym c.len.ensures) ((c.self.invariant.filed.filed m h has).below) in
     let back : c.remove.new.self.entries ≡ c.self.inside.kept.entries = c.remove.ensures.entries ∙ ap (remove_entry (is_at (nat_cmp c.len.result))) (c.in_ok-insert-2.ensures.entries ∙ put_last c.self.inside.kept.entries c.len.result k below) ∙ take_last c.self.inside.kept.entries c.len.result k below in
     record {
-      filed = subst (λ xs. AreFiled (vec_len c.push.new.self) c.insert-3.new.self.keys c.insert.new.self.keys xs) (sym back)
-          (widened (vec_len c.self.inside.added) (vec_len c.push.new.self) c.self.inside.spots.keys c.insert-3.new.self.keys c.self.inside.owned.keys c.insert.new.self.keys c.self.inside.kept.entries c.self.invariant.filed (omega (arith, c.in_ok-push.ensures.len)) (λ s h. subst (λ xs. Contains xs s) (sym c.in-Err.ensures.err) h) (λ p h. subst (λ xs. Contains xs p) (sym c.in_ok-insert.ensures.keys) (insert_keeps pair_order c.self.inside.owned.keys (c.args.owner.0, c.len.result) p h)));
+      filed = subst (λ xs. AreFiled (vec_len c.push.new.self) c.put.new.self c.insert.new.self.keys xs) (sym back)
+          (widened (vec_len c.self.inside.added) (vec_len c.push.new.self) c.self.inside.index c.put.new.self c.self.inside.owned.keys c.insert.new.self.keys c.self.inside.kept.entries c.self.invariant.filed (omega (arith, c.in_ok-push.ensures.len)) (λ n claim lt h. c.in-Err.ensures.err n claim (λ same. omega (arith, lt, c.len.ensures, same)) h) (λ p h. subst (λ xs. Contains xs p) (sym c.in_ok-insert.ensures.keys) (insert_keeps pair_order c.self.inside.owned.keys (c.args.owner.0, c.len.result) p h)));
       apart = subst (λ xs. StandApart (claims_of xs)) (sym back) c.self.invariant.apart;
     }
 
@@ -53,15 +54,14 @@ invariant_of-self-in-Ok c =
     let k : Kept = record { entry = c.in_ok-entry.entry; spot = c.in_ok-spot.spot } in
     let below = λ (m : ℕ) (h : Kept) (has : Contains c.self.inside.kept.entries (m, h)). subst (λ n. m < n) (sym c.len.ensures) ((c.self.invariant.filed.filed m h has).below) in
     let spot : Spot = (c.in_ok-copy.field-0, c.len.result) in
-    let brought = spot_brought c.self.inside.spots.keys spot in
     record {
-      filed = put_in (vec_len c.self.inside.added) (vec_len c.push.new.self) c.len.result c.self.inside.spots.keys c.insert-3.new.self.keys c.self.inside.owned.keys c.insert.new.self.keys c.self.inside.kept.entries c.insert-2.new.self.entries k c.self.invariant.filed
+      filed = put_in (vec_len c.self.inside.added) (vec_len c.push.new.self) c.len.result c.self.inside.index c.put.new.self c.self.inside.owned.keys c.insert.new.self.keys c.self.inside.kept.entries c.insert-2.new.self.entries k c.self.invariant.filed
           (omega (arith, c.in_ok-push.ensures.len)) (omega (arith, c.in_ok-push.ensures.len, c.len.ensures))
-          (λ s h. subst (λ xs. Contains xs s) (sym c.in-Ok.ensures.keys) (insert_keeps spot_order c.self.inside.spots.keys spot s h))
+          (λ n claim lt h. listed_still c.self.inside.index c.put.new.self spot c.in-Ok.ensures.spots c.in-Ok.ensures.hashes n claim h)
           (λ p h. subst (λ xs. Contains xs p) (sym c.in_ok-insert.ensures.keys) (insert_keeps pair_order c.self.inside.owned.keys (c.args.owner.0, c.len.result) p h))
           (c.in_ok-insert-2.ensures.entries ∙ put_last c.self.inside.kept.entries c.len.result k below)
           c.in_ok-insert-2.ensures.ordered
-          (brought.0, subst (λ xs. Contains xs brought.0) (sym c.in-Ok.ensures.keys) brought.1, brought.2 ∙ c.in_ok-copy.ensures ∙ c.deref.ensures.value ∙ c.in_ok-spot.ensures.text ∙ ap (λ (h : Held). spot_text h.claim) (sym c.in_ok-entry.ensures), brought.3)
+          (listed_now c.self.inside.index c.put.new.self spot c.in-Ok.ensures.spots c.in-Ok.ensures.hashes k.entry.claim (c.in_ok-copy.ensures ∙ c.deref.ensures.value ∙ c.in_ok-spot.ensures.text ∙ ap (λ (h : Held). spot_text h.claim) (sym c.in_ok-entry.ensures)))
           (subst (λ xs. Contains xs (k.entry.owner, c.len.result)) (sym c.in_ok-insert.ensures.keys) (subst (λ o. Contains (insert_key pair_order c.self.inside.owned.keys (c.args.owner.0, c.len.result)) (o, c.len.result)) (ap (λ (h : Held). h.owner) (sym c.in_ok-entry.ensures)) (pair_brought c.self.inside.owned.keys (c.args.owner.0, c.len.result))))
           c.in_ok-spot.ensures.number;
       apart = subst StandApart
