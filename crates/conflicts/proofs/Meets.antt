@@ -1,11 +1,13 @@
 -- The tests of claims say what conflicts.
-use Rattle.std.proofs.Common.{◌≡◌, ◌⊎◌, inl, inr, ◌↔◌, ℕ, Bool, true, false, ◌||◌, ◌&&◌, IsTrue, List, [], ◌∷◌, ◌++◌, length, refl, sym, ◌∙◌, ap, arith, ◌+◌, length-append}
+use Rattle.std.proofs.Common.{◌≡◌, ◌==◌, ◌⊎◌, inl, inr, ◌↔◌, ℕ, Bool, true, false, ◌||◌, ◌&&◌, IsTrue, List, [], ◌∷◌, ◌++◌, length, refl, sym, ◌∙◌, ap, arith, ◌+◌, length-append}
 use Rattle.std.proofs.lemmas.List.{append-nil}
 use Rattle.reg_names.specs.Names as names
 use Rattle.claims_law.specs.Skeleton.{Key, Same, Begins, ProperlyBegins, same_key, begins_key, Kind, Shape, Hold, Claim, Conflict}
 use Rattle.claims_law.proofs.Tests.{key_is, key_begins, same_begins, same_sym, begins_refl, proper_begins, split, never}
 use Rattle.claims_law.proofs.Closed.{same_is, begins_is_true}
+use Rattle.std.proofs.lemmas.Bool.{eqb-true, eq-eqb}
 use Rattle.conflicts.specs.Claims.{is_shape, reaches, meets}
+use Rattle.conflicts.proofs.KeyTests.{agree}
 
 -- a test that says whether the path goes on is the test of keys of one hive
 pub begins_is : (k l : Key) (b : Bool) → k.hive ≡ l.hive → (IsTrue b ↔ names.Begins k.path l.path) → b ≡ begins_key k l
@@ -51,6 +53,35 @@ both_ways k l a b = (a.0, sym (a.1.1 ∙ ap (λ r. k.path ++ r) (none a.1.0 a.1.
     none : (r : List (List ℕ)) → l.path ≡ k.path ++ r → length (k.path ++ r) ≡ length k.path + length r → length (l.path ++ b.1.0) ≡ length l.path + length b.1.0 → r ≡ []
     none [] w e f = refl
     none (n ∷ r) w e f = absurd (omega (arith, e, f, ap length w, ap length b.1.1))
+
+-- a key that begins another one as deep is begun by it
+as_deep : (k l : Key) → Begins k l → (length k.path == length l.path) ≡ begins_key l k
+as_deep k l b = agree {P = length k.path ≡ length l.path} _ _ (eqb-true (length k.path) (length l.path)) (λ e. begins_is_true l k (same_begins k l k (same e (length-append k.path b.1.0)) (begins_refl k)))
+    (λ t. let back : Begins l k = key_begins l k t in omega (arith, ap length b.1.1, length-append k.path b.1.0, ap length back.1.1, length-append l.path back.1.0)) (eq-eqb (length k.path) (length l.path))
+  where
+    same : length k.path ≡ length l.path → length (k.path ++ b.1.0) ≡ length k.path + length b.1.0 → Same k l
+    same e f = (b.0, sym (b.1.1 ∙ ap (λ r. k.path ++ r) (none b.1.0 (omega (arith, e, f, ap length b.1.1))) ∙ append-nil k.path))
+      where
+        none : (r : List (List ℕ)) → length r ≡ 0 → r ≡ []
+        none [] z = refl
+        none (n ∷ r) z = absurd (omega (arith, z))
+
+-- so depths decide whether a Hold reaches a key
+pub reaches_by_depth : (c d : Claim) → ((is_shape c.kind || (length c.key.path == length d.key.path)) && begins_key c.key d.key) ≡ reaches c d
+reaches_by_depth c d = by_case (is_shape c.kind) (begins_key c.key d.key) refl
+  where
+    never_both : (a : Bool) → (a && false) ≡ false
+    never_both true = refl
+    never_both false = refl
+
+    whole : (a : Bool) → (a && true) ≡ a
+    whole true = refl
+    whole false = refl
+
+    by_case : (s b : Bool) → begins_key c.key d.key ≡ b → ((s || (length c.key.path == length d.key.path)) && b) ≡ (b && (s || begins_key d.key c.key))
+    by_case s false e = never_both (s || (length c.key.path == length d.key.path))
+    by_case true true e = refl
+    by_case false true e = whole (length c.key.path == length d.key.path) ∙ as_deep c.key d.key (key_begins c.key d.key e)
 
 reaches_conflict : (c d : Claim) → reaches c d ≡ true → Conflict c d
 reaches_conflict c d h =

@@ -82,9 +82,14 @@ module _ {A : Type 0} (number : A → ℕ) where
   listed_more xs ys x b e f is =
       ap (map number) is ∙ map-append number xs (x ∷ []) ∙ ap (λ t. cond t (map number xs) (map number xs ++ number x ∷ [])) (sym f ∙ e ∙ sym (any-map (λ y. y == number x) number xs))
 
-  pub listed_same : (xs : List A) (x : A) (b : Bool) → b ≡ list_any (λ y. number y == number x) xs → b ≡ true → map number xs ≡ with_number (map number xs) (number x)
+  listed_same : (xs : List A) (x : A) (b : Bool) → b ≡ list_any (λ y. number y == number x) xs → b ≡ true → map number xs ≡ with_number (map number xs) (number x)
   listed_same xs x b e t =
       ap (λ t. cond t (map number xs) (map number xs ++ number x ∷ [])) (sym t ∙ e ∙ sym (any-map (λ y. y == number x) number xs))
+
+  -- so where it is listed it need not be asked whether it is to be
+  pub listed_already : (xs : List A) (x : A) (b : Bool) → b ≡ list_any (λ y. number y == number x) xs → b ≡ true → (asked : Bool) → map number xs ≡ cond asked (with_number (map number xs) (number x)) (map number xs)
+  listed_already xs x b e t true = listed_same xs x b e t
+  listed_already xs x b e t false = refl
 
 -- the holders among one claim more of a list
 holders_step : (items : List Held) (i : ℕ) (one : Held) (asker : Option ℕ) (claim : Claim) → i < length items → one ≡ get_or items i one

@@ -1,5 +1,5 @@
 //! What an operation claims.
-ghost use Rattle.std.specs.Prelude.{◌≡◌, IsTrue, ◌↔◌};
+ghost use Rattle.std.specs.Prelude.{◌≡◌, ◌==◌, IsTrue, ◌↔◌, length};
 ghost use Rattle.claims_law.specs.Skeleton.{Conflict, same_key, begins_key};
 ghost use Rattle.conflicts.specs.Claims.{claim_of, is_shape, meets, reaches, same_claim};
 
@@ -63,7 +63,14 @@ pub fn conflict(one: &Claim, other: &Claim) -> bool
 fn reaches(one: &Claim, other: &Claim) -> bool
     ensures { result ≡ reaches one.now other.now }
 {
-    begins(one, other) && (is_shape(one) || begins(other, one))
+    (is_shape(one) || is_as_deep(one, other)) && begins(one, other)
+}
+
+// whether as many names lead to the keys of both; told without comparing names
+fn is_as_deep(one: &Claim, other: &Claim) -> bool
+    ensures { result ≡ (length one.now.key.path == length other.now.key.path) }
+{
+    one.path.names().len() == other.path.names().len()
 }
 
 // whether the other's key is its own or lies below it

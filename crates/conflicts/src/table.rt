@@ -314,7 +314,7 @@ fn meets(kept: Option<&Kept>, owner: Owner, claim: &Claim) -> bool
     }
 }
 
-// lists the owner of a claim, where it stands against the one asked for and is not in the list
+// lists the owner of a claim, where there is one, it stands against the one asked for and its owner is not in the list
 fn list_holder(
     found: &mut Vec<Owner>,
     kept: Option<&Kept>,
@@ -326,20 +326,24 @@ fn list_holder(
         claim.now) }
 {
     match kept {
-        Some(kept) if kept.entry.stands_against(asker, claim) => list_once(
-            found,
-            kept.entry.owner(),
-        ),
-        _ => Ok(()),
+        Some(kept) => list_once(found, &kept.entry, asker, claim),
+        None => Ok(()),
     }
 }
 
-// lists a transaction at the end, where it is not in the list
-fn list_once(found: &mut Vec<Owner>, owner: Owner) -> Result<(), AllocError>
-    ensures { OnOk result (map (λ o. o.0) found.new.items
-        ≡ with_number (map (λ o. o.0) found.old.items) owner.0) }
+// lists the owner of a claim, where the claim stands against the one asked for and its owner is not in the list;
+// of a listed owner no more claims are compared
+fn list_once(
+    found: &mut Vec<Owner>,
+    entry: &Entry,
+    asker: Option<Owner>,
+    claim: &Claim,
+) -> Result<(), AllocError>
+    ensures { OnOk result (map (λ o. o.0) found.new.items ≡ with_holder (map (λ o. o.0)
+        found.old.items) (Some entry.now) (option_map (λ o. o.0) asker) claim.now) }
 {
-    if !is_listed(found, owner) {
+    let owner = entry.owner();
+    if !is_listed(found, owner) && entry.stands_against(asker, claim) {
         found.push(owner)?;
     }
     Ok(())
