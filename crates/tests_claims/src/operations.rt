@@ -15,7 +15,8 @@ pub enum Step {
     Unset(u8, &'static str),
 }
 
-fn path(alloc: Global, text: &str) -> Result<Path, Refusal> {
+/// The path that a text spells.
+pub fn path(alloc: Global, text: &str) -> Result<Path, Refusal> {
     let mut units = Vec::new(alloc);
     for byte in text.as_bytes() {
         units.push(u16::from(*byte))?;
