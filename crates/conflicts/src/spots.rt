@@ -260,9 +260,10 @@ fn numbers_along(
     ensures text { OnOk result (text.new.items
         ≡ text.old.items ++ path_text (folded_path names.now)) }
     ensures found { IfOk result (λ found. (number : ℕ) (j : ℕ) → number < 2 ^ 64 →
-        j < length names.now → Contains hashes.now.keys
-        (text_hash ((text.old.items ++ path_text (folded_path (take j names.now))) ++ 0 ∷ []),
-        number) → Contains found.items number) }
+        j < length names.now → Contains hashes.now.keys (
+          text_hash ((text.old.items ++ path_text (folded_path (take j names.now))) ++ 0 ∷ []),
+          number,
+        ) → Contains found.items number) }
 {
     let mut found = Vec::new(alloc);
     let mut hasher = DefaultHasher::new();
