@@ -12,8 +12,8 @@ use std::marker::PhantomData;
 use std::rt::Files;
 
 /// The files of a store in a folder. A file that isn't there reads as empty, its sync and its cut to nothing do nothing, and the
-/// first write makes it; the first sync of a file that was made syncs the folder too. The journal is `journal`, and hive 0 has the
-/// files `hive00.dat` and `hive00.log`, and so on.
+/// first write makes it. The first sync of a file syncs the folder too, and so does the first one after a file was made: names that
+/// an earlier run left are kept too. The journal is `journal`, and hive 0 has the files `hive00.dat` and `hive00.log`, and so on.
 ///
 /// No other program that holds the folder so has it until this is dropped.
 ///
@@ -27,7 +27,8 @@ pub struct FileDisk<R: Files<File = File> + Drop, W: World> {
 }
 
 impl<R: Files<File = File> + Drop, W: World> FileDisk<R, W> {
-    /// Takes hold of a folder, which may be missing: its files read as empty then, and none can be made.
+    /// Takes hold of a folder, which may be missing: then its files read as empty and none can be made, also if the folder is
+    /// made later.
     ///
     /// Refused where another program has it, where it is no folder, where the system refuses it, and for want of memory.
     pub fn hold(rt: R, alloc: Global, folder: &str) -> Result<FileDisk<R, W>, Unheld> {

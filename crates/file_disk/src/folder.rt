@@ -76,15 +76,17 @@ pub(crate) struct Folder<R: Files<File = File> + Drop> {
     // the folder's path, and that of a file that is being opened, for which there is room
     folder: String,
     path: String,
-    // the folder itself, which is locked; none where it isn't there
+    // the folder itself, which is locked; none if it wasn't there, and then no file is
     handle: Option<File>,
     files: Vec<Option<File>>,
-    // a file was made since the folder was last synced
+    // a crash may take a file's name out of the folder: a run was ended after it had made the file and before it synced the
+    // folder, or this one has made it
     has_news: bool,
 }
 
 impl<R: Files<File = File> + Drop> Folder<R> {
-    /// Takes hold of a folder. One that isn't there has no files, and none can be made in it; what isn't a folder is refused.
+    /// Takes hold of a folder. One that isn't there has no files, and none can be made in it, also if somebody makes the folder
+    /// later: nothing locks it. What isn't a folder is refused.
     pub(crate) fn hold(rt: R, alloc: Global, folder: &str) -> Result<Folder<R>, Unheld> {
         let path = String::with_capacity(alloc, folder.len().saturating_add(LONGEST_NAME))?;
         let handle = match File::open(&rt, folder) {
@@ -108,7 +110,7 @@ impl<R: Files<File = File> + Drop> Folder<R> {
             path,
             handle,
             files,
-            has_news: false,
+            has_news: true,
         })
     }
 
@@ -149,8 +151,9 @@ impl<R: Files<File = File> + Drop> Folder<R> {
         self.make(number)?.set_len(length)
     }
 
-    /// Syncs a file, and the folder where a file was made in it: else a crash may leave the folder without the file. What is
-    /// synced are the bytes and the length (`fdatasync`), not the moment of the last change, which nothing reads.
+    /// Syncs a file, and the folder if it is the first sync since the folder was held or since a file was made: else a crash may
+    /// leave the folder without the file. What is synced are the bytes and the length (`fdatasync`), not the moment of the last
+    /// change, which nothing reads.
     pub(crate) fn sync(&mut self, number: u32) -> io::Result<()> {
         let Some(file) = self.find(number)? else {
             return Ok(());
@@ -196,9 +199,10 @@ impl<R: Files<File = File> + Drop> Folder<R> {
         }
     }
 
-    // opens a file to read and to write, where it is there or is made; there is none behind the last one
+    // opens a file to read and to write, if it is there or is made; there is none after the last one, and none in a folder that
+    // isn't locked
     fn open(&mut self, number: u32, how: OpenOptions) -> io::Result<()> {
-        if number >= MOST_FILES {
+        if number >= MOST_FILES || self.handle.is_none() {
             return Ok(());
         }
         let mut how = how;

@@ -131,3 +131,26 @@ fn a_folder_that_is_not_there_is_empty_and_stays_so(rt: HostRuntime) -> Result<(
     assert_eq!(&rt; disk.write_at(JOURNAL, 0, &[1]), Err(Failed));
     Ok(())
 }
+
+#[test]
+fn a_folder_that_is_made_later_is_not_locked_and_stays_empty(rt: HostRuntime) -> Result<(), Fail> {
+    let folder = "/tmp/regtx_tests_files_later";
+    fresh(&rt, folder)?;
+    fs::remove_dir_all(&rt, folder)?;
+    let mut late = held(&rt, folder)?;
+    fresh(&rt, folder)?;
+    // another program has the folder by now, and a file in it
+    let mut disk = held(&rt, folder)?;
+    disk.write_at(JOURNAL, 0, &[6])?;
+    assert_eq!(&rt; late.len(JOURNAL), Ok(0));
+    assert_eq!(&rt; bytes(&mut late, JOURNAL), Ok(([0; 8], 0)));
+    assert_eq!(&rt; late.write_at(JOURNAL, 0, &[7]), Err(Failed));
+    assert_eq!(&rt; late.cut(PRIMARY, 1), Err(Failed));
+    assert_eq!(&rt;
+        bytes(&mut disk, JOURNAL),
+        Ok(([6, 0, 0, 0, 0, 0, 0, 0], 1))
+    );
+    assert!(&rt; fs::metadata(&rt, "/tmp/regtx_tests_files_later/hive00.dat").is_err());
+    fs::remove_dir_all(&rt, folder)?;
+    Ok(())
+}
