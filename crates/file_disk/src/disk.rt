@@ -2,7 +2,7 @@
 ghost use Rattle.std.specs.Prelude.{◌≡◌, ◌∷◌, IsErr};
 ghost use Rattle.file_disk.specs.Records.{calls_in};
 
-use crate::folder::{Folder, MOST_FILES, Unheld};
+use crate::folder::{Denial, FileName, Folder, MOST_FILES, Unheld};
 use crate::record::{Call, Record, noted};
 use crate::world::World;
 use disk_model::{Disk, Failed};
@@ -46,8 +46,25 @@ impl<R: Files<File = File> + Drop, W: World> FileDisk<R, W> {
     {
         (0..MOST_FILES)
             .filter(|number| *number == 0 || *number % 2 == 1)
-            .map(|number| self.folder.len(number).unwrap_or(0))
+            .map(|number| self.folder.size(number).unwrap_or(0))
             .fold(0, u64::saturating_add)
+    }
+}
+
+impl<R: Files<File = File> + Drop, W: World> FileDisk<R, W> {
+    /// Whether the folder was there as this took hold of it.
+    pub fn has_folder(&self) -> bool {
+        self.folder.is_there()
+    }
+
+    /// What the system refused first since then.
+    pub fn denial(&self) -> Option<Denial> {
+        self.folder.denial()
+    }
+
+    /// The first file that was read and wasn't there, of those that each store has: the journal and the hives' primary files.
+    pub fn absent(&self) -> Option<FileName> {
+        self.folder.absent()
     }
 }
 

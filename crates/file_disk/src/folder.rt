@@ -1,5 +1,5 @@
 //! The files of a store in a folder, by their names.
-ghost use Rattle.std.specs.Prelude.{◌≤◌, length, IfOk};
+ghost use Rattle.std.specs.Prelude.{◌≡◌, ◌≤◌, length, IfOk};
 
 use std::alloc::{AllocError, AllocFailed, Global};
 use std::fmt;
@@ -32,6 +32,15 @@ impl fmt::Display for FileName {
 
 // the longest name of a file, with the slash before it, in bytes
 const LONGEST_NAME: usize = 11;
+
+/// What the system refused of a folder that is held.
+#[derive(Clone, Copy, Debug)]
+pub struct Denial {
+    /// The file of which it refused a call; none if that was a sync of the folder itself.
+    pub file: Option<FileName>,
+    /// Its error.
+    pub error: io::Error,
+}
 
 /// Why a folder can't be held.
 #[derive(Debug, Drop)]
@@ -82,6 +91,10 @@ pub(crate) struct Folder<R: Files<File = File> + Drop> {
     // a crash may take a file's name out of the folder: a run was ended after it had made the file and before it synced the
     // folder, or this one has made it
     has_news: bool,
+    // what the system refused first
+    denial: Option<Denial>,
+    // the first file that was read and wasn't there, if each store has it
+    absent: Option<FileName>,
 }
 
 impl<R: Files<File = File> + Drop> Folder<R> {
@@ -111,19 +124,77 @@ impl<R: Files<File = File> + Drop> Folder<R> {
             handle,
             files,
             has_news: true,
+            denial: None,
+            absent: None,
         })
+    }
+
+    /// Whether the folder was there as it was taken hold of.
+    pub(crate) fn is_there(&self) -> bool {
+        self.handle.is_some()
+    }
+
+    /// What the system refused first of the calls below. What it refuses of a [`size`](Folder::size) is left out.
+    pub(crate) fn denial(&self) -> Option<Denial> {
+        self.denial
+    }
+
+    /// The first file that was measured or read below and wasn't there, of the journal and the hives' primary files.
+    pub(crate) fn absent(&self) -> Option<FileName> {
+        self.absent
     }
 
     /// The length of a file in bytes.
     pub(crate) fn len(&mut self, number: u32) -> io::Result<u64> {
+        let told = self.size(number);
+        let length = self.heard(Some(number), told)?;
+        self.look_for(number);
+        Ok(length)
+    }
+
+    /// Reads from an offset on, as many bytes as there are and the buffer takes: answers how many.
+    pub(crate) fn read(&mut self, number: u32, offset: u64, buffer: &mut [u8]) -> io::Result<usize>
+        ensures count { IfOk result (λ n. n ≤ length buffer.old) }
+    {
+        let told = self.read_part(number, offset, buffer);
+        let count = self.heard(Some(number), told)?;
+        self.look_for(number);
+        Ok(count)
+    }
+
+    /// Writes all of the bytes at an offset. A file that isn't there is made.
+    pub(crate) fn write(&mut self, number: u32, offset: u64, bytes: &[u8]) -> io::Result<()> {
+        let told = self.write_all(number, offset, bytes);
+        self.heard(Some(number), told)
+    }
+
+    /// Makes a file so long. One that isn't there is made, but where it is to be empty.
+    pub(crate) fn cut(&mut self, number: u32, length: u64) -> io::Result<()> {
+        let told = self.resize(number, length);
+        self.heard(Some(number), told)
+    }
+
+    /// Syncs a file, and the folder if it is the first sync since the folder was held or since a file was made: else a crash may
+    /// leave the folder without the file. What is synced are the bytes and the length (`fdatasync`), not the moment of the last
+    /// change, which nothing reads.
+    pub(crate) fn sync(&mut self, number: u32) -> io::Result<()> {
+        let told = self.sync_bytes(number);
+        if self.heard(Some(number), told)? {
+            let told = self.sync_names();
+            self.heard(None, told)?;
+        }
+        Ok(())
+    }
+
+    /// The length of a file in bytes, of which nothing is remembered.
+    pub(crate) fn size(&mut self, number: u32) -> io::Result<u64> {
         match self.find(number)? {
             Some(file) => Ok(file.metadata()?.len()),
             None => Ok(0),
         }
     }
 
-    /// Reads from an offset on, as many bytes as there are and the buffer takes: answers how many.
-    pub(crate) fn read(&mut self, number: u32, offset: u64, buffer: &mut [u8]) -> io::Result<usize>
+    fn read_part(&mut self, number: u32, offset: u64, buffer: &mut [u8]) -> io::Result<usize>
         ensures count { IfOk result (λ n. n ≤ length buffer.old) }
     {
         let Some(file) = self.find(number)? else {
@@ -135,30 +206,33 @@ impl<R: Files<File = File> + Drop> Folder<R> {
         Ok(count)
     }
 
-    /// Writes all of the bytes at an offset. A file that isn't there is made.
-    pub(crate) fn write(&mut self, number: u32, offset: u64, bytes: &[u8]) -> io::Result<()> {
+    fn write_all(&mut self, number: u32, offset: u64, bytes: &[u8]) -> io::Result<()> {
         if bytes.is_empty() {
             return Ok(());
         }
         self.make(number)?.write_all_at(bytes, offset)
     }
 
-    /// Makes a file so long. One that isn't there is made, but where it is to be empty.
-    pub(crate) fn cut(&mut self, number: u32, length: u64) -> io::Result<()> {
+    fn resize(&mut self, number: u32, length: u64) -> io::Result<()> {
         if length == 0 && self.find(number)?.is_none() {
             return Ok(());
         }
         self.make(number)?.set_len(length)
     }
 
-    /// Syncs a file, and the folder if it is the first sync since the folder was held or since a file was made: else a crash may
-    /// leave the folder without the file. What is synced are the bytes and the length (`fdatasync`), not the moment of the last
-    /// change, which nothing reads.
-    pub(crate) fn sync(&mut self, number: u32) -> io::Result<()> {
-        let Some(file) = self.find(number)? else {
-            return Ok(());
-        };
-        file.sync_data()?;
+    // syncs what a file holds; answers whether the file is there
+    fn sync_bytes(&mut self, number: u32) -> io::Result<bool> {
+        match self.find(number)? {
+            Some(file) => {
+                file.sync_data()?;
+                Ok(true)
+            }
+            None => Ok(false),
+        }
+    }
+
+    // syncs the folder, if a crash may take a name out of it
+    fn sync_names(&mut self) -> io::Result<()> {
         if let Some(handle) = &self.handle {
             if self.has_news {
                 handle.sync_all()?;
@@ -166,6 +240,30 @@ impl<R: Files<File = File> + Drop> Folder<R> {
             }
         }
         Ok(())
+    }
+
+    // remembers what the system refused first, of a file or of the folder itself
+    fn heard<T: Drop>(&mut self, number: Option<u32>, told: io::Result<T>) -> io::Result<T>
+        ensures { result ≡ told }
+    {
+        if let Err(error) = &told {
+            if self.denial.is_none() {
+                let file = number.map(|number| FileName { number });
+                self.denial = Some(Denial {
+                    file,
+                    error: *error,
+                });
+            }
+        }
+        told
+    }
+
+    // remembers the first file that isn't there, though each store has it; an odd number is that of a primary file
+    fn look_for(&mut self, number: u32) {
+        let is_of_each_store = number == 0 || number % 2 == 1;
+        if is_of_each_store && self.absent.is_none() && self.is_closed(number) {
+            self.absent = Some(FileName { number });
+        }
     }
 
     // the file of a number, where it is there

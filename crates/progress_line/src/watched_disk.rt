@@ -40,6 +40,13 @@ impl<'a, D: Disk + Drop, R: Eprint + Clock> WatchedDisk<'a, D, R> {
         WatchedDisk { disk, moved, line }
     }
 
+    /// The disk within.
+    pub fn into_disk(self) -> D
+        ensures { result ≡ self.disk }
+    {
+        self.disk
+    }
+
     // tells that so many bytes were moved so
     fn count(&self, moved: Moved, count: usize) {
         if let Some(line) = self.line {
