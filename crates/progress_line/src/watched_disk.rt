@@ -42,7 +42,7 @@ impl<'a, D: Disk + Drop, R: Eprint + Clock> WatchedDisk<'a, D, R> {
 
     /// The disk within.
     pub fn into_disk(self) -> D
-        ensures { result ≡ self.disk }
+        ensures { result ≡ self.entry.disk }
     {
         self.disk
     }
