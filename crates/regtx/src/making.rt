@@ -6,11 +6,12 @@
 ghost use Rattle.std.specs.Prelude.{◌≤◌, IfOk};
 
 use crate::fault::Fault;
-use crate::files::opened;
+use crate::files::{Source, Trouble, last_error, opened};
+use crate::hint::Hint;
 use crate::terminal::{Telling, end, length_of};
 use crate::words::{HiveCount, Sources};
 use disk_model::Disk;
-use file_disk::{FileDisk, Unknown};
+use file_disk::{Denial, FileDisk, Unknown};
 use progress_line::{Moved, ProgressLine, Stage, Watched, WatchedDisk, Work};
 use refusals::Refusal;
 use reg_script::Status;
@@ -20,55 +21,59 @@ use std::io::{self, BufWriter, Eprint, ErrorKind, Write};
 use std::path::Path;
 use std::rt::Files;
 use std::time::Clock;
-use store_making::{Import, make_new};
+use store_making::{Import, Unreadable, make_new};
 use uuid::Uuid;
 
 /// Makes a store of so many empty hives in a folder, and prints whether it is made.
-pub fn new_store<R: Files<File = File> + Print + AllocGlobal>(
+pub fn new_store<'a, R: Files<File = File> + Print + Eprint + AllocGlobal>(
     rt: &R,
-    folder: &str,
+    telling: Telling,
+    folder: &'a str,
     id: Uuid,
     count: HiveCount,
-) -> Result<Status, Fault> {
+) -> Result<Status, Fault<'a>> {
     let alloc = rt.alloc();
     let mut writer = BufWriter::new(alloc, io::writer(rt))?;
     let mut disk = held_folder(rt, folder)?;
     let made = make_new(alloc, &mut disk, id, count.number, &mut writer);
-    Ok(made.unwrap_or(Status::Refused))
+    telling.hint(rt, Hint::of_denial(folder, disk.denial()));
+    Ok(telling.status(rt, made))
 }
 
 /// Makes a store of the hives of some files in a folder, and prints whether it is made. All files are read first, then the folder
 /// is looked at, and last comes what the files hold.
-pub fn import_store<R: Files<File = File> + Print + Eprint + Clock + AllocGlobal>(
+pub fn import_store<'a, R: Files<File = File> + Print + Eprint + Clock + AllocGlobal>(
     rt: &R,
     telling: Telling,
-    folder: &str,
+    folder: &'a str,
     id: Uuid,
-    sources: &Sources<'_>,
-) -> Result<Status, Fault> {
+    sources: &Sources<'a>,
+) -> Result<Status, Fault<'a>> {
     let line = telling.line(rt, importing(rt, sources));
     let made = import_watched(rt, folder, id, sources, line.as_ref());
     end(line);
-    made
+    let (denial, made) = made?;
+    telling.hint(rt, Hint::of_denial(folder, denial));
+    Ok(telling.status(rt, made))
 }
 
-// the same, telling of it where there is a line for that
-fn import_watched<R: Files<File = File> + Print + Eprint + Clock + AllocGlobal>(
+// the same, telling of it where there is a line for that; answers what the system refused of the store's files, too
+fn import_watched<'a, R: Files<File = File> + Print + Eprint + Clock + AllocGlobal>(
     rt: &R,
-    folder: &str,
+    folder: &'a str,
     id: Uuid,
-    sources: &Sources<'_>,
+    sources: &Sources<'a>,
     line: Option<&ProgressLine<'_, R>>,
-) -> Result<Status, Fault> {
+) -> Result<(Option<Denial>, io::Result<Status>), Fault<'a>> {
     let alloc = rt.alloc();
     let mut writer = BufWriter::new(alloc, io::writer(rt))?;
     let import = import_of(rt, sources, line)?;
     let disk = held_folder(rt, folder)?;
-    let made = make_watched(alloc, import, disk, id, line, &mut writer);
-    Ok(made.unwrap_or(Status::Refused))
+    let (disk, made) = make_watched(alloc, import, disk, id, line, &mut writer);
+    Ok((disk.denial(), made))
 }
 
-// makes the store of an import, telling of what is written
+// makes the store of an import, telling of what is written; the disk is handed back
 fn make_watched<D: Disk + Drop, R: Eprint + Clock, W: Write>(
     alloc: Global,
     import: Import,
@@ -76,11 +81,12 @@ fn make_watched<D: Disk + Drop, R: Eprint + Clock, W: Write>(
     id: Uuid,
     line: Option<&ProgressLine<'_, R>>,
     writer: &mut W,
-) -> io::Result<Status>
+) -> (D, io::Result<Status>)
     requires some { 1 ≤ import.count }
 {
     let mut disk = WatchedDisk::new(disk, Moved::Written, line);
-    import.make(alloc, &mut disk, id, writer)
+    let made = import.make(alloc, &mut disk, id, writer);
+    (disk.into_disk(), made)
 }
 
 // the work of an import: files are read, and hives of about their size are written
@@ -96,55 +102,64 @@ fn importing<R: Files>(rt: &R, sources: &Sources<'_>) -> Stage {
 }
 
 // the import of files, each read as the hive of its place
-fn import_of<R: Files + Eprint + Clock + AllocGlobal>(
+fn import_of<'a, R: Files + Eprint + Clock + AllocGlobal>(
     rt: &R,
-    sources: &Sources<'_>,
+    sources: &Sources<'a>,
     line: Option<&ProgressLine<'_, R>>,
-) -> Result<Import, Fault>
+) -> Result<Import, Fault<'a>>
     ensures some { IfOk result (λ import. 1 ≤ import.count) }
 {
     let mut import = Import::new(rt.alloc());
     for path in &sources.paths {
-        let mut file = Watched::new(opened(rt, path)?, line, None);
-        import.take(rt.alloc(), &mut file)?;
+        let trouble = Trouble::new(None);
+        let source = Source::new(opened(rt, path)?, &trouble);
+        let mut file = Watched::new(source, line, None);
+        if let Err(Unreadable) = import.take(rt.alloc(), &mut file) {
+            let hint = Hint::denied(path, last_error(&trouble));
+            return Err(Fault::CannotReadFile(hint));
+        }
     }
     Ok(import)
 }
 
 // the folder of a store that is to be made, as a disk: it is made where it is missing, and held; a journal is looked for once
 // nobody else can make a store there
-fn held_folder<'a, R: Files<File = File> + AllocGlobal>(
-    rt: &'a R,
-    folder: &str,
-) -> Result<FileDisk<&'a R, Unknown>, Fault> {
+fn held_folder<'a, 'b, R: Files<File = File> + AllocGlobal>(
+    rt: &'b R,
+    folder: &'a str,
+) -> Result<FileDisk<&'b R, Unknown>, Fault<'a>> {
     make_folder(rt, folder)?;
-    let disk = FileDisk::hold(rt, rt.alloc(), folder)?;
-    if has_journal(rt, folder)? {
-        return Err(Fault::CannotMakeStore);
-    }
+    let disk = match FileDisk::hold(rt, rt.alloc(), folder) {
+        Ok(disk) => disk,
+        Err(unheld) => match Hint::of_unheld(folder, &unheld) {
+            Some(hint) => return Err(Fault::CannotMakeStore(hint)),
+            None => return Err(Fault::Refused(Refusal::NoMemory)),
+        },
+    };
+    look_for_journal(rt, folder)?;
     Ok(disk)
 }
 
 // makes a folder where it is missing, so that a power cut leaves it
-fn make_folder<R: Files<File = File>>(rt: &R, folder: &str) -> Result<(), Fault> {
+fn make_folder<'a, R: Files<File = File>>(rt: &R, folder: &'a str) -> Result<(), Fault<'a>> {
     match fs::create_dir(rt, folder) {
         Ok(()) => sync_parent(rt, folder),
         Err(error) if error.kind() == ErrorKind::AlreadyExists => find_folder(rt, folder),
-        Err(error) => Err(unmade(error)),
+        Err(error) => Err(unmade(folder, error)),
     }
 }
 
 // looks that what is there is a folder, and not a file or a link that leads nowhere
-fn find_folder<R: Files>(rt: &R, folder: &str) -> Result<(), Fault> {
+fn find_folder<'a, R: Files>(rt: &R, folder: &'a str) -> Result<(), Fault<'a>> {
     match fs::metadata(rt, folder) {
         Ok(metadata) if metadata.is_dir() => Ok(()),
-        Ok(_) => Err(Fault::CannotMakeStore),
-        Err(error) => Err(unmade(error)),
+        Ok(_) => Err(unmade(folder, ErrorKind::NotADirectory.into())),
+        Err(error) => Err(unmade(folder, error)),
     }
 }
 
 // syncs the folder in which a folder is
-fn sync_parent<R: Files<File = File>>(rt: &R, folder: &str) -> Result<(), Fault> {
+fn sync_parent<'a, R: Files<File = File>>(rt: &R, folder: &'a str) -> Result<(), Fault<'a>> {
     let parent = match Path::new(folder).parent() {
         Some(parent) if !parent.as_os_str().is_empty() => parent,
         _ => Path::new("."),
@@ -153,23 +168,26 @@ fn sync_parent<R: Files<File = File>>(rt: &R, folder: &str) -> Result<(), Fault>
         Ok(handle) => handle.sync_all(),
         Err(error) => Err(error),
     };
-    synced.map_err(unmade)
+    synced.map_err(|error| unmade(folder, error))
 }
 
-// whether a folder has an entry of a journal's name, whatever it is
-fn has_journal<R: Files + AllocGlobal>(rt: &R, folder: &str) -> Result<bool, Fault> {
+// looks that a folder has no entry of a journal's name, whatever that is
+fn look_for_journal<'a, R: Files + AllocGlobal>(
+    rt: &R,
+    folder: &'a str,
+) -> Result<(), Fault<'a>> {
     let journal = Path::new(folder).join(rt.alloc(), "journal")?;
     match fs::symlink_metadata(rt, journal.as_path()) {
-        Ok(_) => Ok(true),
-        Err(error) if error.kind() == ErrorKind::NotFound => Ok(false),
-        Err(error) => Err(unmade(error)),
+        Ok(_) => Err(Fault::CannotMakeStore(Hint::of_journal(folder))),
+        Err(error) if error.kind() == ErrorKind::NotFound => Ok(()),
+        Err(error) => Err(unmade(folder, error)),
     }
 }
 
 // why the folder of a store can't be had
-fn unmade(error: io::Error) -> Fault {
+fn unmade<'a>(folder: &'a str, error: io::Error) -> Fault<'a> {
     match error.kind() {
         ErrorKind::OutOfMemory => Fault::Refused(Refusal::NoMemory),
-        _ => Fault::CannotMakeStore,
+        _ => Fault::CannotMakeStore(Hint::denied(folder, error)),
     }
 }

@@ -3,10 +3,12 @@
 //! What is run and told is left to `regtx_parts`, `crash_lab` and `power_sweep`. Of the files of a store it is trusted that they are
 //! what they answer, and that the system keeps what it has synced: then what is proved of runs over any disk holds of them.
 use crate::fault::Fault;
+use crate::files::{Source, Trouble};
+use crate::hint::Hint;
 use crate::terminal::{Telling, end, length_of, reading};
 use crash_lab::lab;
 use disk_model::Disk;
-use file_disk::{FileDisk, Unheld, Unknown};
+use file_disk::{FileDisk, Unknown};
 use power_sweep::sweep;
 use progress_line::{Moved, ProgressLine, Stage, Watched, WatchedDisk, Work};
 use refusals::Refusal;
@@ -40,12 +42,12 @@ impl InMemory {
     }
 
     // does it, reading the script's lines and writing what is told; the answer within tells of writes that failed
-    fn carry_out<T: Read + Drop, W: Write>(
+    fn carry_out<'b, T: Read + Drop, W: Write>(
         self,
         alloc: Global,
         script: T,
         writer: &mut W,
-    ) -> Result<io::Result<Status>, Fault> {
+    ) -> Result<io::Result<Status>, Fault<'b>> {
         let mut reader = BufReader::new(alloc, script)?;
         Ok(match self {
             InMemory::Play => play(alloc, &mut reader, writer),
@@ -56,12 +58,12 @@ impl InMemory {
 }
 
 /// Does this with the script of a path.
-pub fn play_script<R: Files + Print + Eprint + Clock + AllocGlobal>(
+pub fn play_script<'a, R: Files + Print + Eprint + Clock + AllocGlobal>(
     rt: &R,
     telling: Telling,
     how: InMemory,
-    script: &str,
-) -> Result<Status, Fault> {
+    script: &'a str,
+) -> Result<Status, Fault<'a>> {
     let alloc = rt.alloc();
     let played = if how != InMemory::Sweep && is_at_hand(rt, script) {
         let mut writer = BufWriter::new(alloc, io::writer(rt))?;
@@ -72,37 +74,55 @@ pub fn play_script<R: Files + Print + Eprint + Clock + AllocGlobal>(
         let mut writer = LineWriter::new(alloc, io::writer(rt))?;
         play_file(rt, telling, how, script, &mut writer)?
     };
-    Ok(played.unwrap_or(Status::Refused))
+    Ok(telling.status(rt, played))
 }
 
 /// Runs the script of this path over the store in a folder, which no other program has until this ends.
-pub fn run_script<R: Files<File = File> + Print + Eprint + Clock + AllocGlobal>(
+pub fn run_script<'a, R: Files<File = File> + Print + Eprint + Clock + AllocGlobal>(
     rt: &R,
     telling: Telling,
-    folder: &str,
-    script: &str,
-) -> Result<Status, Fault> {
+    folder: &'a str,
+    script: &'a str,
+) -> Result<Status, Fault<'a>> {
     let alloc = rt.alloc();
     let disk = store_in(rt, folder)?;
-    let ran = if is_at_hand(rt, script) {
+    let (disk, ran) = if is_at_hand(rt, script) {
         let mut writer = BufWriter::new(alloc, io::writer(rt))?;
         run_file(rt, telling, disk, script, &mut writer)?
     } else {
         let mut writer = LineWriter::new(alloc, io::writer(rt))?;
         run_file(rt, telling, disk, script, &mut writer)?
     };
-    Ok(ran.unwrap_or(Status::Refused))
+    hint_at(rt, telling, folder, &disk, &ran);
+    Ok(telling.status(rt, ran))
+}
+
+// says what the system refused of a store, or else what of it isn't there if a refusal was printed
+fn hint_at<R: Files<File = File> + Eprint + AllocGlobal>(
+    rt: &R,
+    telling: Telling,
+    folder: &str,
+    disk: &FileDisk<&R, Unknown>,
+    ran: &io::Result<Status>,
+) {
+    if let Some(denial) = disk.denial() {
+        telling.hint(rt, Hint::of_denial(folder, Some(denial)));
+    } else if !matches!(ran, Ok(Status::Clean)) {
+        telling.hint(rt, Hint::of_absence(folder, disk));
+    }
 }
 
 // the files of the store in a folder, as a disk
-fn store_in<'a, R: Files<File = File> + AllocGlobal>(
-    rt: &'a R,
-    folder: &str,
-) -> Result<FileDisk<&'a R, Unknown>, Fault> {
+fn store_in<'a, 'b, R: Files<File = File> + AllocGlobal>(
+    rt: &'b R,
+    folder: &'a str,
+) -> Result<FileDisk<&'b R, Unknown>, Fault<'a>> {
     match FileDisk::hold(rt, rt.alloc(), folder) {
         Ok(disk) => Ok(disk),
-        Err(Unheld::NoMemory) => Err(Fault::Refused(Refusal::NoMemory)),
-        Err(Unheld::InUse | Unheld::Denied(_)) => Err(Fault::CannotOpenStore),
+        Err(unheld) => match Hint::of_unheld(folder, &unheld) {
+            Some(hint) => Err(Fault::CannotOpenStore(hint)),
+            None => Err(Fault::Refused(Refusal::NoMemory)),
+        },
     }
 }
 
@@ -112,56 +132,83 @@ fn is_at_hand<R: Files>(rt: &R, script: &str) -> bool {
 }
 
 // does this with the script; the answer within tells of writes that failed
-fn play_file<R: Files + Eprint + Clock + AllocGlobal, W: Write>(
+fn play_file<'a, R: Files + Eprint + Clock + AllocGlobal, W: Write>(
     rt: &R,
     telling: Telling,
     how: InMemory,
-    script: &str,
+    script: &'a str,
     writer: &mut W,
-) -> Result<io::Result<Status>, Fault> {
-    let Ok(file) = File::open(rt, script) else {
-        return Ok(refuse_script(writer));
+) -> Result<io::Result<Status>, Fault<'a>> {
+    let file = match File::open(rt, script) {
+        Ok(file) => file,
+        Err(error) => {
+            let told = refuse_script(writer);
+            telling.hint(rt, Some(Hint::denied(script, error)));
+            return Ok(told);
+        }
     };
+    let trouble = Trouble::new(None);
     let line = telling.line(rt, reading(rt, how.work(), script));
-    let script = Watched::new(file, line.as_ref(), None);
-    let played = how.carry_out(rt.alloc(), script, writer);
+    let source = Watched::new(Source::new(file, &trouble), line.as_ref(), None);
+    let played = how.carry_out(rt.alloc(), source, writer);
     end(line);
+    hint_unread(rt, telling, script, &trouble);
     played
 }
 
+// says why a script can't be read on, if it can't
+fn hint_unread<R: Eprint + AllocGlobal>(rt: &R, telling: Telling, script: &str, trouble: &Trouble) {
+    if let Some(error) = trouble.get() {
+        telling.hint(rt, Some(Hint::denied(script, error)));
+    }
+}
+
+// what comes of a run over files: the files, and the status or a write that failed
+type Ran<'b, R> = (FileDisk<&'b R, Unknown>, io::Result<Status>);
+
 // runs the script over a store; the answer within tells of writes that failed
-fn run_file<R: Files<File = File> + Eprint + Clock + AllocGlobal, W: Write>(
-    rt: &R,
+fn run_file<'a, 'b, R: Files<File = File> + Eprint + Clock + AllocGlobal, W: Write>(
+    rt: &'b R,
     telling: Telling,
-    disk: FileDisk<&R, Unknown>,
-    script: &str,
+    disk: FileDisk<&'b R, Unknown>,
+    script: &'a str,
     writer: &mut W,
-) -> Result<io::Result<Status>, Fault> {
+) -> Result<Ran<'b, R>, Fault<'a>> {
     let mut disk = disk;
     let opening = Stage {
         work: Work::Opening,
         whole: Some(disk.store_bytes()),
     };
+    let trouble = Trouble::new(None);
     let line = telling.line(rt, opening);
-    let ran = run_watched(rt, disk, script, line.as_ref(), writer);
+    let ran = run_watched(rt, disk, script, &trouble, line.as_ref(), writer);
     end(line);
+    hint_unread(rt, telling, script, &trouble);
     ran
 }
 
 // the same, telling of it where there is a line for that
-fn run_watched<R: Files + Eprint + Clock + AllocGlobal, D: Disk + Drop, W: Write>(
+fn run_watched<'a, R: Files + Eprint + Clock + AllocGlobal, D: Disk + Drop, W: Write>(
     rt: &R,
     disk: D,
-    script: &str,
+    script: &'a str,
+    trouble: &Trouble,
     line: Option<&ProgressLine<'_, R>>,
     writer: &mut W,
-) -> Result<io::Result<Status>, Fault> {
+) -> Result<(D, io::Result<Status>), Fault<'a>> {
     let alloc = rt.alloc();
     let disk = WatchedDisk::new(disk, Moved::Read, line);
-    let Ok(file) = File::open(rt, script) else {
-        return Ok(run_unread(alloc, disk, writer).1);
+    let (disk, ran) = match File::open(rt, script) {
+        Ok(file) => {
+            let source = Source::new(file, trouble);
+            let source = Watched::new(source, line, Some(reading(rt, Work::Run, script)));
+            let mut reader = BufReader::new(alloc, source)?;
+            run(alloc, disk, &mut reader, writer)
+        }
+        Err(error) => {
+            trouble.set(Some(error));
+            run_unread(alloc, disk, writer)
+        }
     };
-    let file = Watched::new(file, line, Some(reading(rt, Work::Run, script)));
-    let mut reader = BufReader::new(alloc, file)?;
-    Ok(run(alloc, disk, &mut reader, writer).1)
+    Ok((disk.into_disk(), ran))
 }

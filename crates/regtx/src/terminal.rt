@@ -1,37 +1,79 @@
-//! What a person at a terminal sees of long work.
+//! What a person at a terminal sees beside the replies: how far long work has come, and why something can't be done.
+use crate::hint::Hint;
+use crate::words::{USAGES, Usage};
 use progress_line::{ProgressLine, Stage, Work};
+use reg_script::Status;
 use std::fs;
-use std::io::{Eprint, IsTerminal};
+use std::io::{self, Eprint, IsTerminal};
 use std::rt::Files;
 use std::time::Clock;
 
-/// Where long work is told of.
+/// What standard error is told, which is nothing unless it is a terminal.
 #[derive(Clone, Copy)]
-pub enum Telling {
-    /// In a line on standard error, which is a terminal, while the replies go elsewhere.
-    Line,
-    /// Nowhere.
-    Silent,
+pub struct Telling {
+    // why something can't be done
+    hints: bool,
+    // how far long work has come, in a line
+    line: bool,
 }
 
 impl Telling {
-    /// What standard error and standard output allow. Where the replies go to a terminal too they tell enough, and a line between them
-    /// would spoil them.
+    /// What standard error and standard output allow. If the replies go to a terminal too they tell enough of long work, and a line
+    /// between them would spoil them.
     pub fn to<E: IsTerminal, O: IsTerminal>(errors: &E, replies: &O) -> Telling {
-        if errors.is_terminal() && !replies.is_terminal() {
-            Telling::Line
-        } else {
-            Telling::Silent
-        }
+        let hints = errors.is_terminal();
+        let line = hints && !replies.is_terminal();
+        Telling { hints, line }
     }
 
     /// A line for work that begins with this stage, where it is told of.
     pub fn line<R: Eprint + Clock>(self, rt: &R, first: Stage) -> Option<ProgressLine<'_, R>> {
-        match self {
-            Telling::Line => Some(ProgressLine::new(rt, first)),
-            Telling::Silent => None,
+        if self.line {
+            Some(ProgressLine::new(rt, first))
+        } else {
+            None
         }
     }
+
+    /// Says why something can't be done, if there is a hint.
+    pub fn hint<R: Eprint + AllocGlobal>(self, rt: &R, hint: Option<Hint<'_>>) {
+        if let Some(hint) = hint {
+            if self.hints {
+                hint.say(rt, rt.alloc());
+            }
+        }
+    }
+
+    /// The status of what was printed. A write that failed makes it that of a refusal, and why it failed is said.
+    pub fn status<R: Eprint + AllocGlobal>(self, rt: &R, printed: io::Result<Status>) -> Status {
+        match printed {
+            Ok(status) => status,
+            Err(error) => {
+                self.hint(rt, Some(Hint::unwritten(error)));
+                Status::Refused
+            }
+        }
+    }
+
+    /// Says how a command is used, or each of them if this is no command's name.
+    pub fn usage<R: Eprint>(self, rt: &R, name: Option<&str>) {
+        if self.hints && !tell_usage(rt, name) {
+            for usage in &USAGES {
+                let _ = eprintln!(rt; "{usage}");
+            }
+        }
+    }
+}
+
+// says how the command of this name is used; whether there is one
+fn tell_usage<R: Eprint>(rt: &R, name: Option<&str>) -> bool {
+    for usage in &USAGES {
+        if name == Some(usage.name) {
+            let _ = eprintln!(rt; "{usage}");
+            return true;
+        }
+    }
+    false
 }
 
 /// The work is done: its line, if it has one, goes away.

@@ -6,6 +6,7 @@ use crate::fault::Fault;
 use clap::{Arg, ArgAction, ArgMatches, Command};
 use refusals::limits::MOST_HIVES;
 use std::alloc::{AllocError, Global};
+use std::fmt;
 use uuid::Uuid;
 
 /// What the words of the command line ask for.
@@ -76,8 +77,62 @@ pub struct Sources<'a> {
     ghost few: { length paths.items ≤ MOST_HIVES },
 }
 
+/// How a command is used.
+pub struct Usage {
+    /// The command's name.
+    pub name: &'static str,
+    // the words behind it, and what it does
+    words: &'static str,
+    does: &'static str,
+}
+
+impl fmt::Display for Usage {
+    fn fmt<W: fmt::Write>(&self, f: &mut fmt::Formatter<W>) -> fmt::Result {
+        write!(f, "usage: regtx {} {:14} {}", self.name, self.words, self.does)
+    }
+}
+
+/// How each command is used.
+pub const USAGES: [Usage; 7] = [
+    Usage {
+        name: "new",
+        words: "DIR ID COUNT",
+        does: "makes a store of COUNT (1 to 16) empty hives in a folder; ID is a UUID",
+    },
+    Usage {
+        name: "import",
+        words: "DIR ID FILE..",
+        does: "makes a store of the hives in files",
+    },
+    Usage {
+        name: "run",
+        words: "DIR SCRIPT",
+        does: "runs a script on a store, one reply per line",
+    },
+    Usage {
+        name: "dump",
+        words: "FILE",
+        does: "prints a clean hive: its keys and values, a line each",
+    },
+    Usage {
+        name: "play",
+        words: "SCRIPT",
+        does: "plays a script on a store in memory",
+    },
+    Usage {
+        name: "lab",
+        words: "SCRIPT",
+        does: "the same in single steps, with power cuts",
+    },
+    Usage {
+        name: "sweep",
+        words: "SCRIPT",
+        does: "cuts the power after each device call of a script",
+    },
+];
+
 /// What the words ask for. Any other words are wrong.
-pub fn task_asked<'a>(alloc: Global, words: &'a [String]) -> Result<Task<'a>, Fault> {
+pub fn task_asked<'a>(alloc: Global, words: &'a [String]) -> Result<Task<'a>, Fault<'a>> {
     let matches = command(alloc)?.try_get_matches_from(words)?;
     match matches.subcommand() {
         Some(("play", given)) => Ok(Task::Play {
@@ -110,33 +165,47 @@ pub fn task_asked<'a>(alloc: Global, words: &'a [String]) -> Result<Task<'a>, Fa
     }
 }
 
-// the words that are understood
+// the words that are understood; each command is added by a function of its own, which takes the prover a third of the time
 fn command<'a>(alloc: Global) -> Result<Command<'a>, AllocError> {
-    let play = Command::new(alloc, "play").arg(one(alloc, "SCRIPT"))?;
-    let lab = Command::new(alloc, "lab").arg(one(alloc, "SCRIPT"))?;
-    let sweep = Command::new(alloc, "sweep").arg(one(alloc, "SCRIPT"))?;
-    let run = Command::new(alloc, "run")
-        .arg(one(alloc, "DIR"))?
-        .arg(one(alloc, "SCRIPT"))?;
-    let dump = Command::new(alloc, "dump").arg(one(alloc, "FILE"))?;
-    let new = Command::new(alloc, "new")
-        .arg(one(alloc, "DIR"))?
-        .arg(one(alloc, "ID"))?
-        .arg(one(alloc, "COUNT"))?;
+    let all = Command::new(alloc, "regtx").subcommand_required(true);
+    let all = with_one(alloc, all, "play", "SCRIPT")?;
+    let all = with_one(alloc, all, "lab", "SCRIPT")?;
+    let all = with_one(alloc, all, "sweep", "SCRIPT")?;
+    let all = with_one(alloc, all, "dump", "FILE")?;
+    let all = with_run(alloc, all)?;
+    let all = with_new(alloc, all)?;
+    with_import(alloc, all)
+}
+
+// the same, and a command that takes one word
+fn with_one<'a>(
+    alloc: Global,
+    all: Command<'a>,
+    name: &'a str,
+    word: &'a str,
+) -> Result<Command<'a>, AllocError> {
+    all.subcommand(Command::new(alloc, name).arg(one(alloc, word))?)
+}
+
+// the same, and `run`
+fn with_run<'a>(alloc: Global, all: Command<'a>) -> Result<Command<'a>, AllocError> {
+    let run = Command::new(alloc, "run").arg(one(alloc, "DIR"))?;
+    all.subcommand(run.arg(one(alloc, "SCRIPT"))?)
+}
+
+// the same, and `new`
+fn with_new<'a>(alloc: Global, all: Command<'a>) -> Result<Command<'a>, AllocError> {
+    let new = Command::new(alloc, "new").arg(one(alloc, "DIR"))?;
+    let new = new.arg(one(alloc, "ID"))?;
+    all.subcommand(new.arg(one(alloc, "COUNT"))?)
+}
+
+// the same, and `import`
+fn with_import<'a>(alloc: Global, all: Command<'a>) -> Result<Command<'a>, AllocError> {
+    let import = Command::new(alloc, "import").arg(one(alloc, "DIR"))?;
+    let import = import.arg(one(alloc, "ID"))?;
     let files = one(alloc, "FILE").num_args(1..=MOST_HIVES);
-    let import = Command::new(alloc, "import")
-        .arg(one(alloc, "DIR"))?
-        .arg(one(alloc, "ID"))?
-        .arg(files)?;
-    Command::new(alloc, "regtx")
-        .subcommand_required(true)
-        .subcommand(play)?
-        .subcommand(lab)?
-        .subcommand(sweep)?
-        .subcommand(run)?
-        .subcommand(dump)?
-        .subcommand(new)?
-        .subcommand(import)
+    all.subcommand(import.arg(files)?)
 }
 
 // one word that has to be there
@@ -145,12 +214,12 @@ fn one<'a>(alloc: Global, name: &'a str) -> Arg<'a> {
 }
 
 // the word of this name
-fn text<'a>(given: &ArgMatches<'a>, name: &str) -> Result<&'a str, Fault> {
+fn text<'a>(given: &ArgMatches<'a>, name: &str) -> Result<&'a str, Fault<'a>> {
     given.get_str(name).ok_or(Fault::WrongWords)
 }
 
 // the id, in any text form that a UUID has
-fn id(given: &ArgMatches<'_>) -> Result<Uuid, Fault> {
+fn id<'a>(given: &ArgMatches<'a>) -> Result<Uuid, Fault<'a>> {
     match Uuid::parse_str(text(given, "ID")?) {
         Ok(id) => Ok(id),
         Err(_) => Err(Fault::WrongWords),
@@ -158,7 +227,7 @@ fn id(given: &ArgMatches<'_>) -> Result<Uuid, Fault> {
 }
 
 // a number of hives, in decimal digits; a sign is none
-fn hive_count(word: &str) -> Result<HiveCount, Fault> {
+fn hive_count<'a>(word: &'a str) -> Result<HiveCount, Fault<'a>> {
     if !word.as_bytes().iter().all(|byte| byte.is_ascii_digit()) {
         return Err(Fault::WrongWords);
     }
@@ -169,7 +238,7 @@ fn hive_count(word: &str) -> Result<HiveCount, Fault> {
 }
 
 // the files of an import
-fn sources_named<'a>(alloc: Global, given: &ArgMatches<'a>) -> Result<Sources<'a>, Fault> {
+fn sources_named<'a>(alloc: Global, given: &ArgMatches<'a>) -> Result<Sources<'a>, Fault<'a>> {
     let Some(words) = given.get_strs("FILE") else {
         return Err(Fault::WrongWords);
     };

@@ -1,0 +1,130 @@
+//! Lines for a person at a terminal: why what the words ask for can't be done.
+use file_disk::{Denial, FileDisk, FileName, Unheld, Unknown};
+use std::alloc::Global;
+use std::fmt;
+use std::fs::File;
+use std::io::{self, Eprint};
+use std::rt::Files;
+
+/// Why a file or a folder can't be had.
+#[derive(Clone, Copy, Debug)]
+pub enum Why {
+    /// The system refuses it.
+    Denied(io::Error),
+    /// Another program has it.
+    InUse,
+    /// It is there already.
+    IsThere,
+    /// There is no such file.
+    NoFile,
+    /// There is no such folder.
+    NoFolder,
+}
+
+/// Such a line: `regtx: store/hive00.log: Permission denied`, for one.
+#[derive(Clone, Copy, Debug)]
+pub struct Hint<'a> {
+    // what it speaks of: a path, or other words
+    subject: &'a str,
+    // the file of a store, if the path is that of the store's folder
+    file: Option<FileName>,
+    why: Why,
+}
+
+impl<'a> Hint<'a> {
+    /// Why what a path names can't be had.
+    pub fn of(subject: &'a str, why: Why) -> Hint<'a> {
+        Hint {
+            subject,
+            file: None,
+            why,
+        }
+    }
+
+    /// Why the system refuses what a path names.
+    pub fn denied(subject: &'a str, error: io::Error) -> Hint<'a> {
+        Hint::of(subject, Why::Denied(error))
+    }
+
+    /// Why replies can't be written.
+    pub fn unwritten(error: io::Error) -> Hint<'static> {
+        Hint::denied("replies can't be written", error)
+    }
+
+    /// That a folder has a journal already.
+    pub fn of_journal(folder: &'a str) -> Hint<'a> {
+        let journal = FileName { number: 0 };
+        Hint::of_store(folder, Some(journal), Why::IsThere)
+    }
+
+    // why a file of the store in a folder can't be had, or the folder
+    fn of_store(folder: &'a str, file: Option<FileName>, why: Why) -> Hint<'a> {
+        Hint {
+            subject: folder,
+            file,
+            why,
+        }
+    }
+
+    /// Why a folder can't be held; none for want of memory.
+    pub fn of_unheld(folder: &'a str, unheld: &Unheld) -> Option<Hint<'a>> {
+        match unheld {
+            Unheld::NoMemory => None,
+            Unheld::InUse => Some(Hint::of(folder, Why::InUse)),
+            Unheld::Denied(error) => Some(Hint::denied(folder, *error)),
+        }
+    }
+
+    /// What the system refused of the files of a store, if it refused anything.
+    pub fn of_denial(folder: &'a str, denial: Option<Denial>) -> Option<Hint<'a>> {
+        denial.map(|denial| Hint::of_store(folder, denial.file, Why::Denied(denial.error)))
+    }
+
+    /// What of a store isn't there, if anything.
+    pub fn of_absence<R: Files<File = File> + Drop>(
+        folder: &'a str,
+        disk: &FileDisk<R, Unknown>,
+    ) -> Option<Hint<'a>> {
+        if !disk.has_folder() {
+            return Some(Hint::of(folder, Why::NoFolder));
+        }
+        let file = disk.absent()?;
+        Some(Hint::of_store(folder, Some(file), Why::NoFile))
+    }
+
+    /// Writes the line to standard error. What can't be written, or have memory, is left out.
+    pub fn say<R: Eprint>(&self, rt: &R, alloc: Global) {
+        if let Ok(line) = self.line(alloc) {
+            let _ = eprintln!(rt; "{line}");
+        }
+    }
+
+    fn line(&self, alloc: Global) -> io::Result<String> {
+        let reason = self.why.reason(alloc)?;
+        let mut line = String::new(alloc);
+        write!(line, "regtx: {}", self.subject)?;
+        if let Some(file) = self.file {
+            write!(line, "/{file}")?;
+        }
+        write!(line, ": {reason}")?;
+        Ok(line)
+    }
+}
+
+impl Why {
+    // in words, without the number that the system's error has
+    fn reason(self, alloc: Global) -> io::Result<String> {
+        let mut words = String::new(alloc);
+        match self {
+            Why::Denied(error) => write!(words, "{error}")?,
+            Why::InUse => words.push_str("another program has it")?,
+            Why::IsThere => words.push_str("is there already")?,
+            Why::NoFile => words.push_str("no such file")?,
+            Why::NoFolder => words.push_str("no such folder")?,
+        }
+        if let Some(end) = words.find(" (os error ") {
+            words.truncate(end);
+        }
+        Ok(words)
+    }
+}
