@@ -55,8 +55,16 @@ def as_other():
 
 
 def limited(kind, most):
-    """What bounds a run; a file over its size is an error then and ends nothing."""
+    """What bounds a run; a file over its size is an error then and ends nothing, as on a full device: the signal is ignored."""
     return {"preexec_fn": lambda: resource.setrlimit(kind, (most, most)), "restore_signals": False}
+
+
+def ended_at(size):
+    """What ends a run by SIGXFSZ as it writes behind so many bytes of a file, as `ulimit -f` does in a shell."""
+    def bound():
+        resource.setrlimit(resource.RLIMIT_FSIZE, (size, size))
+        resource.setrlimit(resource.RLIMIT_CORE, (0, 0))
+    return {"preexec_fn": bound, "restore_signals": True}
 
 
 @contextmanager
