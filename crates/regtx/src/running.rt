@@ -86,14 +86,13 @@ pub fn run_script<'a, R: Files<File = File> + Print + Eprint + Clock + AllocGlob
 ) -> Result<Status, Fault<'a>> {
     let alloc = rt.alloc();
     let disk = store_in(rt, folder)?;
-    let (disk, ran) = if is_at_hand(rt, script) {
+    let ran = if is_at_hand(rt, script) {
         let mut writer = BufWriter::new(alloc, io::writer(rt))?;
-        run_file(rt, telling, disk, script, &mut writer)?
+        run_file(rt, telling, (folder, disk), script, &mut writer)?
     } else {
         let mut writer = LineWriter::new(alloc, io::writer(rt))?;
-        run_file(rt, telling, disk, script, &mut writer)?
+        run_file(rt, telling, (folder, disk), script, &mut writer)?
     };
-    hint_at(rt, telling, folder, &disk, &ran);
     Ok(telling.status(rt, ran))
 }
 
@@ -163,18 +162,15 @@ fn hint_unread<R: Eprint + AllocGlobal>(rt: &R, telling: Telling, script: &str, 
     }
 }
 
-// what comes of a run over files: the files, and the status or a write that failed
-type Ran<'b, R> = (FileDisk<&'b R, Unknown>, io::Result<Status>);
-
-// runs the script over a store; the answer within tells of writes that failed
+// runs the script over the store in a folder; the answer within tells of writes that failed
 fn run_file<'a, 'b, R: Files<File = File> + Eprint + Clock + AllocGlobal, W: Write>(
     rt: &'b R,
     telling: Telling,
-    disk: FileDisk<&'b R, Unknown>,
+    store: (&'a str, FileDisk<&'b R, Unknown>),
     script: &'a str,
     writer: &mut W,
-) -> Result<Ran<'b, R>, Fault<'a>> {
-    let mut disk = disk;
+) -> Result<io::Result<Status>, Fault<'a>> {
+    let (folder, mut disk) = store;
     let opening = Stage {
         work: Work::Opening,
         whole: Some(disk.store_bytes()),
@@ -183,8 +179,10 @@ fn run_file<'a, 'b, R: Files<File = File> + Eprint + Clock + AllocGlobal, W: Wri
     let line = telling.line(rt, opening);
     let ran = run_watched(rt, disk, script, &trouble, line.as_ref(), writer);
     end(line);
+    let (disk, ran) = ran?;
+    hint_at(rt, telling, folder, &disk, &ran);
     hint_unread(rt, telling, script, &trouble);
-    ran
+    Ok(ran)
 }
 
 // the same, telling of it where there is a line for that

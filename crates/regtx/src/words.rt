@@ -81,14 +81,14 @@ pub struct Sources<'a> {
 pub struct Usage {
     /// The command's name.
     pub name: &'static str,
-    // the words behind it, and what it does
-    words: &'static str,
+    // it with the words behind it, and what it does
+    call: &'static str,
     does: &'static str,
 }
 
 impl fmt::Display for Usage {
     fn fmt<W: fmt::Write>(&self, f: &mut fmt::Formatter<W>) -> fmt::Result {
-        write!(f, "usage: regtx {} {:14} {}", self.name, self.words, self.does)
+        write!(f, "usage: regtx {:20} {}", self.call, self.does)
     }
 }
 
@@ -96,37 +96,37 @@ impl fmt::Display for Usage {
 pub const USAGES: [Usage; 7] = [
     Usage {
         name: "new",
-        words: "DIR ID COUNT",
+        call: "new DIR ID COUNT",
         does: "makes a store of COUNT (1 to 16) empty hives in a folder; ID is a UUID",
     },
     Usage {
         name: "import",
-        words: "DIR ID FILE..",
+        call: "import DIR ID FILE..",
         does: "makes a store of the hives in files",
     },
     Usage {
         name: "run",
-        words: "DIR SCRIPT",
+        call: "run DIR SCRIPT",
         does: "runs a script on a store, one reply per line",
     },
     Usage {
         name: "dump",
-        words: "FILE",
+        call: "dump FILE",
         does: "prints a clean hive: its keys and values, a line each",
     },
     Usage {
         name: "play",
-        words: "SCRIPT",
+        call: "play SCRIPT",
         does: "plays a script on a store in memory",
     },
     Usage {
         name: "lab",
-        words: "SCRIPT",
+        call: "lab SCRIPT",
         does: "the same in single steps, with power cuts",
     },
     Usage {
         name: "sweep",
-        words: "SCRIPT",
+        call: "sweep SCRIPT",
         does: "cuts the power after each device call of a script",
     },
 ];
