@@ -99,8 +99,11 @@ def files():
     yield refused("two numbers that differ", hive(Key("r"), primary=2)[0], damaged("NotClean"))
     yield refused("so in a file of 600 bytes", hive(Key("r"), primary=2)[0][:600], damaged("NotClean"))
     yield refused("a wrong sum", file[:508] + bytes([file[508] ^ 1]) + file[509:], damaged("NotClean"))
-    yield refused("512 zeros: their sum is 1", bytes(512), damaged("NotClean"))
+    # the signature is looked at first: another one is that of no hive, whatever its sum and its numbers are
+    yield refused("512 zeros: their sum is 1", bytes(512), damaged("BadBase"))
+    yield refused("a text", b"Windows Registry Editor Version 5.00\r\n" * 20, damaged("BadBase"))
     yield refused("another signature", hive(Key("r"), signature=b"rege")[0], damaged("BadBase"))
+    yield refused("so with two numbers that differ", hive(Key("r"), signature=b"rege", primary=2)[0], damaged("BadBase"))
     for name, number in (("major", 0), ("major", 2), ("minor", 6), ("minor", 2), ("format", 0), ("format", 2),
                          ("kind", 1), ("kind", 2), ("kind", 3)):
         yield refused(f"{name} {number}", hive(Key("r"), **{name: number})[0], UNSUPPORTED)

@@ -41,8 +41,8 @@ impl From<io::Error> for DumpFault {
 /// status. The file is read from where the reader stands: its base block, and as many bytes of bins data as that says. What
 /// follows is left unread.
 ///
-/// Refused, in the text, with `HiveDamaged` of hive 0 where the file ends early (`Truncated`), isn't clean (`NotClean`), has
-/// a wrong base block (`BadBase`), or its bins data don't stand for a tree; with `Unsupported` for a version, a format, a
+/// Refused, in the text, with `HiveDamaged` of hive 0 where the file ends early (`Truncated`), is no hive at all or has a wrong base
+/// block (`BadBase`), isn't clean (`NotClean`), or its bins data don't stand for a tree; with `Unsupported` for a version, a format, a
 /// type or a flag outside the profile; with `TooLarge` for bins data, a tree's weight or a path over the limits; and with
 /// `NoMemory`. Nothing is written before the whole tree is in memory, and writing takes none.
 pub fn dump<R: Read, W: Write>(

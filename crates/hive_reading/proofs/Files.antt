@@ -15,7 +15,7 @@ use Rattle.dirt_log.specs.WholeLog.{block_of}
 use Rattle.reg_tree.specs.Maps.{TreeMap}
 use Rattle.dirt_log.specs.Held.{is_clean_file, IsOwn}
 use Rattle.hive_load.specs.Limits.{StandsWithin, BinsRefused}
-use Rattle.hive_reading.specs.Hives.{HasBlock, HoldsHive, NoHive, IsFront, no_sector, not_clean, not_usable, not_whole, not_loaded}
+use Rattle.hive_reading.specs.Hives.{HasBlock, HoldsHive, NoHive, IsFront, no_sector, no_signature, not_clean, not_usable, not_whole, not_loaded}
 use Rattle.hive_reading.specs.Readings.{IsRefused, IsRefusedAs, of_hive}
 
 -- what holds of a known value for another reason
@@ -83,6 +83,11 @@ whole_front file front is short = omega (arith, ap length is.1, length-append fr
 
 pub told_no_sector : (file front : List ℕ) → IsFront front file → length front < 512 → NoHive file (refusal.HiveDamaged 0 cause.Truncated)
 told_no_sector file front is short = no_sector (omega (arith, short, whole_front file front is (omega (arith, short))))
+
+pub told_no_signature : (file front : List ℕ) (block : BaseBlock) → IsFront front file → 512 ≤ length front → block ≡ block_at (take 512 front) → block.signature.0 ≢ 0x6667_6572 → NoHive file (refusal.HiveDamaged 0 cause.BadBase)
+told_no_signature file front block is long read other =
+    let tells = sector_tells file front block is long read in
+    no_signature tells.1 (subst (λ (b : BaseBlock). b.signature.0 ≢ 0x6667_6572) tells.0 other)
 
 pub told_not_clean : (file front : List ℕ) (block : BaseBlock) → IsFront front file → 512 ≤ length front → block ≡ block_at (take 512 front) → is_clean_block block ≡ false → NoHive file (refusal.HiveDamaged 0 cause.NotClean)
 told_not_clean file front block is long read unclean =
@@ -160,6 +165,7 @@ clean_here file clean = (and_parts (nat_le 512 (length file)) (is_clean_block (b
 pub none_held : ((bytes : List ℕ) (root minor : ℕ) (why : Refusal) → BinsRefused bytes root minor why → why ≢ refusal.NoMemory → (tree : TreeMap) → StandsWithin bytes root minor tree → ⊥)
     → (file : List ℕ) (why : Refusal) → NoHive file why → why ≢ refusal.NoMemory → (tree : TreeMap) → HoldsHive file tree → ⊥
 none_held law file why (no_sector short) some tree holds = let no : ⊥ = omega (arith, short, holds.own.long) in no
+none_held law file why (no_signature long other) some tree holds = other (subst (λ (b : BaseBlock). b.signature.0 ≡ 0x6667_6572) holds.has.read holds.has.judged.0.signature)
 none_held law file why (not_clean long unclean) some tree holds = let no : ⊥ = let e : true ≡ false = sym (clean_here file holds.has.clean) ∙ unclean in cc in no
 none_held law file why (not_usable _ clean refused) some tree holds = unusable (block_of file) why refused (subst IsPrimary holds.has.read holds.has.judged)
 none_held law file why (not_whole block has short) some tree holds = let same : block.bins_size ≡ holds.block.bins_size = ap (λ (b : BaseBlock). b.bins_size) (has.read ∙ sym holds.has.read) in omega (arith, short, same, holds.own.long)

@@ -1,5 +1,5 @@
 -- Which tree the bytes of a hive's primary file hold, where they are read without a log, and why they hold none.
-use Rattle.std.specs.Prelude.{◌≡◌, ℕ, ◌+◌, ◌≤◌, ◌<◌, true, false, List, [], ◌++◌, length}
+use Rattle.std.specs.Prelude.{◌≡◌, ◌≢◌, ℕ, ◌+◌, ◌≤◌, ◌<◌, true, false, List, [], ◌++◌, length}
 use Rattle.refusals.specs.declared.refusal.Refusal.{Refusal}
 use Rattle.refusals.specs.declared.refusal.Refusal.TheVariants as refusal
 use Rattle.refusals.specs.declared.refusal.Cause.TheVariants as cause
@@ -29,6 +29,8 @@ pub record HoldsHive (file : List ℕ) (tree : TreeMap) : Type 0 where
 pub data NoHive (file : List ℕ) : Refusal → Type 0 where
   -- it has no first sector
   no_sector : length file < 512 → NoHive file (refusal.HiveDamaged 0 cause.Truncated)
+  -- it isn't a hive by its signature, whether its sum and its numbers are right or not
+  no_signature : 512 ≤ length file → (block_of file).signature.0 ≢ 0x6667_6572 → NoHive file (refusal.HiveDamaged 0 cause.BadBase)
   -- the sum is wrong, or the two numbers differ
   not_clean : 512 ≤ length file → is_clean_block (block_of file) ≡ false → NoHive file (refusal.HiveDamaged 0 cause.NotClean)
   -- the base block is outside the profile

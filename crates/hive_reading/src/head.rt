@@ -4,7 +4,7 @@ ghost use Rattle.base_block.specs.Judgements.{IsPrimary};
 ghost use Rattle.dirt_log.specs.WholeLog.{block_of};
 ghost use Rattle.hive_reading.specs.Hives.{IsFront, HasBlock, NoHive};
 
-use base_block::BaseBlock;
+use base_block::{BaseBlock, Signature};
 use refusals::{Cause, Refusal};
 
 /// The bytes that a base block takes in a file; the bins data begin behind them.
@@ -14,8 +14,9 @@ const _: () = prove!(HEAD_BYTES == 4_096);
 
 /// The base block of a file that begins with these bytes, or that is these bytes where they are fewer than 4,096.
 ///
-/// Refused with `HiveDamaged` of hive 0 as `Truncated` where there is no first sector or the block's bytes are cut off, and as
-/// `NotClean` where the sum is wrong or the two numbers differ; else as [`BaseBlock::judge_primary`] refuses it.
+/// Refused with `HiveDamaged` of hive 0 as `Truncated` where there is no first sector or the block's bytes are cut off, as `BadBase`
+/// where the signature isn't `regf`, clean or not, since that is no hive, and as `NotClean` where the sum is wrong or the two numbers
+/// differ; else as [`BaseBlock::judge_primary`] refuses it.
 pub(crate) fn judged(head: &[u8]) -> Result<BaseBlock, Refusal>
     ensures { (file : List ℕ) → IsFront head.now file → MatchResult result
         (λ block. HasBlock file block × (4096 ≤ length head.now)) (NoHive file) }
@@ -23,6 +24,9 @@ pub(crate) fn judged(head: &[u8]) -> Result<BaseBlock, Refusal>
     let Some(block) = BaseBlock::read_first(head) else {
         return Err(Refusal::from(Cause::Truncated));
     };
+    if block.signature != Signature::REGF {
+        return Err(Refusal::from(Cause::BadBase));
+    }
     if !block.is_clean() {
         return Err(Refusal::from(Cause::NotClean));
     }

@@ -44,8 +44,8 @@ impl From<Refusal> for Unread {
 /// The tree that a hive's primary file holds, read from where the reader stands: its base block, and as many bytes of bins data
 /// as that says. What follows is left unread. Whoever reads several files gives each its number, which only a refusal tells.
 ///
-/// Refused with `HiveDamaged` of the hive of this number where the file ends early (`Truncated`), isn't clean (`NotClean`), has
-/// a wrong base block (`BadBase`), or its bins data don't stand for a tree; with `Unsupported` for a version, a format, a
+/// Refused with `HiveDamaged` of the hive of this number where the file ends early (`Truncated`), is no hive at all or has a wrong
+/// base block (`BadBase`), isn't clean (`NotClean`), or its bins data don't stand for a tree; with `Unsupported` for a version, a format, a
 /// type or a flag outside the profile; with `TooLarge` for bins data, a tree's weight or a path over the limits; and with
 /// `NoMemory`. A reader that fails is `Unreadable`.
 pub fn read_hive<R: Read>(alloc: Global, reader: &mut R, hive: u8) -> Result<Tree, Unread>
