@@ -113,10 +113,7 @@ fn dump_file<'a, R: Files + Print + Eprint + AllocGlobal>(
 }
 
 // the words of the command line
-fn words_given<'a, R: Env + AllocGlobal>(
-    rt: &R,
-    alloc: Global,
-) -> Result<Vec<String>, Fault<'a>> {
+fn words_given<'a, R: Env + AllocGlobal>(rt: &R, alloc: Global) -> Result<Vec<String>, Fault<'a>> {
     let mut words = Vec::new(alloc);
     for word in env::args(rt)? {
         words.push(word)?;

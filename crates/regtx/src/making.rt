@@ -172,10 +172,7 @@ fn sync_parent<'a, R: Files<File = File>>(rt: &R, folder: &'a str) -> Result<(),
 }
 
 // looks that a folder has no entry of a journal's name, whatever that is
-fn look_for_journal<'a, R: Files + AllocGlobal>(
-    rt: &R,
-    folder: &'a str,
-) -> Result<(), Fault<'a>> {
+fn look_for_journal<'a, R: Files + AllocGlobal>(rt: &R, folder: &'a str) -> Result<(), Fault<'a>> {
     let journal = Path::new(folder).join(rt.alloc(), "journal")?;
     match fs::symlink_metadata(rt, journal.as_path()) {
         Ok(_) => Err(Fault::CannotMakeStore(Hint::of_journal(folder))),
