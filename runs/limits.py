@@ -56,6 +56,25 @@ write(
     1,
 )
 
+# each write claims a key below all that were claimed before
+write(
+    "a transaction makes 500 keys, each below the one before, and writes into each",
+    [
+        (f"begin t {ID}", "ok"),
+        (f"begin u {ID}", "ok"),
+        *[(f"tx t create {path(count)}", "created 1") for count in range(1, 501)],
+        *[(f"tx t set {path(count)} v 4 01000000", "ok") for count in range(1, 501)],
+        ("tx u create 0:k", "E7 Conflict"),
+        (f"tx u create {path(32)}", "E7 Conflict"),
+        ("tx u create 0:l", "created 1"),
+        ("commit t", "committed 1"),
+        (f"get {path(500)} v", "value 4 01000000"),
+        (f"keys {path(500)}", "keys 0"),
+        ("commit u", "committed 2"),
+    ],
+    1,
+)
+
 write(
     "a key's name has at most 255 units, a value's at most 16,383",
     [

@@ -4,13 +4,13 @@ use Rattle.std.specs.Prelude.{IfOk}
 use Rattle.std.specs.Io.KnownBytes.{Appends, Keeps}
 use Rattle.reg_script.specs.Replies.{reply_line}
 use Rattle.reg_script.proofs.Written.{appends_more}
+use Rattle.reg_script.specs.declared.line.Line.{Line}
+use Rattle.reg_script.specs.declared.reply.ReplyLine.{ReplyLine}
 use Rattle.reg_script.specs.declared.reply.ReplyLine.TheVariants as reply
 use Rattle.reg_script.specs.Statuses.{with_refusal}
-use Rattle.regtx_parts.specs.Scripts.{Script, fresh_script, hives_asked, line_asked}
-use Rattle.regtx_parts.specs.Plays.{lines_of, AreFirst, AreReadOf, WereRead, wrong_text, Ends, PlaysOn, IsPlayed, IsPlayedOn}
+use Rattle.regtx_parts.specs.Scripts.{Script, Answers, fresh_script, hives_asked, line_asked}
+use Rattle.regtx_parts.specs.Plays.{lines_of, AreFirst, AreReadOf, WereRead, wrong_text, Ends, KeepsUp, PlaysOn, IsPlayed, IsPlayedOn, is_refusal}
 use Rattle.regtx_parts.specs.Turns.{TakesLine, Turns}
-use Rattle.regtx_parts.specs.Work.{Between}
-use Rattle.machine.specs.Machine.{Machine}
 use Rattle.regtx_parts.specs.declared.working.Pace.{Pace}
 use Rattle.regtx_parts.specs.declared.working.Pace.TheVariants.{AsAsked}
 use Rattle.regtx_parts.specs.declared.ending.Ending.{Ending}
@@ -25,6 +25,18 @@ appends_kept None mid new text a k = tt
 appends_kept (Some xs) None new text a k = absurd a
 appends_kept (Some xs) (Some ys) None text a k = absurd k
 appends_kept (Some xs) (Some ys) (Some zs) text a k = k ∙ a
+
+-- nothing at all
+pub keeps_same : (known : Option (List ℕ)) → Keeps known known
+keeps_same None = tt
+keeps_same (Some xs) = refl
+
+-- nothing more, and then a write
+pub kept_appends : (old mid new : Option (List ℕ)) (text : List ℕ) → Keeps old mid → Appends mid new text → Appends old new text
+kept_appends None mid new text k a = tt
+kept_appends (Some xs) None new text k a = absurd k
+kept_appends (Some xs) (Some ys) None text k a = absurd a
+kept_appends (Some xs) (Some ys) (Some zs) text k a = a ∙ ap (λ ws. ws ++ text) k
 
 -- some first line was read, and nothing behind it
 first_alone : (bytes left line : List ℕ) → lines_of bytes ≡ line ∷ lines_of left → AreFirst (line ∷ []) (lines_of bytes)
@@ -61,23 +73,30 @@ pub stops_wrong : (pace : Pace) (old new : Script) (number : ℕ) (known rest be
 stops_wrong pace old new number known rest before after line status taken none wrong written same =
     (line ∷ [], None, wrong_text number, one_read known rest line taken, inl (none, record { last = refl; stopped = refl; printed = refl; wrong = wrong }, same), written)
 
+-- a line was answered, behind what was written out
+pub turned : (pace : Pace) (old new : Script) (number : ℕ) (known rest before mid after : Option (List ℕ)) (line : List ℕ) (asked : Line) (told : ReplyLine) (refused : Bool)
+    → TakesLine known rest line → line_asked line ≡ Some asked → Answers old asked told new → Keeps before mid → Appends mid after (reply_line told) → refused ≡ is_refusal told
+    → Turns pace old number known before (Replied refused) new rest after
+turned pace old new number known rest before mid after line asked told refused taken is answered still written said =
+    (line, asked, told, taken, is, answered, kept_appends before mid after (reply_line told) still written, said)
+
 -- there is no further line
 pub ends_here : (pace : Pace) (old new : Script) (number : ℕ) (known before after : Option (List ℕ)) (ending : Ending) (text : List ℕ) (status : Status) → WereRead known [] (Some ending) → Ends ending text status → Appends before after text → new ≡ old → IsPlayedOn pace old number known before after status new
 ends_here pace old new number known before after ending text status read how written same = ([], Some ending, text, read, (how, same), written)
 
 -- a line was answered, the store worked, and the run goes on
-pub goes_on : (pace : Pace) (old new : Script) (next : Machine) (end : Script) (number : ℕ) (known rest before mid after : Option (List ℕ)) (refused : Bool) (status : Status)
-    → Turns pace old number known before (Replied refused) new rest mid → Between pace new.machine next → IsPlayedOn pace (record new { machine = next }) (number + 1) rest mid after status end
+pub goes_on : (pace : Pace) (old new kept end : Script) (number : ℕ) (known rest before told mid after : Option (List ℕ)) (refused : Bool) (status : Status)
+    → Turns pace old number known before (Replied refused) new rest told → KeepsUp pace new kept → Keeps told mid → IsPlayedOn pace kept (number + 1) rest mid after status end
     → IsPlayedOn pace old number known before after (with_refusal refused status) end
-goes_on pace old new next end number known rest before mid after refused status turn worked on =
+goes_on pace old new kept end number known rest before told mid after refused status turn worked still on =
     let line = turn.0 in
-    let told = turn.2 in (
+    let reply = turn.2 in (
       line ∷ on.0,
       on.1,
-      reply_line told ++ on.2,
+      reply_line reply ++ on.2,
       more_read known rest line on.0 on.1 turn.3 on.3,
-      inr (turn.1, told, new, next, on.2, status, turn.4, turn.5, worked, on.4, refl, ap (λ b. with_refusal b status) turn.7),
-      appends_more before mid after (reply_line told) on.2 turn.6 on.5,
+      inr (turn.1, reply, new, kept, on.2, status, turn.4, turn.5, worked, on.4, refl, ap (λ b. with_refusal b status) turn.7),
+      appends_more before mid after (reply_line reply) on.2 (appends_kept before told mid (reply_line reply) turn.6 still) on.5,
     )
 
 -- refusals before and after

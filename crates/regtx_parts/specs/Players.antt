@@ -11,7 +11,7 @@ abbrev pub engine_of : {D : Type 0} → Player D → Shown D
 engine_of player = player.engine
 
 abbrev pub script_of : {D : Type 0} → Player D → Script
-script_of player = record { machine = player.engine.machine; moment = player.moment; session = player.session; labels = named_by player.labels }
+script_of player = record { machine = player.engine.machine; moment = player.moment; session = player.session; labels = named_by player.labels; failed = player.failed }
 
 -- the reply of a line that has waited for a change: what is told of the change's number, or the reply that came in its place
 abbrev pub reply_by : (ℕ → ReplyLine) → Result ℕ ReplyLine → ReplyLine

@@ -1,16 +1,16 @@
 -- What a script prints, and how its run ends.
-use Rattle.std.specs.Prelude.{◌≡◌, ℕ, ◌+◌, ◌==◌, ◌⊎◌, Bool, true, false, if◌then◌else◌, List, [], ◌∷◌, ◌++◌, Option, Some, None, IfSome, codes}
+use Rattle.std.specs.Prelude.{◌≡◌, ℕ, ◌+◌, ◌==◌, ◌⊎◌, ◌||◌, Bool, true, false, if◌then◌else◌, List, [], ◌∷◌, ◌++◌, Option, Some, None, IfSome, codes}
 use Rattle.std.specs.Fmt.{decimal}
 use Rattle.std.specs.Io.KnownBytes.{Appends}
 use Rattle.refusals.specs.Refusals.{refusal_text}
+use Rattle.refusals.specs.declared.refusal.Refusal.{Refusal}
 use Rattle.refusals.specs.declared.refusal.Refusal.TheVariants.{NoMemory}
 use Rattle.reg_script.specs.Replies.{reply_line}
 use Rattle.reg_script.specs.declared.line.Line.{Line}
 use Rattle.reg_script.specs.declared.reply.ReplyLine.{ReplyLine}
 use Rattle.reg_script.specs.declared.reply.ReplyLine.TheVariants as reply
-use Rattle.machine.specs.Machine.{Machine}
 use Rattle.regtx_parts.specs.Scripts.{Script, Answers, fresh_script, hives_asked, line_asked}
-use Rattle.regtx_parts.specs.Work.{Between}
+use Rattle.regtx_parts.specs.Work.{Between, is_fault}
 use Rattle.regtx_parts.specs.declared.working.Pace.{Pace}
 use Rattle.regtx_parts.specs.declared.working.Pace.TheVariants.{AsAsked}
 use Rattle.reg_script.specs.Statuses.{with_refusal}
@@ -69,6 +69,10 @@ abbrev pub EndsAs : Option Ending → List ℕ → Status → Type 0
 EndsAs None text status = ⊥
 EndsAs (Some ending) text status = Ends ending text status
 
+-- Between two lines the store works at this pace. Of the script it changes the machine, and whether the device has failed in that.
+abbrev pub KeepsUp : Pace → Script → Script → Type 0
+KeepsUp pace old new = (ended : Option Refusal) × Between pace ended old.machine new.machine × (new ≡ record old { machine = new.machine; failed = old.failed || is_fault ended })
+
 -- From old, at the line of this number, the lines and the way that reading ended print this text, end with this status and
 -- leave the script so: each line is answered in turn, up to one that is not understood; and between the lines the store works at
 -- this pace.
@@ -76,8 +80,8 @@ abbrev pub PlaysOn : Pace → Script → ℕ → List (List ℕ) → Option Endi
 PlaysOn pace old number [] ending text status end = EndsAs ending text status × (end ≡ old)
 PlaysOn pace old number (line ∷ lines) ending text status end =
     ((line_asked line ≡ None) × IsWrong number lines ending text status × (end ≡ old))
-    ⊎ ((asked : Line) × (told : ReplyLine) × (new : Script) × (next : Machine) × (rest : List ℕ) × (later : Status) × (line_asked line ≡ Some asked) × Answers old asked told new
-    × Between pace new.machine next × PlaysOn pace (record new { machine = next }) (number + 1) lines ending rest later end × (text ≡ reply_line told ++ rest)
+    ⊎ ((asked : Line) × (told : ReplyLine) × (new kept : Script) × (rest : List ℕ) × (later : Status) × (line_asked line ≡ Some asked) × Answers old asked told new
+    × KeepsUp pace new kept × PlaysOn pace kept (number + 1) lines ending rest later end × (text ≡ reply_line told ++ rest)
     × (status ≡ with_refusal (is_refusal told) later))
 
 -- the first line says how many hives there are; a script without a line is wrong at line 1

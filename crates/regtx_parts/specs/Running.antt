@@ -1,10 +1,10 @@
 -- The run of a script over the store that is on a disk: what is written, and with which status.
-use Rattle.std.specs.Prelude.{◌≡◌, ◌⊎◌, ℕ, ◌<◌, List, [], ◌++◌, ◌∷◌, if◌then◌else◌, Option, codes}
+use Rattle.std.specs.Prelude.{◌≡◌, ◌⊎◌, ℕ, ◌<◌, Bool, true, false, List, [], ◌++◌, ◌∷◌, if◌then◌else◌, Option, Some, None, is_some, codes}
 use Rattle.std.specs.Fmt.{decimal}
 use Rattle.std.specs.Io.KnownBytes.{Appends}
 use Rattle.refusals.specs.Refusals.{refusal_text}
 use Rattle.refusals.specs.declared.refusal.Refusal.{Refusal}
-use Rattle.refusals.specs.declared.refusal.Refusal.TheVariants.{NoMemory, DiskFault}
+use Rattle.refusals.specs.declared.refusal.Refusal.TheVariants.{NoMemory, DiskFault, Faulted}
 use Rattle.reg_tree.specs.Maps.{TreeMap}
 use Rattle.reg_script.specs.Replies.{reply_line}
 use Rattle.reg_script.specs.Statuses.{with_refusal}
@@ -64,16 +64,30 @@ pub record IsUnopened (failures : ℕ) (faithful : Type 0) (files : ℕ → List
   pub told : Appends before after (refusal_text why ++ 10 ∷ [])
   pub status_is : status ≡ Refused
 
+-- What is left undone as a run ends, of the steps that no line asked for: the device failed in one between two lines; else what
+-- ended those of the end. `Faulted` alone says that the device failed earlier, and so what was asked then was told it.
+abbrev pub undone : Bool → Option Refusal → Option Refusal
+undone true ended = Some DiskFault
+undone false (Some Faulted) = None
+undone false ended = ended
+
+-- the last line, if something is left undone
+abbrev pub undone_text : Option Refusal → List ℕ
+undone_text None = []
+undone_text (Some why) = refusal_text why ++ 10 ∷ []
+
 -- A script that came to this status ends: all is flushed, and then the store works on. What is left of it holds of its machine then.
+-- The flush is told if it is refused, and what is left undone after it.
 pub record HasEnded (IsLeft : Machine → Type 0) (script : Script) (came_to : Status) (before after : Option (List ℕ)) (status : Status) : Type 0 where
   pub told : ReplyLine
   pub last : Script
   pub flushed : Answers script Flush told last
   pub machine : Machine
-  pub worked : Works last.machine machine
+  pub ended : Option Refusal
+  pub worked : Works ended last.machine machine
   pub left : IsLeft machine
-  pub wrote : Appends before after (flushed_text told)
-  pub status_is : status ≡ with_refusal (is_refusal told) came_to
+  pub wrote : Appends before after (flushed_text told ++ undone_text (undone last.failed ended))
+  pub status_is : status ≡ with_refusal (is_some (undone last.failed ended)) (with_refusal (is_refusal told) came_to)
 
 -- A store was opened; these lines were played over it, up to this ending, while it freed its room; and at the end all was
 -- flushed.

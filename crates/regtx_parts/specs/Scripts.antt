@@ -1,5 +1,5 @@
 -- What the lines of a script ask of a store, and what they are answered.
-use Rattle.std.specs.Prelude.{◌≡◌, ◌≢◌, ℕ, ◌⊎◌, List, Option, Some, None, Result, Ok, Err}
+use Rattle.std.specs.Prelude.{◌≡◌, ◌≢◌, ℕ, ◌⊎◌, Bool, false, List, Option, Some, None, Result, Ok, Err}
 use Rattle.refusals.specs.declared.refusal.Refusal.{Refusal}
 use Rattle.refusals.specs.declared.refusal.Refusal.TheVariants.{NoMemory, NoSuchHandle}
 use Rattle.reg_script.specs.Lines.{line_of}
@@ -25,17 +25,19 @@ use Rattle.regtx_parts.specs.Waits.{IsWaited}
 use Rattle.regtx_parts.specs.declared.demand.Demand.{Demand}
 use Rattle.regtx_parts.specs.declared.demand.Demand.TheVariants.{Write, Read}
 
--- a script between two lines: the machine, the moment and the session of what follows, and the transaction that each
--- label names
+-- a script between two lines: the machine, the moment and the session of what follows, the transaction that each label
+-- names, and whether the device failed in a step that no line asked for
 pub record Script : Type 0 where
   pub machine : Machine
   pub moment : ℕ
   pub session : ℕ
   pub labels : List ℕ → Option Tx
+  pub failed : Bool
 
--- a script before its first line over a machine: the moment is 0, session 0 is the current one, and no label names anything
+-- a script before its first line over a machine: the moment is 0, session 0 is the current one, no label names anything, and
+-- nothing has failed
 abbrev pub script_at : Machine → Script
-script_at machine = record { machine = machine; moment = 0; session = 0; labels = λ label. None }
+script_at machine = record { machine = machine; moment = 0; session = 0; labels = λ label. None; failed = false }
 
 -- a script that has made its store, of so many new hives: session 0 is open
 abbrev pub fresh_script : ℕ → Script

@@ -5,7 +5,7 @@ ghost use Rattle.reg_script.specs.declared.line.Line.{Line as AnyLine};
 ghost use Rattle.reg_script.specs.declared.reply.ReplyLine.{ReplyLine as AnyReplyLine};
 ghost use Rattle.regtx_parts.specs.Scripts.{Asks, Answers, AsksAndWaits, event_alone, event_inside, later_line, line_asked, script_at};
 ghost use Rattle.regtx_parts.specs.Players.{engine_of, script_of, reply_by};
-ghost use Rattle.regtx_parts.specs.Work.{Between};
+ghost use Rattle.regtx_parts.specs.Plays.{KeepsUp};
 
 mod stepping;
 
@@ -14,7 +14,7 @@ use crate::demand::{Demand, demand_of};
 use crate::labels::Labels;
 use crate::replies::reply_of;
 use crate::waiting::wait;
-use crate::working::{Pace, keep_up};
+use crate::working::{Pace, frees_room, is_fault, keep_up};
 use disk_model::Disk;
 use engine::Engine;
 use machine::{Event, Reply, Tx};
@@ -29,6 +29,8 @@ pub struct Player<D: Disk> {
     moment: u64,
     session: u32,
     labels: Labels,
+    // the device failed in a step that no line asked for
+    failed: bool,
 }
 
 impl<D: Disk + Drop> Drop for Player<D> {
@@ -39,6 +41,7 @@ impl<D: Disk + Drop> Drop for Player<D> {
             moment: _,
             session: _,
             labels: _,
+            failed: _,
         } = self;
     }
 }
@@ -54,17 +57,32 @@ impl<D: Disk> Player<D> {
             moment: 0,
             session: 0,
             labels: Labels::new(alloc),
+            failed: false,
         }
     }
 
-    /// What the store does between two lines, at this pace.
+    /// What the store does between two lines, at this pace. That the device failed in it is kept for the end.
     pub fn keep_up(&mut self, pace: Pace)
-        ensures works { Between pace (script_of self.old).machine (script_of self.new).machine }
-        ensures rest { script_of self.new
-            ≡ record (script_of self.old) { machine = (script_of self.new).machine } }
+        ensures kept { KeepsUp pace (script_of self.old) (script_of self.new) }
         ensures faithful { D.faithful (engine_of self.new).disk → D.faithful (engine_of self.old).disk }
     {
-        keep_up(&mut self.engine, pace);
+        let ended = keep_up(&mut self.engine, pace);
+        self.failed = self.failed || is_fault(ended);
+    }
+
+    /// Whether the store has steps to make between two lines at this pace.
+    pub fn works_at(&self, pace: Pace) -> bool {
+        match pace {
+            Pace::AsAsked => false,
+            Pace::FreesRoom => frees_room(&self.engine),
+        }
+    }
+
+    /// Whether the device failed in a step that no line asked for.
+    pub fn has_failed(&self) -> bool
+        ensures { result ≡ (script_of self.now).failed }
+    {
+        self.failed
     }
 
     /// The store.
@@ -83,6 +101,7 @@ impl<D: Disk> Player<D> {
             moment: _,
             session: _,
             labels: _,
+            failed: _,
         } = self;
         engine
     }

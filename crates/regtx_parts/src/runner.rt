@@ -1,11 +1,11 @@
 //! Runs a script over a store of its own in memory, or over a store that is there.
 ghost use Rattle.std.specs.Prelude.{◌≡◌, ℕ, List, [], ◌++◌, ◌∷◌, Some, OnOk, IfOk, IfErr, codes};
-ghost use Rattle.std.specs.Io.KnownBytes.{Appends};
+ghost use Rattle.std.specs.Io.KnownBytes.{Appends, Keeps};
 ghost use Rattle.std.specs.Io.BufRead.{strip_last};
-ghost use Rattle.regtx_parts.specs.Plays.{Ends, WereRead, IsPlayed, IsPlayedOn, is_refusal, wrong_text};
+ghost use Rattle.reg_script.specs.Replies.{reply_line};
+ghost use Rattle.regtx_parts.specs.Plays.{Ends, KeepsUp, WereRead, IsPlayed, IsPlayedOn, is_refusal, wrong_text};
 ghost use Rattle.regtx_parts.specs.Players.{script_of};
 ghost use Rattle.regtx_parts.specs.Turns.{TakesLine, Turns};
-ghost use Rattle.regtx_parts.specs.declared.working.Pace.{Pace as AnyPace};
 
 use crate::ending::Ending;
 use crate::making::begin;
@@ -125,27 +125,49 @@ fn go_on<D: Disk, R: BufRead, W: Write>(
 {
     let mut has_refusal = false;
     for number in first..u64::MAX {
-        match take_turn(alloc, player, reader, line, writer, number)? {
+        match take_turn(alloc, player, pace, reader, line, writer, number)? {
             Turn::Replied { is_refusal } => has_refusal |= is_refusal,
             Turn::Over { status } => return Ok(status.after(has_refusal)),
         }
-        player.keep_up(pace);
+        keep_up(player, pace, writer)?;
     }
     // a script of so many lines isn't read on
     let status = end(writer, Ending::Broken)?;
     Ok(status.after(has_refusal))
 }
 
+// what the store does between two lines at this pace; the replies so far are written out before, if that is anything
+fn keep_up<D: Disk, W: Write>(player: &mut Player<D>, pace: Pace, writer: &mut W) -> io::Result<()>
+    ensures kept { OnOk result (KeepsUp pace (script_of player.old) (script_of player.new)
+        × Keeps (W.contents writer.old) (W.contents writer.new)) }
+    ensures faithful { D.faithful player.new.engine.disk → D.faithful player.old.engine.disk }
+{
+    write_out(writer, player.works_at(pace))?;
+    player.keep_up(pace);
+    Ok(())
+}
+
+// writes out what was written, if the store is about to wait for the disk
+fn write_out<W: Write>(writer: &mut W, waits: bool) -> io::Result<()>
+    ensures { OnOk result (Keeps (W.contents writer.old) (W.contents writer.new)) }
+{
+    if waits {
+        writer.flush()?;
+    }
+    Ok(())
+}
+
 // reads the line of this number, answers it, and writes the reply
 fn take_turn<D: Disk, R: BufRead, W: Write>(
     alloc: Global,
     player: &mut Player<D>,
+    pace: Pace,
     reader: &mut R,
     line: &mut Vec<u8>,
     writer: &mut W,
     number: u64,
 ) -> io::Result<Turn>
-    ensures told { (pace : AnyPace) → IfOk result (λ told. Turns pace (script_of player.old) number
+    ensures told { IfOk result (λ told. Turns pace (script_of player.old) number
         (R.remaining reader.old) (W.contents writer.old) told (script_of player.new)
         (R.remaining reader.new) (W.contents writer.new)) }
     ensures faithful { D.faithful player.new.engine.disk → D.faithful player.old.engine.disk }
@@ -154,10 +176,11 @@ fn take_turn<D: Disk, R: BufRead, W: Write>(
         let status = end(writer, ending)?;
         return Ok(Turn::Over { status });
     }
+    let waits = pace.waits_at(line);
+    write_out(writer, waits)?;
     match player.reply_to(alloc, line) {
         Ok(Some(told)) => {
-            told.write(writer)?;
-            let is_refusal = is_refusal(&told);
+            let is_refusal = write_reply(writer, &told, waits)?;
             Ok(Turn::Replied { is_refusal })
         }
         Ok(None) => {
@@ -169,6 +192,18 @@ fn take_turn<D: Disk, R: BufRead, W: Write>(
             Ok(Turn::Over { status })
         }
     }
+}
+
+// writes a reply, and writes it out if the line waited for the disk; answers whether it is a refusal
+fn write_reply<W: Write>(writer: &mut W, told: &ReplyLine, waited: bool) -> io::Result<bool>
+    ensures { IfOk result (λ refused. (refused ≡ is_refusal told.now)
+        × Appends (W.contents writer.old) (W.contents writer.new) (reply_line told.now)) }
+{
+    told.write(writer)?;
+    if waited {
+        writer.flush()?;
+    }
+    Ok(is_refusal(told))
 }
 
 /// Whether a reply is a refusal.

@@ -1,12 +1,12 @@
 //! Runs a script over the store that is on a disk.
-ghost use Rattle.std.specs.Prelude.{◌≡◌, ◌++◌, ◌∷◌, [], ℕ, List, Option, Some, IfErr, IfOk, IsOk};
-ghost use Rattle.std.specs.Io.KnownBytes.{Appends};
+ghost use Rattle.std.specs.Prelude.{◌≡◌, ◌++◌, ◌∷◌, [], ℕ, List, Option, Some, IfErr, IfOk, IsOk, Ok, is_some};
+ghost use Rattle.std.specs.Io.KnownBytes.{Appends, Keeps};
 ghost use Rattle.refusals.specs.Refusals.{refusal_text};
 ghost use Rattle.recovery.specs.Recovered.{seen_in};
 ghost use Rattle.reg_script.specs.Statuses.{with_refusal};
 ghost use Rattle.regtx_parts.specs.Plays.{WereRead, is_refusal};
 ghost use Rattle.regtx_parts.specs.Players.{script_of};
-ghost use Rattle.regtx_parts.specs.Running.{HasBegun, HasEnded, IsRun, IsUnopened, LeavesPrefix, flushed_text};
+ghost use Rattle.regtx_parts.specs.Running.{HasBegun, HasEnded, IsRun, IsUnopened, LeavesPrefix, flushed_text, undone, undone_text};
 ghost use Rattle.regtx_parts.specs.declared.ending.Ending.{Ending as AnyEnding};
 ghost use Rattle.regtx_parts.specs.declared.ending.Ending.TheVariants.{Broken};
 
@@ -24,10 +24,13 @@ use std::io::{BufRead, Write};
 
 /// Runs a script over the store that is on a disk: opens and repairs the store, prints `opened N` with the number of its last
 /// change, and writes the replies to the script's lines as [`play`](crate::play) does; but that none of them makes a store. At the end,
-/// also behind a line that is not understood, and where the script can't be read on or a write fails, all accepted changes are made
-/// durable, which is told of only where it is refused; and then they are moved into the hives.
+/// also after a line that is not understood, and if the script can't be read on or a write fails, all accepted changes are made
+/// durable, and then they are moved into the hives. Each of the two is told only if it is refused; so is, as the last line, that the
+/// device failed in a step that no line asked for. So a run that ends with status 0 leaves hives that have all its changes.
 ///
-/// Where no store is opened, why is told, and no line is read. The disk is handed back in any case: whatever a crash leaves of it from
+/// Before the store waits for the disk, and after each commit and flush, the replies so far are written out.
+///
+/// If no store is opened, why is told, and no line is read. The disk is handed back in any case: whatever a crash leaves of it from
 /// then on recovers what was durable at the end. `Err` says that a write
 /// failed, which ends the run.
 pub fn run<D: Disk, R: BufRead, W: Write>(
@@ -93,7 +96,7 @@ fn begin_run<D: Disk, W: Write>(
     }
 }
 
-// makes all that was accepted durable, and tells of it where that is refused; the store ends
+// makes all that was accepted durable and moves it into the hives, and tells what is refused of that; the store ends
 fn end_run<D: Disk, W: Write>(
     player: Player<D>,
     played: io::Result<Status>,
@@ -106,14 +109,43 @@ fn end_run<D: Disk, W: Write>(
     ensures faithful { D.faithful result.0 → D.faithful player.engine.disk }
 {
     let mut player = player;
+    let played = written_out(writer, played);
     let told = player.flush();
+    let has_failed = player.has_failed();
     let mut engine = player.into_engine();
-    settle(&mut engine);
+    let ended = settle(&mut engine);
     engine.keeps_a_prefix();
-    (engine.into_disk(), tell_flush(writer, told, played))
+    let played = tell_flush(writer, told, played);
+    (
+        engine.into_disk(),
+        tell_undone(writer, undone(has_failed, ended), played),
+    )
 }
 
-// writes the reply of the last flush where it is a refusal, and answers the run's status
+// writes out what was written, before the store waits for the disk
+fn written_out<W: Write>(writer: &mut W, played: io::Result<Status>) -> io::Result<Status>
+    ensures same { IfOk result (λ status. (played ≡ Ok status)
+        × Keeps (W.contents writer.old) (W.contents writer.new)) }
+    ensures played { IsOk result → IsOk played }
+{
+    let came_to = played?;
+    writer.flush()?;
+    Ok(came_to)
+}
+
+// what is told at the end of the steps that no line asked for: that the device failed in one of them; or what ended those of the
+// end, but for `Faulted`, whose cause was told then
+fn undone(has_failed: bool, ended: Option<Refusal>) -> Option<Refusal>
+    ensures { result ≡ undone has_failed ended }
+{
+    match ended {
+        _ if has_failed => Some(Refusal::DiskFault),
+        Some(Refusal::Faulted) => None,
+        ended => ended,
+    }
+}
+
+// writes the reply of the last flush if it is a refusal
 fn tell_flush<W: Write>(
     writer: &mut W,
     told: ReplyLine,
@@ -129,8 +161,30 @@ fn tell_flush<W: Write>(
     if is_refusal {
         told.write(writer)?;
     }
-    writer.flush()?;
     Ok(came_to.after(is_refusal))
+}
+
+// writes what is left undone as the last line, and answers the run's status
+fn tell_undone<W: Write>(
+    writer: &mut W,
+    undone: Option<Refusal>,
+    played: io::Result<Status>,
+) -> io::Result<Status>
+    ensures told { IfOk result (λ status. IfOk played (λ came_to.
+        (status ≡ with_refusal (is_some undone) came_to)
+        × Appends (W.contents writer.old) (W.contents writer.new) (undone_text undone))) }
+    ensures played { IsOk result → IsOk played }
+{
+    let came_to = played?;
+    let status = match undone {
+        Some(why) => {
+            writeln!(writer, "{why}")?;
+            came_to.after(true)
+        }
+        None => came_to,
+    };
+    writer.flush()?;
+    Ok(status)
 }
 
 // writes the line of a refusal

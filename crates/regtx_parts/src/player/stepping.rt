@@ -90,5 +90,6 @@ impl<D: Disk + Drop> Player<D> {
         self.engine = engine;
         self.session = 0;
         self.labels = Labels::new(alloc);
+        self.failed = false;
     }
 }

@@ -1,8 +1,7 @@
-use Rattle.std.proofs.Common.{◌+◌, refl, sym, subst}
+use Rattle.std.proofs.Common.{refl, sym, subst}
 use Rattle.reg_script.specs.Statuses.{with_refusal}
 use Rattle.regtx_parts.specs.Players.{script_of}
 use Rattle.regtx_parts.specs.Plays.{IsPlayedOn}
-use Rattle.regtx_parts.specs.Scripts.{Script}
 use Rattle.regtx_parts.specs.Turns.{Turns}
 use Rattle.regtx_parts.specs.declared.ending.Ending.TheVariants.{Broken}
 use Rattle.regtx_parts.proofs.Runs.{goes_on, ends_here, none_read, broken_is_no_end, refusals_join}
@@ -14,19 +13,19 @@ loop-number-preserved g c =
     let contents = g.W.Write.contents in
     let old = script_of c.loop-number.player in
     let new = script_of c.take_turn.new.player in
-    let kept = script_of c.keep_up.new.self in
+    let kept = script_of c.keep_up.new.player in
     let known = remaining c.loop-number.reader in
     let rest = remaining c.take_turn.new.reader in
     let before = contents c.loop-number.writer in
-    let mid = contents c.take_turn.new.writer in
+    let told = contents c.take_turn.new.writer in
+    let mid = contents c.keep_up.new.writer in
     let now = c.in-Replied.is_refusal in
     let number = c.loop-number.number in
-    let turn = subst (λ told. Turns c.args.pace old number known before told new rest mid) c.in-Replied.is (c.in_ok-is_refusal.ensures.told c.args.pace) in (
+    let turn = subst (λ turn. Turns c.args.pace old number known before turn new rest told) c.in-Replied.is c.in_ok-is_refusal.ensures.told in (
       λ faithful. c.loop-number.invariant.0 (c.take_turn.ensures.faithful (c.keep_up.ensures.faithful faithful)),
       λ status after end on.
           subst (λ s. IsPlayedOn c.args.pace (script_of c.args.player.now) c.args.first (remaining c.args.reader.now) (contents c.args.writer.now) after s end) (refusals_join c.loop-number.has_refusal now status)
-          (c.loop-number.invariant.1 (with_refusal now status) after end (goes_on c.args.pace old new kept.machine end number known rest before mid after now status turn c.keep_up.ensures.works
-          (subst (λ (s : Script). IsPlayedOn c.args.pace s (number + 1) rest mid after status end) c.keep_up.ensures.rest on))),
+          (c.loop-number.invariant.1 (with_refusal now status) after end (goes_on c.args.pace old new kept end number known rest before told mid after now status turn c.in_ok-keep_up.ensures.kept.0 c.in_ok-keep_up.ensures.kept.1 on)),
     )
 
 pub returns-in-Over-clause-played : goal.returns-in-Over-clause-played
@@ -34,7 +33,7 @@ returns-in-Over-clause-played g c =
     let contents = g.W.Write.contents in
     let after = contents c.take_turn.new.writer in
     let end = script_of c.take_turn.new.player in
-    let on = subst (λ told. Turns c.args.pace (script_of c.loop-number.player) c.loop-number.number (g.R.Read.remaining c.loop-number.reader) (contents c.loop-number.writer) told end (g.R.Read.remaining c.take_turn.new.reader) after) c.in-Over.is (c.in_ok-is_refusal.ensures.told c.args.pace) in
+    let on = subst (λ told. Turns c.args.pace (script_of c.loop-number.player) c.loop-number.number (g.R.Read.remaining c.loop-number.reader) (contents c.loop-number.writer) told end (g.R.Read.remaining c.take_turn.new.reader) after) c.in-Over.is c.in_ok-is_refusal.ensures.told in
     subst (λ s. IsPlayedOn c.args.pace (script_of c.args.player.now) c.args.first (g.R.Read.remaining c.args.reader.now) (contents c.args.writer.now) after s end) (sym c.after.ensures)
     (c.loop-number.invariant.1 c.in-Over.status after end on)
 

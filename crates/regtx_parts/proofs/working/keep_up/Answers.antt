@@ -1,7 +1,7 @@
-use Rattle.std.proofs.Common.{sym, subst}
+use Rattle.std.proofs.Common.{None, sym, subst}
 use Rattle.regtx_parts.specs.Work.{Between}
 use Rattle.regtx_parts.proofs.Worked.{none_made}
 use Rattle.regtx_parts.proofs.working.keep_up.Goals as goal
 
 pub returns-else-frees_room-clause-works : goal.returns-else-frees_room-clause-works
-returns-else-frees_room-clause-works g c = subst (λ pace. Between pace c.args.engine.now.machine c.args.engine.now.machine) (sym c.in-FreesRoom.is) (none_made c.args.engine.now.machine)
+returns-else-frees_room-clause-works g c = subst (λ pace. Between pace None c.args.engine.now.machine c.args.engine.now.machine) (sym c.in-FreesRoom.is) (none_made c.args.engine.now.machine)

@@ -1,19 +1,21 @@
-use Rattle.regtx_parts.proofs.Worked.{none_made, one_before}
+use Rattle.std.proofs.Common.{Some, None}
+use Rattle.regtx_parts.proofs.Worked.{none_made, one_before, one_refused}
 use Rattle.regtx_parts.proofs.working.settle.Goals as goal
 
 pub returns-in_default-clause-works : goal.returns-in_default-clause-works
-returns-in_default-clause-works g c = c.loop.invariant.1 c.loop.engine.machine (none_made c.loop.engine.machine)
+returns-in_default-clause-works g c = c.loop.invariant.1 None c.loop.engine.machine (none_made c.loop.engine.machine)
 
-pub returns-then-not-is_made-clause-works : goal.returns-then-not-is_made-clause-works
-returns-then-not-is_made-clause-works g c =
-    let new = c.is_made.new.engine.machine in
-    c.loop.invariant.1 new (one_before c.loop.engine.machine new new c.in-Some.event c.is_made.ensures.step.0 c.in-Some.ensures c.is_made.ensures.step.1 (none_made new))
+pub returns-in-Some-make_step-clause-works : goal.returns-in-Some-make_step-clause-works
+returns-in-Some-make_step-clause-works g c =
+    let new = c.make_step.new.engine.machine in
+    c.loop.invariant.1 (Some c.in-Some-make_step.refusal) new (one_refused c.loop.engine.machine new c.in-Some.event c.in-Some-make_step.refusal c.in-Some.ensures c.in-Some-make_step.ensures.step)
 
 pub loop-preserved : goal.loop-preserved
-loop-preserved g c = (
-  λ faithful. c.loop.invariant.0 (c.is_made.ensures.faithful faithful),
-  λ new on. c.loop.invariant.1 new (one_before c.loop.engine.machine c.is_made.new.engine.machine new c.in-Some.event c.is_made.ensures.step.0 c.in-Some.ensures c.is_made.ensures.step.1 on),
-)
+loop-preserved g c =
+    let made = c.in_default-make_step.ensures.step in (
+      λ faithful. c.loop.invariant.0 (c.make_step.ensures.faithful faithful),
+      λ ended new on. c.loop.invariant.1 ended new (one_before c.loop.engine.machine c.make_step.new.engine.machine new c.in-Some.event made.0 ended c.in-Some.ensures made.1 made.2 on),
+    )
 
 pub returns-clause-works : goal.returns-clause-works
-returns-clause-works g c = c.loop.invariant.1 c.loop.engine.machine (none_made c.loop.engine.machine)
+returns-clause-works g c = c.loop.invariant.1 None c.loop.engine.machine (none_made c.loop.engine.machine)
