@@ -1,23 +1,31 @@
 -- An engine's parts go on by an event.
-use Rattle.std.proofs.Common.{◌≡◌, inl, inr, ℕ, ◌+◌, ◌<◌, refl, sym, ◌∙◌, ap, subst, arith, Result, Ok, Err, slice_get}
+use Rattle.std.proofs.Common.{◌≡◌, ◌⊎◌, inl, inr, ℕ, ◌+◌, ◌<◌, refl, sym, ◌∙◌, ap, subst, arith, Result, Ok, Err, slice_get}
 use Rattle.refusals.specs.declared.refusal.Refusal.{Refusal}
-use Rattle.refusals.specs.declared.refusal.Refusal.TheVariants.{DiskFault, NoMemory}
+use Rattle.std.proofs.lemmas.Bool.{true≢false}
+use Rattle.std.specs.Prelude.{IfErr, true}
+use Rattle.refusals.specs.declared.refusal.Refusal.TheVariants.{DiskFault, Faulted, NoMemory}
 use Rattle.disk_model.specs.FileState.{FileState}
 use Rattle.disk_model.specs.Call.{OneCall, HasFailed}
 use Rattle.machine.specs.Machine.{Machine}
-use Rattle.machine.specs.Steps.{Step}
+use Rattle.prefix_law.specs.Promises.{Answer, Choice, Spelled, TrimSays}
+use Rattle.engine_words.specs.Changes.{TimedOp}
+use Rattle.machine.specs.Steps.{Step, is_step}
 use Rattle.machine.specs.declared.event.Event.{Event}
 use Rattle.machine.specs.declared.event.Event.TheVariants.{FlusherStep}
 use Rattle.machine.specs.declared.event.Reply.{Reply}
 use Rattle.machine.specs.declared.event.Reply.TheVariants.{Refused}
+use Rattle.engine_words.specs.Steps.{Says}
 use Rattle.engine_words.specs.declared.Progress.{Progress}
+use Rattle.engine_words.specs.declared.Progress.TheVariants as progress
 use Rattle.commit_journal.specs.Journals.{changes_of, store_of}
 use Rattle.commit_journal.specs.declared.journal.Journal.{Journal}
 use Rattle.engine_law.specs.Answers.{reply_to}
 use Rattle.engine_law.specs.Prefixes.{AnyFile, AreOnDisk}
+use Rattle.engine_law.specs.Engines.{NeedsNoDevice}
 use Rattle.engine.specs.Parts.{IsSound}
 use Rattle.engine.specs.Events.{GoesOn}
 use Rattle.engine.specs.declared.parts.Parts.{Parts}
+use Rattle.engine.proofs.Idling.{told_idle}
 
 -- a call on some files is one on any
 pub any_call : (own : ℕ → Type 0) (old new : ℕ → ℕ → FileState) (before after : ℕ) → OneCall own old new before after → OneCall AnyFile old new before after
@@ -31,6 +39,57 @@ has_failed (Err why) old new failed told =
     let one : new ≡ old + 1 = subst (λ w. HasFailed {T = Progress} (Err w) old new) is failed in
     omega (arith, one)
 
+-- A step that needs no device leaves the disk: an idle one does, and one that is refused for another reason than the device.
+
+told_refused : (come : Result Progress Refusal) (why : Refusal) → reply_to come ≡ Refused why → come ≡ Err why
+told_refused (Ok progress.Idle) why told = absurd cc
+told_refused (Ok progress.More) why told = absurd cc
+told_refused (Ok progress.Done) why told = absurd cc
+told_refused (Err other) why told =
+    let same : other ≡ why = cc in
+    subst (λ w. ◌≡◌ {A = Result Progress Refusal} (Err other) (Err w)) same refl
+
+pub quiet_by : {D : Type 0} (event : Event) (come : Result Progress Refusal) (old new : D) → is_step event ≡ true → (come ≡ Ok progress.Idle → new ≡ old) → ((why : Refusal) → come ≡ Err why → (why ≡ DiskFault → ⊥) → new ≡ old)
+    → NeedsNoDevice event (reply_to come) → new ≡ old
+quiet_by event come old new steps idle refused needs = elim (needs) [
+  | inl calm ↦ absurd (true≢false (sym steps ∙ calm))
+  | inr rest ↦ elim (rest) [
+    | inl told ↦ idle ((told_idle come).0 told)
+    | inr told ↦ refused told.0 (told_refused come told.0 told.1) told.2
+  ]
+]
+
+-- a step of the journal or of a trim
+pub refused_still : {X D : Type 0} (says : Answer → X → X → Type 0) (come : Result Progress Refusal) (a b : X) (old new : D) → Says says come a b → ((come ≡ Err Faulted) ⊎ ((come ≡ Err NoMemory) ⊎ (come ≡ Ok progress.Idle)) → new ≡ old)
+    → (why : Refusal) → come ≡ Err why → (why ≡ DiskFault → ⊥) → new ≡ old
+refused_still says (Err NoMemory) a b old new said still why is other = still (inr (inl refl))
+refused_still says (Err Faulted) a b old new said still why is other = still (inl refl)
+refused_still says (Err DiskFault) a b old new said still why is other = let same : why ≡ DiskFault = cc in absurd (other same)
+refused_still says (Err _) a b old new said still why is other = absurd said
+refused_still says (Ok p) a b old new said still why is other = absurd (apart is)
+  where
+    apart : ◌≡◌ {A = Result Progress Refusal} (Ok p) (Err why) → ⊥
+    apart same = cc
+
+-- a step of a trim, which is never idle or refused for want of memory
+pub trim_still : {D : Type 0} (come : Result Progress Refusal) (a b : Choice (Spelled TimedOp)) (old new : D) → Says TrimSays come a b → (come ≡ Err Faulted → new ≡ old) → (come ≡ Err Faulted) ⊎ ((come ≡ Err NoMemory) ⊎ (come ≡ Ok progress.Idle)) → new ≡ old
+trim_still come a b old new said still (inl faulted) = still faulted
+trim_still come a b old new said still (inr (inl hungry)) = absurd (subst (λ r. Says TrimSays r a b) hungry said)
+trim_still come a b old new said still (inr (inr idle)) = absurd (subst (λ r. Says TrimSays r a b) idle said)
+
+-- a step of a hive's flush
+pub flush_still : {D : Type 0} (come : Result Progress Refusal) (old new : D) → IfErr come (λ w. (w ≡ DiskFault) ⊎ (w ≡ Faulted)) → (come ≡ Err Faulted → new ≡ old) → (why : Refusal) → come ≡ Err why → (why ≡ DiskFault → ⊥) → new ≡ old
+flush_still (Ok p) old new refused still why is other = absurd (apart is)
+  where
+    apart : ◌≡◌ {A = Result Progress Refusal} (Ok p) (Err why) → ⊥
+    apart same = cc
+flush_still (Err w) old new refused still why is other =
+    let same : w ≡ why = cc in
+    elim (refused) [
+      | inl failed ↦ absurd (other (sym same ∙ failed))
+      | inr faulted ↦ still (subst (λ x. ◌≡◌ {A = Result Progress Refusal} (Err w) (Err x)) faulted refl)
+    ]
+
 module _ {D : Type 0} (states : D → ℕ → ℕ → FileState) (clock failures : D → ℕ) (is_faithful : D → Type 0) (event : Event) (answer : Reply) where
   -- nothing has changed
   pub stays : (parts : Parts D) → IsSound parts → Step parts.store.machine event answer parts.store.machine → (answer ≡ Refused DiskFault → ⊥) → GoesOn states clock failures is_faithful event answer parts parts
@@ -40,6 +99,7 @@ module _ {D : Type 0} (states : D → ℕ → ℕ → FileState) (clock failures
     on_disk = λ f on. on;
     store = refl;
     call = record { later = omega arith; one = omega arith; past = λ k f le. refl; others = λ f none. refl };
+    quiet = λ q. refl;
     failed = λ e. absurd (fine e);
     faithful = λ f. f;
     life = (refl, refl);
@@ -61,6 +121,7 @@ module _ {D : Type 0} (states : D → ℕ → ℕ → FileState) (clock failures
         on_disk = λ f there. on.on_disk f (subst (λ (d : D). AreOnDisk mid.journal mid.hives.items (states d (clock d))) (sym disk) (moves (states old.disk (clock old.disk)) there));
         store = on.store ∙ ap (λ (j : Journal). store_of j) journal;
         call = subst (λ (d : D). OneCall AnyFile (states d) (states new.disk) (clock d) (clock new.disk)) disk on.call;
+        quiet = λ q. on.quiet q ∙ disk;
         failed = λ e. subst (λ (d : D). failures d < failures new.disk) disk (on.failed e);
         faithful = λ f. subst is_faithful disk (on.faithful f);
         life = (on.life.0 ∙ ap (λ (p : Parts D). p.base) rest, on.life.1 ∙ ap (λ (p : Parts D). (changes_of p.spelled.value)) rest);

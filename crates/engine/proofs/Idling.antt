@@ -37,7 +37,7 @@ use Rattle.engine_law.proofs.HiveLists.{view_at}
 
 -- Answers
 
-told_idle : (come : Result Progress Refusal) → (reply_to come ≡ Stepped stepped.Idle) ↔ (come ≡ Ok progress.Idle)
+pub told_idle : (come : Result Progress Refusal) → (reply_to come ≡ Stepped stepped.Idle) ↔ (come ≡ Ok progress.Idle)
 told_idle (Ok progress.Idle) = (λ e. refl, λ e. refl)
 told_idle (Ok progress.More) = (λ e. absurd cc, λ e. absurd cc)
 told_idle (Ok progress.Done) = (λ e. absurd cc, λ e. absurd cc)

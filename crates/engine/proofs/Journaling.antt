@@ -44,6 +44,7 @@ use Rattle.engine.proofs.AtHand.{hand_steps}
 use Rattle.engine.proofs.Namings.{naming_settles}
 use Rattle.engine.proofs.OnDisk.{journal_writes}
 use Rattle.engine.proofs.Idling.{has_all}
+use Rattle.engine_law.specs.Engines.{NeedsNoDevice}
 use Rattle.engine_law.specs.Idle.{HasAll}
 use Rattle.std.proofs.lemmas.Option.{slice_get_within, slice_get-get_or}
 use Rattle.engine.proofs.Frames.{any_call, has_failed}
@@ -120,9 +121,9 @@ module _ {D : Type 0} (states : D → ℕ → ℕ → FileState) (clock failures
       → HasCounted s.naming.last.items s.store.machine.durable (take (store.machine.durable - s.store.machine.durable) (pending s.store.machine)) naming.last.items
       → store_of new ≡ store_of s.journal → (journals.IsBroken new → journals.IsBroken s.journal ⊎ (come ≡ Err DiskFault))
       → (is_faithful disk → is_on (texts_of s.journal) (value_of s.journal) (states s.disk (clock s.disk) 0) → is_on (texts_of s.journal) (value_of new) (states disk (clock disk) 0))
-      → OneCall IsJournal (states s.disk) (states disk) (clock s.disk) (clock disk) → HasFailed come (failures s.disk) (failures disk) → (is_faithful disk → is_faithful s.disk)
+      → OneCall IsJournal (states s.disk) (states disk) (clock s.disk) (clock disk) → HasFailed come (failures s.disk) (failures disk) → (is_faithful disk → is_faithful s.disk) → (NeedsNoDevice e (reply_to come) → disk ≡ s.disk)
       → GoesOn states clock failures is_faithful e (reply_to come) s (record s { disk = disk; journal = new; store = store; naming = naming })
-  journal_goes_on s new disk store naming come used sound free goes used_is told hand rises counted same broken on call fails faithful =
+  journal_goes_on s new disk store naming come used sound free goes used_is told hand rises counted same broken on call fails faithful quiet =
       let is : store.machine ≡ after_step s.store.machine (choice_of s.journal) (choice_of new) come = told ∙ settled_is s.store.machine (choice_of s.journal) (choice_of new) used come used_is in
       record {
         step = subst (λ (m : Machine). Step s.store.machine e (reply_to come) m) (sym is) goes.0;
@@ -141,6 +142,7 @@ module _ {D : Type 0} (states : D → ℕ → ℕ → FileState) (clock failures
         on_disk = λ f there. journal_writes s.journal new s.hives.items (states s.disk (clock s.disk)) (states disk (clock disk)) there call.others same (on f);
         store = same;
         call = any_call IsJournal (states s.disk) (states disk) (clock s.disk) (clock disk) call;
+        quiet = quiet;
         failed = has_failed come (failures s.disk) (failures disk) fails;
         faithful = faithful;
         life = (refl, refl);

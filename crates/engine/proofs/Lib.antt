@@ -9,6 +9,7 @@ mod OnDisk
 mod Journaling
 mod Taking
 mod Advancing
+mod Answering
 mod RunLists
 mod OpenedStays
 mod Living

@@ -12,10 +12,12 @@ use Rattle.disk_model.proofs.Sectors.{honest_at_rest}
 use Rattle.disk_model.specs.Unwritten.{IsSyncedOrSame}
 use Rattle.commit_journal.specs.Store.{Store, IsStore}
 use Rattle.machine.specs.Machine.{Machine, last_number, opened_machine}
+use Rattle.machine.specs.Steps.{Run}
 use Rattle.machine.specs.declared.event.Event.{Event}
 use Rattle.machine.specs.declared.event.Reply.{Reply}
 use Rattle.engine_law.specs.Prefixes.{IsSafeAt, Recover, trees_after}
-use Rattle.engine_law.specs.Runs.{IsBoundary, RunsSafely}
+use Rattle.engine_law.specs.Engines.{EngineView}
+use Rattle.engine_law.specs.Runs.{AnswersInTurn, IsBoundary, RunsSafely}
 use Rattle.engine_law.proofs.Bridge.{all_long}
 use Rattle.recovery.specs.Recovered.{IsRecovered, seen_in}
 use Rattle.engine.specs.Lives.{Life, Life.Unopened, Life.Opened, IsSafe, IsLife, IsNext, AreLives, OpensFrom, EachGoesOn}
@@ -113,19 +115,32 @@ repaired store state end number room trees found stays = (
 )
 
 abbrev pub EachMoment : Type 0
-EachMoment = (store : Store) (states : ℕ → ℕ → FileState) (start end : ℕ) (old new : Machine) (events : List Event) (replies : List Reply) → RunsSafely (IsSafeAt store states) start old events replies end new → (moment : ℕ) → start ≤ moment → moment ≤ end
+EachMoment = (store : Store) (states : ℕ → ℕ → FileState) (old new : EngineView) (events : List Event) (replies : List Reply) → RunsSafely (IsSafeAt store states) old events replies new → (moment : ℕ) → old.clock ≤ moment → moment ≤ new.clock
     → IsBoundary (IsSafeAt store states) old events replies new moment
 
-pub ran : EachMoment → (store : Store) (state : ℕ → FileState) (number room : ℕ) (trees : List TreeMap) (states : ℕ → ℕ → FileState) (start end moment : ℕ) (events : List Event) (replies : List Reply) (new : Machine) → IsRecovered (seen_in state) store number trees
-    → RunsSafely (IsSafeAt store states) start (record (opened_machine trees number [] 0) { room = room }) events replies end new → start ≤ moment → moment ≤ end
-    → IsBoundary (λ at machine. IsLife store state (Opened number trees machine (states at))) (record (opened_machine trees number [] 0) { room = room }) events replies new moment
-ran each store state number room trees states start end moment events replies new found run low high =
-    let b = each store states start end (record (opened_machine trees number [] 0) { room = room }) new events replies run moment low high in
+abbrev pub AreRuns : Type 0
+AreRuns = (old new : EngineView) (events : List Event) (replies : List Reply) → AnswersInTurn old events replies new → Run old.machine events replies new.machine × (length replies ≡ length events)
+
+pub ran : EachMoment → AreRuns → (store : Store) (state : ℕ → FileState) (number room : ℕ) (trees : List TreeMap) (states : ℕ → ℕ → FileState) (moment : ℕ) (events : List Event) (replies : List Reply) (old new : EngineView) → IsRecovered (seen_in state) store number trees
+    → old.machine ≡ record (opened_machine trees number [] 0) { room = room } → RunsSafely (IsSafeAt store states) old events replies new → old.clock ≤ moment → moment ≤ new.clock
+    → IsBoundary (λ at machine. IsLife store state (Opened number trees machine (states at))) old events replies new moment
+ran each runs store state number room trees states moment events replies old new found begins run low high =
+    let b = each store states old new events replies run moment low high in
     record {
       answered = b.answered;
       some = b.some;
-      machine = b.machine;
+      engine = b.engine;
+      then_at = b.then_at;
       so_far = b.so_far;
       then_on = b.then_on;
-      holds = (found, record { room = room; events = take b.answered events; replies = take b.answered replies; run = b.so_far }, b.holds);
+      holds = (
+        found,
+        record {
+          room = room;
+          events = take b.answered events;
+          replies = take b.answered replies;
+          run = subst (λ (m : Machine). Run m (take b.answered events) (take b.answered replies) b.engine.machine) begins (runs old b.engine (take b.answered events) (take b.answered replies) b.so_far).0;
+        },
+        b.holds,
+      );
     }

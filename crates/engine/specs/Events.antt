@@ -1,5 +1,5 @@
 -- What an event makes of an engine's parts, whichever event it is.
-use Rattle.std.specs.Prelude.{◌≡◌, ◌⊎◌, ℕ, ◌<◌, slice_get, Some}
+use Rattle.std.specs.Prelude.{◌≡◌, ◌⊎◌, ℕ, ◌<◌, map, slice_get, Some}
 use Rattle.refusals.specs.declared.refusal.Refusal.TheVariants.{DiskFault}
 use Rattle.disk_model.specs.Call.{OneCall}
 use Rattle.disk_model.specs.FileState.{FileState}
@@ -12,15 +12,31 @@ use Rattle.machine.specs.declared.event.Reply.TheVariants.{Refused, Stepped}
 use Rattle.prefix_law.specs.Promises.{BeginsTrim}
 use Rattle.commit_journal.specs.Journals.{changes_of, choice_of, steps_left, store_of}
 use Rattle.hive_flush.specs.declared.hive.HiveFile.{HiveFile}
+use Rattle.engine_law.specs.Engines.{EngineView, NeedsNoDevice}
 use Rattle.engine_law.specs.Prefixes.{AnyFile, AreOnDisk, view_of}
 use Rattle.engine_law.specs.Progress.{FlushesOn, flush_of, HasPending, HasTrimmed, IsMade, IsTrimming, NearsDurable}
 use Rattle.engine.specs.Parts.{IsSound}
 use Rattle.engine.specs.declared.parts.Parts.{Parts}
 
+-- an engine as its parts show it, over a disk of this clock and these failures
+abbrev pub parts_view : {D : Type 0} → (D → ℕ) → (D → ℕ) → Parts D → EngineView
+parts_view clock failures parts = record {
+  machine = parts.store.machine;
+  base = parts.base;
+  opened = changes_of parts.spelled.value;
+  journal = choice_of parts.journal;
+  hives = map view_of parts.hives.items;
+  left = steps_left parts.journal;
+  flushes = map flush_of parts.hives.items;
+  clock = clock parts.disk;
+  failures = failures parts.disk;
+}
+
 -- Over a disk of these states, this clock and these failures, the parts go on by an event with an answer. It is a step of the
 -- machine, with at most one call of the device. The parts stay sound, and on the disk as they say, where they were and the disk
 -- is faithful. The files are of the same store. The device has failed where the answer says so. What the journal spelled at the
--- opening stays; the journal changes in a step of it or of a trim alone, and a hive in a step of its flush.
+-- opening stays; the journal changes in a step of it or of a trim alone, and a hive in a step of its flush. The disk stays where the
+-- answer is told without it.
 pub record GoesOn {D : Type 0} (states : D → ℕ → ℕ → FileState) (clock failures : D → ℕ) (is_faithful : D → Type 0)
     (event : Event) (answer : Reply) (old new : Parts D) : Type 0 where
   pub step : Step old.store.machine event answer new.store.machine
@@ -29,6 +45,7 @@ pub record GoesOn {D : Type 0} (states : D → ℕ → ℕ → FileState) (clock
       → AreOnDisk new.journal new.hives.items (states new.disk (clock new.disk))
   pub store : store_of new.journal ≡ store_of old.journal
   pub call : OneCall AnyFile (states old.disk) (states new.disk) (clock old.disk) (clock new.disk)
+  pub quiet : NeedsNoDevice event answer → new.disk ≡ old.disk
   pub failed : answer ≡ Refused DiskFault → failures old.disk < failures new.disk
   pub faithful : is_faithful new.disk → is_faithful old.disk
   pub life : (new.base ≡ old.base) × (changes_of new.spelled.value ≡ changes_of old.spelled.value)

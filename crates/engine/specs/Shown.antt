@@ -17,6 +17,7 @@ use Rattle.transactions.specs.Prepared.{will_show}
 use Rattle.transactions.specs.declared.prepared.Prepared.{Prepared}
 use Rattle.transactions.specs.Stores.{machine_code}
 use Rattle.commit_journal.specs.Store.{Store}
+use Rattle.engine_law.specs.Engines.{EngineView}
 use Rattle.engine_law.specs.States.{HiveView}
 use Rattle.engine_law.specs.Progress.{FlushView}
 
@@ -43,6 +44,20 @@ pub record Shown (D : Type 0) : Type 0 where
   pub left : ℕ
   pub flushes : List FlushView
   pub prepared : Option Awaiting
+
+-- an engine at one moment, over a disk of this clock and these failures
+abbrev pub engine_view : {D : Type 0} → (D → ℕ) → (D → ℕ) → Shown D → EngineView
+engine_view clock failures shown = record {
+  machine = shown.machine;
+  base = shown.base;
+  opened = shown.opened;
+  journal = shown.journal;
+  hives = shown.hives;
+  left = shown.left;
+  flushes = shown.flushes;
+  clock = clock shown.disk;
+  failures = failures shown.disk;
+}
 
 abbrev pub held_code : Coded (TreeMap × ℕ)
 held_code = coded× (finite.code (coded_list (coded_list coded_ℕ)) row_code) coded_ℕ

@@ -1,23 +1,22 @@
 //! The engine as its callers see it: what it keeps is in its type, so that no call asks for it.
 ghost use Rattle.std.specs.Prelude.{◌≡◌, ◌⊎◌, ◌↔◌, ◌+◌, ◌<◌, ◌≤◌, ◌^◌, [], ℕ, false, true, IfErr, IfNone, IfOk, IfSome, OnErr, OnOk, None, Some, is_some, length, map, replicate, slice_get};
-ghost use Rattle.refusals.specs.declared.refusal.Refusal.TheVariants.{DiskFault, NoMemory};
+ghost use Rattle.refusals.specs.declared.refusal.Refusal.TheVariants.{NoMemory};
 ghost use Rattle.disk_model.specs.Call.{OneCall};
 ghost use Rattle.machine.specs.Machine.{opened_machine, trees_now};
 ghost use Rattle.commit_journal.specs.Store.{room_of};
 ghost use Rattle.commit_journal.specs.Journals.{changes_of, choice_of};
 ghost use Rattle.commit_journal.specs.Journals as journals;
 ghost use Rattle.recovery.specs.Shown.{IsWhole, store_of};
-ghost use Rattle.engine_law.specs.Idle.{IdlesExactly, IsTrimmed};
-ghost use Rattle.engine_law.specs.States.{HiveView};
-ghost use Rattle.engine_law.specs.Progress.{FlushView, FlushesOn, HasPending, HasTrimmed, IsMade, IsTrimming, NearsDurable};
-ghost use Rattle.prefix_law.specs.Promises.{BeginsTrim};
+ghost use Rattle.engine_law.specs.Engines.{EngineAnswers, NeedsNoDevice};
+ghost use Rattle.engine_law.specs.Idle.{IsTrimmed};
+ghost use Rattle.engine_law.specs.Progress.{HasPending};
 ghost use Rattle.machine.specs.Steps.{Step, Run};
-ghost use Rattle.machine.specs.declared.event.Progress.TheVariants.{Idle, More};
 ghost use Rattle.machine.specs.declared.event.Reply.TheVariants as reply;
 ghost use Rattle.engine_law.specs.Prefixes.{AnyFile, IsSafeAt, view_of};
-ghost use Rattle.engine_law.specs.Runs.{IsHeld, RunsSafely};
+ghost use Rattle.engine_law.specs.Runs.{AnswersInTurn, IsHeld, RunsSafely};
 ghost use Rattle.std.specs.List.{AllByRecursion};
 ghost use Rattle.commit_journal.specs.Naming.{HasCounted};
+ghost use Rattle.engine.specs.Shown.{engine_view};
 ghost use Rattle.engine.specs.Work.{AreFlushed, IsNextAround};
 ghost use Rattle.transactions.specs.Prepared.{Shows, may_accept};
 
@@ -139,8 +138,11 @@ impl<D: Disk> Engine<D> {
     ///
     /// A step of the journal that isn't refused brings what waits nearer to being durable. A trim that is begun is ended by the
     /// next step of the journal or of a trim that isn't refused. A flush that begins with `p` dirty pages is done within
-    /// `2 * p + 7` of its steps that aren't refused. What an event doesn't step stays as it was.
+    /// `2 * p + 7` of its steps that aren't refused. What an event doesn't step stays as it was. An event that makes no step,
+    /// an idle step, and one that is refused for another reason than the device leave the disk as it was.
     pub fn event(&mut self, event: Event) -> Reply
+        ensures answers { EngineAnswers event result (engine_view D.clock D.failures self.old)
+            (engine_view D.clock D.failures self.new) }
         ensures step { Step self.old.machine event result self.new.machine }
         ensures before { D.faithful self.new.disk → IsSafeAt self.old.store
             (D.state_at self.new.disk) (D.clock self.old.disk) self.old.machine }
@@ -148,30 +150,7 @@ impl<D: Disk> Engine<D> {
             (D.state_at self.new.disk) (D.clock self.new.disk) self.new.machine }
         ensures call { OneCall AnyFile (D.state_at self.old.disk) (D.state_at self.new.disk)
             (D.clock self.old.disk) (D.clock self.new.disk) }
-        ensures failed { result ≡ reply.Refused DiskFault →
-            D.failures self.old.disk < D.failures self.new.disk }
-        ensures idle { self.old.machine.faulted ≡ false → IdlesExactly event result self.old.machine
-            self.old.base self.old.opened self.old.journal self.old.hives }
-        ensures nears { event ≡ Event.JournalStep → IsMade result →
-            HasPending self.old.machine → NearsDurable
-            self.old.machine self.old.left self.new.machine self.new.left }
-        ensures begins_trim { event ≡ Event.TrimStep → IsMade result →
-            ¬ (result ≡ reply.Stepped Idle) → ¬ (IsTrimming self.old.journal) →
-            (result ≡ reply.Stepped More) × BeginsTrim self.old.journal self.new.journal }
-        ensures ends_trim { (event ≡ Event.JournalStep) ⊎ (event ≡ Event.TrimStep) →
-            IsMade result → IsTrimming self.old.journal → HasTrimmed
-            self.old.machine result self.new.machine self.new.journal }
-        ensures flushes { (i : ℕ) (was is : HiveView) (before after : FlushView) →
-            event ≡ Event.FlusherStep i → IsMade result → ¬ (result ≡ reply.Stepped Idle) →
-            slice_get self.old.hives i ≡ Some was → slice_get self.old.flushes i ≡ Some before →
-            slice_get self.new.hives i ≡ Some is → slice_get self.new.flushes i ≡ Some after →
-            FlushesOn self.old.machine.durable result was is before after }
-        ensures life { (self.new.base ≡ self.old.base) × (self.new.opened ≡ self.old.opened) }
-        ensures journal_stays { ¬ (event ≡ Event.JournalStep) → ¬ (event ≡ Event.TrimStep) →
-            (self.new.journal ≡ self.old.journal) × (self.new.left ≡ self.old.left) }
-        ensures hives_stay { (i : ℕ) → ¬ (event ≡ Event.FlusherStep i) →
-            (slice_get self.new.hives i ≡ slice_get self.old.hives i)
-            × (slice_get self.new.flushes i ≡ slice_get self.old.flushes i) }
+        ensures quiet { NeedsNoDevice event result → self.new.disk ≡ self.old.disk }
         ensures store { self.new.store ≡ self.old.store }
         ensures dropped { self.new.prepared ≡ None }
         ensures faithful { D.faithful self.new.disk → D.faithful self.old.disk }
@@ -225,17 +204,22 @@ impl<D: Disk> Engine<D> {
         self.parts.finish(prepared)
     }
 
-    /// A whole run. The replies are those of a run of the machine. Each event makes at most one call of the device, so each moment
-    /// of the run is that of some boundary between two events; and at each boundary, at its own moment, whatever a crash leaves
-    /// is a prefix of the changes accepted up to there. Each receipt is of a number that is durable at the end.
+    /// A whole run: each event is answered as [`event`](Engine::event) answers it by itself, one after another. Each makes at most
+    /// one call of the device, so each moment of the run is that of some boundary between two events; and at each boundary, at its
+    /// own moment, whatever a crash leaves is a prefix of the changes accepted up to there. Each receipt is of a number that is
+    /// durable at the end.
     ///
     /// Refused, before any event, for want of memory alone.
     pub fn run(&mut self, alloc: Global, events: Vec<Event>) -> Result<Vec<Reply>, AllocError>
+        ensures answers { IfOk result (λ replies. AnswersInTurn
+            (engine_view D.clock D.failures self.old) events.items replies.items
+            (engine_view D.clock D.failures self.new)) }
         ensures run { IfOk result (λ replies.
             Run self.old.machine events.items replies.items self.new.machine) }
         ensures crashes { IfOk result (λ replies. D.faithful self.new.disk →
-            RunsSafely (IsSafeAt self.old.store (D.state_at self.new.disk)) (D.clock self.old.disk)
-            self.old.machine events.items replies.items (D.clock self.new.disk) self.new.machine) }
+            RunsSafely (IsSafeAt self.old.store (D.state_at self.new.disk))
+            (engine_view D.clock D.failures self.old) events.items replies.items
+            (engine_view D.clock D.failures self.new)) }
         ensures receipts { IfOk result (λ replies.
             AllByRecursion (IsHeld self.new.machine.durable) replies.items) }
         ensures err { OnErr result (self.new ≡ self.old) }

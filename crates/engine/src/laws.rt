@@ -8,6 +8,7 @@ ghost use Rattle.commit_journal.specs.Store.{Store, IsStore};
 ghost use Rattle.machine.specs.Machine.{Machine, opened_machine};
 ghost use Rattle.machine.specs.declared.event.Event.{Event};
 ghost use Rattle.machine.specs.declared.event.Reply.{Reply};
+ghost use Rattle.engine_law.specs.Engines.{EngineView};
 ghost use Rattle.engine_law.specs.Prefixes.{IsSafeAt};
 ghost use Rattle.engine_law.specs.Runs.{IsBoundary, RunsSafely};
 ghost use Rattle.recovery.specs.Recovered.{IsRecovered, seen_in};
@@ -43,14 +44,13 @@ pub fn calls_are_lives()
         IsRecovered files store number trees) → IsLife store state
         (Opened number trees (record (opened_machine trees number [] 0) { room = room }) end) }
     ensures runs { (store : Store) (state : ℕ → FileState) (number room : ℕ) (trees : List TreeMap)
-        (states : ℕ → ℕ → FileState) (start end moment : ℕ) (events : List Event)
-        (replies : List Reply) (new : Machine) →
-        IsRecovered (seen_in state) store number trees →
-        RunsSafely (IsSafeAt store states) start
-        (record (opened_machine trees number [] 0) { room = room }) events replies end new →
-        start ≤ moment → moment ≤ end → IsBoundary
+        (states : ℕ → ℕ → FileState) (moment : ℕ) (events : List Event) (replies : List Reply)
+        (old new : EngineView) → IsRecovered (seen_in state) store number trees →
+        old.machine ≡ record (opened_machine trees number [] 0) { room = room } →
+        RunsSafely (IsSafeAt store states) old events replies new →
+        old.clock ≤ moment → moment ≤ new.clock → IsBoundary
         (λ at machine. IsLife store state (Opened number trees machine (states at)))
-        (record (opened_machine trees number [] 0) { room = room }) events replies new moment }
+        old events replies new moment }
 {
     safe_runs_go_on();
 }

@@ -3,7 +3,8 @@ ghost use Rattle.std.specs.Prelude.{◌≡◌, IfOk, OnErr};
 ghost use Rattle.machine.specs.Steps.{Run};
 ghost use Rattle.commit_journal.specs.Journals.{store_of};
 ghost use Rattle.engine_law.specs.Prefixes.{AreOnDisk, IsSafeAt};
-ghost use Rattle.engine_law.specs.Runs.{RunsSafely};
+ghost use Rattle.engine_law.specs.Runs.{AnswersInTurn, RunsSafely};
+ghost use Rattle.engine.specs.Events.{parts_view};
 ghost use Rattle.engine.specs.Parts.{IsSound};
 
 use crate::parts::Parts;
@@ -21,8 +22,11 @@ impl<D: Disk> Parts<D> {
             (D.state_at self.old.disk (D.clock self.old.disk)) }
         ensures crashes { IfOk result (λ replies. D.faithful self.new.disk →
             RunsSafely (IsSafeAt (store_of self.old.journal) (D.state_at self.new.disk))
-            (D.clock self.old.disk) self.old.store.machine events.items replies.items
-            (D.clock self.new.disk) self.new.store.machine) }
+            (parts_view D.clock D.failures self.old) events.items replies.items
+            (parts_view D.clock D.failures self.new)) }
+        ensures answers { IfOk result (λ replies. AnswersInTurn
+            (parts_view D.clock D.failures self.old) events.items replies.items
+            (parts_view D.clock D.failures self.new)) }
         ensures run { IfOk result (λ replies.
             Run self.old.store.machine events.items replies.items self.new.store.machine) }
         ensures err { OnErr result (self.new ≡ self.old) }

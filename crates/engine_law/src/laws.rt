@@ -31,7 +31,8 @@ ghost use Rattle.commit_journal.specs.Journals.{choice_of, store_of};
 ghost use Rattle.commit_journal.specs.declared.journal.Journal.{Journal};
 ghost use Rattle.hive_flush.specs.declared.hive.HiveFile.{HiveFile};
 ghost use Rattle.engine_law.specs.Prefixes.{ArePlaced, AreOnDisk, IsSafeAt, Recover, view_of};
-ghost use Rattle.engine_law.specs.Runs.{RunsSafely, IsBoundary, IsHeld};
+ghost use Rattle.engine_law.specs.Engines.{EngineAnswers, EngineView};
+ghost use Rattle.engine_law.specs.Runs.{AnswersInTurn, RunsSafely, IsBoundary, IsHeld};
 ghost use Rattle.engine_law.specs.Openings.{IsFound};
 ghost use Rattle.engine_law.specs.Progress.{FlushView, FlushesOn, HasFlushed, HasPending, IsJournalStep, IsTrimming};
 
@@ -152,27 +153,30 @@ pub fn crashes_leave_prefixes()
 
 /// Runs whose boundaries are safe, each at its moment.
 ///
-/// - `goes_on`: such a run goes on by a step of one device call at most, behind which it is safe again, over a disk of which what
+/// - `goes_on`: such a run goes on by an event that the engine answers, behind which it is safe again, over a disk of which what
 ///   was is as it was.
-/// - `runs`: it is a run of the machine, with as many answers as events.
+/// - `answers`: a run of events that an engine answers in turn goes on by one more.
+/// - `runs`: each such run is a run of the machine, with as many answers as events.
 /// - `each_moment`: at each moment from its start to its end some boundary is of that moment; so what a crash leaves then is
 ///   a prefix of the changes accepted up to there.
 pub fn safe_runs_go_on()
-    ensures goes_on { (store : Store) (was is : ℕ → ℕ → FileState) (start middle end : ℕ)
-        (old mid new : Machine) (events : List Event) (replies : List Reply) (event : Event)
-        (reply : Reply) → RunsSafely (IsSafeAt store was) start old events replies middle mid →
-        ((k f : ℕ) → k ≤ middle → is k f ≡ was k f) → middle ≤ end → end ≤ middle + 1 →
-        Step mid event reply new → IsSafeAt store is end new →
-        RunsSafely (IsSafeAt store is) start old (events ++ event ∷ [])
-        (replies ++ reply ∷ []) end new }
-    ensures runs { (store : Store) (states : ℕ → ℕ → FileState) (start end : ℕ) (old new : Machine)
+    ensures goes_on { (store : Store) (was is : ℕ → ℕ → FileState) (old mid new : EngineView)
+        (events : List Event) (replies : List Reply) (event : Event) (reply : Reply) →
+        RunsSafely (IsSafeAt store was) old events replies mid →
+        ((k f : ℕ) → k ≤ mid.clock → is k f ≡ was k f) → EngineAnswers event reply mid new →
+        IsSafeAt store is new.clock new.machine →
+        RunsSafely (IsSafeAt store is) old (events ++ event ∷ []) (replies ++ reply ∷ []) new }
+    ensures answers { (old mid new : EngineView) (events : List Event) (replies : List Reply)
+        (event : Event) (reply : Reply) → AnswersInTurn old events replies mid →
+        EngineAnswers event reply mid new →
+        AnswersInTurn old (events ++ event ∷ []) (replies ++ reply ∷ []) new }
+    ensures runs { (old new : EngineView) (events : List Event) (replies : List Reply) →
+        AnswersInTurn old events replies new →
+        Run old.machine events replies new.machine × (length replies ≡ length events) }
+    ensures each_moment { (store : Store) (states : ℕ → ℕ → FileState) (old new : EngineView)
         (events : List Event) (replies : List Reply) →
-        RunsSafely (IsSafeAt store states) start old events replies end new →
-        Run old events replies new × (length replies ≡ length events) }
-    ensures each_moment { (store : Store) (states : ℕ → ℕ → FileState) (start end : ℕ)
-        (old new : Machine) (events : List Event) (replies : List Reply) →
-        RunsSafely (IsSafeAt store states) start old events replies end new →
-        (moment : ℕ) → start ≤ moment → moment ≤ end →
+        RunsSafely (IsSafeAt store states) old events replies new →
+        (moment : ℕ) → old.clock ≤ moment → moment ≤ new.clock →
         IsBoundary (IsSafeAt store states) old events replies new moment }
 {
     crashes_leave_prefixes();

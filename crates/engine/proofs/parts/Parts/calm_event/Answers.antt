@@ -20,6 +20,7 @@ returns-clause-goes_on g c =
       on_disk = λ f on. on;
       store = refl;
       call = record { later = omega arith; one = omega arith; past = λ k f le. refl; others = λ f none. refl };
+      quiet = λ q. refl;
       failed = λ told. absurd (true≢false (sym (c.steps_alone_fail.ensures m n c.args.event (subst (λ r. Step m c.args.event r n) told step)) ∙ c.requires.calm));
       faithful = λ f. f;
       life = (refl, refl);

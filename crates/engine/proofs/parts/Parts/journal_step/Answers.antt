@@ -1,11 +1,13 @@
-use Rattle.std.proofs.Common.{◌+◌, ◌-◌, ◌∙◌, inl, ap, arith, length, refl, sym, subst}
+use Rattle.std.proofs.Common.{◌+◌, ◌-◌, ◌∙◌, inl, inr, ap, arith, length, refl, sym, subst}
 use Rattle.std.proofs.lemmas.List.{length-drop}
 use Rattle.std.proofs.lemmas.Result.{err_from_is_err_and}
+use Rattle.prefix_law.specs.Promises.{JournalSays}
 use Rattle.engine_words.specs.Changes.{timed_elements}
 use Rattle.machine.specs.declared.event.Event.TheVariants as event
 use Rattle.engine_law.specs.Answers.{reply_to, after_step}
 use Rattle.engine.specs.Events.{ComesOn, GoesOn}
 use Rattle.engine.proofs.Advancing.{journal_comes_on, nearer_where, refused_comes_on}
+use Rattle.engine.proofs.Frames.{quiet_by, refused_still}
 use Rattle.engine.proofs.Sound.{settled_is}
 use Rattle.engine.proofs.Journaling.{may_hand, batch_goes, journal_goes_on, rises_by}
 use Rattle.commit_journal.specs.Journals.{changes_of, choice_of}
@@ -28,7 +30,8 @@ returns-clause-goes_on g c =
     c.journal_steps_keep.ensures.batch c.step-come.new.self c.step-come.result c.in_ok-working.ensures.works call.faulted call.says in
     subst (λ p. GoesOn g.D.Disk.state_at g.D.Disk.clock g.D.Disk.failures g.D.Disk.faithful event.JournalStep (reply_to c.step-come.result) s p) (sym c.settle.ensures.rest)
     (journal_goes_on g.D.Disk.state_at g.D.Disk.clock g.D.Disk.failures g.D.Disk.faithful event.JournalStep (inl refl) s c.step-come.new.self c.step-come.new.disk c.settle.new.self.store c.settle.new.self.naming c.step-come.result c.used-used.result
-    c.requires.sound c.in_ok-working.ensures.works goes c.used-used.ensures c.settle.ensures.machine c.settle.ensures.at_hand (rises_by c.receipts_are_durable.ensures) c.settle.ensures.naming call.same call.broken.0 call.on call.call call.failures call.faithful)
+    c.requires.sound c.in_ok-working.ensures.works goes c.used-used.ensures c.settle.ensures.machine c.settle.ensures.at_hand (rises_by c.receipts_are_durable.ensures) c.settle.ensures.naming call.same call.broken.0 call.on call.call call.failures call.faithful
+    (quiet_by event.JournalStep c.step-come.result s.disk c.step-come.new.disk refl (λ e. call.still (inr (inr e))) (refused_still (JournalSays (c.durable-durable.result + 1) (timed_elements c.above-pending.result.now)) c.step-come.result (choice_of s.journal) (choice_of c.step-come.new.self) s.disk c.step-come.new.disk call.says call.still)))
 
 pub returns-clause-idle : goal.returns-clause-idle
 returns-clause-idle g c = λ free.

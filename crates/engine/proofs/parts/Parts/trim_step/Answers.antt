@@ -1,9 +1,12 @@
 use Rattle.std.proofs.Common.{◌∙◌, inr, refl, sym, subst, map}
+use Rattle.prefix_law.specs.Promises.{TrimSays}
+use Rattle.engine_words.specs.Steps.{Says}
 use Rattle.std.proofs.lemmas.Result.{err_from_is_err_and}
 use Rattle.machine.specs.declared.event.Event.TheVariants as event
 use Rattle.engine_law.specs.Answers.{reply_to}
 use Rattle.engine.specs.Events.{ComesOn, GoesOn}
 use Rattle.engine.proofs.Advancing.{idle_comes_on, refused_comes_on, trim_comes_on}
+use Rattle.engine.proofs.Frames.{quiet_by, refused_still, trim_still}
 use Rattle.engine.proofs.Sound.{settled_is}
 use Rattle.engine.proofs.Journaling.{trim_goes, journal_goes_on, rises_by}
 use Rattle.commit_journal.specs.Journals.{changes_of, choice_of}
@@ -19,7 +22,10 @@ returns-clause-goes_on g c =
     (c.may_trim.ensures.yes c.if-not-may_trim.false) call.faulted call.says in
     subst (λ p. GoesOn g.D.Disk.state_at g.D.Disk.clock g.D.Disk.failures g.D.Disk.faithful event.TrimStep (reply_to c.trim_step-come.result) s p) (sym c.settle.ensures.rest)
     (journal_goes_on g.D.Disk.state_at g.D.Disk.clock g.D.Disk.failures g.D.Disk.faithful event.TrimStep (inr refl) s c.trim_step-come.new.self c.trim_step-come.new.disk c.settle.new.self.store c.settle.new.self.naming c.trim_step-come.result c.used-used.result
-    c.requires.sound c.in_ok-working.ensures.works goes c.used-used.ensures c.settle.ensures.machine c.settle.ensures.at_hand (rises_by c.receipts_are_durable.ensures) c.settle.ensures.naming call.same call.broken.0 call.on call.call call.failures call.faithful)
+    c.requires.sound c.in_ok-working.ensures.works goes c.used-used.ensures c.settle.ensures.machine c.settle.ensures.at_hand (rises_by c.receipts_are_durable.ensures) c.settle.ensures.naming call.same call.broken.0 call.on call.call call.failures call.faithful
+    (quiet_by event.TrimStep c.trim_step-come.result s.disk c.trim_step-come.new.disk refl (λ e. absurd (subst (λ r. Says TrimSays r (choice_of s.journal) (choice_of c.trim_step-come.new.self)) e call.says))
+    (refused_still TrimSays c.trim_step-come.result (choice_of s.journal) (choice_of c.trim_step-come.new.self) s.disk c.trim_step-come.new.disk call.says
+    (trim_still c.trim_step-come.result (choice_of s.journal) (choice_of c.trim_step-come.new.self) s.disk c.trim_step-come.new.disk call.says call.still))))
 
 pub returns-clause-idle : goal.returns-clause-idle
 returns-clause-idle g c = λ free.

@@ -3,13 +3,15 @@ use Rattle.machine.specs.Steps.{Step}
 use Rattle.machine.specs.Machine.{Machine}
 use Rattle.machine.specs.declared.event.Event.TheVariants as event
 use Rattle.engine_law.specs.Answers.{reply_to}
-use Rattle.hive_flush.specs.HiveStates.{IsOn, place_of}
+use Rattle.engine_words.specs.Steps.{Says}
+use Rattle.prefix_law.specs.Promises.{HiveSays}
+use Rattle.hive_flush.specs.HiveStates.{IsOn, memory_of, place_of}
 use Rattle.disk_model.specs.FileState.{FileState}
 use Rattle.disk_model.specs.StoreFiles.{IsOfHive, primary_file, log_file}
 use Rattle.commit_journal.specs.Journals.{changes_of}
 use Rattle.engine.specs.Events.{GoesOn}
 use Rattle.engine.proofs.Sound.{at_place, flush_sound}
-use Rattle.engine.proofs.Frames.{any_call, has_failed}
+use Rattle.engine.proofs.Frames.{any_call, has_failed, quiet_by, flush_still}
 use Rattle.engine_law.proofs.HiveLists.{get_other, hive_writes, view_at}
 use Rattle.engine_law.specs.Prefixes.{view_of}
 use Rattle.engine.specs.declared.parts.Parts.{Parts}
@@ -44,6 +46,7 @@ returns-clause-goes_on g c =
           (subst (λ n. IsOn c.step-come.new.self (new (primary_file n)) (new (log_file n))) its (call.on f (subst (λ n. IsOn c.index_mut.result.now (old (primary_file n)) (old (log_file n))) (sym its) (on.each c.args.place c.index_mut.result.now is))));
       store = refl;
       call = any_call (IsOfHive (place_of c.index_mut.result.now)) _ _ _ _ call.call;
+      quiet = quiet_by (event.FlusherStep c.args.place) c.step-come.result _ _ refl (λ e. absurd (subst (λ r. Says (HiveSays (memory_of c.index_mut.result.now)) r _ _) e call.says)) (flush_still c.step-come.result _ _ call.refused (λ e. (call.still (call.faulted.0 e)).1));
       failed = has_failed c.step-come.result _ _ call.failures;
       faithful = call.faithful;
       life = (refl, refl);
