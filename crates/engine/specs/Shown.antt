@@ -21,13 +21,13 @@ use Rattle.engine_law.specs.Engines.{EngineView}
 use Rattle.engine_law.specs.States.{HiveView}
 use Rattle.engine_law.specs.Progress.{FlushView}
 
--- an event that stands prepared, and the trees that will be those of now, where a change will be accepted
+-- an event that stands prepared; and the change that will be accepted, if one will, with the trees that will be those of now then
 pub record Awaiting : Type 0 where
   pub event : Event
-  pub trees : Option (List TreeMap)
+  pub next : Option (Element × List TreeMap)
 
 abbrev pub awaiting_of : Prepared → Awaiting
-awaiting_of prepared = record { event = prepared.event.value; trees = will_show prepared }
+awaiting_of prepared = record { event = prepared.event.value; next = will_show prepared }
 
 -- the machine; the disk; the store that the files are of; the changes that the journal spelled at the opening, and the number
 -- below the first of them; what surely stands and what is on its way of the journal and of each hive, and the hive's memory; how
@@ -76,7 +76,7 @@ abbrev pub flush_code : Coded FlushView
 flush_code = code_by (ℕ × ℕ) (coded× coded_ℕ coded_ℕ) (λ f. (f.left, f.pages)) (λ p. record { left = p.0; pages = p.1 }) (λ _. refl)
 
 abbrev pub awaiting_code : Coded Awaiting
-awaiting_code = code_by (Event × Option (List TreeMap)) (coded× event.the_row.coded (coded_option trees_code)) (λ a. (a.event, a.trees)) (λ p. record { event = p.0; trees = p.1 }) (λ _. refl)
+awaiting_code = code_by (Event × Option (Element × List TreeMap)) (coded× event.the_row.coded (coded_option (coded× element.the_row.coded trees_code))) (λ a. (a.event, a.next)) (λ p. record { event = p.0; next = p.1 }) (λ _. refl)
 
 abbrev pub shown_code : {D : Type 0} → Coded D → Coded (Shown D)
 shown_code {D = D} code =

@@ -18,7 +18,8 @@ ghost use Rattle.std.specs.List.{AllByRecursion};
 ghost use Rattle.commit_journal.specs.Naming.{HasCounted};
 ghost use Rattle.engine.specs.Shown.{engine_view};
 ghost use Rattle.engine.specs.Work.{AreFlushed, IsNextAround};
-ghost use Rattle.transactions.specs.Prepared.{Shows, may_accept};
+ghost use Rattle.transactions.specs.Prepared.{Foretells, Shows, may_accept, told_by};
+ghost use Rattle.std.specs.Option.{option_map};
 
 use crate::parts::Parts;
 use disk_model::Disk;
@@ -30,7 +31,7 @@ use reg_tree::Trees;
 use std::alloc::{AllocError, Global};
 use std::marker::Model;
 use std::snapshot::Snapshot;
-use transactions::{Prepared, Store};
+use transactions::{Next, Prepared, Store};
 
 /// An engine over a disk, seen by contracts as its machine, its disk, and the store that its files are of.
 ///
@@ -160,25 +161,29 @@ impl<D: Disk> Engine<D> {
         self.parts.event(event)
     }
 
-    /// Prepares an event that may accept a change: makes all that it grows, and tells the trees that will be those of now, where
-    /// a change will be accepted. Nothing is accepted yet. What stood prepared before is dropped.
+    /// Prepares an event that may accept a change: makes all that it grows. It tells the change that the event will accept and the
+    /// trees of now with that change applied, exactly where it will accept one. Nothing is accepted yet. What stood prepared
+    /// before is dropped.
     ///
     /// Refused for want of memory alone; nothing stands prepared then.
-    pub fn prepare(&mut self, event: Event) -> Result<Option<Trees>, Refusal>
+    pub fn prepare(&mut self, event: Event) -> Result<Option<Next>, Refusal>
         requires accepts { may_accept event ≡ true }
-        ensures prepared { IfOk result (λ trees. self.new.prepared
-            ≡ Some (record { event = event; trees = trees })) }
+        ensures prepared { IfOk result (λ next. self.new.prepared
+            ≡ Some (record { event = event; next = option_map told_by next })) }
+        ensures foretold { IfOk result (λ next.
+            Foretells self.new.machine event (option_map told_by next)) }
         ensures refused { IfErr result (λ why. (why ≡ NoMemory) × (self.new.prepared ≡ None)) }
         ensures same { self.new ≡ record self.old { prepared = self.new.prepared } }
     {
         self.prepared = None;
         let prepared = self.parts.prepare(event)?;
-        let trees = prepared.trees(self.parts.alloc)?;
+        let next = prepared.next(self.parts.alloc)?;
         self.prepared = Some(prepared);
-        Ok(trees)
+        Ok(next)
     }
 
-    /// Finishes the event that stands prepared: it is that event, and makes no call of the device. Takes no memory.
+    /// Finishes the event that stands prepared: it is that event, and makes no call of the device. Takes no memory. Just the change
+    /// that was told has been accepted, as the next one, and the trees that were told are those of now; or none, where none was.
     ///
     /// A crash before or after it leaves a prefix of the changes accepted then.
     pub fn finish(&mut self) -> Reply
@@ -186,7 +191,7 @@ impl<D: Disk> Engine<D> {
         ensures step { IfSome self.old.prepared (λ awaiting.
             Step self.old.machine awaiting.event result self.new.machine) }
         ensures shown { IfSome self.old.prepared (λ awaiting.
-            Shows awaiting.trees self.old.machine self.new.machine) }
+            Shows awaiting.next self.old.machine self.new.machine) }
         ensures fed { ¬ (result ≡ reply.Refused NoMemory) }
         ensures same { self.new ≡ record self.old {
           machine = self.new.machine;

@@ -5,7 +5,7 @@ ghost use Rattle.prefix_law.specs.Promises.{top};
 ghost use Rattle.machine.specs.Machine.{last_number, pending};
 ghost use Rattle.machine.specs.Steps.{Step, is_step};
 ghost use Rattle.machine.specs.declared.event.Reply.TheVariants as reply;
-ghost use Rattle.transactions.specs.Prepared.{IsPrepared, Shows, may_accept, will_show};
+ghost use Rattle.transactions.specs.Prepared.{Foretells, IsPrepared, Shows, may_accept, will_show};
 ghost use Rattle.commit_journal.specs.Journals.{changes_of, choice_of};
 ghost use Rattle.hive_flush.specs.HiveStates.{files_of};
 ghost use Rattle.engine_words.specs.declared.Progress.TheVariants as Progress;
@@ -72,6 +72,8 @@ impl<D: Disk> Parts<D> {
         requires accepts { may_accept event ≡ true }
         ensures prepared { IfOk result (λ prepared. (prepared.event.value ≡ event)
             × IsPrepared self.new.store prepared) }
+        ensures foretold { IfOk result (λ prepared.
+            Foretells self.new.store.machine event (will_show prepared)) }
         ensures sound { IsSound self.new }
         ensures machine { self.new.store.machine ≡ self.old.store.machine }
         ensures rest { self.new ≡ record self.old { store = self.new.store } }

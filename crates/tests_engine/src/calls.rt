@@ -13,6 +13,7 @@ use refusals::limits::MOST_HIVES;
 use reg_tree::{Op, Trees};
 use std::alloc::{AllocError, Global};
 use std::sync::Arc;
+use transactions::Next;
 use uuid::Uuid;
 
 /// The session of every event.
@@ -68,22 +69,32 @@ pub fn ask_all(
 pub fn prepare_write(engine: &mut Engine<MemDisk>, op: Op) -> Result<Option<Trees>, Refusal>
     ensures { IfOk result (λ _. is_some engine.new.prepared ≡ true) }
 {
-    engine.prepare(Event::Write {
+    let next = engine.prepare(Event::Write {
         session: SESSION,
         moment: MOMENT,
         op,
-    })
+    })?;
+    Ok(trees_of(next))
 }
 
 /// Prepares a commit.
 pub fn prepare_commit(engine: &mut Engine<MemDisk>, tx: Tx) -> Result<Option<Trees>, Refusal>
     ensures { IfOk result (λ _. is_some engine.new.prepared ≡ true) }
 {
-    engine.prepare(Event::CommitAccept {
+    let next = engine.prepare(Event::CommitAccept {
         session: SESSION,
         tx,
         moment: MOMENT,
-    })
+    })?;
+    Ok(trees_of(next))
+}
+
+// the trees that will be those of now
+fn trees_of(next: Option<Next>) -> Option<Trees> {
+    match next {
+        Some(Next { trees, change: _ }) => Some(trees),
+        None => None,
+    }
 }
 
 /// Finishes what stands prepared.

@@ -5,6 +5,7 @@ mod TableChanges
 mod Holding
 mod PlacesInTurn
 mod Stored
+mod Foretold
 mod ShortOnes
 mod TimesTold
 mod Looks

@@ -61,7 +61,7 @@ none_found m session tx why i = ap (λ b. cond b (own m.places session tx) None)
 first : (one other : Option Refusal) (why : Refusal) → one ≡ Some why → first_of one other ≡ Some why
 first one other why e = ap (λ x. first_of x other) e
 
-second : (one other wanted : Option Refusal) → one ≡ None → other ≡ wanted → first_of one other ≡ wanted
+pub second : (one other wanted : Option Refusal) → one ≡ None → other ≡ wanted → first_of one other ≡ wanted
 second one other wanted e f = ap (λ x. first_of x other) e ∙ f
 
 module _ (m : Machine) (session : ℕ) (why : Refusal) (res : Result Reply Refusal) (i : IsClosed m session why) (h : IsErrAnd res (λ e. e ≡ why)) where
@@ -113,7 +113,7 @@ missed m session hive path question trees res why o c e w h =
     (either w (λ r. second (call_refusal m session hive) (read_refusal (looked_up (trees_now m) hive path question)) (Some why) (may_call m session hive o c) (ap (λ t. read_refusal (looked_up t hive path question)) (sym e) ∙ r)), refl)
 
 -- what a write is refused after its session
-may_write : (m : Machine) (session moment : ℕ) (op : Op) (wanted : Option Refusal) → fault m ≡ None → is_open m session ≡ true → unnamed_refusal m (hive_of op) ≡ None → refusal_by (legal (trees_now m) op) (room_refusal m (element_text_len (change moment op))) ≡ wanted → write_refusal m session moment op ≡ wanted
+pub may_write : (m : Machine) (session moment : ℕ) (op : Op) (wanted : Option Refusal) → fault m ≡ None → is_open m session ≡ true → unnamed_refusal m (hive_of op) ≡ None → refusal_by (legal (trees_now m) op) (room_refusal m (element_text_len (change moment op))) ≡ wanted → write_refusal m session moment op ≡ wanted
 may_write m session moment op wanted f o c e = second _ _ wanted f (second _ _ wanted (may_call m session (hive_of op) o c) e)
 
 -- a write that is not legal
@@ -289,7 +289,7 @@ pending_refusal m moment (Some one) ops long wanted p some e =
     ∙ ap (λ x. first_of (refused_if (any_outweighs (trees_now m) ops moment) TooLarge) (room_refusal m x)) (sym (p.long moment)) ∙ e)
 
 -- the transaction of a handle in an open session
-found : (m : Machine) (session : ℕ) (tx : Tx) → is_open m session ≡ true → found_in m session tx ≡ own m.places session tx
+pub found : (m : Machine) (session : ℕ) (tx : Tx) → is_open m session ≡ true → found_in m session tx ≡ own m.places session tx
 found m session tx there = ap (λ b. cond b (own m.places session tx) None) there
 
 not_ended_if : (m : Machine) (moment : ℕ) (slot : Option Transaction) (why : Refusal) → inactive_refusal slot ≡ Some why → commit_refusal_if m moment slot ≡ Some why

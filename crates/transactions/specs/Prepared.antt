@@ -1,5 +1,5 @@
 -- What an event that may accept a change is going to do, all that it grows being made.
-use Rattle.std.specs.Prelude.{◌≡◌, ℕ, ◌+◌, ◌<◌, ◌≤◌, ◌==◌, Bool, true, false, List, length, Option, Some, None, Ok, Err, Result}
+use Rattle.std.specs.Prelude.{◌≡◌, ℕ, ◌+◌, ◌<◌, ◌≤◌, ◌==◌, Bool, true, false, List, [], ◌∷◌, ◌++◌, length, Option, Some, None, Ok, Err, Result}
 use Rattle.refusals.specs.declared.refusal.Refusal.{Refusal}
 use Rattle.refusals.specs.declared.refusal.Refusal.TheVariants.{NoMemory}
 use Rattle.refusals.specs.declared.limits.TheConstants.{MOST_ELEMENT_BYTES}
@@ -8,11 +8,12 @@ use Rattle.reg_tree.specs.Operations.{hive_of}
 use Rattle.reg_tree.specs.Judgement.{legal, applied, applied_one, any_outweighs}
 use Rattle.reg_tree.specs.TreeLists.{levels_made}
 use Rattle.reg_tree.specs.Texts.{element_text_len}
+use Rattle.reg_tree.specs.declared.element.Element.{Element}
 use Rattle.reg_tree.specs.declared.op.Op.{Op}
 use Rattle.reg_tree.specs.declared.op.Legality.TheVariants.{Legal}
 use Rattle.conflicts.specs.Claims.{claim_of}
-use Rattle.machine.specs.Transactions.{at, own}
-use Rattle.machine.specs.Machine.{Machine, change, fault, is_open, unnamed_refusal, room_refusal, trees_now, last_number}
+use Rattle.machine.specs.Transactions.{Transaction, at, own}
+use Rattle.machine.specs.Machine.{Machine, change, commit_refusal_if, fault, first_of, found_in, is_open, unnamed_refusal, room_refusal, trees_now, last_number, write_refusal}
 use Rattle.machine.specs.Steps.{Step}
 use Rattle.machine.specs.declared.event.Event.{Event}
 use Rattle.machine.specs.declared.event.Event.TheVariants as event
@@ -27,6 +28,7 @@ use Rattle.transactions.specs.declared.prepared.ReadyWrite.{ReadyWrite}
 use Rattle.transactions.specs.declared.prepared.ReadyCommit.{ReadyCommit}
 use Rattle.transactions.specs.declared.prepared.Ready.{Ready}
 use Rattle.transactions.specs.declared.prepared.Ready.TheVariants as ready
+use Rattle.transactions.specs.declared.prepared.Next.{Next}
 use Rattle.transactions.specs.declared.prepared.Prepared.{Prepared}
 
 -- whether an event may accept a change: a write by itself, or a commit
@@ -106,19 +108,40 @@ ReadiesWrite machine session moment op (Ok (Some made)) = IsReadyWrite machine s
 ReadiesWrite machine session moment op (Ok None) = Step machine (event.Write session moment op) reply.Opened machine
 ReadiesWrite machine session moment op (Err why) = Step machine (event.Write session moment op) (reply.Refused why) machine
 
--- the trees that will be those of now, where a change will be accepted
-abbrev pub shown_by : Ready → Option (List TreeMap)
+-- the change that will be accepted, if one will, and the trees that will be those of now then
+abbrev pub shown_by : Ready → Option (Element × List TreeMap)
 shown_by (ready.Told answer) = None
-shown_by (ready.Write made) = Some made.trees
+shown_by (ready.Write made) = Some (made.element, made.trees)
 shown_by (ready.Nothing session tx) = None
-shown_by (ready.Commit made) = Some made.trees
+shown_by (ready.Commit made) = Some (made.element, made.trees)
 
-abbrev pub will_show : Prepared → Option (List TreeMap)
+abbrev pub will_show : Prepared → Option (Element × List TreeMap)
 will_show prepared = shown_by prepared.ready
 
--- The trees of now are those that were to be shown; where none were, no change has been accepted.
-abbrev pub Shows : Option (List TreeMap) → Machine → Machine → Type 0
-Shows (Some trees) old new = trees_now new ≡ trees
+-- the same, as it is told
+abbrev pub told_by : Next → Element × List TreeMap
+told_by next = (next.change.value, next.trees)
+
+-- An event asks for this change, and nothing stands against it: a write by itself, whose operation is legal and changes something; or
+-- a commit, with all the operations of its transaction, which are some.
+abbrev pub EventAccepts : Machine → Event → Element → Type 0
+EventAccepts machine (event.Write session moment op) element =
+    (write_refusal machine session moment op ≡ None) × (legal (trees_now machine) op ≡ Ok Legal) × (element ≡ change moment op)
+EventAccepts machine (event.CommitAccept session tx moment) element =
+    (one : Transaction) × (found_in machine session tx ≡ Some one) × (first_of (fault machine) (commit_refusal_if machine moment (Some one)) ≡ None)
+    × ((length one.ops == 0) ≡ false) × (element ≡ record { moment = moment; ops = one.ops })
+EventAccepts machine _ element = ⊥
+
+-- What is told before the event: the change that it will accept, and the trees of now with that change applied; or that it will accept
+-- none.
+abbrev pub Foretells : Machine → Event → Option (Element × List TreeMap) → Type 0
+Foretells machine wanted (Some (element, trees)) = EventAccepts machine wanted element × (trees ≡ applied (trees_now machine) element.ops element.moment)
+Foretells machine wanted None = (element : Element) → ¬ (EventAccepts machine wanted element)
+
+-- Just the change that was told has been accepted, and the trees of now are those that were told; where none was told, none has been
+-- accepted.
+abbrev pub Shows : Option (Element × List TreeMap) → Machine → Machine → Type 0
+Shows (Some (element, trees)) old new = (trees_now new ≡ trees) × (new.accepted ≡ old.accepted ++ element ∷ [])
 Shows None old new = new.accepted ≡ old.accepted
 
 -- what an event that may accept a change leads to, or why it is refused

@@ -12,6 +12,6 @@ mod store;
 mod table;
 mod view;
 
-pub use prepared::Prepared;
+pub use prepared::{Next, Prepared};
 pub use store::Store;
 pub use table::{Holders, Pending, TxTable, Written};

@@ -1,6 +1,7 @@
 //! What an event that may accept a change is going to do, all that it grows being made.
 ghost use Rattle.std.specs.Prelude.{◌≡◌, IfOk};
-ghost use Rattle.transactions.specs.Prepared.{will_show};
+ghost use Rattle.std.specs.Option.{option_map};
+ghost use Rattle.transactions.specs.Prepared.{told_by, will_show};
 
 use crate::table::Holders;
 use crate::view::View;
@@ -80,15 +81,35 @@ pub(crate) struct ReadyCommit {
     pub room: u64,
 }
 
+/// What will be once a prepared event has accepted its change.
+#[derive(Drop)]
+pub struct Next {
+    /// The trees then.
+    pub trees: Trees,
+    /// The change: known to contracts alone.
+    pub change: Snapshot<ChangeText>,
+}
+
 impl Prepared {
-    /// A copy of the trees that will be those of now, where a change will be accepted.
-    pub fn trees(&self, alloc: Global) -> Result<Option<Trees>, AllocError>
-        ensures { IfOk result (λ trees. trees ≡ will_show self.now) }
+    /// The change that will be accepted, and a copy of the trees that will be those of now then; nothing where none will be.
+    pub fn next(&self, alloc: Global) -> Result<Option<Next>, AllocError>
+        ensures { IfOk result (λ next. option_map told_by next ≡ will_show self.now) }
     {
         match &self.ready {
-            Ready::Write(write) => Ok(Some(write.trees.try_clone(alloc)?)),
-            Ready::Commit(commit) => Ok(Some(commit.trees.try_clone(alloc)?)),
+            Ready::Write(write) => Ok(Some(next_of(alloc, &write.element, &write.trees)?)),
+            Ready::Commit(commit) => Ok(Some(next_of(alloc, &commit.element, &commit.trees)?)),
             _ => Ok(None),
         }
     }
+}
+
+// a change, and a copy of the trees after it
+fn next_of(alloc: Global, change: &ChangeText, trees: &Trees) -> Result<Next, AllocError>
+    ensures { IfOk result (λ next. told_by next ≡ (change.now, trees.now)) }
+{
+    let trees = trees.try_clone(alloc)?;
+    Ok(Next {
+        trees,
+        change: Snapshot::of(change),
+    })
 }

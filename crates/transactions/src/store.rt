@@ -1,5 +1,5 @@
 //! A store in memory: what it answers to each event that makes no step, and what it is told of those that do.
-ghost use Rattle.std.specs.Prelude.{◌≡◌, ◌<◌, ◌≤◌, ◌+◌, ◌-◌, ◌==◌, ℕ, [], drop, max, true, false, nat_le, Some, None, IfOk, IfErr, OnOk, OnSome};
+ghost use Rattle.std.specs.Prelude.{◌≡◌, ◌<◌, ◌≤◌, ◌+◌, ◌-◌, ◌==◌, ◌++◌, ◌∷◌, ℕ, [], drop, max, true, false, nat_le, Some, None, IfOk, IfErr, OnOk, OnSome};
 ghost use Rattle.std.specs.List.{AllByRecursion, list_any};
 ghost use Rattle.refusals.specs.declared.refusal.Refusal.TheVariants.{NoMemory, NoSuchHandle};
 ghost use Rattle.machine.specs.declared.event.Reply.TheVariants as reply;
@@ -8,7 +8,7 @@ ghost use Rattle.machine.specs.Machine.{opened_machine, last_number, fault, tree
 ghost use Rattle.machine.specs.Transactions.{own, inactive_refusal};
 ghost use Rattle.transactions.specs.Histories.{IsShort};
 ghost use Rattle.transactions.specs.Stores.{Answers, needs_device};
-ghost use Rattle.transactions.specs.Prepared.{IsPrepared, IsReady, IsReadyCommit, IsReadyNothing, IsReadyWrite, JudgesWrite, Readies, ReadiesWrite, Shows, may_accept, shown_by, will_show};
+ghost use Rattle.transactions.specs.Prepared.{Foretells, IsPrepared, IsReady, IsReadyCommit, IsReadyNothing, IsReadyWrite, JudgesWrite, Readies, ReadiesWrite, Shows, may_accept, shown_by, will_show};
 
 use crate::history::History;
 use crate::prepared::{JudgedWrite, Prepared, Ready, ReadyCommit, ReadyWrite};
@@ -147,16 +147,28 @@ impl Store {
         requires accepts { may_accept event ≡ true }
         ensures prepared { IfOk result (λ prepared. (prepared.event.value ≡ event)
             × IsPrepared self.new prepared) }
+        ensures foretold { IfOk result (λ prepared.
+            Foretells self.new.machine event (will_show prepared)) }
         ensures machine { self.new.machine ≡ self.old.machine }
         ensures at_hand { self.new.at_hand ≡ self.old.at_hand }
     {
         let kept = Snapshot::of(&event);
-        let ready = match self.make(event) {
-            Ok(ready) => ready,
-            Err(Refusal::NoMemory) => return Err(AllocError),
-            Err(refusal) => Ready::Told(Reply::Refused { refusal }),
-        };
+        let ready = self.ready_for(event)?;
         Ok(Prepared { event: kept, ready })
+    }
+
+    // what an event that may accept a change is going to do, where no memory is wanting
+    fn ready_for(&mut self, event: Event) -> Result<Ready, AllocError>
+        requires accepts { may_accept event ≡ true }
+        ensures ready { IfOk result (IsReady self.new.machine self.new.spare event) }
+        ensures machine { self.new.machine ≡ self.old.machine }
+        ensures at_hand { self.new.at_hand ≡ self.old.at_hand }
+    {
+        match self.make(event) {
+            Ok(ready) => Ok(ready),
+            Err(Refusal::NoMemory) => Err(AllocError),
+            Err(refusal) => Ok(Ready::Told(Reply::Refused { refusal })),
+        }
     }
 
     /// Finishes an event that was prepared: answers it. Takes no memory.
@@ -464,6 +476,8 @@ impl Store {
             IsReadyWrite self.old.machine session moment op write →
             Step self.old.machine (Event.Write session moment op) result self.new.machine }
         ensures trees { trees_now self.new.machine ≡ write.trees }
+        ensures grows { self.new.machine.accepted
+            ≡ self.old.machine.accepted ++ write.element ∷ [] }
         ensures fed { ¬ (result ≡ reply.Refused NoMemory) }
         ensures at_hand { self.new.at_hand ≡ self.old.at_hand }
     {
@@ -651,6 +665,8 @@ impl Store {
         ensures step { Step self.old.machine
             (Event.CommitAccept commit.session commit.tx commit.moment) result self.new.machine }
         ensures trees { trees_now self.new.machine ≡ commit.trees }
+        ensures grows { self.new.machine.accepted
+            ≡ self.old.machine.accepted ++ commit.element ∷ [] }
         ensures fed { ¬ (result ≡ reply.Refused NoMemory) }
         ensures at_hand { self.new.at_hand ≡ self.old.at_hand }
     {

@@ -68,3 +68,6 @@ take_views-requires c =
     let ready = subst (λ (v : StoreView). IsReadyCommit v.machine c.args.commit) (sym c.self.view_is) c.requires.ready in
     subst (λ (t : Table). AreMoved t.trees t.number t.places c.args.commit.moved.items) (sym c.accept.ensures)
     (subst (λ n. AreMoved c.args.commit.trees (n + 1) c.self.inside.table.places c.args.commit.moved.items) (sym c.self.invariant.number) ready.moved)
+
+pub returns-clause-grows : goal.returns-clause-grows
+returns-clause-grows c = subst (λ (v : StoreView). c.push_reserved.new.self.changes ≡ v.machine.accepted ++ c.args.commit.element ∷ []) c.self.view_is c.push_reserved.ensures.changes

@@ -58,3 +58,6 @@ take_views-requires c =
     let ready = subst (λ (v : StoreView). IsReadyWrite v.machine c.requires.ready.0 c.requires.ready.1 c.requires.ready.2 c.args.write) (sym c.self.view_is) c.requires.ready.3 in
     subst (λ (t : Table). AreMoved t.trees t.number t.places c.args.write.moved.items) (sym c.accept.ensures)
     (subst (λ n. AreMoved c.args.write.trees (n + 1) c.self.inside.table.places c.args.write.moved.items) (sym c.self.invariant.number) ready.moved)
+
+pub returns-clause-grows : goal.returns-clause-grows
+returns-clause-grows c = subst (λ (v : StoreView). c.push_reserved.new.self.changes ≡ v.machine.accepted ++ c.args.write.element ∷ []) c.self.view_is c.push_reserved.ensures.changes
