@@ -2,7 +2,7 @@
 ghost use Rattle.std.specs.Prelude.{◌≡◌, ◌⊎◌, ◌↔◌, ◌+◌, ◌<◌, ◌≤◌, ◌^◌, [], ℕ, false, true, IfErr, IfNone, IfOk, IfSome, OnErr, OnOk, None, Some, is_some, length, map, replicate, slice_get};
 ghost use Rattle.refusals.specs.declared.refusal.Refusal.TheVariants.{NoMemory};
 ghost use Rattle.disk_model.specs.Call.{OneCall};
-ghost use Rattle.machine.specs.Machine.{opened_machine, trees_now};
+ghost use Rattle.machine.specs.Machine.{last_number, opened_machine, trees_now};
 ghost use Rattle.commit_journal.specs.Store.{room_of};
 ghost use Rattle.commit_journal.specs.Journals.{changes_of, choice_of};
 ghost use Rattle.commit_journal.specs.Journals as journals;
@@ -256,6 +256,21 @@ impl<D: Disk> Engine<D> {
         self.parts.store.trees()
     }
 
+    /// The number up to which the accepted changes are durable.
+    pub fn durable(&self) -> u64
+        ensures durable { result ≡ self.now.machine.durable }
+        ensures known { result ≤ last_number self.now.machine }
+    {
+        self.parts.store.durable()
+    }
+
+    /// The number of the last accepted change.
+    pub fn last_number(&self) -> u64
+        ensures { result ≡ last_number self.now.machine }
+    {
+        self.parts.store.last_number()
+    }
+
     /// Whether some accepted change isn't durable yet: a step of the journal isn't idle then.
     pub fn has_pending(&self) -> bool
         ensures { (result ≡ true) ↔ HasPending self.now.machine }
@@ -268,6 +283,7 @@ impl<D: Disk> Engine<D> {
     pub fn hive_with_work(&self, after: u8) -> Option<u8>
         ensures some { IfSome result (λ hive. IsNextAround self.now.machine self.now.base
             self.now.opened self.now.hives after hive) }
+        ensures there { IfSome result (λ hive. hive < length self.now.machine.opened) }
         ensures none { IfNone result (AreFlushed self.now.machine self.now.base self.now.opened
             self.now.hives 0 (length self.now.hives)) }
     {
