@@ -195,6 +195,19 @@ impl<D: Disk> Opened<D> {
         Ok(self.found.repaired())
     }
 
+    /// A law: whatever a crash leaves of the files as they are, with honest first sectors, recovers the number and the trees that
+    /// were found.
+    pub fn keeps_what_was_found(&self)
+        ensures { D.faithful self.now.disk → (files : ℕ → List ℕ) →
+            LeavesHonest IsPrimary (D.state_at self.now.disk (D.clock self.now.disk)) files →
+            IsRecovered files (store_of self.now) self.now.found.number self.now.found.trees }
+    {
+        openings_begin();
+        crashes_leave_prefixes();
+        // what the type keeps is known where a field is looked at
+        let _ = self.found.journal.hives();
+    }
+
     /// The disk.
     pub fn disk(&self) -> &D
         ensures { result.now ≡ self.now.disk }
