@@ -20,7 +20,7 @@ use Rattle.engine_law.specs.Engines.{EngineView}
 use Rattle.engine_law.specs.Runs.{AnswersInTurn, IsBoundary, RunsSafely}
 use Rattle.engine_law.proofs.Bridge.{all_long}
 use Rattle.recovery.specs.Recovered.{IsRecovered, seen_in}
-use Rattle.engine.specs.Lives.{Life, Life.Unopened, Life.Opened, IsSafe, IsLife, IsNext, AreLives, OpensFrom, EachGoesOn}
+use Rattle.engine.specs.Lives.{Life, Life.Unopened, Life.Opened, IsSafe, IsLife, IsNext, AreLives, OpensFrom, EachGoesOn, FirstOpensAt}
 use Rattle.engine.proofs.OpenedStays.{run_stays}
 
 abbrev pub OneRecovered : Type 0
@@ -113,6 +113,22 @@ repaired store state end number room trees found stays = (
       let there = stays files left in
       (number, omega arith, omega arith, subst (λ (l : List Element). Recover store (length trees) files number (after_elements trees l)) (sym (none_taken number)) (subst (λ k. Recover store k files number trees) (sym there.many) there.recovers)),
 )
+
+-- A store that was made
+
+first_at : (trees : List TreeMap) (lives : List Life) → EachGoesOn (opened_machine trees 0 [] 0) lives → FirstOpensAt 0 trees lives
+first_at trees [] on = tt
+first_at trees (Unopened end ∷ lives) on = first_at trees lives on
+first_at trees (Opened number found last end ∷ lives) (from, on) =
+    let zero : number ≡ 0 = omega (arith, from.high) in
+    (zero, from.trees_are ∙ ap (trees_after (opened_machine trees 0 [] 0)) zero ∙ ap (λ (l : List Element). after_elements trees l) (none_taken 0))
+
+pub opens_as_made : OneRecovered → (store : Store) (trees : List TreeMap) (state : ℕ → FileState) (lives : List Life) → ((files : ℕ → List ℕ) → LeavesHonest IsPrimary state files → IsRecovered files store 0 trees)
+    → LeavesHonest IsPrimary state (seen_in state) → AreLives store state lives → FirstOpensAt 0 trees lives × EachGoesOn (opened_machine trees 0 [] 0) lives
+opens_as_made one store trees state lives made seen rest =
+    let found = made (seen_in state) seen in
+    let on = go_on one store found.store_is (opened_machine trees 0 [] 0) state lives found.many (repaired store state state 0 0 trees found made).2 seen rest in
+    (first_at trees lives on, on)
 
 abbrev pub EachMoment : Type 0
 EachMoment = (store : Store) (states : ℕ → ℕ → FileState) (old new : EngineView) (events : List Event) (replies : List Reply) → RunsSafely (IsSafeAt store states) old events replies new → (moment : ℕ) → old.clock ≤ moment → moment ≤ new.clock

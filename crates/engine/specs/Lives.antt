@@ -57,6 +57,12 @@ pub record OpensFrom (machine : Machine) (number : ℕ) (trees : List TreeMap) :
   pub high : number ≤ last_number machine
   pub trees_are : trees ≡ trees_after machine number
 
+-- The first of some lives that opens does so at this number and these trees.
+abbrev pub FirstOpensAt : ℕ → List TreeMap → List Life → Type 0
+FirstOpensAt number trees [] = ⊤
+FirstOpensAt number trees (Unopened end ∷ lives) = FirstOpensAt number trees lives
+FirstOpensAt number trees (Opened at found last end ∷ lives) = (at ≡ number) × (found ≡ trees)
+
 -- Each life that opens goes on from the last one before it that did.
 abbrev pub EachGoesOn : Machine → List Life → Type 0
 EachGoesOn machine [] = ⊤

@@ -12,7 +12,7 @@ ghost use Rattle.engine_law.specs.Engines.{EngineView};
 ghost use Rattle.engine_law.specs.Prefixes.{IsSafeAt};
 ghost use Rattle.engine_law.specs.Runs.{IsBoundary, RunsSafely};
 ghost use Rattle.recovery.specs.Recovered.{IsRecovered, seen_in};
-ghost use Rattle.engine.specs.Lives.{AreLives, EachGoesOn, IsLife, IsSafe, Life, Life.Opened, Life.Unopened};
+ghost use Rattle.engine.specs.Lives.{AreLives, EachGoesOn, FirstOpensAt, IsLife, IsSafe, Life, Life.Opened, Life.Unopened};
 
 use engine_law::laws::safe_runs_go_on;
 use recovery::laws::one_is_recovered;
@@ -27,6 +27,18 @@ pub fn lives_go_on()
         IsStore store → length machine.opened ≡ store.hives → IsSafe store machine state →
         LeavesHonest IsPrimary state (seen_in state) → AreLives store state lives →
         EachGoesOn machine lives }
+{
+    one_is_recovered();
+}
+
+/// Of a store that was made of trees, as `recovery::create` tells it, the first life that opens does so at number 0 and at these
+/// trees; and each later one goes on from the last one before it that did.
+pub fn made_stores_open_as_made()
+    ensures { (store : Store) (trees : List TreeMap) (state : ℕ → FileState) (lives : List Life) →
+        ((files : ℕ → List ℕ) → LeavesHonest IsPrimary state files →
+        IsRecovered files store 0 trees) → LeavesHonest IsPrimary state (seen_in state) →
+        AreLives store state lives →
+        FirstOpensAt 0 trees lives × EachGoesOn (opened_machine trees 0 [] 0) lives }
 {
     one_is_recovered();
 }
