@@ -13,3 +13,4 @@ mod Answering
 mod RunLists
 mod OpenedStays
 mod Living
+mod Reading

@@ -1,9 +1,13 @@
 -- Which hives of an engine have something to flush.
-use Rattle.std.specs.Prelude.{◌⊎◌, ℕ, ◌<◌, ◌≤◌, List, length}
+use Rattle.std.specs.Prelude.{◌≡◌, ◌⊎◌, ℕ, ◌<◌, ◌≤◌, List, length, slice_get, Some, None}
 use Rattle.reg_tree.specs.declared.element.Element.{Element}
 use Rattle.machine.specs.Machine.{Machine}
 use Rattle.engine_law.specs.Idle.{IsFlushed}
 use Rattle.engine_law.specs.States.{HiveView}
+
+-- no flush of a hive is on its way
+abbrev pub AreAtRest : List HiveView → Type 0
+AreAtRest hives = (i : ℕ) (hive : HiveView) → slice_get hives i ≡ Some hive → hive.files.next ≡ None
 
 -- none of the hives in these places has
 abbrev pub AreFlushed : Machine → ℕ → List Element → List HiveView → ℕ → ℕ → Type 0

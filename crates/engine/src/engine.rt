@@ -12,18 +12,21 @@ ghost use Rattle.engine_law.specs.Idle.{IsTrimmed};
 ghost use Rattle.engine_law.specs.Progress.{HasPending};
 ghost use Rattle.machine.specs.Steps.{Step, Run};
 ghost use Rattle.machine.specs.declared.event.Reply.TheVariants as reply;
-ghost use Rattle.engine_law.specs.Prefixes.{AnyFile, IsSafeAt, view_of};
+ghost use Rattle.engine_law.specs.Prefixes.{AnyFile, IsPrefix, IsSafeAt, Recover, view_of};
+ghost use Rattle.recovery.specs.Recovered.{seen_in};
 ghost use Rattle.engine_law.specs.Runs.{AnswersInTurn, IsHeld, RunsSafely};
 ghost use Rattle.std.specs.List.{AllByRecursion};
 ghost use Rattle.commit_journal.specs.Naming.{HasCounted};
 ghost use Rattle.engine.specs.Shown.{engine_view};
-ghost use Rattle.engine.specs.Work.{AreFlushed, IsNextAround};
+ghost use Rattle.engine.specs.Work.{AreAtRest, AreFlushed, IsNextAround};
 ghost use Rattle.transactions.specs.Prepared.{Foretells, Shows, may_accept, told_by};
 ghost use Rattle.std.specs.Option.{option_map};
 
 use crate::parts::Parts;
 use disk_model::Disk;
-use engine_law::laws::{crashes_leave_prefixes, openings_begin, receipts_are_durable};
+use engine_law::laws::{
+    crashes_leave_prefixes, openings_begin, quiet_ends_recover, receipts_are_durable,
+};
 use machine::{Event, Reply};
 use recovery::{Found, Opened};
 use refusals::Refusal;
@@ -245,6 +248,24 @@ impl<D: Disk> Engine<D> {
             (D.state_at self.now.disk) (D.clock self.now.disk) self.now.machine }
     {
         crashes_leave_prefixes();
+        // what the type keeps is known where a field is looked at
+        let _ = self.parts.store.durable();
+    }
+
+    /// A law: as long as no flush is on its way, what a read gives of the files recovers such a number too, as an opening finds it
+    /// behind a life that is ended without a crash. If all is durable, it is the last number and the trees of now.
+    pub fn reads_a_prefix(&self)
+        ensures prefix { D.faithful self.now.disk → AreAtRest self.now.hives →
+            IsPrefix self.now.store self.now.machine
+            (seen_in (D.state_at self.now.disk (D.clock self.now.disk))) }
+        ensures quiet { D.faithful self.now.disk → AreAtRest self.now.hives →
+            ¬ (HasPending self.now.machine) →
+            Recover self.now.store (length self.now.machine.opened)
+            (seen_in (D.state_at self.now.disk (D.clock self.now.disk)))
+            (last_number self.now.machine) (trees_now self.now.machine) }
+    {
+        crashes_leave_prefixes();
+        quiet_ends_recover();
         // what the type keeps is known where a field is looked at
         let _ = self.parts.store.durable();
     }

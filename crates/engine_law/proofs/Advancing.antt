@@ -4,12 +4,9 @@ use Rattle.std.proofs.lemmas.List.{take_all}
 use Rattle.std.proofs.lemmas.Bool.{cases_lt}
 use Rattle.reg_tree.specs.Sequences.{after_elements}
 use Rattle.reg_tree.specs.declared.element.Element.{Element}
-use Rattle.disk_model.specs.FileState.{FileState}
-use Rattle.disk_model.specs.Crash.{LeavesHonest}
-use Rattle.disk_model.specs.StoreFiles.{IsPrimary}
 use Rattle.commit_journal.specs.Store.{Store}
 use Rattle.machine.specs.Machine.{Machine, last_number, trees_now}
-use Rattle.engine_law.specs.Prefixes.{IsSafeAt, Recover, trees_after}
+use Rattle.engine_law.specs.Prefixes.{IsPrefix, Recover, trees_after}
 use Rattle.engine_law.specs.Progress.{HasPending, IsJournalStep}
 
 module _ (machines : ℕ → Machine) (left : ℕ → ℕ) (count : ℕ) (some : HasPending (machines 0))
@@ -53,9 +50,8 @@ module _ (machines : ℕ → Machine) (left : ℕ → ℕ) (count : ℕ) (some :
     | inr few ↦ elim (few) [ inl none ↦ absurd (omega (arith, none, enough)) | inr most ↦ absurd (omega (arith, most, enough)) ]
   ]
 
-pub all_recovered : (store : Store) (states : ℕ → ℕ → FileState) (moment : ℕ) (m : Machine) → IsSafeAt store states moment m → (HasPending m → ⊥) → (files : ℕ → List ℕ) → LeavesHonest IsPrimary (states moment) files
-    → Recover store (length m.opened) files (last_number m) (trees_now m)
-all_recovered store states moment m safe none files left = by_prefix (safe files left)
+pub all_recovered : (store : Store) (m : Machine) (files : ℕ → List ℕ) → IsPrefix store m files → (HasPending m → ⊥) → Recover store (length m.opened) files (last_number m) (trees_now m)
+all_recovered store m files prefix none = by_prefix prefix
   where
     by_prefix : (n : ℕ) × (m.durable ≤ n) × (n ≤ last_number m) × Recover store (length m.opened) files n (trees_after m n) → Recover store (length m.opened) files (last_number m) (trees_now m)
     by_prefix (n, low, high, found) =

@@ -30,7 +30,7 @@ ghost use Rattle.commit_journal.specs.Handed.{IsHanded, IsShort};
 ghost use Rattle.commit_journal.specs.Journals.{choice_of, store_of};
 ghost use Rattle.commit_journal.specs.declared.journal.Journal.{Journal};
 ghost use Rattle.hive_flush.specs.declared.hive.HiveFile.{HiveFile};
-ghost use Rattle.engine_law.specs.Prefixes.{ArePlaced, AreOnDisk, IsSafeAt, Recover, view_of};
+ghost use Rattle.engine_law.specs.Prefixes.{ArePlaced, AreOnDisk, IsPrefix, IsSafeAt, Recover, view_of};
 ghost use Rattle.engine_law.specs.Engines.{EngineAnswers, EngineView};
 ghost use Rattle.engine_law.specs.Runs.{AnswersInTurn, RunsSafely, IsBoundary, IsHeld};
 ghost use Rattle.engine_law.specs.Openings.{IsFound};
@@ -228,10 +228,13 @@ pub fn flushes_end()
         HasFlushed (2 * (flushes 1).pages + 7) answers hives × ((hives 1).memory.1 ≡ numbers 0) }
 {}
 
-/// Where all accepted changes are durable, whatever a crash leaves, and so what is there without one, recovers the last number and
-/// the trees of now.
+/// Where all accepted changes are durable, whatever a crash leaves recovers the last number and the trees of now; and so do any files
+/// that are a prefix, such as those that a read gives.
 pub fn quiet_ends_recover()
-    ensures { (store : Store) (states : ℕ → ℕ → FileState) (moment : ℕ) (machine : Machine) →
+    ensures read { (store : Store) (machine : Machine) (files : ℕ → List ℕ) →
+        IsPrefix store machine files → ¬ (HasPending machine) →
+        Recover store (length machine.opened) files (last_number machine) (trees_now machine) }
+    ensures crash { (store : Store) (states : ℕ → ℕ → FileState) (moment : ℕ) (machine : Machine) →
         IsSafeAt store states moment machine → ¬ (HasPending machine) → (files : ℕ → List ℕ) →
         LeavesHonest IsPrimary (states moment) files →
         Recover store (length machine.opened) files (last_number machine) (trees_now machine) }
