@@ -1,5 +1,5 @@
 -- An engine answers as its parts do.
-use Rattle.std.proofs.Common.{◌≡◌, ap, ℕ, false, map, slice_get}
+use Rattle.std.proofs.Common.{◌≡◌, ap, ℕ, false, map}
 use Rattle.disk_model.specs.FileState.{FileState}
 use Rattle.machine.specs.declared.event.Event.{Event}
 use Rattle.machine.specs.declared.event.Reply.{Reply}

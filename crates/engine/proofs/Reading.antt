@@ -1,5 +1,5 @@
 -- What a read gives of the files, where no flush is on its way.
-use Rattle.std.proofs.Common.{◌≡◌, ◌⊎◌, inl, inr, ℕ, ◌+◌, ◌*◌, ◌<◌, ◌≤◌, List, [], ◌∷◌, length, map, take, refl, sym, ◌∙◌, ap, subst, arith, Some, None, slice_get}
+use Rattle.std.proofs.Common.{◌≡◌, ◌⊎◌, inl, inr, ℕ, ◌+◌, ◌*◌, ◌<◌, List, [], ◌∷◌, length, take, refl, sym, ap, subst, arith, Some, None, slice_get}
 use Rattle.std.proofs.lemmas.Bool.{cases_lt}
 use Rattle.std.proofs.lemmas.Option.{none-some}
 use Rattle.reg_tree.specs.Maps.{TreeMap}
@@ -21,7 +21,7 @@ use Rattle.hive_flush.specs.HiveStates.{IsOn, IsWhole, files_of}
 use Rattle.hive_flush.specs.declared.hive.HiveFile.{HiveFile}
 use Rattle.commit_journal.specs.Store.{Store}
 use Rattle.commit_journal.specs.declared.journal.Journal.{Journal}
-use Rattle.machine.specs.Machine.{Machine, last_number}
+use Rattle.machine.specs.Machine.{Machine}
 use Rattle.engine_law.specs.Prefixes.{AreOnDisk, Holds, IsPrefix, Recover, Spells, trees_after}
 use Rattle.engine_law.proofs.HiveLists.{at_slot}
 
@@ -78,14 +78,17 @@ pick (inl own) state = state.seen
 pick (inr other) state = state.synced
 
 pick_left : {P Q : Type 0} (c : P ⊎ Q) (state : FileState) → IsSound state → Leaves state (pick c state)
+unfolding pick
 pick_left (inl own) state sound = sound.left
 pick_left (inr other) state sound = record { no_shorter = sound.was_longer; no_longer = sound.was_no_longer; kept = λ p lt none. refl }
 
 pick_honest : {P Q : Type 0} (c : P ⊎ Q) (state : FileState) → (P → IsHonest state state.seen) → IsHonest state (pick c state)
+unfolding pick
 pick_honest (inl own) state honest = honest own
 pick_honest (inr other) state honest = inl refl
 
 pick_own : {P Q : Type 0} (c : P ⊎ Q) (state : FileState) → (Q → ⊥) → pick c state ≡ state.seen
+unfolding pick
 pick_own (inl own) state none = refl
 pick_own (inr other) state none = absurd (none other)
 

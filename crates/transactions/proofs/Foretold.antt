@@ -101,6 +101,6 @@ told_foretold m _ answer step fed = λ element accepts. accepts
 
 pub foretold : (m : Machine) (spare : ℕ) (e : Event) (made : Ready) → IsReady m spare e made → Foretells m e (shown_by made)
 foretold m spare e (ready.Told answer) r = told_foretold m e answer r.0 r.1
-foretold m spare e (ready.Write made) r = subst (λ (x : Event). Foretells m x (Some (made.element, made.trees))) (sym r.1.3.0) (write_foretold m r.1.0 r.1.1 r.1.2 made r.1.3.1)
+foretold m spare e (ready.Write made) r = subst (λ (x : Event). Foretells m x (Some (made.element, made.trees))) (sym r.1.3) (write_foretold m r.1.0 r.1.1 r.1.2 made r.1.4)
 foretold m spare e (ready.Nothing session tx) r = subst (λ (x : Event). Foretells m x None) (sym r.0.1) (nothing_foretold m session r.0.0 tx r.1)
-foretold m spare e (ready.Commit made) r = subst (λ (x : Event). Foretells m x (Some (made.element, made.trees))) (sym r.1.0) (commit_foretold m made r.1.1)
+foretold m spare e (ready.Commit made) r = subst (λ (x : Event). Foretells m x (Some (made.element, made.trees))) (sym r.1) (commit_foretold m made r.2)

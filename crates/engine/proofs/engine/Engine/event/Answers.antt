@@ -3,6 +3,7 @@ use Rattle.commit_journal.specs.Store.{Store}
 use Rattle.commit_journal.specs.Journals.{changes_of, store_of}
 use Rattle.engine_law.specs.Engines.{EngineAnswers, NeedsNoDevice}
 use Rattle.engine_law.specs.Prefixes.{IsSafeAt}
+use Rattle.machine.specs.Steps.{Step}
 use Rattle.engine.specs.Events.{parts_view}
 use Rattle.engine.specs.Shown.{Shown, engine_view}
 use Rattle.engine.proofs.Answering.{answered}
@@ -35,3 +36,6 @@ returns-clause-answers g c =
 
 pub returns-clause-quiet : goal.returns-clause-quiet
 returns-clause-quiet g c = subst (λ (s : Shown _). NeedsNoDevice c.args.event c.event.result → c.event.new.self.disk ≡ s.disk) c.self.view_is c.event.ensures.goes_on.quiet
+
+pub returns-clause-step : goal.returns-clause-step
+returns-clause-step g c = subst (λ (s : Shown _). Step s.machine c.args.event c.event.result c.event.new.self.store.machine) c.self.view_is c.event.ensures.goes_on.step

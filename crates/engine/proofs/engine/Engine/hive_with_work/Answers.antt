@@ -1,4 +1,4 @@
-use Rattle.std.proofs.Common.{◌≡◌, ◌<◌, ◌∙◌, ℕ, arith, length, map, subst, Option, Some, None}
+use Rattle.std.proofs.Common.{◌<◌, ℕ, arith, length, subst, Option, Some, None}
 use Rattle.std.specs.Prelude.{IfNone, IfSome}
 use Rattle.engine.specs.Shown.{Shown}
 use Rattle.engine.specs.Work.{AreFlushed}

@@ -1,4 +1,4 @@
-use Rattle.std.proofs.Common.{◌≡◌, ◌∙◌, ap, arith, length, map, refl, subst, sym}
+use Rattle.std.proofs.Common.{◌∙◌, arith, length, refl, subst, sym}
 use Rattle.std.proofs.lemmas.List.{length-map}
 use Rattle.commit_journal.specs.Journals.{changes_of, store_of}
 use Rattle.engine_law.specs.Prefixes.{IsPrefix, Recover, view_of}

@@ -34,19 +34,19 @@ loop-event-init g c = let s = c.args.self.now in record {
 pub loop-event-preserved : goal.loop-event-preserved
 loop-event-preserved g c = let l = c.loop-event in let i = l.invariant in let e = c.event-reply.ensures.goes_on in let n = c.event-reply.new.self in
     let told = answered g.D.Disk.state_at g.D.Disk.clock g.D.Disk.failures g.D.Disk.faithful c.in-Some.event c.event-reply.result l.self n e c.event-reply.ensures.comes_on c.event-reply.ensures.idle in record {
-  sound = e.sound;
-  on_disk = λ f. e.on_disk f (i.on_disk (e.faithful f));
-  store = e.store ∙ i.store;
-  run = subst (λ (x : List Reply). Run c.args.self.now.store.machine (l.yielded ++ c.in-Some.event ∷ []) x n.store.machine) (sym c.push_reserved.ensures.items)
-      (run_on c.args.self.now.store.machine l.self.store.machine n.store.machine l.yielded l.replies.items c.in-Some.event c.event-reply.result i.run e.step);
-  safely = λ f. subst (λ (x : List Reply). RunsSafely (IsSafeAt (store_of c.args.self.now.journal) (g.D.Disk.state_at n.disk)) (parts_view g.D.Disk.clock g.D.Disk.failures c.args.self.now) (l.yielded ++ c.in-Some.event ∷ []) x (parts_view g.D.Disk.clock g.D.Disk.failures n)) (sym c.push_reserved.ensures.items)
-      (c.safe_runs_go_on.ensures.goes_on (store_of c.args.self.now.journal) (g.D.Disk.state_at l.self.disk) (g.D.Disk.state_at n.disk) (parts_view g.D.Disk.clock g.D.Disk.failures c.args.self.now) (parts_view g.D.Disk.clock g.D.Disk.failures l.self) (parts_view g.D.Disk.clock g.D.Disk.failures n)
-      l.yielded l.replies.items c.in-Some.event c.event-reply.result (i.safely (e.faithful f)) e.call.past told
-      (subst (λ (s : Store). IsSafeAt s (g.D.Disk.state_at n.disk) (g.D.Disk.clock n.disk) n.store.machine) (e.store ∙ i.store)
-      (c.crashes_leave_prefixes.ensures.safe (store_of n.journal) n.store.machine n.base (changes_of n.spelled.value) n.journal n.hives.items (g.D.Disk.state_at n.disk) (g.D.Disk.clock n.disk) e.sound.holds.kept refl e.sound.holds.placed (e.on_disk f (i.on_disk (e.faithful f))))));
-  answers = subst (λ (x : List Reply). AnswersInTurn (parts_view g.D.Disk.clock g.D.Disk.failures c.args.self.now) (l.yielded ++ c.in-Some.event ∷ []) x (parts_view g.D.Disk.clock g.D.Disk.failures n)) (sym c.push_reserved.ensures.items)
-      (c.safe_runs_go_on.ensures.answers (parts_view g.D.Disk.clock g.D.Disk.failures c.args.self.now) (parts_view g.D.Disk.clock g.D.Disk.failures l.self) (parts_view g.D.Disk.clock g.D.Disk.failures n) l.yielded l.replies.items c.in-Some.event c.event-reply.result i.answers told);
-  faithful = λ f. i.faithful (e.faithful f);
-  parts = append_assoc l.yielded (c.in-Some.event ∷ []) _ ∙ ap (λ (x : List Event). l.yielded ++ x) (sym c.in-Some.ensures.steps.0) ∙ i.parts;
-  room = omega (arith, c.loop-event.invariant.room, c.push_reserved.ensures.capacity);
-}
+      sound = e.sound;
+      on_disk = λ f. e.on_disk f (i.on_disk (e.faithful f));
+      store = e.store ∙ i.store;
+      run = subst (λ (x : List Reply). Run c.args.self.now.store.machine (l.yielded ++ c.in-Some.event ∷ []) x n.store.machine) (sym c.push_reserved.ensures.items)
+          (run_on c.args.self.now.store.machine l.self.store.machine n.store.machine l.yielded l.replies.items c.in-Some.event c.event-reply.result i.run e.step);
+      safely = λ f. subst (λ (x : List Reply). RunsSafely (IsSafeAt (store_of c.args.self.now.journal) (g.D.Disk.state_at n.disk)) (parts_view g.D.Disk.clock g.D.Disk.failures c.args.self.now) (l.yielded ++ c.in-Some.event ∷ []) x (parts_view g.D.Disk.clock g.D.Disk.failures n)) (sym c.push_reserved.ensures.items)
+          (c.safe_runs_go_on.ensures.goes_on (store_of c.args.self.now.journal) (g.D.Disk.state_at l.self.disk) (g.D.Disk.state_at n.disk) (parts_view g.D.Disk.clock g.D.Disk.failures c.args.self.now) (parts_view g.D.Disk.clock g.D.Disk.failures l.self) (parts_view g.D.Disk.clock g.D.Disk.failures n)
+          l.yielded l.replies.items c.in-Some.event c.event-reply.result (i.safely (e.faithful f)) e.call.past told
+          (subst (λ (s : Store). IsSafeAt s (g.D.Disk.state_at n.disk) (g.D.Disk.clock n.disk) n.store.machine) (e.store ∙ i.store)
+          (c.crashes_leave_prefixes.ensures.safe (store_of n.journal) n.store.machine n.base (changes_of n.spelled.value) n.journal n.hives.items (g.D.Disk.state_at n.disk) (g.D.Disk.clock n.disk) e.sound.holds.kept refl e.sound.holds.placed (e.on_disk f (i.on_disk (e.faithful f))))));
+      answers = subst (λ (x : List Reply). AnswersInTurn (parts_view g.D.Disk.clock g.D.Disk.failures c.args.self.now) (l.yielded ++ c.in-Some.event ∷ []) x (parts_view g.D.Disk.clock g.D.Disk.failures n)) (sym c.push_reserved.ensures.items)
+          (c.safe_runs_go_on.ensures.answers (parts_view g.D.Disk.clock g.D.Disk.failures c.args.self.now) (parts_view g.D.Disk.clock g.D.Disk.failures l.self) (parts_view g.D.Disk.clock g.D.Disk.failures n) l.yielded l.replies.items c.in-Some.event c.event-reply.result i.answers told);
+      faithful = λ f. i.faithful (e.faithful f);
+      parts = append_assoc l.yielded (c.in-Some.event ∷ []) _ ∙ ap (λ (x : List Event). l.yielded ++ x) (sym c.in-Some.ensures.steps.0) ∙ i.parts;
+      room = omega (arith, c.loop-event.invariant.room, c.push_reserved.ensures.capacity);
+    }

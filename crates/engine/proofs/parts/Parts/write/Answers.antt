@@ -5,7 +5,7 @@ use Rattle.machine.specs.declared.event.Event.TheVariants as event
 use Rattle.engine_law.specs.Answers.{reply_to}
 use Rattle.engine_words.specs.Steps.{Says}
 use Rattle.prefix_law.specs.Promises.{HiveSays}
-use Rattle.hive_flush.specs.HiveStates.{IsOn, memory_of, place_of}
+use Rattle.hive_flush.specs.HiveStates.{IsOn, files_of, memory_of, place_of}
 use Rattle.disk_model.specs.FileState.{FileState}
 use Rattle.disk_model.specs.StoreFiles.{IsOfHive, primary_file, log_file}
 use Rattle.commit_journal.specs.Journals.{changes_of}
@@ -46,7 +46,7 @@ returns-clause-goes_on g c =
           (subst (λ n. IsOn c.step-come.new.self (new (primary_file n)) (new (log_file n))) its (call.on f (subst (λ n. IsOn c.index_mut.result.now (old (primary_file n)) (old (log_file n))) (sym its) (on.each c.args.place c.index_mut.result.now is))));
       store = refl;
       call = any_call (IsOfHive (place_of c.index_mut.result.now)) _ _ _ _ call.call;
-      quiet = quiet_by (event.FlusherStep c.args.place) c.step-come.result _ _ refl (λ e. absurd (subst (λ r. Says (HiveSays (memory_of c.index_mut.result.now)) r _ _) e call.says)) (flush_still c.step-come.result _ _ call.refused (λ e. (call.still (call.faulted.0 e)).1));
+      quiet = quiet_by (event.FlusherStep c.args.place) c.step-come.result _ _ refl (λ e. absurd (subst (λ r. Says (HiveSays (memory_of c.index_mut.result.now)) r (files_of c.index_mut.result.now) (files_of c.step-come.new.self)) e call.says)) (flush_still c.step-come.result _ _ call.refused (λ e. (call.still (call.faulted.0 e)).1));
       failed = has_failed c.step-come.result _ _ call.failures;
       faithful = call.faithful;
       life = (refl, refl);

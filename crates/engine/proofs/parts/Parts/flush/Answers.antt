@@ -1,0 +1,14 @@
+use Rattle.std.proofs.Common.{◌≡◌, Ok, Some, subst}
+use Rattle.std.specs.Prelude.{slice_get}
+use Rattle.engine_words.specs.declared.Progress.{Progress}
+use Rattle.hive_flush.specs.HiveStates.{memory_of}
+use Rattle.engine_law.specs.Answers.{reply_to}
+use Rattle.engine_law.specs.Prefixes.{view_of}
+use Rattle.engine_law.specs.Progress.{FlushesOn, IsMade, flush_of}
+use Rattle.engine.specs.declared.parts.Parts.{Parts}
+use Rattle.engine.proofs.parts.Parts.flush.Goals as goal
+
+pub returns-in-Ok-Done-clause-flushes : goal.returns-in-Ok-Done-clause-flushes
+returns-in-Ok-Done-clause-flushes g c = λ was is before after.
+    subst (λ (p : Progress). IsMade (reply_to (Ok p)) → FlushesOn (memory_of was).1 (reply_to (Ok p)) (view_of was) (view_of is) (flush_of was) (flush_of is)) c.in-Ok-Done.field-0-is
+    (c.in-Ok-Done.ensures.flushes was is before (subst (λ (p : Parts _). slice_get p.hives.items c.args.place ≡ Some is) c.let_go.ensures.rest after))
