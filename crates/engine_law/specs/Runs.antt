@@ -1,7 +1,6 @@
 -- Whole runs, with the crashes at each of their moments: the headline's words.
 use Rattle.std.specs.Prelude.{◌≡◌, ℕ, ◌≤◌, List, [], ◌∷◌, length, take, drop, ⊤}
 use Rattle.machine.specs.Machine.{Machine}
-use Rattle.machine.specs.Steps.{Run}
 use Rattle.machine.specs.declared.event.Event.{Event}
 use Rattle.machine.specs.declared.event.Reply.{Reply}
 use Rattle.machine.specs.declared.event.Reply.TheVariants as reply

@@ -5,14 +5,14 @@ use Rattle.std.proofs.lemmas.Option.{none-some, same_Some}
 use Rattle.std.proofs.lemmas.List.{length-append}
 use Rattle.refusals.specs.declared.refusal.Refusal.{Refusal}
 use Rattle.refusals.specs.declared.refusal.Refusal.TheVariants.{NoMemory, TooLarge}
-use Rattle.reg_tree.specs.Judgement.{any_outweighs, applied}
+use Rattle.reg_tree.specs.Judgement.{applied}
 use Rattle.reg_tree.specs.Texts.{element_text_len}
 use Rattle.reg_tree.specs.declared.element.Element.{Element}
 use Rattle.reg_tree.specs.declared.op.Op.{Op}
 use Rattle.reg_tree.specs.declared.op.Legality.{Legality}
 use Rattle.reg_tree.specs.declared.op.Legality.TheVariants.{Legal, Opened}
 use Rattle.machine.specs.Transactions.{Transaction, own}
-use Rattle.machine.specs.Machine.{Machine, change, commit_refusal_if, fault, first_of, found_in, refusal_by, refused_if, room_of, room_refusal, trees_now}
+use Rattle.machine.specs.Machine.{Machine, change, commit_refusal_if, fault, first_of, refusal_by, refused_if, room_of, room_refusal, trees_now}
 use Rattle.machine.specs.Steps.{Step}
 use Rattle.machine.specs.declared.event.Event.{Event}
 use Rattle.machine.specs.declared.event.Event.TheVariants as event
@@ -21,7 +21,7 @@ use Rattle.machine.specs.declared.event.Reply.TheVariants as reply
 use Rattle.machine.specs.declared.handle.Tx.{Tx}
 use Rattle.machine.proofs.Replies.{accepted_or, awaits_or}
 use Rattle.transactions.specs.Tables.{IsPending}
-use Rattle.transactions.specs.Prepared.{EventAccepts, Foretells, IsReady, IsReadyCommit, IsReadyNothing, IsReadyWrite, may_accept, shown_by}
+use Rattle.transactions.specs.Prepared.{EventAccepts, Foretells, IsReady, IsReadyCommit, IsReadyNothing, IsReadyWrite, shown_by}
 use Rattle.transactions.specs.declared.prepared.ReadyWrite.{ReadyWrite}
 use Rattle.transactions.specs.declared.prepared.ReadyCommit.{ReadyCommit}
 use Rattle.transactions.specs.declared.prepared.Ready.{Ready}
