@@ -26,7 +26,8 @@ use std::io::{BufRead, Write};
 /// change, and writes the replies to the script's lines as [`play`](crate::play) does; but that none of them makes a store. At the end,
 /// also after a line that is not understood, and if the script can't be read on or a write fails, all accepted changes are made
 /// durable, and then they are moved into the hives. Each of the two is told only if it is refused; so is, as the last line, that the
-/// device failed in a step that no line asked for. So a run that ends with status 0 leaves hives that have all its changes.
+/// device failed in a step that no line asked for. That a run which ends with status 0 leaves hives with all its changes is tested:
+/// no clause says that the steps at its end leave nothing to do.
 ///
 /// Before the store waits for the disk, and after each commit and flush, the replies so far are written out.
 ///
