@@ -6,7 +6,7 @@ use Rattle.reg_tree.specs.Judgement.{legal, any_outweighs}
 use Rattle.reg_tree.specs.Texts.{element_text_len}
 use Rattle.reg_tree.specs.declared.element.Element.{Element}
 use Rattle.reg_tree.specs.declared.op.Op.{Op}
-use Rattle.machine.specs.Machine.{Machine, trees_now, is_open, change, first_of, refused_if, refusal_by, room_of, room_refusal, commit_refusal, commit_refusal_if, fault, call_refusal}
+use Rattle.machine.specs.Machine.{Machine, trees_now, is_open, change, committed, commit_change, first_of, refused_if, refusal_by, room_of, room_refusal, commit_refusal, commit_refusal_if, fault, call_refusal}
 use Rattle.machine.specs.Transactions.{Transaction, inactive_refusal}
 use Rattle.machine.specs.Steps.{Step, Accepts, Commits, with_session, is_step}
 use Rattle.machine.specs.Kept.{IsKept, IsActiveAt, AreLegalChanges, Stays, Grows}
@@ -21,7 +21,7 @@ use Rattle.machine.proofs.TransactionChanges.{none_first, not_refused, found_at,
 -- what is legal within the limit of weight
 abbrev pub Within : Type 0
 Within = (machine : Machine) (place : ℕ) (one : Transaction) (moment : ℕ) → IsKept machine → IsActiveAt machine.places place one →
-    any_outweighs (trees_now machine) one.ops moment ≡ false → AreLegalChanges (trees_now machine) one.ops moment
+    any_outweighs (trees_now machine) (committed machine one) moment ≡ false → AreLegalChanges (trees_now machine) (committed machine one) moment
 
 abbrev Calm : Machine → Machine → Type 0
 Calm old new = Stays old new ⊎ Grows old new
@@ -77,13 +77,13 @@ commits within old new session tx moment number k c =
     by_case (length c.one.ops == 0) refl c.next g.1 (record { there = (found_at old session tx c.one c.found).0; active = active_of c.one g.0 })
   where
     made : Element
-    made = record { moment = moment; ops = c.one.ops }
+    made = commit_change old moment c.one
 
     by_case : (t : Bool) → (length c.one.ops == 0) ≡ t → new ≡ record (cond t old (record old { accepted = old.accepted ++ made ∷ []; room = old.room + room_of made })) { places = new.places }
-        → cond t None (first_of (refused_if (any_outweighs (trees_now old) c.one.ops moment) TooLarge) (room_refusal old (element_text_len made))) ≡ None → IsActiveAt old.places tx.place c.one → Calm old new
+        → cond t None (first_of (refused_if (any_outweighs (trees_now old) (committed old c.one) moment) TooLarge) (room_refusal old (element_text_len made))) ≡ None → IsActiveAt old.places tx.place c.one → Calm old new
     by_case true e n none a = aside old new old.sessions new.places old.begun n
     by_case false e n none a =
-        let h = none_first (refused_if (any_outweighs (trees_now old) c.one.ops moment) TooLarge) (room_refusal old (element_text_len made)) none in
+        let h = none_first (refused_if (any_outweighs (trees_now old) (committed old c.one) moment) TooLarge) (room_refusal old (element_text_len made)) none in
         grown old new made new.places (some_ops c.one.ops e) (within old tx.place c.one moment k a (not_refused _ TooLarge h.0)) h.1 n
 
 session_opened : (old new : Machine) (session : ℕ) → new ≡ with_session old session → Calm old new

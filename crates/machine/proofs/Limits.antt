@@ -16,7 +16,7 @@ use Rattle.reg_tree.specs.Texts.{element_text_len}
 use Rattle.reg_tree.specs.declared.element.Element.{Element}
 use Rattle.reg_tree.specs.declared.op.Op.{Op}
 use Rattle.machine.specs.Transactions.{Transaction, Places, at, with_op, count_held, inactive_refusal}
-use Rattle.machine.specs.Machine.{Machine, trees_now, last_number, pending, room_of, room_with, is_open, change, first_of, refused_if, refusal_by, fault, closed_refusal, call_refusal, bounds_of, start_refusal, room_refusal, commit_refusal, commit_refusal_if}
+use Rattle.machine.specs.Machine.{Machine, trees_now, last_number, pending, room_of, room_with, is_open, change, committed, commit_change, first_of, refused_if, refusal_by, fault, closed_refusal, call_refusal, bounds_of, start_refusal, room_refusal, commit_refusal, commit_refusal_if}
 use Rattle.machine.specs.Steps.{Accepts, Begins, Commits, Ends, Journals, Trims, EndsTrim, StepFails, Step, with_session}
 use Rattle.machine.specs.Kept.{IsKept, IsWithin, IsActiveAt, AreLegalChanges, AreLegalHistory}
 use Rattle.machine.specs.declared.handle.Tx.{Tx}
@@ -271,13 +271,13 @@ module _ (law : WeightAlone) (old : Machine) (k : IsKept old) where
       active = record { there = (found_at old session tx c.one c.found).0; active = active_of c.one g.0 }
 
       by_case : (t : Bool) → (length c.one.ops == 0) ≡ t
-          → cond t None (first_of (refused_if (any_outweighs (trees_now old) c.one.ops moment) TooLarge) (room_refusal old (element_text_len (record { moment = moment; ops = c.one.ops })))) ≡ None
-          → new ≡ record (cond t old (record old { accepted = old.accepted ++ record { moment = moment; ops = c.one.ops } ∷ []; room = old.room + room_of (record { moment = moment; ops = c.one.ops }) })) { places = new.places } → Leaves old new
+          → cond t None (first_of (refused_if (any_outweighs (trees_now old) (committed old c.one) moment) TooLarge) (room_refusal old (element_text_len (commit_change old moment c.one)))) ≡ None
+          → new ≡ record (cond t old (record old { accepted = old.accepted ++ commit_change old moment c.one ∷ []; room = old.room + room_of (commit_change old moment c.one) })) { places = new.places } → Leaves old new
       by_case true t free e = places_alone new fewer e
       by_case false t free e =
-          let p = none_first (refused_if (any_outweighs (trees_now old) c.one.ops moment) TooLarge) (room_refusal old (element_text_len (record { moment = moment; ops = c.one.ops }))) free in
-          let light = not_refused (any_outweighs (trees_now old) c.one.ops moment) TooLarge p.0 in
-          longer new (record { moment = moment; ops = c.one.ops }) new.places (omega (arith, fewer, k.within.held)) (some_ops c.one.ops t)
+          let p = none_first (refused_if (any_outweighs (trees_now old) (committed old c.one) moment) TooLarge) (room_refusal old (element_text_len (commit_change old moment c.one))) free in
+          let light = not_refused (any_outweighs (trees_now old) (committed old c.one) moment) TooLarge p.0 in
+          longer new (commit_change old moment c.one) new.places (omega (arith, fewer, k.within.held)) (some_ops c.one.ops t)
           (legal_within law (trees_now old) c.one.ops moment (k.carried tx.place c.one active moment) light) p.1 e
 
   journals : (new : Machine) (progress : Progress) → Journals old progress new → Leaves old new

@@ -14,7 +14,7 @@ use Rattle.reg_tree.specs.declared.op.Op.{Op}
 use Rattle.reg_tree.specs.declared.op.Legality.TheVariants.{Legal}
 use Rattle.conflicts.specs.Claims.{claim_of}
 use Rattle.machine.specs.Transactions.{Transaction, Places, Puts, Becomes, at, own_if, view, is_active, holds, is_claimed, fresh_transaction, ended, with_op, rolled_back_by, gone_with, inactive_refusal}
-use Rattle.machine.specs.Machine.{Machine, trees_now, is_open, found_in, change, first_of, refused_if, refusal_by, too_long, added_refusal, commit_refusal, commit_refusal_if, fault, room_of}
+use Rattle.machine.specs.Machine.{Machine, trees_now, is_open, found_in, change, committed, commit_change, first_of, refused_if, refusal_by, too_long, added_refusal, commit_refusal, commit_refusal_if, fault, room_of}
 use Rattle.machine.specs.Acts.{Adds, Finishes, Closes}
 use Rattle.machine.specs.Steps.{Accepts, Begins, Commits, Ends, Step, StepFails, after_commit, with_session}
 use Rattle.machine.specs.Kept.{IsActiveAt, handle_in}
@@ -198,17 +198,17 @@ none_of : (ops : List Op) → length ops ≡ 0 → ops ≡ []
 none_of [] e = refl
 none_of (op ∷ ops) e = absurd (omega (arith, e))
 
-after_commit_trees : (old : Machine) (moment : ℕ) (one : Transaction) → trees_now (after_commit old moment one) ≡ applied (trees_now old) one.ops moment
+after_commit_trees : (old : Machine) (moment : ℕ) (one : Transaction) → trees_now (after_commit old moment one) ≡ applied (trees_now old) (committed old one) moment
 after_commit_trees old moment one = by_case (length one.ops == 0) refl
   where
-    by_case : (t : Bool) → (length one.ops == 0) ≡ t → trees_now (cond t old (record old { accepted = old.accepted ++ record { moment = moment; ops = one.ops } ∷ []; room = old.room + room_of (record { moment = moment; ops = one.ops }) })) ≡ applied (trees_now old) one.ops moment
+    by_case : (t : Bool) → (length one.ops == 0) ≡ t → trees_now (cond t old (record old { accepted = old.accepted ++ commit_change old moment one ∷ []; room = old.room + room_of (commit_change old moment one) })) ≡ applied (trees_now old) (committed old one) moment
     by_case true e = sym (ap (λ ops. applied (trees_now old) ops moment) (none_of one.ops (eqb-true (length one.ops) 0 e)))
-    by_case false e = after_one_more old.opened old.accepted (record { moment = moment; ops = one.ops })
+    by_case false e = after_one_more old.opened old.accepted (commit_change old moment one)
 
 after_commit_begun : (old : Machine) (moment : ℕ) (one : Transaction) → (after_commit old moment one).begun ≡ old.begun
 after_commit_begun old moment one = by_case (length one.ops == 0)
   where
-    by_case : (t : Bool) → (cond t old (record old { accepted = old.accepted ++ record { moment = moment; ops = one.ops } ∷ []; room = old.room + room_of (record { moment = moment; ops = one.ops }) })).begun ≡ old.begun
+    by_case : (t : Bool) → (cond t old (record old { accepted = old.accepted ++ commit_change old moment one ∷ []; room = old.room + room_of (commit_change old moment one) })).begun ≡ old.begun
     by_case true = refl
     by_case false = refl
 

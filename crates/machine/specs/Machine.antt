@@ -102,6 +102,14 @@ found_in machine session tx = if is_open machine session then own machine.places
 abbrev pub change : ℕ → Op → Element
 change moment op = record { moment = moment; ops = op ∷ [] }
 
+-- the operations of the change that a commit makes of a transaction: those of the transaction, in their order
+abbrev pub committed : Machine → Transaction → List Op
+committed machine one = one.ops
+
+-- the change that a commit makes of a transaction
+abbrev pub commit_change : Machine → ℕ → Transaction → Element
+commit_change machine moment one = record { moment = moment; ops = committed machine one }
+
 -- the first refusal of two, in this order
 abbrev pub first_of : Option Refusal → Option Refusal → Option Refusal
 first_of (Some first) later = Some first
@@ -195,11 +203,11 @@ abbrev pub added_refusal_if : List TreeMap → Places → ℕ → Op → Option 
 added_refusal_if now places place op None = Some NoSuchHandle
 added_refusal_if now places place op (Some one) = first_of (inactive_refusal (Some one)) (added_refusal now places place op one)
 
--- why the operations of an active transaction are not accepted as one change, where there are any
+-- why the change that a commit makes of an active transaction is not accepted, if the transaction has operations
 abbrev pub commit_refusal : Machine → ℕ → Transaction → Option Refusal
 commit_refusal machine moment one =
     if length one.ops == 0 then None
-    else first_of (refused_if (any_outweighs (trees_now machine) one.ops moment) TooLarge) (room_refusal machine (element_text_len (record { moment = moment; ops = one.ops })))
+    else first_of (refused_if (any_outweighs (trees_now machine) (committed machine one) moment) TooLarge) (room_refusal machine (element_text_len (commit_change machine moment one)))
 
 abbrev pub commit_refusal_if : Machine → ℕ → Option Transaction → Option Refusal
 commit_refusal_if machine moment None = Some NoSuchHandle

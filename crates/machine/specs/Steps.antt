@@ -10,7 +10,7 @@ use Rattle.reg_tree.specs.declared.op.Op.{Op}
 use Rattle.reg_tree.specs.declared.op.Legality.TheVariants.{Legal, Opened}
 use Rattle.conflicts.specs.Claims.{claim_of}
 use Rattle.machine.specs.Transactions.{Transaction, Puts, Becomes, ended, rolled_back_by, gone_with, missing_refusal, inactive_refusal}
-use Rattle.machine.specs.Machine.{Machine, trees_now, last_number, pending, room_with, room_of, is_open, found_in, change, first_of, fault, closed_refusal, unnamed_refusal, call_refusal, tx_call_refusal, start_refusal, looked_up, read_refusal, write_refusal, begin_refusal, seen, added_refusal_if, commit_refusal_if}
+use Rattle.machine.specs.Machine.{Machine, trees_now, last_number, pending, room_with, room_of, is_open, found_in, change, commit_change, first_of, fault, closed_refusal, unnamed_refusal, call_refusal, tx_call_refusal, start_refusal, looked_up, read_refusal, write_refusal, begin_refusal, seen, added_refusal_if, commit_refusal_if}
 use Rattle.machine.specs.Acts.{Starts, Adds, Opens, Finishes, Closes}
 use Rattle.machine.specs.Shapes.{DoneOr, ReadOr, AcceptedOr, AddedOr, BegunOr, AwaitsOr, StandsOr, ReceiptOr, SteppedOr}
 use Rattle.machine.specs.declared.handle.Tx.{Tx}
@@ -72,12 +72,11 @@ pub record Begins (old : Machine) (session : ℕ) (id : List ℕ) (tx : Tx) (new
 abbrev pub ChangesPlaces : Machine → Type 0 → Machine → Type 0
 ChangesPlaces old act new = act × (new ≡ record old { places = new.places })
 
--- a transaction without operations commits as nothing, whose number is 0; any other is the next change, all its
--- operations together
+-- a transaction without operations commits as nothing, whose number is 0; of any other one change is made, which is the next
 abbrev pub after_commit : Machine → ℕ → Transaction → Machine
 after_commit old moment one =
     if length one.ops == 0 then old
-    else record old { accepted = old.accepted ++ record { moment = moment; ops = one.ops } ∷ []; room = old.room + room_of (record { moment = moment; ops = one.ops }) }
+    else record old { accepted = old.accepted ++ commit_change old moment one ∷ []; room = old.room + room_of (commit_change old moment one) }
 
 pub record Commits (old : Machine) (session : ℕ) (tx : Tx) (moment number : ℕ) (new : Machine) : Type 0 where
   pub one : Transaction

@@ -12,7 +12,7 @@ ghost use Rattle.reg_tree.specs.declared.element.Element.{Element};
 ghost use Rattle.reg_tree.specs.Judgement.{any_outweighs};
 ghost use Rattle.reg_tree.specs.Sequences.{AreTrees, AreLegal};
 ghost use Rattle.machine.specs.Transactions.{Transaction, own};
-ghost use Rattle.machine.specs.Machine.{Machine, opened_machine, trees_now, found_in};
+ghost use Rattle.machine.specs.Machine.{Machine, committed, opened_machine, trees_now, found_in};
 ghost use Rattle.machine.specs.Steps.{Step, Run, is_step};
 ghost use Rattle.machine.specs.Kept.{IsKept, IsActiveAt, AreLegalButForWeight, AreLegalChanges, IsCounted, IsGone, Stays, Grows, handle_in, numbers_given};
 ghost use Rattle.machine.specs.declared.handle.Tx.{Tx};
@@ -83,12 +83,12 @@ pub fn commits_stay_legal()
         (moment : ℕ) → AreLegalButForWeight (trees_now machine) one.ops moment }
     ensures within { (machine : Machine) (place : ℕ) (one : Transaction) (moment : ℕ) →
         IsKept machine → IsActiveAt machine.places place one →
-        any_outweighs (trees_now machine) one.ops moment ≡ false →
-        AreLegalChanges (trees_now machine) one.ops moment }
+        any_outweighs (trees_now machine) (committed machine one) moment ≡ false →
+        AreLegalChanges (trees_now machine) (committed machine one) moment }
     ensures in_order { (machine : Machine) (place : ℕ) (one : Transaction) (moment : ℕ) →
         IsKept machine → IsActiveAt machine.places place one →
-        any_outweighs (trees_now machine) one.ops moment ≡ false →
-        AreLegal (trees_now machine) one.ops moment }
+        any_outweighs (trees_now machine) (committed machine one) moment ≡ false →
+        AreLegal (trees_now machine) (committed machine one) moment }
 {
     conflicts::laws::but_for_weight();
     reg_tree::laws::weight_alone_refuses();

@@ -12,7 +12,7 @@ use Rattle.reg_tree.specs.declared.op.Op.{Op}
 use Rattle.reg_tree.specs.declared.op.Legality.{Legality}
 use Rattle.reg_tree.specs.declared.op.Legality.TheVariants.{Legal, Opened}
 use Rattle.machine.specs.Transactions.{Transaction, own}
-use Rattle.machine.specs.Machine.{Machine, change, commit_refusal_if, fault, first_of, refusal_by, refused_if, room_of, room_refusal, trees_now}
+use Rattle.machine.specs.Machine.{Machine, change, commit_change, commit_refusal_if, fault, first_of, refusal_by, refused_if, room_of, room_refusal, trees_now}
 use Rattle.machine.specs.Steps.{Step}
 use Rattle.machine.specs.declared.event.Event.{Event}
 use Rattle.machine.specs.declared.event.Event.TheVariants as event
@@ -41,18 +41,18 @@ write_foretold m session moment op made r = (
 )
 
 commit_foretold : (m : Machine) (made : ReadyCommit) → IsReadyCommit m made → Foretells m (event.CommitAccept made.session made.tx made.moment) (Some (made.element, made.trees))
-commit_foretold m made r = (by_slot (own m.places made.session made.tx) refl r.pending, r.trees ∙ ap (λ (e : Element). applied (trees_now m) e.ops e.moment) (sym r.element))
-  where
-    by_slot : (slot : Option Transaction) → own m.places made.session made.tx ≡ slot → IsPending slot r.ops r.text_len → EventAccepts m (event.CommitAccept made.session made.tx made.moment) made.element
-    by_slot None is p = absurd p
-    by_slot (Some one) is p = (
-      one,
-      found m made.session made.tx r.there ∙ is,
-      second (fault m) (commit_refusal_if m made.moment (Some one)) None r.free
-          (pending_refusal m made.moment (Some one) r.ops r.text_len None p r.some (second _ (room_refusal m r.text_len) None (ap (λ x. refused_if x TooLarge) r.light) r.roomy)),
-      ap (λ (x : List Op). length x == 0) (sym p.given) ∙ r.some,
-      r.element ∙ ap (λ (x : List Op). let y : Element = record { moment = made.moment; ops = x } in y) p.given,
-    )
+commit_foretold m made r = (
+  (
+    r.one,
+    found m made.session made.tx r.there ∙ r.found,
+    second (fault m) (commit_refusal_if m made.moment (Some r.one)) None r.free
+        (pending_refusal m made.moment (Some r.one) r.one.ops (element_text_len (commit_change m made.moment r.one)) None (record { active = r.active; given = refl; long = λ moment. refl }) r.some
+        (second _ (room_refusal m (element_text_len (commit_change m made.moment r.one))) None (ap (λ x. refused_if x TooLarge) r.light) r.roomy)),
+    r.some,
+    r.element,
+  ),
+  r.trees ∙ ap (λ (e : Element). applied (trees_now m) e.ops e.moment) (sym r.element),
+)
 
 -- A transaction without operations is no change
 nothing_foretold : (m : Machine) (session moment : ℕ) (tx : Tx) → IsReadyNothing m session tx → Foretells m (event.CommitAccept session tx moment) None
@@ -90,9 +90,9 @@ commit_told m session moment tx answer step fed element (one, there, free, some,
       | inr hungry ↦ fine (ap reply.Refused hungry)
     ]) fed
   where
-    by_test : (t : Transaction) (b : Bool) → b ≡ false → m.accepted ≡ (cond b m (record m { accepted = m.accepted ++ record { moment = moment; ops = t.ops } ∷ []; room = m.room + room_of (record { moment = moment; ops = t.ops }) })).accepted → ⊥
+    by_test : (t : Transaction) (b : Bool) → b ≡ false → m.accepted ≡ (cond b m (record m { accepted = m.accepted ++ commit_change m moment t ∷ []; room = m.room + room_of (commit_change m moment t) })).accepted → ⊥
     by_test t true off e = true≢false off
-    by_test t false off e = not_longer m.accepted (record { moment = moment; ops = t.ops }) e
+    by_test t false off e = not_longer m.accepted (commit_change m moment t) e
 
 told_foretold : (m : Machine) (e : Event) (answer : Reply) → Step m e answer m → (answer ≡ reply.Refused NoMemory → ⊥) → Foretells m e None
 told_foretold m (event.Write session moment op) answer step fed = write_told m session moment op answer step fed

@@ -22,7 +22,7 @@ use Rattle.reg_tree.specs.declared.op.Op.{Op}
 use Rattle.reg_tree.specs.declared.op.Legality.TheVariants.{Legal}
 use Rattle.claims_law.specs.Skeleton.{Claim}
 use Rattle.conflicts.specs.Claims.{claim_of, meets}
-use Rattle.machine.specs.Machine.{Machine, trees_now, last_number, is_open, found_in, change, first_of, refused_if, fault, closed_refusal, unnamed_refusal, call_refusal, tx_call_refusal, commit_refusal, looked_up, read_refusal, refusal_by, room_of, room_refusal, write_refusal, commit_refusal_if}
+use Rattle.machine.specs.Machine.{Machine, trees_now, last_number, is_open, found_in, change, committed, commit_change, first_of, refused_if, fault, closed_refusal, unnamed_refusal, call_refusal, tx_call_refusal, commit_refusal, looked_up, read_refusal, refusal_by, room_of, room_refusal, write_refusal, commit_refusal_if}
 use Rattle.machine.specs.Steps.{Step, Accepts, Commits, Flushes, Journals, Trims, StepFails, no_hive}
 use Rattle.machine.specs.declared.event.Progress.TheVariants.{Done, Idle}
 use Rattle.machine.specs.Transactions.{Transaction, Puts, at, own, is_active, ended, rolled_back_by, missing_refusal, inactive_refusal}
@@ -37,9 +37,11 @@ use Rattle.machine.specs.declared.event.Reply.TheVariants as reply
 use Rattle.transactions.specs.Tables.{Table, EndsWith, IsPending, IsPendingOf, holds_if, is_listed, rolled_back_if}
 use Rattle.transactions.specs.Histories.{IsShort}
 use Rattle.transactions.specs.Stores.{Answers, IsTied, store_of}
-use Rattle.transactions.specs.Prepared.{Readies, JudgesWrite, ReadiesWrite}
+use Rattle.transactions.specs.Entries.{AreMoved}
+use Rattle.transactions.specs.Prepared.{IsReadyCommit, Readies, JudgesWrite, ReadiesWrite}
 use Rattle.transactions.specs.declared.prepared.Ready.{Ready}
 use Rattle.transactions.specs.declared.prepared.JudgedWrite.{JudgedWrite}
+use Rattle.transactions.specs.declared.prepared.ReadyCommit.{ReadyCommit}
 use Rattle.transactions.specs.declared.prepared.ReadyWrite.{ReadyWrite}
 
 -- an error that is handed on is the answer
@@ -282,10 +284,10 @@ pub pending_refusal : (m : Machine) (moment : ℕ) (slot : Option Transaction) (
     first_of (refused_if (any_outweighs (trees_now m) ops moment) TooLarge) (room_refusal m long) ≡ wanted → commit_refusal_if m moment slot ≡ wanted
 pending_refusal m moment None ops long wanted p some e = absurd p
 pending_refusal m moment (Some one) ops long wanted p some e =
-    let full : Option Refusal = first_of (refused_if (any_outweighs (trees_now m) one.ops moment) TooLarge) (room_refusal m (element_text_len (record { moment = moment; ops = one.ops }))) in
+    let full : Option Refusal = first_of (refused_if (any_outweighs (trees_now m) (committed m one) moment) TooLarge) (room_refusal m (element_text_len (commit_change m moment one))) in
     second (inactive_refusal (Some one)) (cond (length one.ops == 0) None full) wanted p.active
     (ap (λ x. cond x None full) (ap (λ (x : List Op). length x == 0) (sym p.given) ∙ some)
-    ∙ ap (λ x. first_of (refused_if (any_outweighs (trees_now m) x moment) TooLarge) (room_refusal m (element_text_len (record { moment = moment; ops = one.ops })))) (sym p.given)
+    ∙ ap (λ x. first_of (refused_if (any_outweighs (trees_now m) x moment) TooLarge) (room_refusal m (element_text_len (commit_change m moment one)))) (sym p.given)
     ∙ ap (λ x. first_of (refused_if (any_outweighs (trees_now m) ops moment) TooLarge) (room_refusal m x)) (sym (p.long moment)) ∙ e)
 
 -- the transaction of a handle in an open session
@@ -347,7 +349,7 @@ module _ (o : List TreeMap) (n : ℕ) (a b : List Element) (s : List ℕ) (t u v
       Commits (store_of o n a s t d r faulted w) session tx moment number (store_of o n b s v d q faulted w)
   commits session moment number tx trees ops given long i there p ends some light room told e g moved =
       let old = store_of o n a s t d r faulted w in
-      let element : Element = record { moment = moment; ops = ends.finishes.one.ops } in
+      let element : Element = commit_change old moment ends.finishes.one in
       let mine : IsPendingOf ends.finishes.one ops long = subst (λ x. IsPending x ops long) ends.finishes.found p in
       let kept : (length ends.finishes.one.ops == 0) ≡ false = ap (λ (x : List Op). length x == 0) (sym mine.given) ∙ some in
       let grown : b ≡ a ++ element ∷ [] = e ∙ ap (λ (x : List Op). let y : Element = record { moment = moment; ops = x } in a ++ y ∷ []) ends.given in
@@ -366,11 +368,44 @@ module _ (o : List TreeMap) (n : ℕ) (a b : List Element) (s : List ℕ) (t u v
         put = subst (λ x. Puts t.places x tx.place (Some (ended Committed ends.finishes.one))) (sym (ap (λ (x : Table). x.places) moved)) ends.finishes.put;
       }
 
--- the change of pending operations is short, where their length is
-pub pending_short : (slot : Option Transaction) (ops : List Op) (long moment : ℕ) → IsPending slot ops long → long ≤ MOST_ELEMENT_BYTES → IsShort (record { moment = moment; ops = ops })
-pending_short None ops long moment p short = absurd p
-pending_short (Some one) ops long moment p short =
-    subst (λ (x : List Op). let y : Element = record { moment = moment; ops = x } in IsShort y) (sym p.given) (subst (λ n. n ≤ MOST_ELEMENT_BYTES) (p.long moment) short)
+-- the operations of a commit that is prepared are pending
+pub ready_pending : (m : Machine) (made : ReadyCommit) (r : IsReadyCommit m made) → IsPending (own m.places made.session made.tx) r.one.ops (element_text_len (commit_change m made.moment r.one))
+ready_pending m made r = subst (λ x. IsPending x r.one.ops (element_text_len (commit_change m made.moment r.one))) (sym r.found) (record { active = r.active; given = refl; long = λ moment. refl })
+
+-- a change of these operations, of so many bytes, may be accepted, and what it leads to is made
+pub record IsMadeOf (m : Machine) (made : ReadyCommit) (ops : List Op) (long : ℕ) : Type 0 where
+  pub some : (length ops == 0) ≡ false
+  pub element : made.element ≡ record { moment = made.moment; ops = ops }
+  pub short : long ≤ MOST_ELEMENT_BYTES
+  pub light : any_outweighs (trees_now m) ops made.moment ≡ false
+  pub trees : made.trees ≡ applied (trees_now m) ops made.moment
+  pub roomy : room_refusal m long ≡ None
+  pub room : made.room ≡ m.room + (17 + long)
+
+-- the change that a commit makes, where pending operations are made into one
+pub ready_commit : (m : Machine) (made : ReadyCommit) (ops : List Op) (long : ℕ) → fault m ≡ None → is_open m made.session ≡ true → IsPending (own m.places made.session made.tx) ops long →
+    AreMoved made.trees (last_number m + 1) m.places made.moved.items → IsMadeOf m made ops long → IsReadyCommit m made
+ready_commit m made ops long free there pending moved is = by_slot (own m.places made.session made.tx) refl pending
+  where
+    by_slot : (slot : Option Transaction) → own m.places made.session made.tx ≡ slot → IsPending slot ops long → IsReadyCommit m made
+    by_slot None found p = absurd p
+    by_slot (Some one) found p =
+        let i : IsMadeOf m made one.ops (element_text_len (commit_change m made.moment one)) = subst (IsMadeOf m made one.ops) (p.long made.moment) (subst (λ x. IsMadeOf m made x long) p.given is) in
+        record {
+          one = one;
+          free = free;
+          there = there;
+          found = found;
+          active = p.active;
+          some = i.some;
+          element = i.element;
+          short = subst IsShort (sym i.element) i.short;
+          light = i.light;
+          trees = i.trees;
+          moved = moved;
+          roomy = i.roomy;
+          room = i.room;
+        }
 
 -- a step of a journal that is not written
 pub settles : (m : Machine) → m.faulted ≡ false → m.durable ≤ last_number m → Journals m Done (record m { durable = last_number m })
@@ -407,12 +442,12 @@ commits_nothing o n a s t u d r faulted w free session moment tx ops given long 
     let mine : IsPendingOf ends.finishes.one ops long = subst (λ x. IsPending x ops long) ends.finishes.found p in
     let empty : (length ends.finishes.one.ops == 0) ≡ true = ap (λ (x : List Op). length x == 0) (sym mine.given) ∙ none in
     let begun : u.begun ≡ t.begun = ap (λ (x : Table). x.begun) ends.next in
-    let element : Element = record { moment = moment; ops = ends.finishes.one.ops } in
+    let element : Element = commit_change old moment ends.finishes.one in
     record {
       one = ends.finishes.one;
       found = found old session tx there ∙ ends.finishes.found;
       free = second (fault old) (commit_refusal_if old moment (Some ends.finishes.one)) None free (second (inactive_refusal (Some ends.finishes.one)) (commit_refusal old moment ends.finishes.one) None mine.active
-          (ap (λ x. cond x None (first_of (refused_if (any_outweighs (trees_now old) ends.finishes.one.ops moment) TooLarge) (room_refusal old (element_text_len element)))) empty));
+          (ap (λ x. cond x None (first_of (refused_if (any_outweighs (trees_now old) (committed old ends.finishes.one) moment) TooLarge) (room_refusal old (element_text_len element)))) empty));
       numbered = ap (λ x. cond x 0 (last_number old + 1)) (sym empty);
       next = ap (λ x. record old { places = u.places; begun = x }) begun ∙ ap (λ x. record (cond x old (record old { accepted = a ++ element ∷ []; room = r + room_of element })) { places = u.places }) (sym empty);
       put = ends.finishes.put;

@@ -1,8 +1,7 @@
 -- What an event that may accept a change is going to do, all that it grows being made.
-use Rattle.std.specs.Prelude.{◌≡◌, ℕ, ◌+◌, ◌<◌, ◌≤◌, ◌==◌, Bool, true, false, List, [], ◌∷◌, ◌++◌, length, Option, Some, None, Ok, Err, Result}
+use Rattle.std.specs.Prelude.{◌≡◌, ℕ, ◌+◌, ◌<◌, ◌==◌, Bool, true, false, List, [], ◌∷◌, ◌++◌, length, Option, Some, None, Ok, Err, Result}
 use Rattle.refusals.specs.declared.refusal.Refusal.{Refusal}
 use Rattle.refusals.specs.declared.refusal.Refusal.TheVariants.{NoMemory}
-use Rattle.refusals.specs.declared.limits.TheConstants.{MOST_ELEMENT_BYTES}
 use Rattle.reg_tree.specs.Maps.{TreeMap}
 use Rattle.reg_tree.specs.Operations.{hive_of}
 use Rattle.reg_tree.specs.Judgement.{legal, applied, applied_one, any_outweighs}
@@ -12,8 +11,8 @@ use Rattle.reg_tree.specs.declared.element.Element.{Element}
 use Rattle.reg_tree.specs.declared.op.Op.{Op}
 use Rattle.reg_tree.specs.declared.op.Legality.TheVariants.{Legal}
 use Rattle.conflicts.specs.Claims.{claim_of}
-use Rattle.machine.specs.Transactions.{Transaction, at, own}
-use Rattle.machine.specs.Machine.{Machine, change, commit_refusal_if, fault, first_of, found_in, is_open, unnamed_refusal, room_refusal, trees_now, last_number, write_refusal}
+use Rattle.machine.specs.Transactions.{Transaction, at, own, inactive_refusal}
+use Rattle.machine.specs.Machine.{Machine, change, committed, commit_change, commit_refusal_if, fault, first_of, found_in, is_open, unnamed_refusal, room_of, room_refusal, trees_now, last_number, write_refusal}
 use Rattle.machine.specs.Steps.{Step}
 use Rattle.machine.specs.declared.event.Event.{Event}
 use Rattle.machine.specs.declared.event.Event.TheVariants as event
@@ -70,21 +69,21 @@ pub record IsReadyWrite (machine : Machine) (session moment : ℕ) (op : Op) (ma
   pub moved : AreMoved made.trees (last_number machine + 1) machine.places made.moved.items
   pub room : made.room ≡ machine.room + (17 + element_text_len (change moment op))
 
--- A transaction's operations, which are some, may be accepted as one change, and what they lead to is made.
+-- A transaction has operations, the change that a commit makes of it may be accepted, and what that leads to is made.
 pub record IsReadyCommit (machine : Machine) (made : ReadyCommit) : Type 0 where
-  pub ops : List Op
-  pub text_len : ℕ
+  pub one : Transaction
   pub free : fault machine ≡ None
   pub there : is_open machine made.session ≡ true
-  pub pending : IsPending (own machine.places made.session made.tx) ops text_len
-  pub some : (length ops == 0) ≡ false
-  pub element : made.element ≡ record { moment = made.moment; ops = ops }
-  pub short : text_len ≤ MOST_ELEMENT_BYTES
-  pub light : any_outweighs (trees_now machine) ops made.moment ≡ false
-  pub trees : made.trees ≡ applied (trees_now machine) ops made.moment
+  pub found : own machine.places made.session made.tx ≡ Some one
+  pub active : inactive_refusal (Some one) ≡ None
+  pub some : (length one.ops == 0) ≡ false
+  pub element : made.element ≡ commit_change machine made.moment one
+  pub short : IsShort made.element
+  pub light : any_outweighs (trees_now machine) (committed machine one) made.moment ≡ false
+  pub trees : made.trees ≡ applied (trees_now machine) (committed machine one) made.moment
   pub moved : AreMoved made.trees (last_number machine + 1) machine.places made.moved.items
-  pub roomy : room_refusal machine text_len ≡ None
-  pub room : made.room ≡ machine.room + (17 + text_len)
+  pub roomy : room_refusal machine (element_text_len (commit_change machine made.moment one)) ≡ None
+  pub room : made.room ≡ machine.room + room_of (commit_change machine made.moment one)
 
 -- A transaction has no operations, and may commit as nothing.
 pub record IsReadyNothing (machine : Machine) (session : ℕ) (tx : Tx) : Type 0 where
@@ -123,13 +122,13 @@ abbrev pub told_by : Next → Element × List TreeMap
 told_by next = (next.change.value, next.trees)
 
 -- An event asks for this change, and nothing stands against it: a write by itself, whose operation is legal and changes something; or
--- a commit, with all the operations of its transaction, which are some.
+-- a commit of a transaction that has operations.
 abbrev pub EventAccepts : Machine → Event → Element → Type 0
 EventAccepts machine (event.Write session moment op) element =
     (write_refusal machine session moment op ≡ None) × (legal (trees_now machine) op ≡ Ok Legal) × (element ≡ change moment op)
 EventAccepts machine (event.CommitAccept session tx moment) element =
     (one : Transaction) × (found_in machine session tx ≡ Some one) × (first_of (fault machine) (commit_refusal_if machine moment (Some one)) ≡ None)
-    × ((length one.ops == 0) ≡ false) × (element ≡ record { moment = moment; ops = one.ops })
+    × ((length one.ops == 0) ≡ false) × (element ≡ commit_change machine moment one)
 EventAccepts machine _ element = ⊥
 
 -- What is told before the event: the change that it will accept, and the trees of now with that change applied; or that it will accept

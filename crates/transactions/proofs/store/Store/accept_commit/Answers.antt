@@ -1,17 +1,16 @@
-use Rattle.std.proofs.Common.{◌≡◌, ◌+◌, List, [], ◌∷◌, ◌++◌, ◌∙◌, ap, sym, subst}
+use Rattle.std.proofs.Common.{◌≡◌, ℕ, ◌+◌, List, [], ◌∷◌, ◌++◌, ◌∙◌, ap, sym, subst}
 use Rattle.reg_tree.specs.Judgement.{applied, any_outweighs}
+use Rattle.reg_tree.specs.Texts.{element_text_len}
 use Rattle.reg_tree.specs.declared.element.Element.{Element}
 use Rattle.reg_tree.specs.declared.op.Op.{Op}
 use Rattle.machine.specs.declared.handle.Outcome.TheVariants.{Committed}
-use Rattle.machine.specs.Machine.{Machine}
+use Rattle.machine.specs.Machine.{Machine, commit_change}
 use Rattle.machine.specs.Steps.{Commits}
-use Rattle.machine.specs.Transactions.{own}
-use Rattle.transactions.specs.Histories.{IsShort}
 use Rattle.transactions.specs.Prepared.{IsReadyCommit}
 use Rattle.transactions.specs.Stores.{IsTied, StoreView, store_of}
 use Rattle.transactions.specs.Entries.{AreMoved}
 use Rattle.transactions.specs.Tables.{Table, EndsWith}
-use Rattle.transactions.proofs.Stored.{below_most, commits, ends_before, pending_short, same_ops, tied_more}
+use Rattle.transactions.proofs.Stored.{below_most, commits, ends_before, ready_pending, same_ops, tied_more}
 use Rattle.transactions.proofs.store.Store.accept_commit.Goals as goal
 
 abbrev old_store : (c : goal.After-drop-ops) → Machine
@@ -27,14 +26,15 @@ ended_table c = record c.self.inside.table { places = c.commit.new.self.places }
 ends : (c : goal.After-drop-ops) → EndsWith c.self.inside.table c.args.commit.session c.args.commit.tx Committed c.in-Ok._ops.items (ended_table c) × (c.commit.new.self ≡ record (ended_table c) { trees = c.args.commit.trees; number = c.self.inside.table.number + 1 })
 ends c = ends_before c.self.inside.table c.take_views.new.self c.commit.new.self c.args.commit.trees c.args.commit.session c.args.commit.tx c.in-Ok._ops.items (c.take_views.ensures ∙ c.accept.ensures) c.in-Ok.ensures.ok
 
-same : (c : goal.After-drop-ops) → (ready c).ops ≡ c.in-Ok._ops.items
-same c = same_ops c.self.inside.table (ended_table c) c.args.commit.session c.args.commit.tx (ready c).ops c.in-Ok._ops.items (ready c).text_len (ready c).pending (ends c).0
+-- how long the change is
+abbrev long : (c : goal.After-drop-ops) → ℕ
+long c = element_text_len (commit_change (old_store c) c.args.commit.moment (ready c).one)
+
+same : (c : goal.After-drop-ops) → (ready c).one.ops ≡ c.in-Ok._ops.items
+same c = same_ops c.self.inside.table (ended_table c) c.args.commit.session c.args.commit.tx (ready c).one.ops c.in-Ok._ops.items (long c) (ready_pending (old_store c) c.args.commit (ready c)) (ends c).0
 
 pub push_reserved-requires-clause-short : goal.push_reserved-requires-clause-short
-push_reserved-requires-clause-short c =
-    let r = subst (λ (v : StoreView). IsReadyCommit v.machine c.args.commit) (sym c.self.view_is) c.requires.ready in
-    subst IsShort (sym r.element)
-    (pending_short (own c.self.inside.table.places c.args.commit.session c.args.commit.tx) r.ops r.text_len c.args.commit.moment r.pending r.short)
+push_reserved-requires-clause-short c = c.requires.ready.short
 
 added : (c : goal.After-drop-ops) → c.push_reserved.new.self.changes ≡ c.self.inside.history.changes ++ record { moment = c.args.commit.moment; ops = c.in-Ok._ops.items } ∷ []
 added c = c.push_reserved.ensures.changes
@@ -44,8 +44,8 @@ added c = c.push_reserved.ensures.changes
 tied : (c : goal.After-drop-ops) → IsTied c.commit.new.self (store_of c.self.inside.opened.value c.self.inside.before c.push_reserved.new.self.changes c.self.inside.sessions c.commit.new.self c.self.inside.durable c.args.commit.room c.self.inside.faulted c.self.inside.bounds)
 tied c =
     tied_more c.self.inside.opened.value c.self.inside.before c.self.inside.history.changes c.push_reserved.new.self.changes c.self.inside.sessions c.self.inside.table c.commit.new.self c.self.inside.durable c.self.inside.room c.args.commit.room c.self.inside.faulted c.self.inside.bounds
-    (record { moment = c.args.commit.moment; ops = c.in-Ok._ops.items }) c.self.invariant (below_most (old_store c) (ready c).text_len (ready c).roomy) (added c)
-    (ap (λ (t : Table). t.trees) (ends c).1 ∙ (ready c).trees ∙ ap (λ x. applied x (ready c).ops c.args.commit.moment) (sym c.self.invariant.trees) ∙ ap (λ x. applied c.self.inside.table.trees x c.args.commit.moment) (same c))
+    (record { moment = c.args.commit.moment; ops = c.in-Ok._ops.items }) c.self.invariant (below_most (old_store c) (long c) (ready c).roomy) (added c)
+    (ap (λ (t : Table). t.trees) (ends c).1 ∙ (ready c).trees ∙ ap (λ x. applied x (ready c).one.ops c.args.commit.moment) (sym c.self.invariant.trees) ∙ ap (λ x. applied c.self.inside.table.trees x c.args.commit.moment) (same c))
     (ap (λ (t : Table). t.number) (ends c).1)
 
 pub invariant_of-self : goal.invariant_of-self
@@ -56,8 +56,8 @@ returns-clause-step c =
     subst (λ (v : StoreView). Commits v.machine c.args.commit.session c.args.commit.tx c.args.commit.moment c.number.result
     (store_of c.self.inside.opened.value c.self.inside.before c.push_reserved.new.self.changes c.self.inside.sessions c.commit.new.self c.self.inside.durable c.args.commit.room c.self.inside.faulted c.self.inside.bounds)) c.self.view_is
     (commits c.self.inside.opened.value c.self.inside.before c.self.inside.history.changes c.push_reserved.new.self.changes c.self.inside.sessions c.self.inside.table (ended_table c) c.commit.new.self c.self.inside.durable c.self.inside.room c.args.commit.room c.self.inside.faulted c.self.inside.bounds
-    (ready c).free c.args.commit.session c.args.commit.moment c.number.result c.args.commit.tx c.args.commit.trees (ready c).ops c.in-Ok._ops.items (ready c).text_len c.self.invariant (ready c).there
-    (ready c).pending (ends c).0 (ready c).some (ap (λ x. any_outweighs x (ready c).ops c.args.commit.moment) c.self.invariant.trees ∙ (ready c).light)
+    (ready c).free c.args.commit.session c.args.commit.moment c.number.result c.args.commit.tx c.args.commit.trees (ready c).one.ops c.in-Ok._ops.items (long c) c.self.invariant (ready c).there
+    (ready_pending (old_store c) c.args.commit (ready c)) (ends c).0 (ready c).some (ap (λ x. any_outweighs x (ready c).one.ops c.args.commit.moment) c.self.invariant.trees ∙ (ready c).light)
     (ready c).roomy c.number.ensures (added c) (ready c).room (ends c).1)
 
 pub returns-clause-trees : goal.returns-clause-trees

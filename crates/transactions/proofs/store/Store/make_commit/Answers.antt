@@ -13,7 +13,7 @@ use Rattle.transactions.specs.Stores.{IsTied, StoreView, store_of}
 use Rattle.transactions.specs.declared.view.View.{View}
 use Rattle.transactions.proofs.Views.{nothing_moved}
 use Rattle.transactions.proofs.Holding.{pending_there}
-use Rattle.transactions.proofs.Stored.{below_greatest, closed_commit, crowded_commit, heavy_commit, not_ended, of_pending, pending_len, unready}
+use Rattle.transactions.proofs.Stored.{below_greatest, closed_commit, crowded_commit, heavy_commit, not_ended, of_pending, pending_len, ready_commit, unready}
 use Rattle.transactions.proofs.store.Store.make_commit.Goals as goal
 use Rattle.transactions.proofs.store.Store.make_commit.Goals.{then-made+in_ok-moved, else-made}
 
@@ -99,22 +99,19 @@ returns-clause-made c =
     of_pending (λ ops. IsCommitted c.self.inside.table.trees ops moment c.in_ok-made.made) (own c.self.inside.table.places c.args.session c.args.tx) ops long c.in_ok-pending.ensures.ok c.in_ok-made.ensures.ok in (
       c.in_ok-reserve.ensures.spare,
       refl,
-      record {
-        ops = ops;
-        text_len = long;
-        free = c.requires.free;
-        there = ap (λ (v : StoreView). is_open v.machine c.args.session) (sym c.self.view_is) ∙ c.in_ok-open.ensures.ok;
-        pending = subst (λ (v : StoreView). IsPending (own v.machine.places c.args.session c.args.tx) ops long) c.self.view_is c.in_ok-pending.ensures.ok;
-        some = sym c.is_empty.ensures ∙ c.if-is_empty.false;
-        element = c.in_ok-element.ensures;
-        short = c.in_ok-pending.ensures.short;
-        light = ap (λ (trees : List TreeMap). any_outweighs trees ops moment) (sym now) ∙ committed.light;
-        trees = committed.trees ∙ ap (λ (trees : List TreeMap). applied trees ops moment) now;
-        moved = subst (λ (v : StoreView). AreMoved c.in_ok-made.made.trees (last_number v.machine + 1) v.machine.places c.if-made.moved.items) c.self.view_is
-            (subst (λ n. AreMoved c.in_ok-made.made.trees (n + 1) c.self.inside.table.places c.if-made.moved.items) c.self.invariant.number (moved c committed.trees));
-        roomy = c.in_ok-room.ensures.ok.0;
-        room = c.in_ok-room.ensures.ok.1;
-      },
+      ready_commit m _ ops long c.requires.free (ap (λ (v : StoreView). is_open v.machine c.args.session) (sym c.self.view_is) ∙ c.in_ok-open.ensures.ok)
+          (subst (λ (v : StoreView). IsPending (own v.machine.places c.args.session c.args.tx) ops long) c.self.view_is c.in_ok-pending.ensures.ok)
+          (subst (λ (v : StoreView). AreMoved c.in_ok-made.made.trees (last_number v.machine + 1) v.machine.places c.if-made.moved.items) c.self.view_is
+          (subst (λ n. AreMoved c.in_ok-made.made.trees (n + 1) c.self.inside.table.places c.if-made.moved.items) c.self.invariant.number (moved c committed.trees)))
+          (record {
+            some = sym c.is_empty.ensures ∙ c.if-is_empty.false;
+            element = c.in_ok-element.ensures;
+            short = c.in_ok-pending.ensures.short;
+            light = ap (λ (trees : List TreeMap). any_outweighs trees ops moment) (sym now) ∙ committed.light;
+            trees = committed.trees ∙ ap (λ (trees : List TreeMap). applied trees ops moment) now;
+            roomy = c.in_ok-room.ensures.ok.0;
+            room = c.in_ok-room.ensures.ok.1;
+          }),
     )
 
 pub move_others-requires-clause-carried : goal.move_others-requires-clause-carried
