@@ -20,7 +20,7 @@ use Rattle.machine.proofs.TransactionChanges.{found_at, own_at, Descends, Way, F
 pub counted : (old new : Machine) (handle : Option Tx) → Way old new handle → IsCounted old handle new
 counted old new _ (Fewer b t d r) = b
 counted old new _ (Wrote op moment b t d r) = b
-counted old new _ (Longer place moment op one b t a l c p) = b
+counted old new _ (Longer place moment op one b t a l c n p) = b
 counted old new _ (Accepted place moment one b t a d r) = b
 counted old new _ (Began tx session id n b t p) = (n, b)
 
@@ -72,7 +72,7 @@ pub still_gone : (old new : Machine) (handle : Option Tx) (tx : Tx) → Way old 
 still_gone old new _ tx (Fewer b t d r) g = descended old new tx b d g
 still_gone old new _ tx (Wrote op moment b t d r) g = descended old new tx b d g
 still_gone old new _ tx (Accepted place moment one b t a d r) g = descended old new tx b d g
-still_gone old new _ tx (Longer place moment op one b t a l c p) g =
+still_gone old new _ tx (Longer place moment op one b t a l c n p) g =
     descended old new tx b (put_descends old.places new.places place (Some (with_op one op moment)) p (λ x e. (one, a.there, ap (λ (t : Transaction). t.generation) (let same : with_op one op moment ≡ x = cc e in same)))) g
 still_gone old new _ tx (Began handle session id n b t p) g = record {
   was_begun = omega (arith, g.was_begun, n, b);

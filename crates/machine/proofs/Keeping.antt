@@ -1,7 +1,8 @@
 -- Each way of a step keeps what every state keeps.
-use Rattle.std.proofs.Common.{◌≡◌, ◌≢◌, ◌⊎◌, inl, inr, ◌↔◌, ℕ, zero, suc, ◌+◌, ◌≤◌, ◌==◌, ◌&&◌, ◌||◌, not, Bool, true, false, List, [], ◌∷◌, ◌++◌, map, Option, Some, None, Result, Ok, Err, cond, refl, sym, ◌∙◌, ap, subst, arith}
+use Rattle.std.proofs.Common.{◌≡◌, ◌≢◌, ◌⊎◌, inl, inr, ◌↔◌, ℕ, zero, suc, ◌+◌, ◌<◌, ◌≤◌, ◌==◌, ◌&&◌, ◌||◌, not, Bool, true, false, List, [], ◌∷◌, ◌++◌, map, Option, Some, None, Result, Ok, Err, cond, refl, sym, ◌∙◌, ap, subst, arith}
 use Rattle.std.specs.Prelude.{slice_get, Contains, ⊤}
 use Rattle.std.proofs.lemmas.Bool.Decides.{eqb_tells}
+use Rattle.std.proofs.lemmas.List.Elements.{All-append, All-cons, All-nil}
 use Rattle.std.specs.List.{AllByRecursion, list_any}
 use Rattle.refusals.specs.declared.refusal.Refusal.{Refusal}
 use Rattle.refusals.specs.declared.limits.TheConstants.{GREATEST_NUMBER, MOST_JOURNAL_BYTES}
@@ -21,12 +22,13 @@ use Rattle.slab.specs.Slab.{entries_from}
 use Rattle.machine.specs.Transactions.{Transaction, Places, Puts, at, view, is_active, holds, is_claimed, fresh_transaction, with_op}
 use Rattle.machine.specs.Machine.{Machine, trees_now, opened_machine}
 use Rattle.machine.specs.Steps.{Step, Run}
-use Rattle.machine.specs.Kept.{IsActiveAt, IsKept, handle_in}
+use Rattle.machine.specs.Kept.{AreNamed, IsActiveAt, IsKept, handle_in}
+use Rattle.machine.specs.declared.bounds.Bounds.{Bounds}
 use Rattle.machine.specs.declared.handle.Tx.{Tx}
 use Rattle.machine.specs.declared.event.Event.{Event}
 use Rattle.machine.specs.declared.event.Reply.{Reply}
 use Rattle.machine.proofs.AtCommit.{WeightAlone}
-use Rattle.machine.proofs.Limits.{within_after, history_after, fits_after, within_at_first}
+use Rattle.machine.proofs.Limits.{within_after, history_after, bounds_after, fits_after, within_at_first}
 use Rattle.machine.proofs.TransactionChanges.{Descends, RemainsIf, Way, Fewer, Wrote, Longer, Accepted, Began, way, put_or_not, put_descends}
 
 -- the laws of trees and of claims, as they are handed in
@@ -44,6 +46,7 @@ record Part (machine : Machine) : Type 0 where
   known : (place : ℕ) (one : Transaction) → at machine.places place ≡ Some one → one.generation ≤ machine.begun
   carried : (place : ℕ) (one : Transaction) → IsActiveAt machine.places place one → (moment : ℕ) → AreCarriedOut (trees_now machine) one.ops moment
   apart : (place other : ℕ) (one two : Transaction) → place ≢ other → IsActiveAt machine.places place one → IsActiveAt machine.places other two → AreApart one.ops two.ops
+  named : (place : ℕ) (one : Transaction) → IsActiveAt machine.places place one → AreNamed machine.bounds.hives one.ops
 
 -- A legal operation may be carried out
 
@@ -121,6 +124,12 @@ apart_none : (ops : List Op) → AreApart ops []
 apart_none [] = tt
 apart_none (op ∷ ops) = (tt, apart_none ops)
 
+-- Operations on hives that calls may name
+
+one_more_named : (hives : ℕ) (ops : List Op) (op : Op) → AreNamed hives ops → hive_of op < hives → AreNamed hives (ops ++ op ∷ [])
+one_more_named hives ops op n below =
+    All-append (λ op. hive_of op < hives) ops (op ∷ []) n (All-cons (λ op. hive_of op < hives) op [] below (All-nil (λ op. hive_of op < hives)))
+
 -- What is active where a transaction was put
 
 active_or_not : (old new : Places) (place : ℕ) (put one : Transaction) (q : ℕ) → Puts old new place (Some put) → IsActiveAt new q one → ((q ≡ place) × (put ≡ one)) ⊎ ((q ≢ place) × IsActiveAt old q one)
@@ -152,7 +161,7 @@ module _ (laws : Laws) where
       let p = not_any (λ o. meets (claim_of op) (claim_of o)) o ops e in
       (no_conflict (claim_of op) (claim_of o) p.0, apart_from op ops p.1)
 
-  module _ (old new : Machine) (k : IsKept old) where
+  module _ (old new : Machine) (k : IsKept old) (bounds : new.bounds ≡ old.bounds) where
     trees_still : trees_now new ≡ trees_now old → AreTrees (trees_now new)
     trees_still t = subst AreTrees (sym t) k.trees
 
@@ -162,12 +171,19 @@ module _ (laws : Laws) where
     apart_still : (P : ℕ → Transaction → Type 0) → RemainsIf P old.places new.places → (p q : ℕ) (one two : Transaction) → p ≢ q → IsActiveAt new.places p one → IsActiveAt new.places q two → AreApart one.ops two.ops
     apart_still P r p q one two n a b = k.apart p q one two n (r p one a).0 (r q two b).0
 
+    named_still : (ops : List Op) → AreNamed old.bounds.hives ops → AreNamed new.bounds.hives ops
+    named_still ops n = subst (λ (b : Bounds). AreNamed b.hives ops) (sym bounds) n
+
+    named_after : (P : ℕ → Transaction → Type 0) → RemainsIf P old.places new.places → (q : ℕ) (one : Transaction) → IsActiveAt new.places q one → AreNamed new.bounds.hives one.ops
+    named_after P r q one a = named_still one.ops (k.named q one (r q one a).0)
+
     fewer : new.begun ≡ old.begun → trees_now new ≡ trees_now old → Descends old.places new.places → RemainsIf (λ q one. ⊤) old.places new.places → Part new
     fewer b t d r = record {
       trees = trees_still t;
       known = known_still old new b d k;
       carried = λ q one a m. subst (λ ts. AreCarriedOut ts one.ops m) (sym t) (k.carried q one (r q one a).0 m);
       apart = apart_still (λ q one. ⊤) r;
+      named = named_after (λ q one. ⊤) r;
     }
 
     wrote : (op : Op) (moment : ℕ) → new.begun ≡ old.begun → trees_now new ≡ applied (trees_now old) (op ∷ []) moment → Descends old.places new.places →
@@ -180,6 +196,7 @@ module _ (laws : Laws) where
           subst (λ ts. AreCarriedOut ts one.ops m) (sym t)
           (laws.past (trees_now old) (op ∷ []) one.ops 0 moment m k.trees (apart_from op one.ops (meets_none (claim_of op) one a.active s.1), tt) (k.carried q one s.0 0));
       apart = apart_still (λ q one. holds (claim_of op) one ≡ false) r;
+      named = named_after (λ q one. holds (claim_of op) one ≡ false) r;
     }
 
     accepted : (place moment : ℕ) (taken : Transaction) → new.begun ≡ old.begun → trees_now new ≡ applied (trees_now old) taken.ops moment → IsActiveAt old.places place taken →
@@ -192,11 +209,12 @@ module _ (laws : Laws) where
           subst (λ ts. AreCarriedOut ts one.ops m) (sym t)
           (laws.past (trees_now old) taken.ops one.ops 0 moment m k.trees (k.apart place q taken one (λ e. s.1 (sym e)) was s.0) (k.carried q one s.0 0));
       apart = apart_still (λ q one. q ≢ place) r;
+      named = named_after (λ q one. q ≢ place) r;
     }
 
     longer : (place moment : ℕ) (op : Op) (was : Transaction) → new.begun ≡ old.begun → trees_now new ≡ trees_now old → IsActiveAt old.places place was →
-        legal (view (trees_now old) was) op ≡ Ok Legal → is_claimed old.places place (claim_of op) ≡ false → Puts old.places new.places place (Some (with_op was op moment)) → Part new
-    longer place moment op was b t there l unmet p = record {
+        legal (view (trees_now old) was) op ≡ Ok Legal → is_claimed old.places place (claim_of op) ≡ false → hive_of op < old.bounds.hives → Puts old.places new.places place (Some (with_op was op moment)) → Part new
+    longer place moment op was b t there l unmet below p = record {
       trees = trees_still t;
       known = known_still old new b (put_descends old.places new.places place (Some (with_op was op moment)) p (λ x e. (was, there.there, ap (λ (t : Transaction). t.generation) (let same : with_op was op moment ≡ x = cc e in same)))) k;
       carried = λ q one a m. subst (λ ts. AreCarriedOut ts one.ops m) (sym t) (elim (active_or_not old.places new.places place (with_op was op moment) one q p a) [
@@ -206,6 +224,10 @@ module _ (laws : Laws) where
       ]);
       apart = λ x y one two n a b. by_places x y one two n
           (active_or_not old.places new.places place (with_op was op moment) one x p a) (active_or_not old.places new.places place (with_op was op moment) two y p b);
+      named = λ q one a. named_still one.ops (elim (active_or_not old.places new.places place (with_op was op moment) one q p a) [
+        | inl s ↦ subst (λ (x : Transaction). AreNamed old.bounds.hives x.ops) s.1 (one_more_named old.bounds.hives was.ops op (k.named place was there) below)
+        | inr n ↦ k.named q one n.1
+      ]);
     }
       where
         clear : (q : ℕ) (one : Transaction) → q ≢ place → IsActiveAt old.places q one → ApartFrom op one.ops
@@ -234,6 +256,10 @@ module _ (laws : Laws) where
       ]);
       apart = λ x y one two n a b. by_places x y one two n
           (active_or_not old.places new.places tx.place (fresh_transaction session id tx.generation) one x p a) (active_or_not old.places new.places tx.place (fresh_transaction session id tx.generation) two y p b);
+      named = λ q one a. named_still one.ops (elim (active_or_not old.places new.places tx.place (fresh_transaction session id tx.generation) one q p a) [
+        | inl s ↦ subst (λ (x : Transaction). AreNamed old.bounds.hives x.ops) s.1 (All-nil (λ op. hive_of op < old.bounds.hives))
+        | inr r ↦ k.named q one r.1
+      ]);
     }
       where
         by_places : (x y : ℕ) (one two : Transaction) → x ≢ y → ((x ≡ tx.place) × (fresh_transaction session id tx.generation ≡ one)) ⊎ ((x ≢ tx.place) × IsActiveAt old.places x one) →
@@ -242,21 +268,22 @@ module _ (laws : Laws) where
         by_places x y one two n (inr s) (inl r) = subst (λ (z : Transaction). AreApart one.ops z.ops) r.1 (apart_none one.ops)
         by_places x y one two n (inr s) (inr r) = k.apart x y one two n s.1 r.1
 
-  kept_by : (old new : Machine) (handle : Option Tx) → IsKept old → Way old new handle → Part new
-  kept_by old new _ k (Fewer b t d r) = fewer old new k b t d r
-  kept_by old new _ k (Wrote op moment b t d r) = wrote old new k op moment b t d r
-  kept_by old new _ k (Longer place moment op one b t a l c p) = longer old new k place moment op one b t a l c p
-  kept_by old new _ k (Accepted place moment one b t a d r) = accepted old new k place moment one b t a d r
-  kept_by old new _ k (Began tx session id n b t p) = began old new k tx session id n b t p
+  kept_by : (old new : Machine) (handle : Option Tx) → IsKept old → new.bounds ≡ old.bounds → Way old new handle → Part new
+  kept_by old new _ k w (Fewer b t d r) = fewer old new k w b t d r
+  kept_by old new _ k w (Wrote op moment b t d r) = wrote old new k w op moment b t d r
+  kept_by old new _ k w (Longer place moment op one b t a l c n p) = longer old new k w place moment op one b t a l c n p
+  kept_by old new _ k w (Accepted place moment one b t a d r) = accepted old new k w place moment one b t a d r
+  kept_by old new _ k w (Began tx session id n b t p) = began old new k w tx session id n b t p
 
   pub kept_after : (old new : Machine) (e : Event) (r : Reply) → IsKept old → Step old e r new → IsKept new
   kept_after old new e r k s =
-      let part = kept_by old new (handle_in r) k (way old new e r s) in
+      let part = kept_by old new (handle_in r) k (bounds_after laws.light old new e r k s) (way old new e r s) in
       record {
         trees = part.trees;
         known = part.known;
         carried = part.carried;
         apart = part.apart;
+        named = part.named;
         within = within_after laws.light old new e r k s;
         history = history_after laws.light old new e r k s;
       }
@@ -278,6 +305,7 @@ kept_at_first trees number journaled failures are few = record {
   known = λ place one e. absurd (nobody place one e);
   carried = λ place one a m. absurd (nobody place one a.there);
   apart = λ place other one two n a b. absurd (nobody place one a.there);
+  named = λ place one a. absurd (nobody place one a.there);
   within = within_at_first trees number journaled failures few;
   history = tt;
 }

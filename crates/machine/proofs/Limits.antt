@@ -100,7 +100,7 @@ held_after : (old new : Machine) (handle : Option Tx) → handle ≡ None → Wa
 held_after old new _ none (Fewer b t d r) = descends_fewer old.places new.places d
 held_after old new _ none (Wrote op moment b t d r) = descends_fewer old.places new.places d
 held_after old new _ none (Accepted place moment one b t a d r) = descends_fewer old.places new.places d
-held_after old new _ none (Longer place moment op one b t a l c p) =
+held_after old new _ none (Longer place moment op one b t a l c n p) =
     descends_fewer old.places new.places (put_descends old.places new.places place (Some (with_op one op moment)) p (λ x e. (one, a.there, ap (λ (t : Transaction). t.generation) (let same : with_op one op moment ≡ x = cc e in same))))
 held_after old new _ none (Began tx session id n b t p) = absurd cc
 
@@ -132,6 +132,7 @@ has_room machine element e =
 record Leaves (old new : Machine) : Type 0 where
   within : IsWithin new
   history : AreLegalHistory new.opened new.accepted
+  bounds : new.bounds ≡ old.bounds
   fits : old.room ≤ MOST_JOURNAL_BYTES → new.room ≤ MOST_JOURNAL_BYTES
 
 module _ (law : WeightAlone) (old : Machine) (k : IsKept old) where
@@ -149,6 +150,7 @@ module _ (law : WeightAlone) (old : Machine) (k : IsKept old) where
       room = k.within.room;
     };
     history = k.history;
+    bounds = refl;
     fits = λ fits. fits;
   })
 
@@ -177,6 +179,7 @@ module _ (law : WeightAlone) (old : Machine) (k : IsKept old) where
           room = omega (arith, k.within.room, ap room_with left, one_more_room (pending old) element);
         };
         history = history_more old.opened old.accepted element k.history some l;
+        bounds = refl;
         fits = λ fits. r.2;
       })
 
@@ -194,6 +197,7 @@ module _ (law : WeightAlone) (old : Machine) (k : IsKept old) where
       room = enough how;
     };
     history = k.history;
+    bounds = refl;
     fits = fits how;
   })
     where
@@ -220,6 +224,7 @@ module _ (law : WeightAlone) (old : Machine) (k : IsKept old) where
       room = k.within.room;
     };
     history = k.history;
+    bounds = refl;
     fits = λ fits. fits;
   })
 
@@ -345,3 +350,7 @@ within_at_first trees number journaled failures few = record {
   held = omega arith;
   room = omega (arith, rest_less (number - number) []);
 }
+
+-- the bounds
+pub bounds_after : WeightAlone → (old new : Machine) (e : Event) (r : Reply) → IsKept old → Step old e r new → new.bounds ≡ old.bounds
+bounds_after law old new e r k s = (leaves law old k new e r s).bounds

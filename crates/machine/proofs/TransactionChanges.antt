@@ -1,12 +1,13 @@
 -- What a step does to the transactions that are held: one of a few ways.
 use Rattle.std.proofs.Common.{◌≡◌, ◌≢◌, ◌⊎◌, inl, inr, ℕ, ◌+◌, ◌==◌, ◌&&◌, Bool, true, false, List, [], ◌∷◌, ◌++◌, length, Option, Some, None, Ok, cond, refl, sym, ◌∙◌, ap, arith}
 use Rattle.std.proofs.lemmas.Bool.{eqb-true}
-use Rattle.std.proofs.lemmas.Bool.Decides.{eqb_tells}
+use Rattle.std.proofs.lemmas.Bool.Decides.{eqb_tells, nat_tests}
 use Rattle.std.proofs.lemmas.Option.{option_and_then_some}
-use Rattle.std.specs.Prelude.{⊤}
+use Rattle.std.specs.Prelude.{⊤, ◌<◌, nat_le}
 use Rattle.refusals.specs.declared.refusal.Refusal.{Refusal}
-use Rattle.refusals.specs.declared.refusal.Refusal.TheVariants.{NotActive, TooLarge, Conflict}
+use Rattle.refusals.specs.declared.refusal.Refusal.TheVariants.{NotActive, NotFound, TooLarge, Conflict}
 use Rattle.reg_tree.specs.Maps.{TreeMap}
+use Rattle.reg_tree.specs.Operations.{hive_of}
 use Rattle.reg_tree.specs.Judgement.{legal, applied}
 use Rattle.reg_tree.specs.Sequences.{after_elements}
 use Rattle.reg_tree.specs.declared.element.Element.{Element}
@@ -14,7 +15,7 @@ use Rattle.reg_tree.specs.declared.op.Op.{Op}
 use Rattle.reg_tree.specs.declared.op.Legality.TheVariants.{Legal}
 use Rattle.conflicts.specs.Claims.{claim_of}
 use Rattle.machine.specs.Transactions.{Transaction, Places, Puts, Becomes, at, own_if, view, is_active, holds, is_claimed, fresh_transaction, ended, with_op, rolled_back_by, gone_with, inactive_refusal}
-use Rattle.machine.specs.Machine.{Machine, trees_now, is_open, found_in, change, committed, commit_change, first_of, refused_if, refusal_by, too_long, added_refusal, commit_refusal, commit_refusal_if, fault, room_of}
+use Rattle.machine.specs.Machine.{Machine, trees_now, is_open, found_in, change, committed, commit_change, first_of, refused_if, refusal_by, too_long, added_refusal, commit_refusal, commit_refusal_if, fault, unnamed_refusal, room_of}
 use Rattle.machine.specs.Acts.{Adds, Finishes, Closes}
 use Rattle.machine.specs.Steps.{Accepts, Begins, Commits, Ends, Step, StepFails, after_commit, with_session}
 use Rattle.machine.specs.Kept.{IsActiveAt, handle_in}
@@ -139,7 +140,8 @@ pub data Way (old new : Machine) : Option Tx → Type 0 where
   Wrote : (op : Op) (moment : ℕ) → new.begun ≡ old.begun → trees_now new ≡ applied (trees_now old) (op ∷ []) moment →
       Descends old.places new.places → RemainsIf (λ q one. holds (claim_of op) one ≡ false) old.places new.places → Way old new None
   Longer : (place moment : ℕ) (op : Op) (one : Transaction) → new.begun ≡ old.begun → trees_now new ≡ trees_now old → IsActiveAt old.places place one →
-      legal (view (trees_now old) one) op ≡ Ok Legal → is_claimed old.places place (claim_of op) ≡ false → Puts old.places new.places place (Some (with_op one op moment)) → Way old new None
+      legal (view (trees_now old) one) op ≡ Ok Legal → is_claimed old.places place (claim_of op) ≡ false → hive_of op < old.bounds.hives →
+      Puts old.places new.places place (Some (with_op one op moment)) → Way old new None
   Accepted : (place moment : ℕ) (one : Transaction) → new.begun ≡ old.begun → trees_now new ≡ applied (trees_now old) one.ops moment → IsActiveAt old.places place one →
       Descends old.places new.places → RemainsIf (λ q x. q ≢ place) old.places new.places → Way old new None
   Began : (tx : Tx) (session : ℕ) (id : List ℕ) → tx.generation ≡ old.begun + 1 → new.begun ≡ tx.generation → trees_now new ≡ trees_now old →
@@ -174,15 +176,22 @@ accepts old new session moment op levels number a = Wrote op moment (ap (λ (m :
 begins : (old new : Machine) (session : ℕ) (id : List ℕ) (tx : Tx) → Begins old session id tx new → Way old new (Some tx)
 begins old new session id tx b = Began tx session id b.starts.numbered (ap (λ (m : Machine). m.begun) b.next ∙ sym b.starts.numbered) (ap trees_now b.next) b.starts.put
 
-adds : (old new : Machine) (session : ℕ) (tx : Tx) (moment : ℕ) (op : Op) (levels : Option ℕ) → Adds (trees_now old) old.places (found_in old session tx) tx.place moment op levels new.places → new ≡ record old { places = new.places } → Way old new None
-adds old new session tx moment op levels a next =
+-- a hive that calls may name
+named_hive : (old : Machine) (hive : ℕ) → first_of (fault old) (unnamed_refusal old hive) ≡ None → hive < old.bounds.hives
+named_hive old hive e = below old.bounds.hives hive (not_refused (nat_le old.bounds.hives hive) NotFound (none_first (fault old) (unnamed_refusal old hive) e).1)
+  where
+    below : (n m : ℕ) → nat_le n m ≡ false → m < n
+    below n m e = grind (arith, nat_tests)
+
+adds : (old new : Machine) (session : ℕ) (tx : Tx) (moment : ℕ) (op : Op) (levels : Option ℕ) → first_of (fault old) (unnamed_refusal old (hive_of op)) ≡ None → Adds (trees_now old) old.places (found_in old session tx) tx.place moment op levels new.places → new ≡ record old { places = new.places } → Way old new None
+adds old new session tx moment op levels named a next =
     let f = none_first (inactive_refusal (Some a.one)) (added_refusal (trees_now old) old.places tx.place op a.one) a.free in
     let further : Option Refusal = first_of (refused_if (too_long a.one op) TooLarge) (refused_if (is_claimed old.places tx.place (claim_of op)) Conflict) in
     let g : further ≡ None = ap (λ j. refusal_by j further) (sym a.is_legal) ∙ f.1 in
     let h = none_first (refused_if (too_long a.one op) TooLarge) (refused_if (is_claimed old.places tx.place (claim_of op)) Conflict) g in
     Longer tx.place moment op a.one (ap (λ (m : Machine). m.begun) next) (ap trees_now next)
     (record { there = (found_at old session tx a.one a.found).0; active = active_of a.one f.0 }) a.is_legal
-    (not_refused (is_claimed old.places tx.place (claim_of op)) Conflict h.1) a.put
+    (not_refused (is_claimed old.places tx.place (claim_of op)) Conflict h.1) (named_hive old (hive_of op) named) a.put
 
 finishes : (old new : Machine) (session : ℕ) (tx : Tx) → Finishes old.places (found_in old session tx) tx.place RolledBack new.places → new ≡ record old { places = new.places } → Way old new None
 finishes old new session tx f next = Fewer (ap (λ (m : Machine). m.begun) next) (ap trees_now next)
@@ -243,7 +252,7 @@ way old new (event.Read session hive path question) r s = read_or (λ r. Way old
 way old new (event.Write session moment op) r s = accepted_or (λ r. Way old new (handle_in r)) _ _ _ r s (λ l n d. accepts old new session moment op l n d) (λ d. same old new d.next) (λ e f. same old new f.1)
 way old new (event.Begin session id) r s = begun_or (λ r. Way old new (handle_in r)) _ _ r s (λ tx d. begins old new session id tx d) (λ e f. same old new f.1)
 way old new (event.TxRead session tx hive path question) r s = read_or (λ r. Way old new (handle_in r)) _ _ r s (λ v d. same old new d.next) (λ e f. same old new f.1)
-way old new (event.TxWrite session tx moment op) r s = added_or (λ r. Way old new (handle_in r)) _ _ _ r s (λ l d. adds old new session tx moment op l d.1.0 d.1.1) (λ d. same old new d.2) (λ e f. same old new f.1)
+way old new (event.TxWrite session tx moment op) r s = added_or (λ r. Way old new (handle_in r)) _ _ _ r s (λ l d. adds old new session tx moment op l d.0 d.1.0 d.1.1) (λ d. same old new d.2) (λ e f. same old new f.1)
 way old new (event.CommitAccept session tx moment) r s = awaits_or (λ r. Way old new (handle_in r)) _ _ r s (λ n d. commits old new session tx moment n d) (λ e f. same old new f.1)
 way old new (event.Rollback session tx) r s = done_or (λ r. Way old new (handle_in r)) _ _ r s (λ d. finishes old new session tx d.0 d.1) (λ e f. same old new f.1)
 way old new (event.Close session tx) r s = done_or (λ r. Way old new (handle_in r)) _ _ r s (λ d. closes old new session tx d.0 d.1) (λ e f. same old new f.1)

@@ -1,8 +1,10 @@
 -- What every state of the machine keeps: what is known of transactions that are held, and of handles.
 use Rattle.std.specs.Prelude.{◌≡◌, ◌≢◌, ◌⊎◌, ℕ, ◌+◌, ◌<◌, ◌≤◌, true, length, List, [], ◌∷◌, ◌++◌, map, filter_map, Option, Some, None, Ok, Err, ⊤}
+use Rattle.std.specs.List.{All}
 use Rattle.refusals.specs.declared.refusal.Refusal.TheVariants.{TooLarge}
 use Rattle.refusals.specs.declared.limits.TheConstants.{GREATEST_NUMBER, MOST_JOURNAL_BYTES, MOST_SESSIONS, MOST_TRANSACTIONS}
 use Rattle.reg_tree.specs.Maps.{TreeMap}
+use Rattle.reg_tree.specs.Operations.{hive_of}
 use Rattle.reg_tree.specs.Judgement.{legal, applied, applied_one}
 use Rattle.reg_tree.specs.Sequences.{AreTrees}
 use Rattle.reg_tree.specs.declared.element.Element.{Element}
@@ -45,14 +47,20 @@ AreLegalHistory trees (element ∷ elements) =
     (0 < length element.ops) × AreLegalChanges trees element.ops element.moment
     × AreLegalHistory (applied trees element.ops element.moment) elements
 
+-- each operation is on a hive that calls may name, of which there are so many
+abbrev pub AreNamed : ℕ → List Op → Type 0
+AreNamed hives ops = All (λ op. hive_of op < hives) ops
+
 -- What every state keeps: the trees of now are trees; no transaction's number is above how many were begun; the
 -- operations of an active transaction may be carried out in turn on the trees of now, at whatever moment; no claims of
--- two active transactions conflict; numbers, seats and room are within their limits; and each accepted change was legal.
+-- two active transactions conflict; they write to no hive but those that calls may name; numbers, seats and room are
+-- within their limits; and each accepted change was legal.
 pub record IsKept (machine : Machine) : Type 0 where
   pub trees : AreTrees (trees_now machine)
   pub known : (place : ℕ) (one : Transaction) → at machine.places place ≡ Some one → one.generation ≤ machine.begun
   pub carried : (place : ℕ) (one : Transaction) → IsActiveAt machine.places place one → (moment : ℕ) → AreCarriedOut (trees_now machine) one.ops moment
   pub apart : (place other : ℕ) (one two : Transaction) → place ≢ other → IsActiveAt machine.places place one → IsActiveAt machine.places other two → AreApart one.ops two.ops
+  pub named : (place : ℕ) (one : Transaction) → IsActiveAt machine.places place one → AreNamed machine.bounds.hives one.ops
   pub within : IsWithin machine
   pub history : AreLegalHistory machine.opened machine.accepted
 

@@ -25,6 +25,7 @@ ghost use Rattle.machine.specs.declared.event.Reply.TheVariants as reply;
 ///
 /// The trees of now are trees, no transaction's number is above how many were begun, the operations of each active
 /// transaction may be carried out in turn on the trees of now, and no claims of two active transactions conflict.
+/// Active transactions write to no hive but those that calls may name.
 /// What was there at the opening is durable and nothing is that was not accepted, numbers, changes, sessions and
 /// transactions are within their limits, and the journal's room is at least that of the changes which are not durable
 /// yet. Each accepted change was legal where it was accepted, and each of its operations changed something.
