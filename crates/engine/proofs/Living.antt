@@ -11,7 +11,7 @@ use Rattle.disk_model.proofs.Leaves.{left_at_rest}
 use Rattle.disk_model.proofs.Sectors.{honest_at_rest}
 use Rattle.disk_model.specs.Unwritten.{IsSyncedOrSame}
 use Rattle.commit_journal.specs.Store.{Store, IsStore}
-use Rattle.machine.specs.Machine.{Machine, last_number, opened_machine}
+use Rattle.machine.specs.Machine.{Machine, bounds_of, last_number, opened_machine}
 use Rattle.machine.specs.Steps.{Run}
 use Rattle.machine.specs.declared.event.Event.{Event}
 use Rattle.machine.specs.declared.event.Reply.{Reply}
@@ -95,7 +95,7 @@ module _ (one : OneRecovered) (store : Store) (is : IsStore store) where
       go_on m next lives many (λ files left. safe files (before state end seen kept files (next_left end next on files left))) (next_seen end next on) rest
   go_on m state (Opened number trees last end ∷ lives) many safe seen ((found, come, left), (next, on, rest)) = (
     opens_from m state number trees many safe seen found,
-    go_on last next lives (ap length (run_stays (record (opened_machine trees number [] 0) { room = come.room }) last come.events come.replies come.run) ∙ found.many)
+    go_on last next lives (ap length (run_stays (record (opened_machine (bounds_of trees) trees number [] 0) { room = come.room }) last come.events come.replies come.run) ∙ found.many)
         (λ files there. left files (next_left end next on files there)) (next_seen end next on) rest,
   )
 
@@ -105,7 +105,7 @@ none_taken : (n : ℕ) → take {A = Element} (n - n) [] ≡ []
 none_taken n = let e : n - n ≡ 0 = omega arith in ap (λ k. take {A = Element} k []) e
 
 pub repaired : (store : Store) (state end : ℕ → FileState) (number room : ℕ) (trees : List TreeMap) → IsRecovered (seen_in state) store number trees → ((files : ℕ → List ℕ) → LeavesHonest IsPrimary end files → IsRecovered files store number trees)
-    → IsLife store state (Opened number trees (record (opened_machine trees number [] 0) { room = room }) end)
+    → IsLife store state (Opened number trees (record (opened_machine (bounds_of trees) trees number [] 0) { room = room }) end)
 repaired store state end number room trees found stays = (
   found,
   record { room = room; events = []; replies = []; run = refl },
@@ -116,18 +116,18 @@ repaired store state end number room trees found stays = (
 
 -- A store that was made
 
-first_at : (trees : List TreeMap) (lives : List Life) → EachGoesOn (opened_machine trees 0 [] 0) lives → FirstOpensAt 0 trees lives
+first_at : (trees : List TreeMap) (lives : List Life) → EachGoesOn (opened_machine (bounds_of trees) trees 0 [] 0) lives → FirstOpensAt 0 trees lives
 first_at trees [] on = tt
 first_at trees (Unopened end ∷ lives) on = first_at trees lives on
 first_at trees (Opened number found last end ∷ lives) (from, on) =
     let zero : number ≡ 0 = omega (arith, from.high) in
-    (zero, from.trees_are ∙ ap (trees_after (opened_machine trees 0 [] 0)) zero ∙ ap (λ (l : List Element). after_elements trees l) (none_taken 0))
+    (zero, from.trees_are ∙ ap (trees_after (opened_machine (bounds_of trees) trees 0 [] 0)) zero ∙ ap (λ (l : List Element). after_elements trees l) (none_taken 0))
 
 pub opens_as_made : OneRecovered → (store : Store) (trees : List TreeMap) (state : ℕ → FileState) (lives : List Life) → ((files : ℕ → List ℕ) → LeavesHonest IsPrimary state files → IsRecovered files store 0 trees)
-    → LeavesHonest IsPrimary state (seen_in state) → AreLives store state lives → FirstOpensAt 0 trees lives × EachGoesOn (opened_machine trees 0 [] 0) lives
+    → LeavesHonest IsPrimary state (seen_in state) → AreLives store state lives → FirstOpensAt 0 trees lives × EachGoesOn (opened_machine (bounds_of trees) trees 0 [] 0) lives
 opens_as_made one store trees state lives made seen rest =
     let found = made (seen_in state) seen in
-    let on = go_on one store found.store_is (opened_machine trees 0 [] 0) state lives found.many (repaired store state state 0 0 trees found made).2 seen rest in
+    let on = go_on one store found.store_is (opened_machine (bounds_of trees) trees 0 [] 0) state lives found.many (repaired store state state 0 0 trees found made).2 seen rest in
     (first_at trees lives on, on)
 
 abbrev pub EachMoment : Type 0
@@ -138,7 +138,7 @@ abbrev pub AreRuns : Type 0
 AreRuns = (old new : EngineView) (events : List Event) (replies : List Reply) → AnswersInTurn old events replies new → Run old.machine events replies new.machine × (length replies ≡ length events)
 
 pub ran : EachMoment → AreRuns → (store : Store) (state : ℕ → FileState) (number room : ℕ) (trees : List TreeMap) (states : ℕ → ℕ → FileState) (moment : ℕ) (events : List Event) (replies : List Reply) (old new : EngineView) → IsRecovered (seen_in state) store number trees
-    → old.machine ≡ record (opened_machine trees number [] 0) { room = room } → RunsSafely (IsSafeAt store states) old events replies new → old.clock ≤ moment → moment ≤ new.clock
+    → old.machine ≡ record (opened_machine (bounds_of trees) trees number [] 0) { room = room } → RunsSafely (IsSafeAt store states) old events replies new → old.clock ≤ moment → moment ≤ new.clock
     → IsBoundary (λ at machine. IsLife store state (Opened number trees machine (states at))) old events replies new moment
 ran each runs store state number room trees states moment events replies old new found begins run low high =
     let b = each store states old new events replies run moment low high in

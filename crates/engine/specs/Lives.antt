@@ -5,7 +5,7 @@ use Rattle.disk_model.specs.FileState.{FileState, at_rest}
 use Rattle.disk_model.specs.Crash.{LeavesHonest}
 use Rattle.disk_model.specs.StoreFiles.{IsPrimary}
 use Rattle.disk_model.specs.Unwritten.{IsSyncedOrSame}
-use Rattle.machine.specs.Machine.{Machine, last_number, opened_machine}
+use Rattle.machine.specs.Machine.{Machine, bounds_of, last_number, opened_machine}
 use Rattle.machine.specs.Steps.{Run}
 use Rattle.machine.specs.declared.event.Event.{Event}
 use Rattle.machine.specs.declared.event.Reply.{Reply}
@@ -28,7 +28,7 @@ pub record HasCome (number : ℕ) (trees : List TreeMap) (last : Machine) : Type
   pub room : ℕ
   pub events : List Event
   pub replies : List Reply
-  pub run : Run (record (opened_machine trees number [] 0) { room = room }) events replies last
+  pub run : Run (record (opened_machine (bounds_of trees) trees number [] 0) { room = room }) events replies last
 
 -- whatever a crash leaves of these files is a prefix of a machine's changes
 abbrev pub IsSafe : Store → Machine → (ℕ → FileState) → Type 0

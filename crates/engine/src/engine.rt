@@ -2,7 +2,7 @@
 ghost use Rattle.std.specs.Prelude.{◌≡◌, ◌⊎◌, ◌↔◌, ◌+◌, ◌<◌, ◌≤◌, ◌^◌, [], ℕ, false, true, IfErr, IfNone, IfOk, IfSome, OnErr, OnOk, None, Some, is_some, length, map, replicate, slice_get};
 ghost use Rattle.refusals.specs.declared.refusal.Refusal.TheVariants.{NoMemory};
 ghost use Rattle.disk_model.specs.Call.{OneCall};
-ghost use Rattle.machine.specs.Machine.{last_number, opened_machine, trees_now};
+ghost use Rattle.machine.specs.Machine.{bounds_of, last_number, opened_machine, trees_now};
 ghost use Rattle.commit_journal.specs.Store.{room_of};
 ghost use Rattle.commit_journal.specs.Journals.{changes_of, choice_of};
 ghost use Rattle.commit_journal.specs.Journals as journals;
@@ -101,7 +101,8 @@ impl<D: Disk> Engine<D> {
     pub fn new(alloc: Global, opened: Opened<D>) -> Result<Engine<D>, (Refusal, Opened<D>)>
         requires whole { IsWhole opened }
         ensures machine { IfOk result (λ engine. engine.machine
-            ≡ record (opened_machine opened.found.trees opened.found.number [] 0)
+            ≡ record (opened_machine (bounds_of opened.found.trees) opened.found.trees
+            opened.found.number [] 0)
             { room = 65 + room_of (choice_of opened.found.journal).now.elements }) }
         ensures disk { IfOk result (λ engine. engine.disk ≡ opened.disk) }
         ensures store { IfOk result (λ engine. engine.store ≡ store_of opened) }
@@ -352,7 +353,7 @@ impl<D: Disk> Engine<D> {
 // the store in memory of what was found
 fn begun(alloc: Global, found: &Found) -> Result<Store, AllocError>
     ensures machine { IfOk result (λ it. it.machine
-        ≡ record (opened_machine found.now.trees found.now.number [] 0)
+        ≡ record (opened_machine (bounds_of found.now.trees) found.now.trees found.now.number [] 0)
         { room = 65 + room_of (choice_of found.now.journal).now.elements }) }
     ensures at_hand { IfOk result (λ it. it.at_hand ≡ found.now.number) }
 {

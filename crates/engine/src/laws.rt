@@ -5,7 +5,7 @@ ghost use Rattle.disk_model.specs.FileState.{FileState};
 ghost use Rattle.disk_model.specs.Crash.{LeavesHonest};
 ghost use Rattle.disk_model.specs.StoreFiles.{IsPrimary};
 ghost use Rattle.commit_journal.specs.Store.{Store, IsStore};
-ghost use Rattle.machine.specs.Machine.{Machine, opened_machine};
+ghost use Rattle.machine.specs.Machine.{Machine, bounds_of, opened_machine};
 ghost use Rattle.machine.specs.declared.event.Event.{Event};
 ghost use Rattle.machine.specs.declared.event.Reply.{Reply};
 ghost use Rattle.engine_law.specs.Engines.{EngineView};
@@ -38,7 +38,7 @@ pub fn made_stores_open_as_made()
         ((files : ℕ → List ℕ) → LeavesHonest IsPrimary state files →
         IsRecovered files store 0 trees) → LeavesHonest IsPrimary state (seen_in state) →
         AreLives store state lives →
-        FirstOpensAt 0 trees lives × EachGoesOn (opened_machine trees 0 [] 0) lives }
+        FirstOpensAt 0 trees lives × EachGoesOn (opened_machine (bounds_of trees) trees 0 [] 0) lives }
 {
     one_is_recovered();
 }
@@ -54,11 +54,12 @@ pub fn calls_are_lives()
         (trees : List TreeMap) → IsRecovered (seen_in state) store number trees →
         ((files : ℕ → List ℕ) → LeavesHonest IsPrimary end files →
         IsRecovered files store number trees) → IsLife store state
-        (Opened number trees (record (opened_machine trees number [] 0) { room = room }) end) }
+        (Opened number trees
+        (record (opened_machine (bounds_of trees) trees number [] 0) { room = room }) end) }
     ensures runs { (store : Store) (state : ℕ → FileState) (number room : ℕ) (trees : List TreeMap)
         (states : ℕ → ℕ → FileState) (moment : ℕ) (events : List Event) (replies : List Reply)
         (old new : EngineView) → IsRecovered (seen_in state) store number trees →
-        old.machine ≡ record (opened_machine trees number [] 0) { room = room } →
+        old.machine ≡ record (opened_machine (bounds_of trees) trees number [] 0) { room = room } →
         RunsSafely (IsSafeAt store states) old events replies new →
         old.clock ≤ moment → moment ≤ new.clock → IsBoundary
         (λ at machine. IsLife store state (Opened number trees machine (states at)))

@@ -18,6 +18,7 @@ use Rattle.prefix_law.proofs.KeepSteps.{begun}
 use Rattle.prefix_law.proofs.MemoryCounts.{remembered}
 use Rattle.machine.specs.Machine.{opened_machine, room_with}
 use Rattle.machine.specs.Kept.{IsKept}
+use Rattle.machine.specs.declared.bounds.Bounds.{Bounds}
 use Rattle.engine_words.specs.Changes.{TimedOp, rules, timed_element, timed_elements}
 use Rattle.engine_law.specs.States.{HiveView}
 use Rattle.engine_law.specs.States.{tree_of, counted, files_in, state_of, IsConsistent}
@@ -36,7 +37,7 @@ nothing_left : (k : ℕ) (none : List Element) → none ≡ [] → drop k none �
 nothing_left k [] e = drop_nil {A = Element} k
 nothing_left k (x ∷ xs) e = absurd cc
 
-module _ (trees : List TreeMap) (n failures base : ℕ) (opened : List Element) (journal : Choice (Spelled TimedOp)) (hives : List HiveView) (found : IsFound trees n base opened journal hives) where
+module _ (bounds : Bounds) (trees : List TreeMap) (n failures base : ℕ) (opened : List Element) (journal : Choice (Spelled TimedOp)) (hives : List HiveView) (found : IsFound trees n base opened journal hives) where
   first : law.IsKept rules GREATEST_NUMBER (length trees) (opened_state n (tree_of trees) (spelled_by found.below opened) (held_by hives))
   first = begun rules GREATEST_NUMBER (length trees) (spelled_by found.below opened) (held_by hives) n (tree_of trees) found.recovers found.named
 
@@ -50,11 +51,11 @@ module _ (trees : List TreeMap) (n failures base : ℕ) (opened : List Element) 
       by_slot None e = absurd (none-some _ (sym e ∙ slice_get-get_or hives i (record { files = settled (fresh_tree, 0); memory = (fresh_tree, 0) }) (omega (arith, lt, found.all))))
       by_slot (Some h) e = settled_is h (found.each i h e)
 
-  pub begins : ((ts : List TreeMap) (number : ℕ) (es : List Element) (f : ℕ) → AreTrees ts → number ≤ GREATEST_NUMBER → IsKept (opened_machine ts number es f)) → IsConsistent (opened_machine trees n opened failures) base opened journal hives
+  pub begins : ((w : Bounds) (ts : List TreeMap) (number : ℕ) (es : List Element) (f : ℕ) → AreTrees ts → number ≤ GREATEST_NUMBER → IsKept (opened_machine w ts number es f)) → IsConsistent (opened_machine bounds trees n opened failures) base opened journal hives
   begins kept = record {
-    kept = kept trees n opened failures found.are_trees found.recovers.limit;
+    kept = kept bounds trees n opened failures found.are_trees found.recovers.limit;
     fits = λ some. absurd (omega (arith, some, ap (λ (es : List Element). length es) (nothing_left (n - n) [] refl)));
-    law = remembered rules GREATEST_NUMBER (length trees) (held_by hives) (opened_state n (tree_of trees) (spelled_by found.below opened) (held_by hives)) (state_of (opened_machine trees n opened failures) base opened journal hives) first (record {
+    law = remembered rules GREATEST_NUMBER (length trees) (held_by hives) (opened_state n (tree_of trees) (spelled_by found.below opened) (held_by hives)) (state_of (opened_machine bounds trees n opened failures) base opened journal hives) first (record {
       fits = λ i lt. record { fits = first.hive_fits i lt (held_by hives i) (inl refl); higher = omega arith };
       life = ap (λ b. let l : Life TreeMap TimedOp = record { trees = tree_of trees; base = b; opened = timed_elements opened; accepted = [] } in l) found.base_is;
       durable = refl;
@@ -68,7 +69,7 @@ module _ (trees : List TreeMap) (n failures base : ℕ) (opened : List Element) 
     room = omega (arith, rooms_are opened, ap (λ (c : Choice (Spelled TimedOp)). room_of c.now.elements) found.journal_is, ap (λ (l : List Element). room_of (timed_elements l)) (nothing_left (n - n) [] refl));
   }
 
-  pub begins_told : ((ts : List TreeMap) (number : ℕ) (es : List Element) (f : ℕ) → AreTrees ts → number ≤ GREATEST_NUMBER → IsKept (opened_machine ts number es f)) → IsConsistent (record (opened_machine trees n [] failures) { room = 65 + room_of journal.now.elements }) base opened journal hives
+  pub begins_told : ((w : Bounds) (ts : List TreeMap) (number : ℕ) (es : List Element) (f : ℕ) → AreTrees ts → number ≤ GREATEST_NUMBER → IsKept (opened_machine w ts number es f)) → IsConsistent (record (opened_machine bounds trees n [] failures) { room = 65 + room_of journal.now.elements }) base opened journal hives
   begins_told kept =
       let room : room_with opened ≡ 65 + room_of journal.now.elements = omega (arith, rooms_are opened, ap (λ (c : Choice (Spelled TimedOp)). room_of c.now.elements) found.journal_is) in
-      subst (λ r. IsConsistent (record (opened_machine trees n [] failures) { room = r }) base opened journal hives) room (begins kept)
+      subst (λ r. IsConsistent (record (opened_machine bounds trees n [] failures) { room = r }) base opened journal hives) room (begins kept)

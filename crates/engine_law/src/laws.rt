@@ -13,6 +13,7 @@ ghost use Rattle.engine_words.specs.declared.Progress.TheVariants as progress;
 ghost use Rattle.machine.specs.Machine.{Machine, last_number, opened_machine, pending, trees_now};
 ghost use Rattle.machine.specs.Steps.{EndsTrim, Step, Run, is_step};
 ghost use Rattle.machine.specs.Kept.{IsKept};
+ghost use Rattle.machine.specs.declared.bounds.Bounds.{Bounds};
 ghost use Rattle.machine.specs.declared.event.Event.{Event};
 ghost use Rattle.machine.specs.declared.event.Event.TheVariants as event;
 ghost use Rattle.machine.specs.declared.event.Progress.TheVariants.{Done};
@@ -38,13 +39,13 @@ ghost use Rattle.engine_law.specs.Progress.{FlushView, FlushesOn, HasFlushed, Ha
 
 use reg_tree::{Op, Tree};
 
-/// What an opening finds begins a life in which all is kept: the machine is as it is opened, its room that of the changes which the
-/// journal spells.
+/// What an opening finds begins a life in which all is kept, whatever its bounds are: the machine is as it is opened, its room that of
+/// the changes which the journal spells.
 pub fn openings_begin()
-    ensures { (trees : List TreeMap) (number failures base : ℕ) (opened : List Element)
-        (journal : Choice (Spelled TimedOp)) (hives : List HiveView) →
+    ensures { (bounds : Bounds) (trees : List TreeMap) (number failures base : ℕ)
+        (opened : List Element) (journal : Choice (Spelled TimedOp)) (hives : List HiveView) →
         IsFound trees number base opened journal hives →
-        IsConsistent (record (opened_machine trees number [] failures)
+        IsConsistent (record (opened_machine bounds trees number [] failures)
         { room = 65 + room_of journal.now.elements }) base opened journal hives }
 {
     machine::laws::states_are_kept();

@@ -299,14 +299,14 @@ nobody : (place : ℕ) (one : Transaction) → at [] place ≡ Some one → ⊥
 nobody zero one e = cc
 nobody (suc place) one e = cc
 
-pub kept_at_first : (trees : List TreeMap) (number : ℕ) (journaled : List Element) (failures : ℕ) → AreTrees trees → number ≤ GREATEST_NUMBER → IsKept (opened_machine trees number journaled failures)
-kept_at_first trees number journaled failures are few = record {
+pub kept_at_first : (bounds : Bounds) (trees : List TreeMap) (number : ℕ) (journaled : List Element) (failures : ℕ) → AreTrees trees → number ≤ GREATEST_NUMBER → IsKept (opened_machine bounds trees number journaled failures)
+kept_at_first bounds trees number journaled failures are few = record {
   trees = are;
   known = λ place one e. absurd (nobody place one e);
   carried = λ place one a m. absurd (nobody place one a.there);
   apart = λ place other one two n a b. absurd (nobody place one a.there);
   named = λ place one a. absurd (nobody place one a.there);
-  within = within_at_first trees number journaled failures few;
+  within = within_at_first bounds trees number journaled failures few;
   history = tt;
 }
 

@@ -16,9 +16,10 @@ use Rattle.reg_tree.specs.Texts.{element_text_len}
 use Rattle.reg_tree.specs.declared.element.Element.{Element}
 use Rattle.reg_tree.specs.declared.op.Op.{Op}
 use Rattle.machine.specs.Transactions.{Transaction, Places, at, with_op, count_held, inactive_refusal}
-use Rattle.machine.specs.Machine.{Machine, trees_now, last_number, pending, room_of, room_with, is_open, change, committed, commit_change, first_of, refused_if, refusal_by, fault, closed_refusal, call_refusal, bounds_of, start_refusal, room_refusal, commit_refusal, commit_refusal_if}
+use Rattle.machine.specs.Machine.{Machine, trees_now, last_number, pending, room_of, room_with, is_open, change, committed, commit_change, first_of, refused_if, refusal_by, fault, closed_refusal, call_refusal, opened_machine, start_refusal, room_refusal, commit_refusal, commit_refusal_if}
 use Rattle.machine.specs.Steps.{Accepts, Begins, Commits, Ends, Journals, Trims, EndsTrim, StepFails, Step, with_session}
 use Rattle.machine.specs.Kept.{IsKept, IsWithin, IsActiveAt, AreLegalChanges, AreLegalHistory}
+use Rattle.machine.specs.declared.bounds.Bounds.{Bounds}
 use Rattle.machine.specs.declared.handle.Tx.{Tx}
 use Rattle.machine.specs.declared.event.Progress.{Progress}
 use Rattle.machine.specs.declared.event.Event.{Event}
@@ -339,9 +340,8 @@ pub fits_after : WeightAlone → (old new : Machine) (e : Event) (r : Reply) →
 fits_after law old new e r k s = (leaves law old k new e r s).fits
 
 -- as a store is opened
-pub within_at_first : (trees : List TreeMap) (number : ℕ) (journaled : List Element) (failures : ℕ) → number ≤ GREATEST_NUMBER →
-    IsWithin (record { opened = trees; before = number; accepted = []; sessions = []; places = []; begun = 0; durable = number; room = room_with journaled; failures = failures; faulted = false; bounds = bounds_of trees })
-within_at_first trees number journaled failures few = record {
+pub within_at_first : (bounds : Bounds) (trees : List TreeMap) (number : ℕ) (journaled : List Element) (failures : ℕ) → number ≤ GREATEST_NUMBER → IsWithin (opened_machine bounds trees number journaled failures)
+within_at_first bounds trees number journaled failures few = record {
   opened = omega arith;
   known = omega arith;
   numbers = omega (arith, few);

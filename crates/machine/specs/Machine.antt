@@ -52,14 +52,18 @@ room_of element = 17 + element_text_len element
 abbrev pub room_with : List Element → ℕ
 room_with elements = 65 + sum_by room_of elements
 
+-- the bounds of a store whose calls name so many hives
+abbrev pub bounds_for : ℕ → Bounds
+bounds_for hives = record { changes = MOST_HISTORY; hives = hives }
+
 -- the bounds of a store whose calls name each of its trees
 abbrev pub bounds_of : List TreeMap → Bounds
-bounds_of trees = record { changes = MOST_HISTORY; hives = length trees }
+bounds_of trees = bounds_for (length trees)
 
--- a store as it was opened on trees after the change of a number, its journal spelling changes: no change was accepted
--- since, and nobody is there
-abbrev pub opened_machine : List TreeMap → ℕ → List Element → ℕ → Machine
-opened_machine trees number journaled failures =
+-- a store as it was opened within bounds, on trees after the change of a number, its journal spelling changes: no change
+-- was accepted since, and nobody is there
+abbrev pub opened_machine : Bounds → List TreeMap → ℕ → List Element → ℕ → Machine
+opened_machine bounds trees number journaled failures =
     record {
       opened = trees;
       before = number;
@@ -71,12 +75,12 @@ opened_machine trees number journaled failures =
       room = room_with journaled;
       failures = failures;
       faulted = false;
-      bounds = bounds_of trees;
+      bounds = bounds;
     }
 
--- a store of new hives, whose journal is empty
-abbrev pub fresh_machine : ℕ → Machine
-fresh_machine hives = opened_machine (replicate hives fresh_tree) 0 [] 0
+-- a store of new hives, each of which calls may name within these bounds; its journal is empty
+abbrev pub fresh_machine : Bounds → Machine
+fresh_machine bounds = opened_machine bounds (replicate bounds.hives fresh_tree) 0 [] 0
 
 -- the trees after all accepted changes
 abbrev pub trees_now : Machine → List TreeMap

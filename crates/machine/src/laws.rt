@@ -15,6 +15,7 @@ ghost use Rattle.machine.specs.Transactions.{Transaction, own};
 ghost use Rattle.machine.specs.Machine.{Machine, committed, opened_machine, trees_now, found_in};
 ghost use Rattle.machine.specs.Steps.{Step, Run, is_step};
 ghost use Rattle.machine.specs.Kept.{IsKept, IsActiveAt, AreLegalButForWeight, AreLegalChanges, IsCounted, IsGone, Stays, Grows, handle_in, numbers_given};
+ghost use Rattle.machine.specs.declared.bounds.Bounds.{Bounds};
 ghost use Rattle.machine.specs.declared.handle.Tx.{Tx};
 ghost use Rattle.machine.specs.declared.event.Event.{Event};
 ghost use Rattle.machine.specs.declared.event.Event.TheVariants as event;
@@ -30,13 +31,14 @@ ghost use Rattle.machine.specs.declared.event.Reply.TheVariants as reply;
 /// transactions are within their limits, and the journal's room is at least that of the changes which are not durable
 /// yet. Each accepted change was legal where it was accepted, and each of its operations changed something.
 ///
-/// - `begins`: it is so as a store is opened on trees, whatever its journal spells.
+/// - `begins`: it is so as a store is opened on trees, whatever its bounds are and its journal spells.
 /// - `step`, `run`: each step keeps it, and so does every run.
 /// - `room`, `room_run`: the journal's room stays within its limit, where it was at the opening.
 pub fn states_are_kept()
-    ensures begins { (trees : List TreeMap) (number : ℕ) (journaled : List Element) (failures : ℕ) →
+    ensures begins { (bounds : Bounds) (trees : List TreeMap) (number : ℕ)
+        (journaled : List Element) (failures : ℕ) →
         AreTrees trees → number ≤ GREATEST_NUMBER →
-        IsKept (opened_machine trees number journaled failures) }
+        IsKept (opened_machine bounds trees number journaled failures) }
     ensures step { (old new : Machine) (event : Event) (reply : Reply) → IsKept old →
         Step old event reply new →
         IsKept new }

@@ -9,7 +9,8 @@ use Rattle.prefix_law.proofs.Lists.{take_nil}
 use Rattle.disk_model.specs.FileState.{FileState}
 use Rattle.disk_model.specs.Crash.{LeavesHonest}
 use Rattle.disk_model.specs.StoreFiles.{IsPrimary}
-use Rattle.machine.specs.Machine.{Machine, opened_machine}
+use Rattle.machine.specs.Machine.{Machine, bounds_of, opened_machine}
+use Rattle.machine.specs.declared.bounds.Bounds.{Bounds}
 use Rattle.engine_words.specs.Changes.{TimedOp}
 use Rattle.commit_journal.specs.Store.{Store, room_of}
 use Rattle.commit_journal.specs.Journals.{changes_of, choice_of, store_of}
@@ -28,8 +29,8 @@ use Rattle.recovery.specs.declared.found.Found.{Found}
 -- The laws that are used
 
 abbrev pub Begins : Type 0
-Begins = (trees : List TreeMap) (number failures base : ℕ) (opened : List Element) (journal : Choice (Spelled TimedOp)) (hives : List HiveView) → IsFound trees number base opened journal hives
-    → IsConsistent (record (opened_machine trees number [] failures) { room = 65 + room_of journal.now.elements }) base opened journal hives
+Begins = (bounds : Bounds) (trees : List TreeMap) (number failures base : ℕ) (opened : List Element) (journal : Choice (Spelled TimedOp)) (hives : List HiveView) → IsFound trees number base opened journal hives
+    → IsConsistent (record (opened_machine bounds trees number [] failures) { room = 65 + room_of journal.now.elements }) base opened journal hives
 
 abbrev pub Safe : Type 0
 Safe = (store : Store) (machine : Machine) (base : ℕ) (opened : List Element) (journal : Journal) (hives : List HiveFile) (states : ℕ → ℕ → FileState) (moment : ℕ) → IsConsistent machine base opened (choice_of journal) (map view_of hives)
@@ -39,7 +40,7 @@ Safe = (store : Store) (machine : Machine) (base : ℕ) (opened : List Element) 
 pub still_recovered : Begins → Safe → (found : Found) → IsKept found → (states : ℕ → ℕ → FileState) (moment : ℕ) → AreOnDisk found.journal found.hives.items (states moment)
     → (files : ℕ → List ℕ) → LeavesHonest IsPrimary (states moment) files → IsRecovered files (store_of found.journal) found.number found.trees
 still_recovered begins safe found kept states moment on files left =
-    let begun = begins found.trees found.number 0 found.base (changes_of found.journal) (choice_of found.journal) (map view_of found.hives.items) kept.recovers in
+    let begun = begins (bounds_of found.trees) found.trees found.number 0 found.base (changes_of found.journal) (choice_of found.journal) (map view_of found.hives.items) kept.recovers in
     let p = safe (store_of found.journal) _ found.base (changes_of found.journal) found.journal found.hives.items states moment begun refl kept.placed on files left in
     let long : length found.trees ≡ (store_of found.journal).hives = sym begun.all ∙ length-map found.hives.items view_of ∙ kept.many in
     let number : p.0 ≡ found.number = omega (arith, p.1, p.2) in

@@ -9,7 +9,7 @@ use Rattle.engine_law.specs.Openings.{held_by}
 use Rattle.engine_law.specs.Prefixes.{view_of}
 use Rattle.recovery.specs.Kept.{IsKept}
 use Rattle.recovery.specs.declared.found.Found.{Found}
-use Rattle.machine.specs.Machine.{Machine, opened_machine}
+use Rattle.machine.specs.Machine.{Machine, bounds_of, opened_machine}
 
 -- each change has a number from 1 on, so there is none where the last number is 0
 none_numbered : (hives : ℕ) (numbers : ℕ → ℕ) (below : ℕ) (es : List (law.Element TimedOp)) (n : ℕ) → IsLastNumber hives numbers below es n → n ≡ 0 → es ≡ []
@@ -24,7 +24,7 @@ none_at_0 found kept zero =
     ∙ none_numbered (length found.trees) (λ i. (held_by (map view_of found.hives.items) i).1) one.below (timed_elements (changes_of found.journal)) found.number one.recovers.last zero
 
 -- so its machine has the room of an empty journal
-pub is_at_0 : (machine : Machine) (found : Found) → machine ≡ record (opened_machine found.trees found.number [] 0) { room = 65 + room_of (choice_of found.journal).now.elements } → IsKept found → found.number ≡ 0 → machine ≡ opened_machine found.trees 0 [] 0
+pub is_at_0 : (machine : Machine) (found : Found) → machine ≡ record (opened_machine (bounds_of found.trees) found.trees found.number [] 0) { room = 65 + room_of (choice_of found.journal).now.elements } → IsKept found → found.number ≡ 0 → machine ≡ opened_machine (bounds_of found.trees) found.trees 0 [] 0
 is_at_0 machine found is kept zero =
-    is ∙ ap (λ es. record (opened_machine found.trees found.number [] 0) { room = 65 + room_of es }) (none_at_0 found kept zero)
-    ∙ ap (λ n. record (opened_machine found.trees n [] 0) { room = 65 }) zero
+    is ∙ ap (λ es. record (opened_machine (bounds_of found.trees) found.trees found.number [] 0) { room = 65 + room_of es }) (none_at_0 found kept zero)
+    ∙ ap (λ n. record (opened_machine (bounds_of found.trees) found.trees n [] 0) { room = 65 }) zero

@@ -13,7 +13,7 @@ use Rattle.reg_script.specs.declared.reply.ReplyLine.{ReplyLine}
 use Rattle.reg_script.specs.declared.status.Status.{Status}
 use Rattle.reg_script.specs.declared.status.Status.TheVariants.{Refused}
 use Rattle.commit_journal.specs.Store.{Store}
-use Rattle.machine.specs.Machine.{Machine, opened_machine}
+use Rattle.machine.specs.Machine.{Machine, bounds_of, opened_machine}
 use Rattle.machine.specs.Steps.{with_session}
 use Rattle.recovery.specs.Recovered.{IsNoStore, IsRecovered}
 use Rattle.regtx_parts.specs.Scripts.{Script, Answers, script_at}
@@ -26,7 +26,7 @@ use Rattle.regtx_parts.specs.declared.working.Pace.TheVariants.{FreesRoom}
 
 -- the machine of a store that was opened at a number and trees, with session 0 open
 abbrev pub BeginsAt : ℕ → List TreeMap → Machine → Type 0
-BeginsAt number trees machine = (room : ℕ) × (machine ≡ with_session (record (opened_machine trees number [] 0) { room = room }) 0)
+BeginsAt number trees machine = (room : ℕ) × (machine ≡ with_session (record (opened_machine (bounds_of trees) trees number [] 0) { room = room }) 0)
 
 -- A store was opened on these files: the machine begins at the number and the trees that they recover, where the device has
 -- answered as it should.

@@ -7,7 +7,7 @@ use Rattle.reg_script.specs.declared.line.Line.{Line}
 use Rattle.reg_script.specs.declared.line.Line.TheVariants.{Hives, At, Session, End, Plain, Begin, Inside, Commit, Rollback, Close, Outcome, Flush, Lab}
 use Rattle.reg_script.specs.declared.reply.ReplyLine.{ReplyLine}
 use Rattle.reg_script.specs.declared.reply.ReplyLine.TheVariants as reply
-use Rattle.machine.specs.Machine.{Machine, fresh_machine}
+use Rattle.machine.specs.Machine.{Machine, bounds_for, fresh_machine}
 use Rattle.machine.specs.Steps.{Step, with_session}
 use Rattle.machine.specs.declared.handle.Tx.{Tx}
 use Rattle.machine.specs.declared.handle.Outcome.{Outcome as Standing}
@@ -41,7 +41,7 @@ script_at machine = record { machine = machine; moment = 0; session = 0; labels 
 
 -- a script that has made its store, of so many new hives: session 0 is open
 abbrev pub fresh_script : ℕ → Script
-fresh_script hives = script_at (with_session (fresh_machine hives) 0)
+fresh_script hives = script_at (with_session (fresh_machine (bounds_for hives)) 0)
 
 -- what was read as a reply; no line asks for a subkey by its index
 abbrev pub found_reply : Found → ReplyLine

@@ -2,7 +2,7 @@
 ghost use Rattle.std.specs.Prelude.{◌≡◌, ◌≤◌, [], ℕ, Some, None, IfOk, IfSome, IfNone, OnOk, length};
 ghost use Rattle.refusals.specs.declared.limits.TheConstants.{MOST_HIVES, MOST_JOURNAL_BYTES};
 ghost use Rattle.disk_model.specs.Room.{IsRoomy};
-ghost use Rattle.machine.specs.Machine.{fresh_machine, opened_machine};
+ghost use Rattle.machine.specs.Machine.{bounds_for, bounds_of, fresh_machine, opened_machine};
 ghost use Rattle.machine.specs.Steps.{with_session};
 ghost use Rattle.commit_journal.specs.Store.{Store};
 ghost use Rattle.recovery.specs.Recovered.{IsRecovered, seen_in};
@@ -35,7 +35,7 @@ pub(crate) fn begin(alloc: Global, bytes: &[u8]) -> Result<Option<Engine<MemDisk
     ensures none { IfOk result (λ made. IfNone made (hives_asked bytes.now ≡ None)) }
     ensures some { IfOk result (λ made. IfSome made
         (λ engine. (hives : ℕ) × (hives_asked bytes.now ≡ Some hives)
-        × (engine.machine ≡ with_session (fresh_machine hives) 0))) }
+        × (engine.machine ≡ with_session (fresh_machine (bounds_for hives)) 0))) }
 {
     begin_on(alloc, bytes, Arc::new(alloc, Plan::new())?)
 }
@@ -52,7 +52,7 @@ pub fn begin_on(
     ensures none { IfOk result (λ made. IfNone made (hives_asked bytes.now ≡ None)) }
     ensures some { IfOk result (λ made. IfSome made
         (λ engine. (hives : ℕ) × (hives_asked bytes.now ≡ Some hives)
-        × (engine.machine ≡ with_session (fresh_machine hives) 0))) }
+        × (engine.machine ≡ with_session (fresh_machine (bounds_for hives)) 0))) }
 {
     reg_script::grammar::reads_what_is_spelled();
     match read_line(alloc, bytes) {
@@ -70,7 +70,7 @@ pub fn begin_on(
 fn store_in_session_0(alloc: Global, hives: u8, plan: Arc<Plan>) -> Result<Engine<MemDisk>, Refusal>
     requires some { 1 ≤ hives }
     requires few { hives ≤ MOST_HIVES }
-    ensures { IfOk result (λ engine. engine.machine ≡ with_session (fresh_machine hives) 0) }
+    ensures { IfOk result (λ engine. engine.machine ≡ with_session (fresh_machine (bounds_for hives)) 0) }
 {
     let mut engine = new_store(alloc, hives, plan)?;
     match ask(&mut engine, Event::StartSession { session: 0 }) {
@@ -83,7 +83,7 @@ fn store_in_session_0(alloc: Global, hives: u8, plan: Arc<Plan>) -> Result<Engin
 fn new_store(alloc: Global, hives: u8, plan: Arc<Plan>) -> Result<Engine<MemDisk>, Refusal>
     requires some { 1 ≤ hives }
     requires few { hives ≤ MOST_HIVES }
-    ensures { IfOk result (λ engine. engine.machine ≡ fresh_machine hives) }
+    ensures { IfOk result (λ engine. engine.machine ≡ fresh_machine (bounds_for hives)) }
 {
     one_is_recovered();
     let trees = Trees::new(alloc, usize::from(hives))?;
@@ -124,7 +124,7 @@ fn opened_on(alloc: Global, disk: MemDisk) -> Result<Opened<MemDisk>, Refusal>
 fn begun(alloc: Global, opened: Opened<MemDisk>) -> Result<Engine<MemDisk>, Refusal>
     requires { IsWhole opened }
     ensures { IfOk result (λ engine. opened.found.number ≡ 0 →
-        engine.machine ≡ opened_machine opened.found.trees 0 [] 0) }
+        engine.machine ≡ opened_machine (bounds_of opened.found.trees) opened.found.trees 0 [] 0) }
 {
     // in two parts it tells what it keeps
     let (disk, found) = opened.into_parts();

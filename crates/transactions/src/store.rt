@@ -4,7 +4,7 @@ ghost use Rattle.std.specs.List.{AllByRecursion, list_any};
 ghost use Rattle.refusals.specs.declared.refusal.Refusal.TheVariants.{NoMemory, NoSuchHandle};
 ghost use Rattle.machine.specs.declared.event.Reply.TheVariants as reply;
 ghost use Rattle.machine.specs.Steps.{Step, is_step};
-ghost use Rattle.machine.specs.Machine.{opened_machine, last_number, fault, trees_now, is_open, room_refusal, unnamed_refusal, tx_call_refusal};
+ghost use Rattle.machine.specs.Machine.{bounds_of, opened_machine, last_number, fault, trees_now, is_open, room_refusal, unnamed_refusal, tx_call_refusal};
 ghost use Rattle.machine.specs.Transactions.{own, inactive_refusal};
 ghost use Rattle.transactions.specs.Histories.{IsShort};
 ghost use Rattle.transactions.specs.Stores.{Answers, needs_device};
@@ -90,7 +90,7 @@ impl Store {
     /// A store that was opened on trees after the change of a number. Its journal has used so much room.
     pub fn new(alloc: Global, trees: Trees, number: u64, room: u64) -> Result<Store, AllocError>
         ensures machine { IfOk result (λ store. store.machine
-            ≡ record (opened_machine trees number [] 0) { room = room }) }
+            ≡ record (opened_machine (bounds_of trees) trees number [] 0) { room = room }) }
         ensures at_hand { IfOk result (λ store. store.at_hand ≡ number) }
     {
         let bounds = Bounds::of(&trees);
@@ -106,7 +106,7 @@ impl Store {
         room: u64,
     ) -> Result<Store, AllocError>
         ensures machine { IfOk result (λ store. store.machine
-            ≡ record (opened_machine trees number [] 0) { room = room; bounds = bounds }) }
+            ≡ record (opened_machine bounds trees number [] 0) { room = room }) }
         ensures at_hand { IfOk result (λ store. store.at_hand ≡ number) }
     {
         Ok(Store {

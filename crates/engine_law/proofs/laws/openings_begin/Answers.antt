@@ -2,4 +2,4 @@ use Rattle.engine_law.proofs.Beginning.{begins_told}
 use Rattle.engine_law.proofs.laws.openings_begin.Goals as goal
 
 pub returns : goal.returns
-returns c = λ trees number failures base opened journal hives found. begins_told trees number failures base opened journal hives found c.states_are_kept.ensures.begins
+returns c = λ bounds trees number failures base opened journal hives found. begins_told bounds trees number failures base opened journal hives found c.states_are_kept.ensures.begins

@@ -2,7 +2,7 @@ use Rattle.std.proofs.Common.{◌∙◌, ◌≡◌, ℕ, List, Some, None, ap, s
 use Rattle.std.specs.Prelude.{IfSome, IfNone}
 use Rattle.std.specs.Io.KnownBytes.{Appends}
 use Rattle.regtx_parts.specs.Scripts.{hives_asked, script_at}
-use Rattle.machine.specs.Machine.{fresh_machine}
+use Rattle.machine.specs.Machine.{bounds_for, fresh_machine}
 use Rattle.machine.specs.Steps.{with_session}
 use Rattle.regtx_parts.specs.Players.{script_of}
 use Rattle.regtx_parts.specs.Plays.{Ends, IsPlayed, IsPlayedOn, wrong_text}
@@ -19,7 +19,7 @@ returns-in-Ok-Some g c =
     let before = g.W.Write.contents c.args.writer.now in
     let mid = g.W.Write.contents c.write.new.writer in
     let after = g.W.Write.contents c.go_on.new.writer in
-    let some = subst (λ made. IfSome made (λ engine. (hives : ℕ) × (hives_asked c.deref.result.now ≡ Some hives) × (engine.machine ≡ with_session (fresh_machine hives) 0))) c.in-Ok-Some.field-0-is c.in-Ok-Some.ensures.some in
+    let some = subst (λ made. IfSome made (λ engine. (hives : ℕ) × (hives_asked c.deref.result.now ≡ Some hives) × (engine.machine ≡ with_session (fresh_machine (bounds_for hives)) 0))) c.in-Ok-Some.field-0-is c.in-Ok-Some.ensures.some in
     let old = script_of c.new-player.result in
     let end = script_of c.go_on.new.player in
     if_ok (λ status. IsPlayedOn AsAsked old 2 rest mid after status end) (IsPlayed known before after) c.go_on.result

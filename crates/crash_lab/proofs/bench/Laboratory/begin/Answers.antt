@@ -1,5 +1,5 @@
 use Rattle.std.proofs.Common.{◌≡◌, ◌∙◌, ℕ, Some, IfSome, ap, sym, subst}
-use Rattle.machine.specs.Machine.{fresh_machine}
+use Rattle.machine.specs.Machine.{bounds_for, fresh_machine}
 use Rattle.machine.specs.Steps.{with_session}
 use Rattle.engine.specs.Lives.{IsSafe}
 use Rattle.regtx_parts.specs.Scripts.{hives_asked, script_at}
@@ -8,7 +8,7 @@ use Rattle.crash_lab.proofs.bench.Laboratory.begin.Goals as goal
 
 pub returns-in-Some-clause-some : goal.returns-in-Some-clause-some
 returns-in-Some-clause-some c =
-    let made = subst (λ made. IfSome made (λ engine. (hives : ℕ) × (hives_asked c.args.bytes.now ≡ Some hives) × (engine.machine ≡ with_session (fresh_machine hives) 0))) c.in-Some.is c.in_ok-engine.ensures.some in (
+    let made = subst (λ made. IfSome made (λ engine. (hives : ℕ) × (hives_asked c.args.bytes.now ≡ Some hives) × (engine.machine ≡ with_session (fresh_machine (bounds_for hives)) 0))) c.in-Some.is c.in_ok-engine.ensures.some in (
       made.0,
       made.1,
       record {

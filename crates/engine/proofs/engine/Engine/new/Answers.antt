@@ -1,7 +1,7 @@
 use Rattle.std.proofs.Common.{◌≡◌, ◌∙◌, sym, ap, subst, map, arith, List}
 use Rattle.reg_tree.specs.declared.element.Element.{Element}
 use Rattle.commit_journal.specs.Journals.{changes_of, choice_of}
-use Rattle.machine.specs.Machine.{Machine}
+use Rattle.machine.specs.Machine.{Machine, bounds_of}
 use Rattle.engine_law.specs.States.{IsConsistent}
 use Rattle.engine_law.specs.Prefixes.{view_of}
 use Rattle.recovery.specs.Kept.{AreWhole}
@@ -19,7 +19,7 @@ invariant_of-result g c =
     let e = c.into_parts-disk.ensures in
     let told = c.in-Ok.ensures.machine in
     let all = changes_of f.journal in
-    let kept = subst (λ (m : Machine). IsConsistent m f.base all (choice_of f.journal) (map view_of f.hives.items)) (sym told) (c.openings_begin.ensures f.trees f.number 0 f.base all (choice_of f.journal) (map view_of f.hives.items) e.kept.recovers) in
+    let kept = subst (λ (m : Machine). IsConsistent m f.base all (choice_of f.journal) (map view_of f.hives.items)) (sym told) (c.openings_begin.ensures (bounds_of f.trees) f.trees f.number 0 f.base all (choice_of f.journal) (map view_of f.hives.items) e.kept.recovers) in
     let spelled : changes_of c.of-spelled.result.value ≡ all = ap changes_of c.of-spelled.ensures in
     let store = c.in-Ok.store in
     let durable : store.machine.durable ≡ store.machine.before = ap (λ (m : Machine). m.durable) told ∙ sym (ap (λ (m : Machine). m.before) told) in
