@@ -95,7 +95,7 @@ module _ (one : OneRecovered) (store : Store) (is : IsStore store) where
       go_on m next lives many (λ files left. safe files (before state end seen kept files (next_left end next on files left))) (next_seen end next on) rest
   go_on m state (Opened number trees last end ∷ lives) many safe seen ((found, come, left), (next, on, rest)) = (
     opens_from m state number trees many safe seen found,
-    go_on last next lives (ap length (run_stays (record (opened_machine (bounds_of trees) trees number [] 0) { room = come.room }) last come.events come.replies come.run) ∙ found.many)
+    go_on last next lives (run_stays (record (opened_machine (bounds_of trees) trees number [] 0) { room = come.room }) last come.events come.replies come.run ∙ found.many)
         (λ files there. left files (next_left end next on files there)) (next_seen end next on) rest,
   )
 
