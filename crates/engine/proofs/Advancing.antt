@@ -1,5 +1,5 @@
 -- How far steps bring an engine: what waits comes nearer, and a trim that is begun is ended.
-use Rattle.std.proofs.Common.{◌≡◌, ◌⊎◌, inl, inr, ℕ, ◌+◌, ◌<◌, ◌≤◌, false, List, length, map, refl, sym, ◌∙◌, ap, subst, arith, Some, None, Result, Ok, Err, option_map, slice_get}
+use Rattle.std.proofs.Common.{◌≡◌, ◌⊎◌, inl, inr, ℕ, ◌+◌, ◌<◌, ◌≤◌, true, false, List, length, map, refl, sym, ◌∙◌, ap, subst, arith, Some, None, Result, Ok, Err, option_map, slice_get}
 use Rattle.std.specs.Prelude.{◌*◌, OnOk, slice_set}
 use Rattle.std.proofs.lemmas.Option.{none-some, same_Some, slice_get-map}
 use Rattle.std.proofs.lemmas.Bool.{true≢false}
@@ -10,7 +10,7 @@ use Rattle.prefix_law.specs.Promises.{Choice, Spelled, nothing, settled, top, un
 use Rattle.prefix_law.specs.Memory.{IsOfMemory}
 use Rattle.reg_tree.specs.Maps.{TreeMap}
 use Rattle.machine.specs.Machine.{Machine, last_number}
-use Rattle.machine.specs.Steps.{EndsTrim, is_step}
+use Rattle.machine.specs.Steps.{EndsTrim, is_calm}
 use Rattle.machine.specs.declared.event.Event.{Event}
 use Rattle.machine.specs.declared.event.Event.TheVariants as event
 use Rattle.machine.specs.declared.event.Progress.TheVariants as stepped
@@ -68,12 +68,12 @@ refused_comes_on e come why old new is = record {
   flushes = λ _ _ _ _ made _ _ _. absurd (not_made (reply_to come) why (ap reply_to is) made);
 }
 
-pub calm_comes_on : {D : Type 0} (e : Event) (answer : Reply) (old new : Parts D) → is_step e ≡ false → ComesOn e answer old new
+pub calm_comes_on : {D : Type 0} (e : Event) (answer : Reply) (old new : Parts D) → is_calm e ≡ true → ComesOn e answer old new
 calm_comes_on e answer old new calm = record {
-  nears = λ is _ _. absurd (true≢false (sym (ap is_step is) ∙ calm));
-  begins_trim = λ is _ _ _. absurd (true≢false (sym (ap is_step is) ∙ calm));
-  ends_trim = λ is _ _. absurd (elim (is) [ inl j ↦ true≢false (sym (ap is_step j) ∙ calm) | inr t ↦ true≢false (sym (ap is_step t) ∙ calm) ]);
-  flushes = λ i was then is _ _ _ _. absurd (true≢false (sym (ap is_step is) ∙ calm));
+  nears = λ is _ _. absurd (true≢false (sym calm ∙ ap is_calm is));
+  begins_trim = λ is _ _ _. absurd (true≢false (sym calm ∙ ap is_calm is));
+  ends_trim = λ is _ _. absurd (elim (is) [ inl j ↦ true≢false (sym calm ∙ ap is_calm j) | inr t ↦ true≢false (sym calm ∙ ap is_calm t) ]);
+  flushes = λ i was then is _ _ _ _. absurd (true≢false (sym calm ∙ ap is_calm is));
 }
 
 -- What a journal's phase says

@@ -1,10 +1,10 @@
 -- An engine's parts stay sound where the store in memory alone goes on.
-use Rattle.std.proofs.Common.{◌≡◌, ◌⊎◌, ℕ, true, false, List, map, refl, sym, ap, subst, arith}
+use Rattle.std.proofs.Common.{◌≡◌, ◌⊎◌, ℕ, true, List, map, refl, sym, ap, subst, arith}
 use Rattle.reg_tree.specs.declared.element.Element.{Element}
 use Rattle.prefix_law.specs.Promises.{Choice, Spelled}
 use Rattle.machine.specs.Machine.{Machine}
 use Rattle.machine.specs.Kept.{IsKept, Stays, Grows}
-use Rattle.machine.specs.Steps.{Step, is_step}
+use Rattle.machine.specs.Steps.{Step, is_calm}
 use Rattle.machine.specs.declared.event.Event.{Event}
 use Rattle.machine.specs.declared.event.Event.TheVariants as event
 use Rattle.machine.specs.declared.event.Reply.{Reply}
@@ -24,13 +24,13 @@ use Rattle.engine.proofs.Sound.{calm_sound, told_sound}
 -- The laws that are used
 
 abbrev pub EventsKeep : Type 0
-EventsKeep = (old new : Machine) (base : ℕ) (opened : List Element) (journal : Choice (Spelled TimedOp)) (hives : List HiveView) (event : Event) (reply : Reply) → IsConsistent old base opened journal hives → is_step event ≡ false → Step old event reply new → IsConsistent new base opened journal hives
+EventsKeep = (old new : Machine) (base : ℕ) (opened : List Element) (journal : Choice (Spelled TimedOp)) (hives : List HiveView) (event : Event) (reply : Reply) → IsConsistent old base opened journal hives → is_calm event ≡ true → Step old event reply new → IsConsistent new base opened journal hives
 
 abbrev pub Settle : Type 0
-Settle = (old new : Machine) (event : Event) (reply : Reply) → IsKept old → is_step event ≡ false → Step old event reply new → Stays old new ⊎ Grows old new
+Settle = (old new : Machine) (event : Event) (reply : Reply) → IsKept old → is_calm event ≡ true → Step old event reply new → Stays old new ⊎ Grows old new
 
--- an event that makes no step
-pub calm_keeps : {D : Type 0} → EventsKeep → Settle → (s : Parts D) (t : StoreView) (e : Event) (r : Reply) → IsSound s → is_step e ≡ false → Step s.store.machine e r t.machine → t.at_hand ≡ s.store.at_hand → IsSound (record s { store = t })
+-- a calm event
+pub calm_keeps : {D : Type 0} → EventsKeep → Settle → (s : Parts D) (t : StoreView) (e : Event) (r : Reply) → IsSound s → is_calm e ≡ true → Step s.store.machine e r t.machine → t.at_hand ≡ s.store.at_hand → IsSound (record s { store = t })
 calm_keeps keep settle s t e r sound calm step hand =
     let kept = sound.holds.kept in
     let how = settle s.store.machine t.machine e r kept.kept calm step in
@@ -50,8 +50,8 @@ told_keeps s t sound same hand = record {
   at_hand = hand_steps s.store t s.base (changes_of s.spelled.value) s.opened.items s.hives.items (ap (λ (m : Machine). m.before) same) (ap (λ (m : Machine). m.accepted) same) (omega (arith, ap (λ (m : Machine). m.durable) same)) hand sound.at_hand;
 }
 
--- an event that may accept a change makes no step
-pub accepting_is_calm : (e : Event) → may_accept e ≡ true → is_step e ≡ false
+-- an event that may accept a change is calm
+pub accepting_is_calm : (e : Event) → may_accept e ≡ true → is_calm e ≡ true
 accepting_is_calm event.JournalStep accepts = absurd cc
 accepting_is_calm (event.FlusherStep hive) accepts = absurd cc
 accepting_is_calm event.TrimStep accepts = absurd cc

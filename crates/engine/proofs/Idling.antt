@@ -1,5 +1,5 @@
 -- Where a step has nothing to do.
-use Rattle.std.proofs.Common.{◌≡◌, ◌↔◌, inl, inr, ℕ, ◌-◌, ◌<◌, ◌≤◌, false, List, [], ◌∷◌, length, map, drop, refl, sym, ◌∙◌, ap, subst, arith, Some, None, Result, Ok, Err, slice_get}
+use Rattle.std.proofs.Common.{◌≡◌, ◌↔◌, inl, inr, ℕ, ◌-◌, ◌<◌, ◌≤◌, true, List, [], ◌∷◌, length, map, drop, refl, sym, ◌∙◌, ap, subst, arith, Some, None, Result, Ok, Err, slice_get}
 use Rattle.std.proofs.lemmas.Option.{none-some, same_Some}
 use Rattle.std.proofs.lemmas.List.{length-drop, length-map}
 use Rattle.refusals.specs.declared.refusal.Refusal.{Refusal}
@@ -7,7 +7,7 @@ use Rattle.reg_tree.specs.declared.element.Element.{Element}
 use Rattle.prefix_law.specs.Promises.{Choice, Spelled, nothing, top, JournalSays, TrimSays}
 use Rattle.prefix_law.proofs.ClausesSuffice.{last_naming}
 use Rattle.machine.specs.Machine.{Machine}
-use Rattle.machine.specs.Steps.{is_step}
+use Rattle.machine.specs.Steps.{is_calm}
 use Rattle.machine.specs.Kept.{IsKept}
 use Rattle.machine.specs.declared.event.Event.{Event}
 use Rattle.machine.specs.declared.event.Event.TheVariants as event
@@ -46,7 +46,7 @@ told_idle (Err why) = (λ e. absurd cc, λ e. absurd cc)
 pub replied_idle : {X : Type 0} (come : Result Progress Refusal) (answer : Reply) → answer ≡ reply_to come → (come ≡ Ok progress.Idle) ↔ X → (answer ≡ Stepped stepped.Idle) ↔ X
 replied_idle come answer is exact = (λ e. exact.0 ((told_idle come).0 (sym is ∙ e)), λ x. is ∙ (told_idle come).1 (exact.1 x))
 
-pub calm_idles : (e : Event) (answer : Reply) (m : Machine) (base : ℕ) (opened : List Element) (journal : Choice (Spelled TimedOp)) (hives : List HiveView) → is_step e ≡ false → IdlesExactly e answer m base opened journal hives
+pub calm_idles : (e : Event) (answer : Reply) (m : Machine) (base : ℕ) (opened : List Element) (journal : Choice (Spelled TimedOp)) (hives : List HiveView) → is_calm e ≡ true → IdlesExactly e answer m base opened journal hives
 calm_idles (event.StartSession session) answer m base opened journal hives q = tt
 calm_idles (event.EndSession session) answer m base opened journal hives q = tt
 calm_idles (event.Read session hive path question) answer m base opened journal hives q = tt

@@ -3,7 +3,7 @@ ghost use Rattle.std.specs.Prelude.{◌≡◌, ◌↔◌, ◌-◌, ◌<◌, ◌�
 ghost use Rattle.refusals.specs.declared.refusal.Refusal.TheVariants.{Faulted, NoMemory};
 ghost use Rattle.prefix_law.specs.Promises.{top};
 ghost use Rattle.machine.specs.Machine.{last_number, pending};
-ghost use Rattle.machine.specs.Steps.{Step, is_step};
+ghost use Rattle.machine.specs.Steps.{Step, is_calm};
 ghost use Rattle.machine.specs.declared.event.Reply.TheVariants as reply;
 ghost use Rattle.transactions.specs.Prepared.{Foretells, IsPrepared, Shows, may_accept, will_show};
 ghost use Rattle.commit_journal.specs.Journals.{changes_of, choice_of};
@@ -49,9 +49,9 @@ impl<D: Disk> Parts<D> {
         }
     }
 
-    // an event that makes no step
+    // a calm event, which makes no step
     fn calm_event(&mut self, event: Event) -> Reply
-        requires calm { is_step event ≡ false }
+        requires calm { is_calm event ≡ true }
         requires sound { IsSound self.old }
         ensures goes_on { GoesOn D.state_at D.clock D.failures D.faithful
             event result self.old self.new }

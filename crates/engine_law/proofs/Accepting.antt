@@ -1,5 +1,5 @@
 -- An event that makes no step keeps what the engine keeps.
-use Rattle.std.proofs.Common.{◌≡◌, ◌⊎◌, inl, inr, ℕ, ◌+◌, ◌-◌, ◌<◌, ◌≤◌, false, List, [], ◌∷◌, ◌++◌, length, map, take, drop, refl, sym, ◌∙◌, ap, subst, arith, Some, slice_get}
+use Rattle.std.proofs.Common.{◌≡◌, ◌⊎◌, inl, inr, ℕ, ◌+◌, ◌-◌, ◌<◌, ◌≤◌, true, List, [], ◌∷◌, ◌++◌, length, map, take, drop, refl, sym, ◌∙◌, ap, subst, arith, Some, slice_get}
 use Rattle.std.proofs.lemmas.List.{map-append, length-append, drop-append-le}
 use Rattle.refusals.specs.declared.limits.TheConstants.{GREATEST_NUMBER, MOST_JOURNAL_BYTES}
 use Rattle.reg_tree.specs.Maps.{TreeMap}
@@ -12,7 +12,7 @@ use Rattle.prefix_law.specs.Kept as law
 use Rattle.prefix_law.proofs.HiveByHive.{legal_at}
 use Rattle.prefix_law.proofs.KeepSteps.{moved, step_accept}
 use Rattle.machine.specs.Machine.{Machine, trees_now, last_number, pending}
-use Rattle.machine.specs.Steps.{Step, is_step}
+use Rattle.machine.specs.Steps.{Step, is_calm}
 use Rattle.machine.specs.Kept.{IsKept, AreLegalChanges, Stays, Grows}
 use Rattle.machine.specs.declared.event.Event.{Event}
 use Rattle.machine.specs.declared.event.Reply.{Reply}
@@ -28,7 +28,7 @@ abbrev pub Keeps : Type 0
 Keeps = (old new : Machine) (event : Event) (reply : Reply) → IsKept old → Step old event reply new → IsKept new
 
 abbrev pub Settle : Type 0
-Settle = (old new : Machine) (event : Event) (reply : Reply) → IsKept old → is_step event ≡ false → Step old event reply new → Stays old new ⊎ Grows old new
+Settle = (old new : Machine) (event : Event) (reply : Reply) → IsKept old → is_calm event ≡ true → Step old event reply new → Stays old new ⊎ Grows old new
 
 life_is : (base : ℕ) (opened : List Element) (old new : Machine) → new.opened ≡ old.opened → new.accepted ≡ old.accepted → life_of new base opened ≡ life_of old base opened
 life_is base opened old new a b =
@@ -115,7 +115,7 @@ module _ (base : ℕ) (opened : List Element) (journal : Choice (Spelled TimedOp
   fits_on old new (inl s) fit some = let was = fit (omega (arith, some, ap (λ (es : List Element). length es) (pending_same old new s))) in omega (arith, was, s.room)
   fits_on old new (inr g) fit some = g.fits
 
-  pub calm_keeps : Settle → Keeps → (old new : Machine) → IsConsistent old base opened journal hives → (e : Event) (r : Reply) → is_step e ≡ false → Step old e r new → IsConsistent new base opened journal hives
+  pub calm_keeps : Settle → Keeps → (old new : Machine) → IsConsistent old base opened journal hives → (e : Event) (r : Reply) → is_calm e ≡ true → Step old e r new → IsConsistent new base opened journal hives
   calm_keeps settle keeps old new i e r quiet step =
       let c = settle old new e r i.kept quiet step in
       let known = i.kept.within.known in

@@ -1,5 +1,5 @@
 //! The laws, each the contract of a function that does nothing.
-ghost use Rattle.std.specs.Prelude.{◌≡◌, ◌⊎◌, ℕ, ◌+◌, ◌*◌, ◌<◌, ◌≤◌, ◌++◌, ◌∷◌, [], false, List, length, map, slice_get, slice_set, Some, None, Result, Ok, Err};
+ghost use Rattle.std.specs.Prelude.{◌≡◌, ◌⊎◌, ℕ, ◌+◌, ◌*◌, ◌<◌, ◌≤◌, ◌++◌, ◌∷◌, [], true, false, List, length, map, slice_get, slice_set, Some, None, Result, Ok, Err};
 ghost use Rattle.reg_tree.specs.Maps.{TreeMap};
 ghost use Rattle.reg_tree.specs.declared.element.Element.{Element};
 ghost use Rattle.prefix_law.specs.Changes.{ops_on};
@@ -11,7 +11,7 @@ ghost use Rattle.engine_words.specs.Steps.{Says};
 ghost use Rattle.engine_words.specs.declared.Progress.{Progress};
 ghost use Rattle.engine_words.specs.declared.Progress.TheVariants as progress;
 ghost use Rattle.machine.specs.Machine.{Machine, last_number, opened_machine, pending, trees_now};
-ghost use Rattle.machine.specs.Steps.{EndsTrim, Step, Run, is_step};
+ghost use Rattle.machine.specs.Steps.{EndsTrim, Step, Run, is_calm};
 ghost use Rattle.machine.specs.Kept.{IsKept};
 ghost use Rattle.machine.specs.declared.bounds.Bounds.{Bounds};
 ghost use Rattle.machine.specs.declared.event.Event.{Event};
@@ -51,12 +51,12 @@ pub fn openings_begin()
     machine::laws::states_are_kept();
 }
 
-/// An event that makes no step keeps all.
+/// A calm event, which makes no step, keeps all.
 pub fn events_keep()
     ensures { (old new : Machine) (base : ℕ) (opened : List Element)
         (journal : Choice (Spelled TimedOp)) (hives : List HiveView)
         (event : Event) (reply : Reply) → IsConsistent old base opened journal hives →
-        is_step event ≡ false → Step old event reply new →
+        is_calm event ≡ true → Step old event reply new →
         IsConsistent new base opened journal hives }
 {
     machine::laws::states_are_kept();

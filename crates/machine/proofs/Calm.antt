@@ -8,7 +8,7 @@ use Rattle.reg_tree.specs.declared.element.Element.{Element}
 use Rattle.reg_tree.specs.declared.op.Op.{Op}
 use Rattle.machine.specs.Machine.{Machine, trees_now, is_open, change, committed, commit_change, first_of, refused_if, refusal_by, room_of, room_refusal, commit_refusal, commit_refusal_if, fault, call_refusal}
 use Rattle.machine.specs.Transactions.{Transaction, inactive_refusal}
-use Rattle.machine.specs.Steps.{Step, Accepts, Commits, with_session, is_step}
+use Rattle.machine.specs.Steps.{Step, Accepts, Commits, with_session, is_calm}
 use Rattle.machine.specs.Kept.{IsKept, IsActiveAt, AreLegalChanges, Stays, Grows}
 use Rattle.machine.specs.declared.handle.Tx.{Tx}
 use Rattle.machine.specs.declared.event.Event.{Event}
@@ -97,7 +97,7 @@ module _ (within : Within) (old new : Machine) (k : IsKept old) where
   abbrev Left : Reply → Type 0
   Left r = Calm old new
 
-  pub calm : (e : Event) (r : Reply) → is_step e ≡ false → Step old e r new → Stays old new ⊎ Grows old new
+  pub calm : (e : Event) (r : Reply) → is_calm e ≡ true → Step old e r new → Stays old new ⊎ Grows old new
   calm (event.StartSession session) r q s = done_or Left _ _ r s (λ d. session_opened old new session d.1) (λ e f. same old new f.1)
   calm (event.EndSession session) r q s = done_or Left _ _ r s (λ d. aside old new _ new.places old.begun d.next) (λ e f. same old new f.1)
   calm (event.Read session hive path question) r q s = read_or Left _ _ r s (λ v d. same old new d.next) (λ e f. same old new f.1)

@@ -146,6 +146,10 @@ is_step (event.FlusherStep hive) = true
 is_step event.TrimStep = true
 is_step _ = false
 
+-- the events that leave what the journal and the device have to do with, but for one change more: those that make no step
+abbrev pub is_calm : Event → Bool
+is_calm event = not (is_step event)
+
 -- From old, the machine may give this answer to the event and go on to new.
 abbrev pub Step : Machine → Event → Reply → Machine → Type 0
 -- sessions open and end

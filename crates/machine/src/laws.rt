@@ -13,7 +13,7 @@ ghost use Rattle.reg_tree.specs.Judgement.{any_outweighs};
 ghost use Rattle.reg_tree.specs.Sequences.{AreTrees, AreLegal};
 ghost use Rattle.machine.specs.Transactions.{Transaction, own};
 ghost use Rattle.machine.specs.Machine.{Machine, committed, opened_machine, trees_now, found_in};
-ghost use Rattle.machine.specs.Steps.{Step, Run, is_step};
+ghost use Rattle.machine.specs.Steps.{Step, Run, is_calm, is_step};
 ghost use Rattle.machine.specs.Kept.{IsKept, IsActiveAt, AreLegalButForWeight, AreLegalChanges, IsCounted, IsGone, Stays, Grows, handle_in, numbers_given};
 ghost use Rattle.machine.specs.declared.bounds.Bounds.{Bounds};
 ghost use Rattle.machine.specs.declared.handle.Tx.{Tx};
@@ -64,11 +64,11 @@ pub fn steps_alone_fail()
         is_step event ≡ true }
 {}
 
-/// Only a step may change what is durable, free room, or fault a store: every other event leaves all of that, and accepts one
-/// change at most.
+/// Only a step may change what is durable, free room, or fault a store: every other event is calm, leaves all of that, and
+/// accepts one change at most.
 pub fn steps_alone_settle()
     ensures { (old new : Machine) (event : Event) (reply : Reply) → IsKept old →
-        is_step event ≡ false → Step old event reply new → Stays old new ⊎ Grows old new }
+        is_calm event ≡ true → Step old event reply new → Stays old new ⊎ Grows old new }
 {
     commits_stay_legal();
 }

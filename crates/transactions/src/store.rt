@@ -3,7 +3,7 @@ ghost use Rattle.std.specs.Prelude.{◌≡◌, ◌<◌, ◌≤◌, ◌+◌, ◌-
 ghost use Rattle.std.specs.List.{AllByRecursion, list_any};
 ghost use Rattle.refusals.specs.declared.refusal.Refusal.TheVariants.{NoMemory, NoSuchHandle};
 ghost use Rattle.machine.specs.declared.event.Reply.TheVariants as reply;
-ghost use Rattle.machine.specs.Steps.{Step, is_step};
+ghost use Rattle.machine.specs.Steps.{Step, is_calm};
 ghost use Rattle.machine.specs.Machine.{bounds_of, opened_machine, last_number, fault, trees_now, is_open, room_refusal, unnamed_refusal, tx_call_refusal};
 ghost use Rattle.machine.specs.Transactions.{own, inactive_refusal};
 ghost use Rattle.transactions.specs.Histories.{IsShort};
@@ -123,9 +123,9 @@ impl Store {
         })
     }
 
-    /// Answers an event that makes no step.
+    /// Answers a calm event, which makes no step.
     pub fn event(&mut self, event: Event) -> Reply
-        requires calm { is_step event ≡ false }
+        requires calm { is_calm event ≡ true }
         ensures step { Step self.old.machine event result self.new.machine }
         ensures at_hand { self.new.at_hand ≡ self.old.at_hand }
     {
@@ -313,7 +313,7 @@ impl Store {
     }
 
     fn answer(&mut self, event: Event) -> Result<Reply, Refusal>
-        requires calm { is_step event ≡ false }
+        requires calm { is_calm event ≡ true }
         requires free { needs_device event ≡ true → fault self.old.machine ≡ None }
         ensures step { Answers self.old.machine event result self.new.machine }
         ensures at_hand { self.new.at_hand ≡ self.old.at_hand }

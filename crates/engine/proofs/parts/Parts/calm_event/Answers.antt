@@ -1,4 +1,4 @@
-use Rattle.std.proofs.Common.{map, ◌∙◌, sym, subst, refl, arith}
+use Rattle.std.proofs.Common.{map, ◌∙◌, ap, not, sym, subst, refl, arith}
 use Rattle.std.proofs.lemmas.Bool.{true≢false}
 use Rattle.machine.specs.Steps.{Step}
 use Rattle.commit_journal.specs.Journals.{changes_of, choice_of}
@@ -21,7 +21,7 @@ returns-clause-goes_on g c =
       store = refl;
       call = record { later = omega arith; one = omega arith; past = λ k f le. refl; others = λ f none. refl };
       quiet = λ q. refl;
-      failed = λ told. absurd (true≢false (sym (c.steps_alone_fail.ensures m n c.args.event (subst (λ r. Step m c.args.event r n) told step)) ∙ c.requires.calm));
+      failed = λ told. absurd (true≢false (sym c.requires.calm ∙ ap not (c.steps_alone_fail.ensures m n c.args.event (subst (λ r. Step m c.args.event r n) told step))));
       faithful = λ f. f;
       life = (refl, refl);
       journal_stays = λ nj nt. refl;
