@@ -48,15 +48,6 @@ impl FreeBounds {
         Ok(FreeBounds { pages, groups })
     }
 
-    /// The same bounds.
-    pub(crate) fn try_clone(&self) -> Result<FreeBounds, AllocError>
-        ensures { IfOk result (λ copy. copy ≡ self.now) }
-    {
-        let pages = self.pages.clone()?;
-        let groups = self.groups.clone()?;
-        Ok(FreeBounds { pages, groups })
-    }
-
     /// Sees that the bound of its page holds of a cell of a size at an offset.
     pub(crate) fn note(&mut self, at: usize, size: usize)
         requires page { at / 4096 < length self.old }

@@ -16,7 +16,7 @@ use crate::looks::Looks;
 use crate::tiling::{MARKED_BYTES, index_of};
 use refusals::limits::MOST_BINS_BYTES;
 use refusals::{Cause, Refusal};
-use std::alloc::{AllocError, Global};
+use std::alloc::Global;
 use std::marker::Model;
 
 // the bytes of a cell's size, which stand before its data
@@ -90,21 +90,6 @@ impl Image {
             }),
             Err(refusal) => Err(Unopened { refusal, bytes }),
         }
-    }
-
-    /// An image of the same bytes, of which none are spare.
-    pub fn try_clone(&self) -> Result<Image, AllocError>
-        ensures { IfOk result (λ copy. copy ≡ record { bytes = self.now.bytes; spare = 0 }) }
-    {
-        let bytes = self.bytes.clone()?;
-        let starts = self.starts.clone()?;
-        let free = self.free.try_clone()?;
-        Ok(Image {
-            bytes,
-            starts,
-            free,
-            spare: 0,
-        })
     }
 
     /// The law of every image: bins and cells tile it, each byte lies in the header of one bin or in one cell, and in

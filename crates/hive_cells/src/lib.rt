@@ -8,9 +8,9 @@
 //! its free neighbours. Both leave every other allocated cell and its data as they were, and say which bytes they
 //! wrote, so that a caller knows which pages changed; [`Image::write`] writes into one cell's data. Each
 //! leaves data that bins and cells tile. A refused call changes nothing. [`Image::reserve`] takes memory ahead, so that
-//! what is allocated within it can't be refused for want of it; [`Image::try_clone`] copies an image, and
-//! [`Image::bytes`] lends all bytes to whoever writes them to a file. Offsets are counted from the start of the hive
-//! bins data.
+//! what is allocated within it can't be refused for want of it; [`Image::bytes`] lends all bytes to whoever
+//! writes them to a file, by `&mut self`: of the calls that take `&self`, `cell` alone gives bytes of a cell. Offsets are
+//! counted from the start of the hive bins data.
 //!
 //! Not promised: which free cell is taken, and how long a call takes. A look, a write and a free go over no cells;
 //! a free goes back over the bits of the one before, 512 bytes of data a word. A search for a free cell goes over

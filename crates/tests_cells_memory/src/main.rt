@@ -109,20 +109,12 @@ fn reopened(alloc: Global) -> Result<Outcome, Refusal> {
     }
 }
 
-// a copy, and memory for two bins; where either is refused, no byte changes. What is reserved is there for cells.
+// memory for two bins; where it is refused, no byte changes. What is reserved is there for cells.
 fn reserved(alloc: Global) -> Result<Outcome, Refusal> {
     let mut image = opened(alloc)?;
-    let copied = match image.try_clone() {
-        Ok(copy) => Outcome::right_if(is_one_bin(copy)),
-        Err(_) => Outcome::Refused,
-    };
     match image.reserve(2 * BIN) {
-        Ok(()) => Ok(copied.and(Outcome::right_if(image.alloc(5000).ok() == Some(4128)))),
-        Err(refusal) => Ok(
-            copied
-                .and(Outcome::of_refusal(refusal))
-                .and(Outcome::right_if(is_one_bin(image))),
-        ),
+        Ok(()) => Ok(Outcome::right_if(image.alloc(5000).ok() == Some(4128))),
+        Err(refusal) => Ok(Outcome::of_refusal(refusal).and(Outcome::right_if(is_one_bin(image)))),
     }
 }
 

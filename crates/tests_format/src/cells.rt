@@ -278,18 +278,6 @@ fn a_new_bin_has_zeros_in_its_header(rt: HostRuntime) -> Result<(), Fail> {
     Ok(())
 }
 
-// the copy's free cell is taken, and the image's is left
-const COPIED: [Step; 2] = [Step::Takes(4044, 48), Step::Pages(1)];
-
-#[test]
-fn a_copy_is_changed_alone(rt: HostRuntime) -> Result<(), Fail> {
-    let mut image = opened(rt.alloc())?;
-    let mut copy = image.try_clone()?;
-    assert_eq!(rt; first_wrong(&mut copy, &COPIED), None);
-    assert_eq!(rt; first_wrong(&mut image, &COPIED), None);
-    Ok(())
-}
-
 // what is reserved changes nothing that lies in the image
 const RESERVED: [Step; 3] = [Step::Pages(1), Step::Takes(4100, 4128), Step::Pages(3)];
 
