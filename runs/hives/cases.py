@@ -157,6 +157,8 @@ def lists():
     for count in (2, 4):
         yield refused(f"three subkeys that are said to be {count}", patched(file, places["r"] + 4 + 20, u32(count)), damaged("BadList"))
     yield Case("no subkeys: the offset beside the 0 is unread", patched(file, places["r"] + 4 + 20, u32(0)), [lines("key 0: 0")])
+    file, places = hive(Key("r", 0, [], [Value("v", 1, b"x")]))
+    yield refused("a list of values longer than its cell", patched(file, places["r"] + 4 + 36, u32(900)), damaged("BadRecord"))
 
 
 def bad_names():

@@ -23,20 +23,20 @@ module _ (split : Bool) (count at : ℕ) (cells : Cells) (old : Marks) where
   no_values v z e = chosen cells old old (Ok v) (count == 0) _ _ z (done_follows (map_of []) v cells old (sym e))
 
   module _ (mid : Marks) (some : (count == 0) ≡ false) where
-    behind_look : (new : Marks) (r : Result ValueMap Refusal) → Follows (look at ⟫ λ bytes. rule (nat_le (4 * count) (length bytes)) cause.BadList ⟫ λ _. each (value_at split) (words_from bytes 0 4 count) ⟫ λ values. rule (all_apart (names_in values)) cause.BadName ⟫ λ _. done (map_of values)) cells old new r → Follows (values_at split count at) cells old new r
+    behind_look : (new : Marks) (r : Result ValueMap Refusal) → Follows (look at ⟫ λ bytes. rule (nat_le (4 * count) (length bytes)) cause.BadRecord ⟫ λ _. each (value_at split) (words_from bytes 0 4 count) ⟫ λ values. rule (all_apart (names_in values)) cause.BadName ⟫ λ _. done (map_of values)) cells old new r → Follows (values_at split count at) cells old new r
     behind_look new r h = not_chosen cells old new r (count == 0) _ _ some h
 
     pub values_unlisted : (r : Refusal) → Follows (look at) cells old mid (Err r) → Follows (values_at split count at) cells old mid (Err r)
     values_unlisted r h = behind_look mid (Err r) (follows_out (look at) _ cells old mid mid r h)
 
     module _ (bytes : List ℕ) (here : Follows (look at) cells old mid (Ok bytes)) where
-      pub values_short : (r : Refusal) → nat_le (4 * count) (length bytes) ≡ false → r ≡ refusal.HiveDamaged 0 cause.BadList → Follows (values_at split count at) cells old mid (Err r)
-      values_short r e is = err_as (values_at split count at) cells old mid r (refusal.HiveDamaged 0 cause.BadList) is
-          (behind_look mid (Err (refusal.HiveDamaged 0 cause.BadList)) (follows_on (look at) _ cells old mid mid bytes (Err (refusal.HiveDamaged 0 cause.BadList)) here (rule_broken (nat_le (4 * count) (length bytes)) cause.BadList _ cells mid mid e)))
+      pub values_short : (r : Refusal) → nat_le (4 * count) (length bytes) ≡ false → r ≡ refusal.HiveDamaged 0 cause.BadRecord → Follows (values_at split count at) cells old mid (Err r)
+      values_short r e is = err_as (values_at split count at) cells old mid r (refusal.HiveDamaged 0 cause.BadRecord) is
+          (behind_look mid (Err (refusal.HiveDamaged 0 cause.BadRecord)) (follows_on (look at) _ cells old mid mid bytes (Err (refusal.HiveDamaged 0 cause.BadRecord)) here (rule_broken (nat_le (4 * count) (length bytes)) cause.BadRecord _ cells mid mid e)))
 
       module _ (fits : nat_le (4 * count) (length bytes) ≡ true) (new : Marks) where
         behind_rule : (r : Result ValueMap Refusal) → Follows (each (value_at split) (words_from bytes 0 4 count) ⟫ λ values. rule (all_apart (names_in values)) cause.BadName ⟫ λ _. done (map_of values)) cells mid new r → Follows (values_at split count at) cells old new r
-        behind_rule r h = behind_look new r (follows_on (look at) _ cells old mid new bytes r here (rule_kept (nat_le (4 * count) (length bytes)) cause.BadList _ cells mid new r fits h))
+        behind_rule r h = behind_look new r (follows_on (look at) _ cells old mid new bytes r here (rule_kept (nat_le (4 * count) (length bytes)) cause.BadRecord _ cells mid new r fits h))
 
         pub values_out : (r : Refusal) → Follows (each (value_at split) (words_from bytes 0 4 count)) cells mid new (Err r) → Follows (values_at split count at) cells old new (Err r)
         values_out r h = behind_rule (Err r) (follows_out (each (value_at split) (words_from bytes 0 4 count)) _ cells mid new new r h)

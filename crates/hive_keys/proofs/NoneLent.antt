@@ -94,7 +94,7 @@ none_value split at = none_on (look at) _ (none_look at) (λ bytes.
 
 pub none_values : (split : Bool) (count list : ℕ) → LendsNone (values_at split count list)
 none_values split count list = none_choice (count == 0) _ _ (none_done (map_of [])) (none_on (look list) _ (none_look list) (λ bytes.
-    none_on (rule (nat_le (4 * count) (length bytes)) cause.BadList) _ (none_rule _ _) (λ _.
+    none_on (rule (nat_le (4 * count) (length bytes)) cause.BadRecord) _ (none_rule _ _) (λ _.
     none_on (each (value_at split) (words_from bytes 0 4 count)) _ (none_each (value_at split) (none_value split) _) (λ values.
     none_on (rule (all_apart (map (λ (v : Value). folded v.name) values)) cause.BadName) _ (none_rule _ _) (λ _.
     none_done _)))))

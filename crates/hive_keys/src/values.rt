@@ -138,7 +138,7 @@ pub(crate) fn values(
         Err(refusal) => return Err(refusal),
     };
     if list.len() < OFFSET * count as usize {
-        return Err(Refusal::from(Cause::BadList));
+        return Err(Refusal::from(Cause::BadRecord));
     }
     let found = match listed(alloc, image, seen, looks, split, count, list) {
         Ok(found) => found,

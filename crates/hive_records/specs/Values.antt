@@ -67,7 +67,7 @@ abbrev pub values_at : Bool → ℕ → ℕ → Reader ValueMap
 values_at split count list =
     choice (count == 0) (done (map_of []))
     (look list ⟫ λ bytes.
-    rule (nat_le (4 * count) (length bytes)) cause.BadList ⟫ λ _.
+    rule (nat_le (4 * count) (length bytes)) cause.BadRecord ⟫ λ _.
     each (value_at split) (words_from bytes 0 4 count) ⟫ λ values.
     rule (all_apart (map (λ (v : Value). folded v.name) values)) cause.BadName ⟫ λ _.
     done (map_of values))
