@@ -3,6 +3,7 @@ ghost use Rattle.std.specs.Prelude.{◌≡◌, ◌⊎◌, ◌+◌, ◌<◌, ◌�
 ghost use Rattle.disk_model.specs.StoreFiles.{primary_file, log_file};
 ghost use Rattle.disk_model.specs.Unwritten.{OnlyReads};
 ghost use Rattle.hive_files.specs.Frames.{FailsBy, nothing_told};
+ghost use Rattle.hive_files.specs.Pieces.{calls_of_part, reads_of};
 
 use dirt_log::PIECE_BYTES;
 use disk_model::{Disk, Failed};
@@ -29,7 +30,7 @@ pub fn log_number(hive: u8) -> u32
     2 + 2 * u32::from(hive)
 }
 
-/// The bytes of a file from an offset on: so many as there are, up to `most`. They are read in pieces.
+/// The bytes of a file from an offset on: so many as there are, up to `most`. They are read in pieces of 65,536 bytes, one a call.
 pub(crate) fn read_part<D: Disk>(
     alloc: Global,
     disk: &mut D,
@@ -40,6 +41,8 @@ pub(crate) fn read_part<D: Disk>(
     ensures bytes { IfOk result (λ bytes. D.faithful disk.new → bytes.items
         ≡ take most (drop offset (D.state_at disk.old (D.clock disk.old) file).seen)) }
     ensures few { IfOk result (λ bytes. length bytes.items ≤ most) }
+    ensures calls { IfOk result (λ bytes. D.clock disk.new
+        ≡ D.clock disk.old + calls_of_part (length bytes.items)) }
     ensures fails { IfErr result (FailsBy (D.failures disk.old < D.failures disk.new) nothing_told) }
     ensures reads { OnlyReads (D.state_at disk.old) (D.state_at disk.new) (D.clock disk.old)
         (D.clock disk.new) }
@@ -62,6 +65,8 @@ fn fill<D: Disk>(disk: &mut D, file: u32, offset: u64, bytes: &mut [u8]) -> Resu
     ensures bytes { OnOk result (D.faithful disk.new → offset + length bytes.old
         ≤ length (D.state_at disk.old (D.clock disk.old) file).seen → bytes.new
         ≡ take (length bytes.old) (drop offset (D.state_at disk.old (D.clock disk.old) file).seen)) }
+    ensures calls { OnOk result (D.clock disk.new
+        ≡ D.clock disk.old + reads_of (length bytes.old)) }
     ensures fails { IfErr result (λ _. D.failures disk.old < D.failures disk.new) }
     ensures reads { OnlyReads (D.state_at disk.old) (D.state_at disk.new) (D.clock disk.old)
         (D.clock disk.new) }
@@ -83,6 +88,7 @@ fn read_piece<D: Disk>(disk: &mut D, file: u32, offset: u64, piece: &mut [u8]) -
     ensures bytes { OnOk result (D.faithful disk.new → offset + length piece.old
         ≤ length (D.state_at disk.old (D.clock disk.old) file).seen → piece.new
         ≡ take (length piece.old) (drop offset (D.state_at disk.old (D.clock disk.old) file).seen)) }
+    ensures call { D.clock disk.new ≡ D.clock disk.old + 1 }
     ensures fails { IfErr result (λ _. D.failures disk.old < D.failures disk.new) }
     ensures reads { OnlyReads (D.state_at disk.old) (D.state_at disk.new) (D.clock disk.old)
         (D.clock disk.new) }

@@ -10,6 +10,7 @@ ghost use Rattle.disk_model.specs.StoreFiles.{IsOfHive, primary_file, log_file};
 ghost use Rattle.disk_model.specs.Unwritten.{OnlyReads, OnlySyncs};
 ghost use Rattle.hive_files.specs.Finding.{IsByLog, IsFound, IsLogOf, IsLogged, IsPart, NothingThere, TellsOfHive, as_primary};
 ghost use Rattle.hive_files.specs.Frames.{FailsBy};
+ghost use Rattle.hive_files.specs.Pieces.{calls_of_part, calls_to_find};
 ghost use Rattle.refusals.specs.Answers.{RefusedFor};
 
 use crate::files::{BINS_AT, SECTOR_BYTES, log_number, primary_number, read_part};
@@ -25,7 +26,7 @@ use std::alloc::Global;
 const MOST_LOG_BYTES: u64 = 67_126_272;
 
 /// Finds what is in use in a hive's two files. The primary file is synced first; and so is the log, but where the primary file
-/// is clean: then it isn't looked at.
+/// is clean: then it isn't looked at. A read takes at most 65,536 bytes, and no file is read in more calls than these need.
 ///
 /// Refused with `DiskFault` where the device failed, with `NoMemory`, and only where nothing that may be used stands in the
 /// files with a cause of hive 0, `Unsupported` or `TooLarge`: a clean primary file with that of its base block, or with
@@ -33,6 +34,11 @@ const MOST_LOG_BYTES: u64 = 67_126_272;
 /// changes but by its sync.
 pub fn find<D: Disk>(alloc: Global, disk: &mut D, hive: u8) -> Result<Found, Refusal>
     ensures found { IfOk result (λ found. D.faithful disk.new → IsFound
+        (D.state_at disk.old (D.clock disk.old) (primary_file hive)).seen
+        (D.state_at disk.old (D.clock disk.old) (log_file hive)).seen found) }
+    // A file that is read takes one call for its length, and one for each 65,536 bytes.
+    ensures calls { IfOk result (λ found. D.faithful disk.new → D.clock disk.new
+        ≡ D.clock disk.old + calls_to_find
         (D.state_at disk.old (D.clock disk.old) (primary_file hive)).seen
         (D.state_at disk.old (D.clock disk.old) (log_file hive)).seen found) }
     ensures rest { IfOk result (λ found. D.faithful disk.new →
@@ -93,6 +99,8 @@ fn find_own<D: Disk>(
         × (found.pages ≡ clean_pages block.bins_size) × (found.is_clean ≡ true)) }
     ensures bins { IfOk result (λ found. D.faithful disk.new → IsPart
         (D.state_at disk.old (D.clock disk.old) file).seen block.bins_size found.bins.items) }
+    ensures calls { IfOk result (λ found. D.clock disk.new
+        ≡ D.clock disk.old + calls_of_part block.bins_size) }
     ensures fails { IfErr result (FailsBy (D.failures disk.old < D.failures disk.new)
         (λ why. TellsOfHive why × (D.faithful disk.new → IsPrimary block →
         4096 + block.bins_size ≤ length (D.state_at disk.old (D.clock disk.old) file).seen → ⊥))) }
@@ -131,6 +139,11 @@ fn find_repaired<D: Disk>(alloc: Global, disk: &mut D, hive: u8) -> Result<Found
         (D.state_at disk.old (D.clock disk.old) (primary_file hive)).seen
         (D.state_at disk.old (D.clock disk.old) (log_file hive)).seen found) }
     ensures clean { IfOk result (λ found. found.is_clean ≡ false) }
+    ensures calls { IfOk result (λ found. D.faithful disk.new → D.clock disk.new
+        ≡ D.clock disk.old + (1 + calls_of_part (length (take 67126272
+        (D.state_at disk.old (D.clock disk.old) (log_file hive)).seen)) + calls_of_part (length
+        (take found.block.bins_size (drop 4096
+        (D.state_at disk.old (D.clock disk.old) (primary_file hive)).seen))))) }
     ensures rest { IfOk result (λ found. D.faithful disk.new →
         D.state_at disk.new (D.clock disk.new) (log_file hive)
         ≡ at_rest (D.state_at disk.old (D.clock disk.old) (log_file hive)).seen) }
@@ -157,6 +170,11 @@ fn read_repaired<D: Disk>(alloc: Global, disk: &mut D, hive: u8) -> Result<Found
         (D.state_at disk.old (D.clock disk.old) (primary_file hive)).seen
         (D.state_at disk.old (D.clock disk.old) (log_file hive)).seen found) }
     ensures clean { IfOk result (λ found. found.is_clean ≡ false) }
+    ensures calls { IfOk result (λ found. D.faithful disk.new → D.clock disk.new
+        ≡ D.clock disk.old + calls_of_part (length (take 67126272
+        (D.state_at disk.old (D.clock disk.old) (log_file hive)).seen)) + calls_of_part (length
+        (take found.block.bins_size (drop 4096
+        (D.state_at disk.old (D.clock disk.old) (primary_file hive)).seen)))) }
     ensures fails { IfErr result (FailsBy (D.failures disk.old < D.failures disk.new)
         (λ why. TellsOfHive why × (D.faithful disk.new → IsLogged
         (D.state_at disk.old (D.clock disk.old) (primary_file hive)).seen
@@ -202,6 +220,7 @@ fn read_log(alloc: Global, text: &[u8]) -> Result<DirtLog<'_>, Refusal>
 // bins data as a log repairs them
 fn repaired(log: DirtLog<'_>, bins: Vec<u8>) -> Result<Found, Refusal>
     requires used { IsLog log.base × (log.base.bins_size ≡ log.vector.bins_size) }
+    ensures size { IfOk result (λ found. found.block.bins_size ≡ log.entry.vector.bins_size) }
     ensures found { IfOk result (λ found. (primary file : List ℕ) → IsLogOf file log.entry →
         bins.items ≡ take log.entry.vector.bins_size (drop 4096 primary) →
         IsByLog primary file found) }

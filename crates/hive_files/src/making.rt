@@ -6,6 +6,7 @@ ghost use Rattle.disk_model.specs.FileState.{at_rest};
 ghost use Rattle.disk_model.specs.StoreFiles.{IsOfHive, primary_file, log_file};
 ghost use Rattle.hive_files.specs.Frames.{StaysOff};
 ghost use Rattle.hive_files.specs.Made.{AreMade, primary_text};
+ghost use Rattle.hive_files.specs.Pieces.{WritesPieces};
 
 use crate::files::{BINS_AT, log_number, primary_number};
 use base_block::BaseBlock;
@@ -22,6 +23,8 @@ pub fn make<D: Disk>(disk: &mut D, hive: u8, block: &BaseBlock, bins: &[u8]) -> 
         (D.state_at disk.new (D.clock disk.new) (log_file hive))) }
     ensures stays { StaysOff (IsOfHive hive) (D.state_at disk.old) (D.state_at disk.new)
         (D.clock disk.old) (D.clock disk.new) }
+    ensures pieces { D.faithful disk.new → WritesPieces (D.state_at disk.old) (D.state_at disk.new)
+        (D.clock disk.old) (D.clock disk.new) }
     ensures failures { CountsFailure result (D.failures disk.old) (D.failures disk.new) }
     ensures faithful { D.faithful disk.new → D.faithful disk.old }
 {
@@ -34,6 +37,8 @@ fn empty<D: Disk>(disk: &mut D, file: u32) -> Result<(), Failed>
     ensures made { OnOk result (D.faithful disk.new →
         D.state_at disk.new (D.clock disk.new) file ≡ at_rest []) }
     ensures stays { StaysOff (λ f. f ≡ file) (D.state_at disk.old) (D.state_at disk.new)
+        (D.clock disk.old) (D.clock disk.new) }
+    ensures pieces { D.faithful disk.new → WritesPieces (D.state_at disk.old) (D.state_at disk.new)
         (D.clock disk.old) (D.clock disk.new) }
     ensures failures { CountsFailure result (D.failures disk.old) (D.failures disk.new) }
     ensures faithful { D.faithful disk.new → D.faithful disk.old }
@@ -53,6 +58,8 @@ fn write_anew<D: Disk>(
         D.state_at disk.new (D.clock disk.new) file ≡ at_rest (primary_text block.now bins.now)) }
     ensures stays { StaysOff (λ f. f ≡ file) (D.state_at disk.old) (D.state_at disk.new)
         (D.clock disk.old) (D.clock disk.new) }
+    ensures pieces { D.faithful disk.new → WritesPieces (D.state_at disk.old) (D.state_at disk.new)
+        (D.clock disk.old) (D.clock disk.new) }
     ensures failures { CountsFailure result (D.failures disk.old) (D.failures disk.new) }
     ensures faithful { D.faithful disk.new → D.faithful disk.old }
 {
@@ -67,6 +74,8 @@ fn write_base<D: Disk>(disk: &mut D, file: u32, sector: &[u8]) -> Result<(), Fai
     ensures seen { OnOk result (D.faithful disk.new →
         (D.state_at disk.new (D.clock disk.new) file).seen ≡ sector.now ++ zeros 3584) }
     ensures stays { StaysOff (λ f. f ≡ file) (D.state_at disk.old) (D.state_at disk.new)
+        (D.clock disk.old) (D.clock disk.new) }
+    ensures pieces { D.faithful disk.new → WritesPieces (D.state_at disk.old) (D.state_at disk.new)
         (D.clock disk.old) (D.clock disk.new) }
     ensures failures { CountsFailure result (D.failures disk.old) (D.failures disk.new) }
     ensures faithful { D.faithful disk.new → D.faithful disk.old }
@@ -93,6 +102,8 @@ fn append<D: Disk>(disk: &mut D, file: u32, from: u64, bytes: &[u8]) -> Result<(
         (D.state_at disk.new (D.clock disk.new) file).seen
         ≡ (D.state_at disk.old (D.clock disk.old) file).seen ++ bytes.now) }
     ensures stays { StaysOff (λ f. f ≡ file) (D.state_at disk.old) (D.state_at disk.new)
+        (D.clock disk.old) (D.clock disk.new) }
+    ensures pieces { D.faithful disk.new → WritesPieces (D.state_at disk.old) (D.state_at disk.new)
         (D.clock disk.old) (D.clock disk.new) }
     ensures failures { CountsFailure result (D.failures disk.old) (D.failures disk.new) }
     ensures faithful { D.faithful disk.new → D.faithful disk.old }

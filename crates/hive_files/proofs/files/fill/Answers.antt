@@ -1,4 +1,5 @@
-use Rattle.std.proofs.Common.{◌≡◌, ℕ, ◌+◌, ◌-◌, ◌≤◌, ◌++◌, List, length, take, drop, sym, ap, ◌∙◌, arith, rules}
+use Rattle.std.proofs.Common.{◌≡◌, inl, inr, ⊎_elim, ℕ, ◌+◌, ◌-◌, ◌%◌, ◌<◌, ◌≤◌, ◌++◌, List, length, take, drop, sym, ap, ◌∙◌, arith, rules}
+use Rattle.std.proofs.lemmas.Bool.{cases_lt}
 use Rattle.std.proofs.lemmas.Slice.{take-put_mid}
 use Rattle.std.proofs.lemmas.List.{drop-drop, length-take, length-drop}
 use Rattle.std.proofs.Math.Seq.{take-add}
@@ -30,6 +31,17 @@ pieces-preserved g c =
           ∙ ap (λ (l : List ℕ). l ++ c.read_piece.new.piece) (c.pieces.invariant.bytes mid_faithful whole)
           ∙ ap (λ (l : List ℕ). take at rest ++ l) (piece ∙ ap (λ (l : List ℕ). take n l) (sym (drop-drop at c.args.offset old.seen)))
           ∙ sym (take-add at n rest);
+      calls = ⊎_elim
+          (λ (even : at % 65536 ≡ 0). omega (arith, even, c.min.ensures, c.pieces-test.true, c.pieces.invariant.calls, c.in_ok-read_piece.ensures.call, c.pieces.invariant.size))
+          (λ (end : at ≡ length c.args.bytes.now). absurd (omega (arith, end, c.pieces-test.true, c.pieces.invariant.size)))
+          c.pieces.invariant.whole;
+      whole = ⊎_elim
+          (λ (even : at % 65536 ≡ 0). ⊎_elim
+          (λ (last : n < 65536). inr (omega (arith, last, c.min.ensures, c.pieces.invariant.size, c.pieces.invariant.within)))
+          (λ (full : 65536 ≤ n). inl (omega (arith, even, full, c.min.ensures)))
+          (cases_lt n 65536))
+          (λ (end : at ≡ length c.args.bytes.now). absurd (omega (arith, end, c.pieces-test.true, c.pieces.invariant.size)))
+          c.pieces.invariant.whole;
       reads = reads_on _ _ _ _ _ _ c.pieces.invariant.reads c.in_ok-read_piece.ensures.reads;
       failures = omega (arith, c.pieces.invariant.failures, c.in_ok-read_piece.ensures.failures);
       faithful = λ faithful. c.pieces.invariant.faithful (c.in_ok-read_piece.ensures.faithful faithful);

@@ -1,5 +1,6 @@
-use Rattle.std.proofs.Common.{◌≡◌, ◌-◌, ◌+◌, ◌≤◌, length, take, drop}
+use Rattle.std.proofs.Common.{◌≡◌, ◌⊎◌, ◌-◌, ◌+◌, ◌%◌, ◌≤◌, length, take, drop}
 use Rattle.disk_model.specs.Unwritten.{OnlyReads}
+use Rattle.hive_files.specs.Pieces.{reads_of}
 use Rattle.hive_files.proofs.files.fill.Given as goal
 
 abbrev pub invariant-pieces : goal.invariant-pieces
@@ -9,6 +10,8 @@ invariant-pieces g l =
       size : length l.bytes ≡ length l.fn.bytes;
       within : l.at ≤ length l.fn.bytes;
       bytes : g.D.Disk.faithful l.disk → l.fn.offset + length l.fn.bytes ≤ length seen → take l.at l.bytes ≡ take l.at (drop l.fn.offset seen);
+      calls : g.D.Disk.clock l.disk ≡ g.D.Disk.clock l.fn.disk + reads_of l.at;
+      whole : (l.at % 65536 ≡ 0) ⊎ (l.at ≡ length l.fn.bytes);
       reads : OnlyReads (g.D.Disk.state_at l.fn.disk) (g.D.Disk.state_at l.disk) (g.D.Disk.clock l.fn.disk) (g.D.Disk.clock l.disk);
       failures : g.D.Disk.failures l.fn.disk ≤ g.D.Disk.failures l.disk;
       faithful : g.D.Disk.faithful l.disk → g.D.Disk.faithful l.fn.disk;

@@ -1,4 +1,4 @@
-use Rattle.std.proofs.Common.{◌≡◌, ◌≢◌, ℕ, ◌+◌, ◌≤◌, true, false, List, length, take, length-take, inr, refl, sym, ap, subst, ◌∙◌, arith}
+use Rattle.std.proofs.Common.{◌≡◌, ◌≢◌, ℕ, ◌+◌, ◌≤◌, true, false, List, length, take, drop, length-take, inl, inr, refl, sym, ap, subst, ◌∙◌, arith}
 use Rattle.std.proofs.lemmas.Result.{IfErr-weaker, IfOk-weaker}
 use Rattle.refusals.specs.declared.refusal.Refusal.{Refusal}
 use Rattle.base_block.specs.declared.block.BaseBlock.{BaseBlock}
@@ -10,6 +10,7 @@ use Rattle.dirty_vector.specs.Pages.{clean_pages}
 use Rattle.hive_files.specs.Finding.{IsByLog, IsLogged, IsPart, TellsOfHive}
 use Rattle.hive_files.proofs.Founding.{sector_tells, short_has_none, clean_found, unclean_found, clean_has_none, unclean_has_none, told_on}
 use Rattle.hive_files.proofs.Frames.{ok_joined, ok_of_three}
+use Rattle.hive_files.proofs.Pieces.{clean_calls, unclean_calls}
 use Rattle.base_block.specs.Layout.{is_clean_block}
 use Rattle.dirt_log.specs.Held.{is_clean_file}
 use Rattle.dirt_log.specs.WholeLog.{block_of}
@@ -116,3 +117,43 @@ returns-clause-log_rest g c = IfOk-weaker c.find_repaired.result _ _ (λ found r
     let log = log_file c.args.hive in
     let apart : log ≢ c.primary_number-primary.result = λ same. omega (arith, same, c.primary_number-primary.ensures) in
     rest faithful ∙ ap (λ (s : FileState). at_rest s.seen) (still c.in-Ok.ensures.reads log ∙ c.in_ok-sync.ensures.others log apart)) c.find_repaired.ensures.rest
+
+pub returns-then-is_clean-clause-calls : goal.returns-then-is_clean-clause-calls
+returns-then-is_clean-clause-calls g c = ok_joined c.find_own.result _ _ _ (λ found says calls faithful.
+    let old = g.D.Disk.state_at c.args.disk.now (g.D.Disk.clock c.args.disk.now) in
+    let sector : length c.in-Ok.sector.items ≡ 512 = omega (arith, c.in-Ok.ensures.few, c.in-Some.ensures.some.1, ap (λ (l : List ℕ). length l) c.deref.ensures.value) in
+    omega (
+      arith,
+      calls,
+      c.in-Ok.ensures.calls,
+      c.sync.ensures.time.clock,
+      sector,
+      ap (λ (b : BaseBlock). b.bins_size) says.0,
+      clean_calls (old (primary_file c.args.hive)).seen (old (log_file c.args.hive)).seen found says.2,
+    )) c.find_own.ensures.found c.find_own.ensures.calls
+
+pub returns-clause-calls : goal.returns-clause-calls
+returns-clause-calls g c = ok_joined c.find_repaired.result _ _ _ (λ found clean calls faithful.
+    let old = g.D.Disk.state_at c.args.disk.now (g.D.Disk.clock c.args.disk.now) in
+    let mid = g.D.Disk.state_at c.sync.new.self (g.D.Disk.clock c.sync.new.self) in
+    let late = g.D.Disk.state_at c.read_part.new.disk (g.D.Disk.clock c.read_part.new.disk) in
+    let primary = (old (primary_file c.args.hive)).seen in
+    let log = (old (log_file c.args.hive)).seen in
+    let read = c.find_repaired.ensures.faithful faithful in
+    let number : c.primary_number-primary.result ≡ primary_file c.args.hive = c.primary_number-primary.ensures in
+    let shown : (mid c.primary_number-primary.result).seen ≡ primary = ap (λ (s : FileState). s.seen) (c.in_ok-sync.ensures.synced (c.in-Ok.ensures.faithful read)) ∙ ap (λ (f : ℕ). (old f).seen) number in
+    let there : (late (primary_file c.args.hive)).seen ≡ primary = ap (λ (f : ℕ). (late f).seen) (sym number) ∙ ap (λ (s : FileState). s.seen) (still c.in-Ok.ensures.reads c.primary_number-primary.result) ∙ shown in
+    let apart : log_file c.args.hive ≢ c.primary_number-primary.result = λ same. omega (arith, same, number) in
+    let behind : (late (log_file c.args.hive)).seen ≡ log = ap (λ (s : FileState). s.seen) (still c.in-Ok.ensures.reads (log_file c.args.hive) ∙ c.in_ok-sync.ensures.others (log_file c.args.hive) apart) in
+    let text = ap (λ (l : List ℕ). length (take 67126272 l)) behind in
+    let part = ap (λ (l : List ℕ). length (take found.block.bins_size (drop 4096 l))) there in
+    let sector : length c.in-Ok.sector.items ≡ 512 = omega (arith, c.in-Ok.ensures.few, c.in-Some.ensures.some.1, ap (λ (l : List ℕ). length l) c.deref.ensures.value) in
+    omega (arith, calls faithful, text, part, c.in-Ok.ensures.calls, c.sync.ensures.time.clock, sector, unclean_calls primary log found clean)) c.find_repaired.ensures.clean c.find_repaired.ensures.calls
+
+pub returns-then-is_clean-clause-others : goal.returns-then-is_clean-clause-others
+returns-then-is_clean-clause-others g c = λ f not.
+    still c.find_own.ensures.reads f ∙ still c.in-Ok.ensures.reads f ∙ c.in_ok-sync.ensures.others f (λ same. not (inl (same ∙ c.primary_number-primary.ensures)))
+
+pub returns-clause-others : goal.returns-clause-others
+returns-clause-others g c = λ f not.
+    c.find_repaired.ensures.others f (λ same. not (inr same)) ∙ still c.in-Ok.ensures.reads f ∙ c.in_ok-sync.ensures.others f (λ same. not (inl (same ∙ c.primary_number-primary.ensures)))

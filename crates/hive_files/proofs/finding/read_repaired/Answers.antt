@@ -1,8 +1,9 @@
-use Rattle.std.proofs.Common.{ℕ, take, drop, ap, ◌∙◌}
+use Rattle.std.proofs.Common.{ℕ, ◌+◌, List, length, take, drop, sym, ap, ◌∙◌}
 use Rattle.std.proofs.lemmas.Result.{IfOk-weaker, IfErr-weaker}
 use Rattle.disk_model.specs.FileState.{FileState}
 use Rattle.disk_model.specs.StoreFiles.{primary_file, log_file}
 use Rattle.disk_model.proofs.Unwritten.{reads_on, still}
+use Rattle.hive_files.specs.Pieces.{calls_of_part}
 use Rattle.hive_files.proofs.Founding.{told_of_log}
 use Rattle.hive_files.proofs.finding.read_repaired.Goals as goal
 
@@ -42,3 +43,21 @@ returns-clause-fails g c = IfErr-weaker c.repaired.result _ _ (λ why by. told_o
 
 pub returns-in-Err-read_part-clause-reads : goal.returns-in-Err-read_part-clause-reads
 returns-in-Err-read_part-clause-reads g c = reads_on _ _ _ _ _ _ c.in-Ok.ensures.reads c.in-Err-read_part.ensures.reads
+
+pub returns-clause-calls : goal.returns-clause-calls
+returns-clause-calls g c = IfOk-weaker c.repaired.result _ _ (λ found size faithful.
+    let state = g.D.Disk.state_at c.args.disk.now (g.D.Disk.clock c.args.disk.now) in
+    let mid = g.D.Disk.state_at c.read_part.new.disk (g.D.Disk.clock c.read_part.new.disk) in
+    let primary = (state (primary_file c.args.hive)).seen in
+    let before = c.in-Ok-read_part.ensures.faithful faithful in
+    let text = c.in-Ok.ensures.bytes before ∙ ap (λ (f : ℕ). take 67126272 (state f).seen) c.log_number.ensures in
+    let bins =
+    c.in-Ok-read_part.ensures.bytes faithful ∙ ap (λ (n : ℕ). take n (drop 4096 (mid c.primary_number.result).seen)) (c.bins_size-size.ensures.value ∙ sym size)
+    ∙ ap (λ (f : ℕ). take found.block.bins_size (drop 4096 (mid f).seen)) c.primary_number.ensures
+    ∙ ap (λ (s : FileState). take found.block.bins_size (drop 4096 s.seen)) (still c.in-Ok.ensures.reads (primary_file c.args.hive)) in
+    c.in-Ok-read_part.ensures.calls
+    ∙ ap (λ (n : ℕ). n + calls_of_part (length c.in-Ok-read_part.bins.items)) (c.in-Ok.ensures.calls ∙ ap (λ (l : List ℕ). g.D.Disk.clock c.args.disk.now + calls_of_part (length l)) text)
+    ∙ ap (λ (l : List ℕ). g.D.Disk.clock c.args.disk.now + calls_of_part (length (take 67126272 (state (log_file c.args.hive)).seen)) + calls_of_part (length l)) bins) c.repaired.ensures.size
+
+pub returns-clause-reads : goal.returns-clause-reads
+returns-clause-reads g c = reads_on _ _ _ _ _ _ c.in-Ok.ensures.reads c.in-Ok-read_part.ensures.reads

@@ -1,7 +1,8 @@
-use Rattle.std.proofs.Common.{◌≡◌, ℕ, ◌+◌, ◌-◌, ◌++◌, List, length, take, drop, sym, ap, ◌∙◌, arith, append_assoc, length-append, rules}
+use Rattle.std.proofs.Common.{◌≡◌, ℕ, ◌+◌, ◌-◌, ◌≤◌, ◌++◌, List, length, take, drop, sym, ap, ◌∙◌, arith, append_assoc, length-append, rules}
 use Rattle.std.proofs.lemmas.List.{length-take}
 use Rattle.std.proofs.Math.Seq.{take-add}
 use Rattle.hive_files.proofs.Anew.{appended, stays_on, stays_once}
+use Rattle.hive_files.proofs.Pieces.{pieces_on, pieces_written}
 use Rattle.hive_files.proofs.making.append.Goals as goal
 
 pub pieces-preserved : goal.pieces-preserved
@@ -22,6 +23,14 @@ pieces-preserved g c =
           ∙ ap (λ (k : ℕ). old ++ (take at bytes ++ take k (drop at bytes))) same
           ∙ ap (λ (l : List ℕ). old ++ l) (sym (take-add at n bytes));
       stays = stays_on _ _ _ _ _ _ _ c.pieces.invariant.stays (stays_once _ _ _ _ _ c.in_ok-write_at.ensures.time c.in_ok-write_at.ensures.others);
+      pieces = λ faithful.
+          let part = take (at + n - at) (drop at bytes) in
+          let few : length part ≤ 65536 = omega (arith, c.min.ensures, length-take (at + n - at) (drop at bytes)) in
+          let time = c.in_ok-write_at.ensures.time in
+          let others = c.in_ok-write_at.ensures.others in
+          pieces_on _ _ _ _ _ _ c.pieces.invariant.stays.time (stays_once c.args.file _ _ _ _ time others).time
+          (c.pieces.invariant.pieces (c.in_ok-write_at.ensures.faithful faithful))
+          (pieces_written c.args.file _ _ _ _ time others faithful c.write_at.result (c.args.from + at) part few c.write_at.ensures.written c.write_at.ensures.failed);
       failures = search rules;
       faithful = λ faithful. c.pieces.invariant.faithful (c.in_ok-write_at.ensures.faithful faithful);
     }

@@ -1,5 +1,6 @@
 use Rattle.std.proofs.Common.{◌≡◌, ◌-◌, ◌≤◌, ◌++◌, length, take}
 use Rattle.hive_files.specs.Frames.{StaysOff}
+use Rattle.hive_files.specs.Pieces.{WritesPieces}
 use Rattle.hive_files.proofs.making.append.Given as goal
 
 abbrev pub invariant-pieces : goal.invariant-pieces
@@ -10,6 +11,7 @@ invariant-pieces g l =
       within : l.at ≤ length l.fn.bytes;
       seen : g.D.Disk.faithful l.disk → length old ≡ l.fn.from → now ≡ old ++ take l.at l.fn.bytes;
       stays : StaysOff (λ f. f ≡ l.fn.file) (g.D.Disk.state_at l.fn.disk) (g.D.Disk.state_at l.disk) (g.D.Disk.clock l.fn.disk) (g.D.Disk.clock l.disk);
+      pieces : g.D.Disk.faithful l.disk → WritesPieces (g.D.Disk.state_at l.fn.disk) (g.D.Disk.state_at l.disk) (g.D.Disk.clock l.fn.disk) (g.D.Disk.clock l.disk);
       failures : g.D.Disk.failures l.disk ≡ g.D.Disk.failures l.fn.disk;
       faithful : g.D.Disk.faithful l.disk → g.D.Disk.faithful l.fn.disk;
     }
