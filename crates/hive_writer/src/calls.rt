@@ -3,6 +3,7 @@ ghost use Rattle.std.specs.Prelude.{◌≡◌, ◌⊎◌, ℕ, ◌+◌, ◌*◌,
 ghost use Rattle.disk_model.specs.Call.{OneCall, CountsFailure};
 ghost use Rattle.disk_model.specs.StoreFiles.{IsOfHive};
 ghost use Rattle.dirty_vector.specs.Pages.{Pages, NoneFrom, IsFirstRun};
+ghost use Rattle.hive_files.specs.Pieces.{WritesPieces};
 ghost use Rattle.hive_phases.specs.Holding.{Standing};
 ghost use Rattle.hive_phases.specs.Plans.{Plan};
 ghost use Rattle.hive_writer.specs.Writing.{EndsWith, Falls, Leads, plan_of};
@@ -44,6 +45,8 @@ impl HiveWriter {
             (plan_of self.now image.now pages.now).text) pages.now (stage.Logging index)) }
         ensures call { OneCall (IsOfHive self.now.hive) (D.state_at disk.old) (D.state_at disk.new)
             (D.clock disk.old) (D.clock disk.new) }
+        ensures pieces { D.faithful disk.new → WritesPieces (D.state_at disk.old)
+            (D.state_at disk.new) (D.clock disk.old) (D.clock disk.new) }
         ensures failures { CountsFailure result (D.failures disk.old) (D.failures disk.new) }
         ensures faithful { D.faithful disk.new → D.faithful disk.old }
     {
@@ -67,6 +70,8 @@ impl HiveWriter {
             IfOk result (Falls total pages (stage.Logging index)) }
         ensures call { OneCall (IsOfHive self.now.hive) (D.state_at disk.old) (D.state_at disk.new)
             (D.clock disk.old) (D.clock disk.new) }
+        ensures pieces { D.faithful disk.new → WritesPieces (D.state_at disk.old)
+            (D.state_at disk.new) (D.clock disk.old) (D.clock disk.new) }
         ensures failures { CountsFailure result (D.failures disk.old) (D.failures disk.new) }
         ensures faithful { D.faithful disk.new → D.faithful disk.old }
     {
@@ -96,6 +101,8 @@ impl HiveWriter {
             (plan_of self.now image.now pages.now).text) pages.now (stage.Logging index)) }
         ensures call { OneCall (IsOfHive self.now.hive) (D.state_at disk.old) (D.state_at disk.new)
             (D.clock disk.old) (D.clock disk.new) }
+        ensures pieces { D.faithful disk.new → WritesPieces (D.state_at disk.old)
+            (D.state_at disk.new) (D.clock disk.old) (D.clock disk.new) }
         ensures failures { CountsFailure result (D.failures disk.old) (D.failures disk.new) }
         ensures faithful { D.faithful disk.new → D.faithful disk.old }
     {
@@ -119,6 +126,8 @@ impl HiveWriter {
         ensures falls { (total : ℕ) (pages : Pages) → IfOk result (Falls total pages stage.Logged) }
         ensures call { OneCall (IsOfHive self.now.hive) (D.state_at disk.old) (D.state_at disk.new)
             (D.clock disk.old) (D.clock disk.new) }
+        ensures pieces { D.faithful disk.new → WritesPieces (D.state_at disk.old)
+            (D.state_at disk.new) (D.clock disk.old) (D.clock disk.new) }
         ensures failures { CountsFailure result (D.failures disk.old) (D.failures disk.new) }
         ensures faithful { D.faithful disk.new → D.faithful disk.old }
     {
@@ -141,6 +150,8 @@ impl HiveWriter {
         ensures falls { (total : ℕ) (pages : Pages) → IfOk result (Falls total pages stage.Raised) }
         ensures call { OneCall (IsOfHive self.now.hive) (D.state_at disk.old) (D.state_at disk.new)
             (D.clock disk.old) (D.clock disk.new) }
+        ensures pieces { D.faithful disk.new → WritesPieces (D.state_at disk.old)
+            (D.state_at disk.new) (D.clock disk.old) (D.clock disk.new) }
         ensures failures { CountsFailure result (D.failures disk.old) (D.failures disk.new) }
         ensures faithful { D.faithful disk.new → D.faithful disk.old }
     {
@@ -173,6 +184,8 @@ impl HiveWriter {
             (stage.Paging purpose from)) }
         ensures call { OneCall (IsOfHive self.now.hive) (D.state_at disk.old) (D.state_at disk.new)
             (D.clock disk.old) (D.clock disk.new) }
+        ensures pieces { D.faithful disk.new → WritesPieces (D.state_at disk.old)
+            (D.state_at disk.new) (D.clock disk.old) (D.clock disk.new) }
         ensures failures { CountsFailure result (D.failures disk.old) (D.failures disk.new) }
         ensures faithful { D.faithful disk.new → D.faithful disk.old }
     {
@@ -203,6 +216,8 @@ impl HiveWriter {
             IfOk result (Falls total pages (stage.Paging purpose from)) }
         ensures call { OneCall (IsOfHive self.now.hive) (D.state_at disk.old) (D.state_at disk.new)
             (D.clock disk.old) (D.clock disk.new) }
+        ensures pieces { D.faithful disk.new → WritesPieces (D.state_at disk.old)
+            (D.state_at disk.new) (D.clock disk.old) (D.clock disk.new) }
         ensures failures { CountsFailure result (D.failures disk.old) (D.failures disk.new) }
         ensures faithful { D.faithful disk.new → D.faithful disk.old }
     {
@@ -229,6 +244,8 @@ impl HiveWriter {
             IfOk result (Falls total pages (stage.Paged purpose)) }
         ensures call { OneCall (IsOfHive self.now.hive) (D.state_at disk.old) (D.state_at disk.new)
             (D.clock disk.old) (D.clock disk.new) }
+        ensures pieces { D.faithful disk.new → WritesPieces (D.state_at disk.old)
+            (D.state_at disk.new) (D.clock disk.old) (D.clock disk.new) }
         ensures failures { CountsFailure result (D.failures disk.old) (D.failures disk.new) }
         ensures faithful { D.faithful disk.new → D.faithful disk.old }
     {
@@ -253,6 +270,8 @@ impl HiveWriter {
         ensures next { IfOk result (λ next. next ≡ stage.Quiet) }
         ensures call { OneCall (IsOfHive self.now.hive) (D.state_at disk.old) (D.state_at disk.new)
             (D.clock disk.old) (D.clock disk.new) }
+        ensures pieces { D.faithful disk.new → WritesPieces (D.state_at disk.old)
+            (D.state_at disk.new) (D.clock disk.old) (D.clock disk.new) }
         ensures failures { CountsFailure result (D.failures disk.old) (D.failures disk.new) }
         ensures faithful { D.faithful disk.new → D.faithful disk.old }
     {

@@ -1,8 +1,9 @@
 //! The calls of the device on a hive's two files.
-ghost use Rattle.std.specs.Prelude.{◌≡◌, OnOk, OnErr};
+ghost use Rattle.std.specs.Prelude.{◌≡◌, ◌≤◌, length, OnOk, OnErr};
 ghost use Rattle.disk_model.specs.Call.{OneCall, CountsFailure};
 ghost use Rattle.disk_model.specs.FileState.{Writes, MayWrite, Syncs};
 ghost use Rattle.disk_model.specs.StoreFiles.{IsOfHive};
+ghost use Rattle.hive_files.specs.Pieces.{WritesPieces};
 ghost use Rattle.hive_writer.specs.OwnFiles.{number_of, other_of};
 
 use disk_model::{Disk, Failed};
@@ -27,7 +28,7 @@ fn number(hive: u8, file: OwnFile) -> u32
     }
 }
 
-/// Writes into one of a hive's files.
+/// Writes into one of a hive's files, at most 65,536 bytes.
 pub(crate) fn write_file<D: Disk>(
     disk: &mut D,
     hive: u8,
@@ -35,6 +36,7 @@ pub(crate) fn write_file<D: Disk>(
     offset: u64,
     bytes: &[u8],
 ) -> Result<(), Failed>
+    requires few { length bytes.now ≤ 65536 }
     ensures done { OnOk result (D.faithful disk.new → Writes offset bytes.now
         (D.state_at disk.old (D.clock disk.old) (number_of file hive))
         (D.state_at disk.new (D.clock disk.new) (number_of file hive))) }
@@ -44,6 +46,8 @@ pub(crate) fn write_file<D: Disk>(
     ensures other { D.state_at disk.new (D.clock disk.new) (number_of (other_of file) hive)
         ≡ D.state_at disk.old (D.clock disk.old) (number_of (other_of file) hive) }
     ensures call { OneCall (IsOfHive hive) (D.state_at disk.old) (D.state_at disk.new)
+        (D.clock disk.old) (D.clock disk.new) }
+    ensures pieces { D.faithful disk.new → WritesPieces (D.state_at disk.old) (D.state_at disk.new)
         (D.clock disk.old) (D.clock disk.new) }
     ensures failures { CountsFailure result (D.failures disk.old) (D.failures disk.new) }
     ensures faithful { D.faithful disk.new → D.faithful disk.old }
@@ -62,6 +66,8 @@ pub(crate) fn sync_file<D: Disk>(disk: &mut D, hive: u8, file: OwnFile) -> Resul
     ensures other { D.state_at disk.new (D.clock disk.new) (number_of (other_of file) hive)
         ≡ D.state_at disk.old (D.clock disk.old) (number_of (other_of file) hive) }
     ensures call { OneCall (IsOfHive hive) (D.state_at disk.old) (D.state_at disk.new)
+        (D.clock disk.old) (D.clock disk.new) }
+    ensures pieces { D.faithful disk.new → WritesPieces (D.state_at disk.old) (D.state_at disk.new)
         (D.clock disk.old) (D.clock disk.new) }
     ensures failures { CountsFailure result (D.failures disk.old) (D.failures disk.new) }
     ensures faithful { D.faithful disk.new → D.faithful disk.old }

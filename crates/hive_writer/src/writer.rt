@@ -3,6 +3,7 @@ ghost use Rattle.std.specs.Prelude.{◌≡◌, ◌↔◌, ◌⊎◌, ◌^◌, �
 ghost use Rattle.disk_model.specs.Call.{OneCall, HasFailed, CountsFailure};
 ghost use Rattle.disk_model.specs.StoreFiles.{IsOfHive};
 ghost use Rattle.engine_words.specs.Steps.{Says};
+ghost use Rattle.hive_files.specs.Pieces.{WritesPieces};
 ghost use Rattle.hive_phases.specs.Holding.{Standing};
 ghost use Rattle.hive_phases.specs.Plans.{Plan};
 ghost use Rattle.hive_writer.specs.Writing.{BeginsAt, EndsWith, Falls, IsFlushing, IsNext, IsRewriting, KeepsBlocks, Leads, LeadsOn, Settles, calls_left, choice_at, now_after, plan_of};
@@ -85,7 +86,7 @@ impl HiveWriter {
     }
 
     /// One step of a flush, which begins where the hive is quiet. The image and its dirty pages are the same from the first
-    /// step to the last.
+    /// step to the last. A write takes at most 65,536 bytes.
     ///
     /// Takes no memory. Refused with `DiskFault` where the device failed in the call, and with `Faulted` exactly where it had
     /// failed in an earlier one: nothing is done then.
@@ -119,6 +120,8 @@ impl HiveWriter {
         ensures still { IsTrue self.old.failed → (self.new ≡ self.old) × (disk.new ≡ disk.old) }
         ensures call { OneCall (IsOfHive self.old.hive) (D.state_at disk.old) (D.state_at disk.new)
             (D.clock disk.old) (D.clock disk.new) }
+        ensures pieces { D.faithful disk.new → WritesPieces (D.state_at disk.old)
+            (D.state_at disk.new) (D.clock disk.old) (D.clock disk.new) }
         ensures failures { HasFailed result (D.failures disk.old) (D.failures disk.new) }
         ensures faithful { D.faithful disk.new → D.faithful disk.old }
     {
@@ -130,7 +133,8 @@ impl HiveWriter {
         self.settle(called)
     }
 
-    /// One step of a repair, with the image as the log repairs it and the pages that the log marks.
+    /// One step of a repair, with the image as the log repairs it and the pages that the log marks. A write takes at most 65,536
+    /// bytes.
     ///
     /// Takes no memory. Refused as [`step`](HiveWriter::step) is.
     pub fn repair_step<D: Disk, T>(
@@ -162,6 +166,8 @@ impl HiveWriter {
         ensures still { IsTrue self.old.failed → (self.new ≡ self.old) × (disk.new ≡ disk.old) }
         ensures call { OneCall (IsOfHive self.old.hive) (D.state_at disk.old) (D.state_at disk.new)
             (D.clock disk.old) (D.clock disk.new) }
+        ensures pieces { D.faithful disk.new → WritesPieces (D.state_at disk.old)
+            (D.state_at disk.new) (D.clock disk.old) (D.clock disk.new) }
         ensures failures { HasFailed result (D.failures disk.old) (D.failures disk.new) }
         ensures faithful { D.faithful disk.new → D.faithful disk.old }
     {
@@ -203,6 +209,8 @@ impl HiveWriter {
             (plan_of self.now image.now pages.now).text) pages.now self.now.stage) }
         ensures call { OneCall (IsOfHive self.now.hive) (D.state_at disk.old) (D.state_at disk.new)
             (D.clock disk.old) (D.clock disk.new) }
+        ensures pieces { D.faithful disk.new → WritesPieces (D.state_at disk.old)
+            (D.state_at disk.new) (D.clock disk.old) (D.clock disk.new) }
         ensures failures { CountsFailure result (D.failures disk.old) (D.failures disk.new) }
         ensures faithful { D.faithful disk.new → D.faithful disk.old }
     {
@@ -232,6 +240,8 @@ impl HiveWriter {
         ensures falls { (total : ℕ) → IfOk result (Falls total pages.now self.now.stage) }
         ensures call { OneCall (IsOfHive self.now.hive) (D.state_at disk.old) (D.state_at disk.new)
             (D.clock disk.old) (D.clock disk.new) }
+        ensures pieces { D.faithful disk.new → WritesPieces (D.state_at disk.old)
+            (D.state_at disk.new) (D.clock disk.old) (D.clock disk.new) }
         ensures failures { CountsFailure result (D.failures disk.old) (D.failures disk.new) }
         ensures faithful { D.faithful disk.new → D.faithful disk.old }
     {

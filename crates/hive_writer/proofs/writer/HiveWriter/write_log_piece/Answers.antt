@@ -1,10 +1,16 @@
-use Rattle.std.proofs.Common.{ℕ, ◌+◌, ◌*◌, length, min, subst}
+use Rattle.std.proofs.Common.{ℕ, ◌+◌, ◌*◌, List, length, drop, min, ap, subst, arith}
+use Rattle.std.proofs.lemmas.List.{length-take}
 use Rattle.disk_model.specs.FileState.{Writes, MayWrite}
 use Rattle.disk_model.specs.StoreFiles.{primary_file, log_file}
 use Rattle.hive_phases.specs.Phases.{Phase.Logging}
 use Rattle.hive_writer.specs.Writing.{plan_of, work_of}
 use Rattle.hive_writer.proofs.Moved.{primary_same, piece_written, piece_failed}
 use Rattle.hive_writer.proofs.writer.HiveWriter.write_log_piece.Goals as goal
+
+pub write_file-requires : goal.write_file-requires
+write_file-requires g c =
+    let rest = drop (65536 * c.args.index) (plan_of c.args.self.now c.args.image.now c.args.pages.now).text in
+    omega (arith, ap (λ (l : List ℕ). length l) c.requires.piece, length-take 65536 rest)
 
 pub returns-in-Ok-clause-leads : goal.returns-in-Ok-clause-leads
 returns-in-Ok-clause-leads g c = λ faithful stands now memory others size ready on.
