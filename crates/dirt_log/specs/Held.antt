@@ -1,6 +1,10 @@
 -- What a primary file and its log hold together.
-use Rattle.std.specs.Prelude.{◌≡◌, ◌≤◌, ◌<◌, ◌/◌, false, slice_index, ℕ, ◌+◌, nat_le, Bool, ◌&&◌, List, take, drop, length, MatchBool}
+use Rattle.std.specs.Prelude.{◌≡◌, ◌⊎◌, ◌≤◌, ◌<◌, ◌/◌, false, slice_index, ℕ, ◌+◌, nat_le, Bool, ◌&&◌, List, take, drop, length, MatchBool}
+use Rattle.refusals.specs.declared.refusal.Refusal.{Refusal}
+use Rattle.refusals.specs.declared.refusal.Refusal.TheVariants.{HiveDamaged}
+use Rattle.refusals.specs.declared.refusal.Cause.TheVariants.{Truncated}
 use Rattle.base_block.specs.declared.block.BaseBlock.{BaseBlock}
+use Rattle.base_block.specs.Judgements.{IsPrimary, PrimaryRefused}
 use Rattle.base_block.specs.Layout.{is_clean_block}
 use Rattle.dirty_vector.specs.Pages.{Pages, is_dirty}
 use Rattle.dirt_log.specs.WholeLog.{IsWhole, IsCovered, block_of, pages_in, page_bytes_in, repaired}
@@ -14,6 +18,11 @@ pub record IsOwn (primary : List ℕ) (block : BaseBlock) (bins : List ℕ) : Ty
   pub read : block ≡ block_of primary
   pub long : 4096 + block.bins_size ≤ length primary
   pub part : bins ≡ take block.bins_size (drop 4096 primary)
+
+-- why a clean primary file with this block and so many bytes may not be used: the block is refused, or the file ends before its
+-- bins data do
+abbrev pub OwnRefused : BaseBlock → ℕ → Refusal → Type 0
+OwnRefused block long why = PrimaryRefused block why ⊎ ((why ≡ HiveDamaged 0 Truncated) × IsPrimary block × (long < 4096 + block.bins_size))
 
 -- the block and the bins data of an unclean primary file: those that its log repairs
 pub record IsRepaired (primary log : List ℕ) (block : BaseBlock) (bins : List ℕ) : Type 0 where

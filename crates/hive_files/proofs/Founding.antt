@@ -11,17 +11,18 @@ use Rattle.base_block.specs.Judgements.{IsPrimary}
 use Rattle.base_block.specs.Layout.{block_at, is_clean_block}
 use Rattle.dirty_vector.specs.Pages.{Pages, dirty_count, clean_pages}
 use Rattle.dirt_log.proofs.PageBytes.{few_dirty}
-use Rattle.dirt_log.specs.Held.{is_clean_file, IsOwn, IsRepaired}
+use Rattle.dirt_log.specs.Held.{is_clean_file, IsOwn, IsRepaired, OwnRefused}
 use Rattle.dirt_log.specs.LogText.{bitmap_end, pages_at}
 use Rattle.dirt_log.specs.WholeLog.{IsWhole, IsCovered, block_of, pages_in, page_bytes_in, log_end, not_whole, repaired}
 use Rattle.dirt_log.specs.declared.reading.DirtLog.{DirtLog}
-use Rattle.hive_files.specs.Finding.{HasHive, IsByLog, IsFound, IsLogOf, IsLogged, IsPart, TellsOfHive}
+use Rattle.hive_files.specs.Finding.{HasNone, HasNoOwn, IsByLog, IsFound, IsLogOf, IsLogged, IsPart, TellsOfHive}
 use Rattle.hive_files.specs.Frames.{FailsBy}
 use Rattle.hive_files.specs.declared.found.Found.{Found}
+use Rattle.hive_files.proofs.Frames.{fails_on}
 
--- a refusal of a log, among those of a hive
-pub told_of_log : (F S R : Type 0) (why : Refusal) → (S → R) → RefusedFor not_whole S why → FailsBy F (λ w. TellsOfHive w × R) why
-told_of_log F S R why s by = ⊎_elim (λ not. inr (inr (subst (λ (w : Refusal). TellsOfHive w) (sym not.0) refl, s not.1))) (λ none. inl none) by
+-- a refusal of a log, among those of several calls
+pub told_of_log : (F S R : Type 0) (why : Refusal) → (S → R) → RefusedFor not_whole S why → FailsBy F (λ w. (w ≡ not_whole) × R) why
+told_of_log F S R why s by = ⊎_elim (λ not. inr (inr (not.0, s not.1))) (λ none. inl none) by
 
 -- no log of bins data within the limit is longer
 pub front_long : (file : List ℕ) → (block_of file).bins_size ≤ 67108864 → log_end file ≤ 67126272
@@ -72,8 +73,11 @@ sector_tells primary sector block is read long =
 pub short_unclean : (primary : List ℕ) → length primary < 512 → is_clean_file primary ≡ false
 short_unclean primary short = ap (λ (t : Bool). t && is_clean_block (block_of primary)) (lt-leb 512 (length primary) short)
 
-pub short_has_none : (primary log : List ℕ) → length primary < 512 → HasHive primary log → ⊥
-short_has_none primary log short has = omega (arith, short, has.sector (short_unclean primary short))
+pub short_has_none : (primary log : List ℕ) → length primary < 512 → HasNone primary log not_whole
+short_has_none primary log short = record {
+  none = λ has. omega (arith, short, has.sector (short_unclean primary short));
+  tells = match_at_false _ _ (short_unclean primary short) (refl, inl short);
+}
 
 pub clean_found : (primary log : List ℕ) (found : Found) → is_clean_file primary ≡ true → found.is_clean ≡ true → found.block ≡ block_of primary → IsPrimary found.block
     → IsPart primary found.block.bins_size found.bins.items → found.pages ≡ clean_pages found.block.bins_size → IsFound primary log found
@@ -86,17 +90,25 @@ pub unclean_found : (primary log : List ℕ) (found : Found) → is_clean_file p
     → IsFound primary log found
 unclean_found primary log found clean says long by = record { clean = says ∙ sym clean; parts = match_at_false _ _ says (record { sector = long; by_log = by }) }
 
-pub clean_has_none : (primary log : List ℕ) (block : BaseBlock) → is_clean_file primary ≡ true → block ≡ block_of primary
-    → (IsPrimary block → 4096 + block.bins_size ≤ length primary → ⊥) → HasHive primary log → ⊥
-clean_has_none primary log block clean is none has =
-    let own : IsOwn primary has.block has.bins = MatchBool-at_true _ _ clean has.in_use in
-    let same : has.block ≡ block = own.read ∙ sym is in
-    none (subst (λ (b : BaseBlock). IsPrimary b) same (has.own clean)) (subst (λ (b : BaseBlock). 4096 + b.bins_size ≤ length primary) same own.long)
+pub clean_has_none : (primary log : List ℕ) (block : BaseBlock) (why : Refusal) → is_clean_file primary ≡ true → block ≡ block_of primary → HasNoOwn block primary why → HasNone primary log why
+clean_has_none primary log block why clean is own_none = record {
+  none = λ has.
+      let own : IsOwn primary has.block has.bins = MatchBool-at_true _ _ clean has.in_use in
+      let same : has.block ≡ block = own.read ∙ sym is in
+      own_none.none (subst (λ (b : BaseBlock). IsPrimary b) same (has.own clean)) (subst (λ (b : BaseBlock). 4096 + b.bins_size ≤ length primary) same own.long);
+  tells = match_at_true _ _ clean (subst (λ (b : BaseBlock). OwnRefused b (length primary) why) is own_none.tells);
+}
 
-pub unclean_has_none : (primary log : List ℕ) → is_clean_file primary ≡ false → (IsLogged primary log → ⊥) → HasHive primary log → ⊥
-unclean_has_none primary log unclean none has =
-    let by : IsRepaired primary log has.block has.bins = MatchBool-at_false _ _ unclean has.in_use in
-    none (record { whole = by.whole; covered = by.covered })
+pub unclean_has_none : (primary log : List ℕ) (why : Refusal) → is_clean_file primary ≡ false → why ≡ not_whole → (IsLogged primary log → ⊥) → HasNone primary log why
+unclean_has_none primary log why unclean told none = record {
+  none = λ has. let by : IsRepaired primary log has.block has.bins = MatchBool-at_false _ _ unclean has.in_use in none (record { whole = by.whole; covered = by.covered });
+  tells = match_at_false _ _ unclean (told, inr none);
+}
+
+-- ---- what is told of a hive
 
 pub told_on : (F G S R : Type 0) (why : Refusal) → (F → G) → (S → R) → FailsBy F (λ w. TellsOfHive w × S) why → FailsBy G (λ w. TellsOfHive w × R) why
-told_on F G S R why f s by = ⊎_elim (λ none. inl none) (λ other. inr (⊎_elim (λ fault. inl (fault.0, f fault.1)) (λ told. inr (told.0, s told.1)) other)) by
+told_on F G S R why f s by = fails_on F G (λ w. TellsOfHive w × S) (λ w. TellsOfHive w × R) why f (λ told. (told.0, s told.1)) by
+
+pub log_told_on : (F G S R : Type 0) (why : Refusal) → (F → G) → (why ≡ not_whole → S → R) → FailsBy F (λ w. (w ≡ not_whole) × S) why → FailsBy G (λ w. TellsOfHive w × R) why
+log_told_on F G S R why f s by = fails_on F G (λ w. (w ≡ not_whole) × S) (λ w. TellsOfHive w × R) why f (λ told. (subst (λ (w : Refusal). TellsOfHive w) (sym told.0) refl, s told.0 told.1)) by

@@ -1,12 +1,12 @@
 -- What is found in a hive's two files: the base block and the bins data that are in use, and what a repair is to write.
-use Rattle.std.specs.Prelude.{◌≡◌, ℕ, ◌+◌, ◌≤◌, true, false, List, length, take, drop, MatchBool}
+use Rattle.std.specs.Prelude.{◌≡◌, ◌⊎◌, ℕ, ◌+◌, ◌≤◌, ◌<◌, true, false, List, length, take, drop, MatchBool}
 use Rattle.refusals.specs.declared.refusal.Refusal.{Refusal}
 use Rattle.refusals.specs.declared.refusal.Refusal.TheVariants as refusal
 use Rattle.base_block.specs.declared.block.BaseBlock.{BaseBlock}
 use Rattle.base_block.specs.Judgements.{IsPrimary}
 use Rattle.dirty_vector.specs.Pages.{clean_pages}
-use Rattle.dirt_log.specs.WholeLog.{IsWhole, IsCovered, block_of, pages_in, page_bytes_in}
-use Rattle.dirt_log.specs.Held.{is_clean_file, IsOwn, IsRepaired, IsInUse}
+use Rattle.dirt_log.specs.WholeLog.{IsWhole, IsCovered, block_of, not_whole, pages_in, page_bytes_in}
+use Rattle.dirt_log.specs.Held.{is_clean_file, IsOwn, IsRepaired, IsInUse, OwnRefused}
 use Rattle.dirt_log.specs.declared.reading.DirtLog.{DirtLog}
 use Rattle.hive_files.specs.declared.found.Found.{Found}
 
@@ -68,6 +68,24 @@ TellsOfHive refusal.TooLarge = Unit {0}
 TellsOfHive refusal.Unsupported = Unit {0}
 TellsOfHive _ = ⊥
 
--- the refusal tells of the hive, in which nothing stands that may be used, where the device has answered as it should
+-- Why a primary file and its log have nothing that may be used, as a refusal tells it. A clean primary file is refused for its own
+-- block or its length, whatever its log is. An unclean one is told as BadLog: it has no first sector, or its log isn't whole, or
+-- lacks a page that the primary file lacks too.
+abbrev pub IsUnusable : List ℕ → List ℕ → Refusal → Type 0
+IsUnusable primary log why =
+    MatchBool (is_clean_file primary) (OwnRefused (block_of primary) (length primary) why)
+    ((why ≡ not_whole) × ((length primary < 512) ⊎ (IsLogged primary log → ⊥)))
+
+-- two files have nothing that may be used, and a refusal tells why
+pub record HasNone (primary log : List ℕ) (why : Refusal) : Type 0 where
+  pub none : HasHive primary log → ⊥
+  pub tells : IsUnusable primary log why
+
+-- so it is of a primary file with a clean block, which is this, by itself
+pub record HasNoOwn (block : BaseBlock) (primary : List ℕ) (why : Refusal) : Type 0 where
+  pub none : IsPrimary block → 4096 + block.bins_size ≤ length primary → ⊥
+  pub tells : OwnRefused block (length primary) why
+
+-- the refusal tells of the hive, in whose files nothing stands that may be used, and why, where the device has answered as it should
 abbrev pub NothingThere : Type 0 → List ℕ → List ℕ → Refusal → Type 0
-NothingThere faithful primary log why = TellsOfHive why × (faithful → HasHive primary log → ⊥)
+NothingThere faithful primary log why = TellsOfHive why × (faithful → HasNone primary log why)

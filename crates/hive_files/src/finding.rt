@@ -8,7 +8,7 @@ ghost use Rattle.disk_model.specs.Call.{Extends};
 ghost use Rattle.disk_model.specs.FileState.{at_rest};
 ghost use Rattle.disk_model.specs.StoreFiles.{IsOfHive, primary_file, log_file};
 ghost use Rattle.disk_model.specs.Unwritten.{OnlyReads, OnlySyncs};
-ghost use Rattle.hive_files.specs.Finding.{IsByLog, IsFound, IsLogOf, IsLogged, IsPart, NothingThere, TellsOfHive, as_primary};
+ghost use Rattle.hive_files.specs.Finding.{HasNoOwn, IsByLog, IsFound, IsLogOf, IsLogged, IsPart, NothingThere, TellsOfHive, as_primary};
 ghost use Rattle.hive_files.specs.Frames.{FailsBy};
 ghost use Rattle.hive_files.specs.Pieces.{calls_of_part, calls_to_find};
 ghost use Rattle.refusals.specs.Answers.{RefusedFor};
@@ -30,8 +30,8 @@ const MOST_LOG_BYTES: u64 = 67_126_272;
 ///
 /// Refused with `DiskFault` where the device failed, with `NoMemory`, and only where nothing that may be used stands in the
 /// files with a cause of hive 0, `Unsupported` or `TooLarge`: a clean primary file with that of its base block, or with
-/// `Truncated` where it is shorter than its bins data; an unclean one with `BadLog`, also where it has no first sector. No file
-/// changes but by its sync.
+/// `Truncated` where it is shorter than its bins data; an unclean one with `BadLog`, also where it has no first sector. What is
+/// told is so in the bytes. No file changes but by its sync.
 pub fn find<D: Disk>(alloc: Global, disk: &mut D, hive: u8) -> Result<Found, Refusal>
     ensures found { IfOk result (λ found. D.faithful disk.new → IsFound
         (D.state_at disk.old (D.clock disk.old) (primary_file hive)).seen
@@ -102,8 +102,8 @@ fn find_own<D: Disk>(
     ensures calls { IfOk result (λ found. D.clock disk.new
         ≡ D.clock disk.old + calls_of_part block.bins_size) }
     ensures fails { IfErr result (FailsBy (D.failures disk.old < D.failures disk.new)
-        (λ why. TellsOfHive why × (D.faithful disk.new → IsPrimary block →
-        4096 + block.bins_size ≤ length (D.state_at disk.old (D.clock disk.old) file).seen → ⊥))) }
+        (λ why. TellsOfHive why × (D.faithful disk.new → HasNoOwn block
+        (D.state_at disk.old (D.clock disk.old) file).seen why))) }
     ensures reads { OnlyReads (D.state_at disk.old) (D.state_at disk.new) (D.clock disk.old)
         (D.clock disk.new) }
     ensures failures { D.failures disk.old ≤ D.failures disk.new }
@@ -148,7 +148,7 @@ fn find_repaired<D: Disk>(alloc: Global, disk: &mut D, hive: u8) -> Result<Found
         D.state_at disk.new (D.clock disk.new) (log_file hive)
         ≡ at_rest (D.state_at disk.old (D.clock disk.old) (log_file hive)).seen) }
     ensures fails { IfErr result (FailsBy (D.failures disk.old < D.failures disk.new)
-        (λ why. TellsOfHive why × (D.faithful disk.new → IsLogged
+        (λ why. (why ≡ not_whole) × (D.faithful disk.new → IsLogged
         (D.state_at disk.old (D.clock disk.old) (primary_file hive)).seen
         (D.state_at disk.old (D.clock disk.old) (log_file hive)).seen → ⊥))) }
     ensures synced { D.faithful disk.new → OnlySyncs (D.state_at disk.old) (D.state_at disk.new)
@@ -176,7 +176,7 @@ fn read_repaired<D: Disk>(alloc: Global, disk: &mut D, hive: u8) -> Result<Found
         (take found.block.bins_size (drop 4096
         (D.state_at disk.old (D.clock disk.old) (primary_file hive)).seen)))) }
     ensures fails { IfErr result (FailsBy (D.failures disk.old < D.failures disk.new)
-        (λ why. TellsOfHive why × (D.faithful disk.new → IsLogged
+        (λ why. (why ≡ not_whole) × (D.faithful disk.new → IsLogged
         (D.state_at disk.old (D.clock disk.old) (primary_file hive)).seen
         (D.state_at disk.old (D.clock disk.old) (log_file hive)).seen → ⊥))) }
     ensures reads { OnlyReads (D.state_at disk.old) (D.state_at disk.new) (D.clock disk.old)

@@ -1,4 +1,4 @@
-use Rattle.std.proofs.Common.{◌≡◌, ◌≢◌, ℕ, ◌+◌, ◌≤◌, true, false, List, length, take, drop, length-take, inl, inr, refl, sym, ap, subst, ◌∙◌, arith}
+use Rattle.std.proofs.Common.{◌≡◌, ◌≢◌, ℕ, ◌+◌, ◌≤◌, true, false, List, length, take, drop, length-take, inl, inr, refl, sym, ap, subst, ◌∙◌, arith, ◌<◌}
 use Rattle.std.proofs.lemmas.Result.{IfErr-weaker, IfOk-weaker}
 use Rattle.refusals.specs.declared.refusal.Refusal.{Refusal}
 use Rattle.base_block.specs.declared.block.BaseBlock.{BaseBlock}
@@ -7,8 +7,8 @@ use Rattle.disk_model.specs.FileState.{FileState, at_rest}
 use Rattle.disk_model.specs.StoreFiles.{primary_file, log_file}
 use Rattle.disk_model.proofs.Unwritten.{only_reads, still, sync_call, syncs_on}
 use Rattle.dirty_vector.specs.Pages.{clean_pages}
-use Rattle.hive_files.specs.Finding.{IsByLog, IsLogged, IsPart, TellsOfHive}
-use Rattle.hive_files.proofs.Founding.{sector_tells, short_has_none, clean_found, unclean_found, clean_has_none, unclean_has_none, told_on}
+use Rattle.hive_files.specs.Finding.{HasNone, HasNoOwn, IsByLog, IsLogged, IsPart, TellsOfHive}
+use Rattle.hive_files.proofs.Founding.{sector_tells, short_has_none, clean_found, unclean_found, clean_has_none, unclean_has_none, told_on, log_told_on}
 use Rattle.hive_files.proofs.Frames.{ok_joined, ok_of_three}
 use Rattle.hive_files.proofs.Pieces.{clean_calls, unclean_calls}
 use Rattle.base_block.specs.Layout.{is_clean_block}
@@ -19,14 +19,15 @@ use Rattle.hive_files.proofs.finding.find.Goals as goal
 pub returns-in-None-clause-fails : goal.returns-in-None-clause-fails
 returns-in-None-clause-fails g c = inr (inr (
   subst (λ (r : Refusal). TellsOfHive r) (sym c.from.ensures) refl,
-  λ faithful has.
+  λ faithful.
       let old = g.D.Disk.state_at c.args.disk.now (g.D.Disk.clock c.args.disk.now) in
       let mid = g.D.Disk.state_at c.sync.new.self (g.D.Disk.clock c.sync.new.self) in
       let primary = (old (primary_file c.args.hive)).seen in
       let number : c.primary_number-primary.result ≡ primary_file c.args.hive = c.primary_number-primary.ensures in
       let shown : (mid c.primary_number-primary.result).seen ≡ primary = ap (λ (s : FileState). s.seen) (c.in_ok-sync.ensures.synced (c.in-Ok.ensures.faithful faithful)) ∙ ap (λ (f : ℕ). (old f).seen) number in
       let sector : c.in-Ok.sector.items ≡ take 512 primary = c.in-Ok.ensures.bytes faithful ∙ ap (λ (l : List ℕ). take 512 l) shown in
-      short_has_none primary _ (omega (arith, c.in-None.ensures.none, ap (λ (l : List ℕ). length l) (c.deref.ensures.value ∙ sector), length-take 512 primary)) has,
+      let short : length primary < 512 = omega (arith, c.in-None.ensures.none, ap (λ (l : List ℕ). length l) (c.deref.ensures.value ∙ sector), length-take 512 primary) in
+      subst (HasNone primary _) (sym c.from.ensures) (short_has_none primary _ short),
 ))
 
 pub returns-then-is_clean-clause-found : goal.returns-then-is_clean-clause-found
@@ -61,7 +62,7 @@ returns-then-is_clean-clause-fails g c = IfErr-weaker c.find_own.result _ _ (λ 
     let tells : (c.in-Some.block ≡ block_of primary) × (512 ≤ length primary) × (is_clean_file primary ≡ is_clean_block c.in-Some.block) = sector_tells primary c.deref.result.now c.in-Some.block sector c.in-Some.ensures.some.0 c.in-Some.ensures.some.1 in
     let clean : is_clean_file primary ≡ true = tells.2 ∙ sym c.is_clean.ensures ∙ c.if-is_clean.true in
     let there : (late c.primary_number-primary.result).seen ≡ primary = ap (λ (s : FileState). s.seen) (still c.in-Ok.ensures.reads c.primary_number-primary.result) ∙ shown in
-    clean_has_none primary log c.in-Some.block clean tells.0 (λ judged long. none faithful judged (subst (λ (l : List ℕ). 4096 + c.in-Some.block.bins_size ≤ length l) (sym there) long))) fails) c.find_own.ensures.fails
+    clean_has_none primary log c.in-Some.block why clean tells.0 (subst (λ (p : List ℕ). HasNoOwn c.in-Some.block p why) there (none faithful))) fails) c.find_own.ensures.fails
 
 pub returns-clause-found : goal.returns-clause-found
 returns-clause-found g c = ok_joined c.find_repaired.result _ _ _ (λ found by says faithful.
@@ -82,7 +83,7 @@ returns-clause-found g c = ok_joined c.find_repaired.result _ _ _ (λ found by s
     unclean_found primary log found clean says tells.1 (subst (λ (l : List ℕ). IsByLog primary l found) behind (subst (λ (p : List ℕ). IsByLog p (late (log_file c.args.hive)).seen found) there (by faithful)))) c.find_repaired.ensures.found c.find_repaired.ensures.clean
 
 pub returns-clause-fails : goal.returns-clause-fails
-returns-clause-fails g c = IfErr-weaker c.find_repaired.result _ _ (λ why fails. told_on _ _ _ _ why (λ f. omega (arith, f, c.in-Ok.ensures.failures, c.in_ok-sync.ensures.failures)) (λ none faithful.
+returns-clause-fails g c = IfErr-weaker c.find_repaired.result _ _ (λ why fails. log_told_on _ _ _ _ why (λ f. omega (arith, f, c.in-Ok.ensures.failures, c.in_ok-sync.ensures.failures)) (λ told none faithful.
     let old = g.D.Disk.state_at c.args.disk.now (g.D.Disk.clock c.args.disk.now) in
     let mid = g.D.Disk.state_at c.sync.new.self (g.D.Disk.clock c.sync.new.self) in
     let late = g.D.Disk.state_at c.read_part.new.disk (g.D.Disk.clock c.read_part.new.disk) in
@@ -97,7 +98,7 @@ returns-clause-fails g c = IfErr-weaker c.find_repaired.result _ _ (λ why fails
     let there : (late (primary_file c.args.hive)).seen ≡ primary = ap (λ (f : ℕ). (late f).seen) (sym number) ∙ ap (λ (s : FileState). s.seen) (still c.in-Ok.ensures.reads c.primary_number-primary.result) ∙ shown in
     let apart : log_file c.args.hive ≢ c.primary_number-primary.result = λ same. omega (arith, same, number) in
     let behind : (late (log_file c.args.hive)).seen ≡ log = ap (λ (s : FileState). s.seen) (still c.in-Ok.ensures.reads (log_file c.args.hive) ∙ c.in_ok-sync.ensures.others (log_file c.args.hive) apart) in
-    unclean_has_none primary log clean (λ logged. none faithful (subst (λ (l : List ℕ). IsLogged (late (primary_file c.args.hive)).seen l) (sym behind) (subst (λ (p : List ℕ). IsLogged p log) (sym there) logged)))) fails) c.find_repaired.ensures.fails
+    unclean_has_none primary log why clean told (λ logged. none faithful (subst (λ (l : List ℕ). IsLogged (late (primary_file c.args.hive)).seen l) (sym behind) (subst (λ (p : List ℕ). IsLogged p log) (sym there) logged)))) fails) c.find_repaired.ensures.fails
 
 pub returns-then-is_clean-clause-synced : goal.returns-then-is_clean-clause-synced
 returns-then-is_clean-clause-synced g c = λ faithful.
