@@ -8,3 +8,4 @@ pub mod Created
 pub mod Legal
 pub mod Ahead
 pub mod Repairing
+pub mod Telling

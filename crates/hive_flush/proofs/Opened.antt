@@ -36,7 +36,7 @@ match_at_false P Q e x = subst (λ (b : Bool). MatchBool b P Q) (sym e) x
 -- ---- what is in use is what was found
 
 -- the block in use, but perhaps for its type and its sum, is the one that was found
-record InUse (primary log : List ℕ) (found : Found) : Type 0 where
+pub record InUse (primary log : List ℕ) (found : Found) : Type 0 where
   pub block : BaseBlock
   pub in_use : IsInUse primary log block found.bins.items
   pub root : block.root ≡ found.block.root
@@ -49,7 +49,7 @@ record InUse (primary log : List ℕ) (found : Found) : Type 0 where
 pub true_false : (b : Bool) → b ≡ true → b ≡ false → ⊥
 true_false b t f = absurd cc
 
-in_use : (primary log : List ℕ) (found : Found) → IsFound primary log found → InUse primary log found
+pub in_use : (primary log : List ℕ) (found : Found) → IsFound primary log found → InUse primary log found
 in_use primary log found f = elim (cases_Bool found.is_clean) [
   | inl clean ↦
       let x : IsFoundClean primary found = MatchBool-at_true _ _ clean f.parts in

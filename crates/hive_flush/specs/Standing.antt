@@ -1,14 +1,16 @@
 -- What a hive's two files hold in a store.
-use Rattle.std.specs.Prelude.{◌≡◌, ◌⊎◌, ◌<◌, ℕ, ◌≤◌, nat_eq, ◌&&◌, ◌==◌, if◌then◌else◌, true, false, List, length, Some, None}
+use Rattle.std.specs.Prelude.{◌≡◌, ◌≢◌, ◌⊎◌, ◌<◌, ℕ, ◌≤◌, nat_eq, ◌&&◌, ◌==◌, if◌then◌else◌, true, false, List, length, Some, None}
 use Rattle.std.specs.Cmp.Lexicographic.{pointwise}
 use Rattle.refusals.specs.declared.refusal.Refusal.{Refusal}
 use Rattle.refusals.specs.declared.refusal.Refusal.TheVariants as refusal
+use Rattle.refusals.specs.declared.refusal.Cause.TheVariants.{BadStore, TooLarge}
 use Rattle.refusals.specs.declared.limits.TheConstants.{MOST_WEIGHT}
 use Rattle.reg_tree.specs.Maps.{TreeMap}
 use Rattle.base_block.specs.declared.block.BaseBlock.{BaseBlock}
 use Rattle.base_block.specs.Judgements.{IsPrimary}
 use Rattle.dirt_log.specs.Held.{is_clean_file, IsInUse}
-use Rattle.hive_load.specs.Limits.{StandsWithin}
+use Rattle.hive_files.specs.Finding.{HasHive, IsUnusable}
+use Rattle.hive_load.specs.Limits.{BinsRefused, StandsWithin}
 use Rattle.hive_phases.specs.Holding.{Standing}
 
 -- A primary file and its log hold a tree and a number, as a hive of this store: the block that is in use, that of a primary
@@ -49,7 +51,30 @@ IsOfHive hive (refusal.HiveDamaged of cause) = of ≡ hive
 IsOfHive hive refusal.Unsupported = Unit {0}
 IsOfHive hive _ = ⊥
 
--- why two files are refused as a hive of a store: it is told of the hive, and they hold nothing, where the device has answered as
--- it should
+-- A refusal, told as that of a hive of a store: damage goes on with the hive's number, and so does what is over a limit, as the
+-- cause TooLarge. Any other that comes of a hive's bytes tells a version, a type or a flag that isn't known.
+abbrev pub as_told : ℕ → Refusal → Refusal
+as_told hive refusal.NoMemory = refusal.NoMemory
+as_told hive (refusal.HiveDamaged of cause) = refusal.HiveDamaged hive cause
+as_told hive refusal.TooLarge = refusal.HiveDamaged hive TooLarge
+as_told hive _ = refusal.Unsupported
+
+-- Why two files hold nothing as a hive of a store, by what stands in their bytes.
+pub data TellsWhy (hive : ℕ) (store primary log : List ℕ) (told : Refusal) : Type 0 where
+  -- they have nothing that may be used: a clean primary file for its own block or its length, an unclean one for its log
+  unusable : (why : Refusal) → told ≡ as_told hive why → IsUnusable primary log why → TellsWhy hive store primary log told
+  -- the block in use is that of another store
+  of_another : told ≡ refusal.HiveDamaged hive BadStore → (has : HasHive primary log) → has.block.store ≢ store → TellsWhy hive store primary log told
+  -- the bins data in use stand for no tree within the limits
+  not_loaded : (why : Refusal) → told ≡ as_told hive why → why ≢ refusal.NoMemory → (has : HasHive primary log) → BinsRefused has.bins has.block.root has.block.minor why
+      → TellsWhy hive store primary log told
+
+-- two files hold nothing as a hive of a store, and a refusal tells why
+pub record IsNoneHeld (hive : ℕ) (store primary log : List ℕ) (why : Refusal) : Type 0 where
+  pub none : (held : TreeMap × ℕ) → HoldsUnder store primary log held → ⊥
+  pub tells : TellsWhy hive store primary log why
+
+-- why two files are refused as a hive of a store: it is told of the hive, and they hold nothing for the cause that is told, where
+-- the device has answered as it should
 abbrev pub NothingHeld : Type 0 → ℕ → List ℕ → List ℕ → List ℕ → Refusal → Type 0
-NothingHeld faithful hive store primary log why = IsOfHive hive why × (faithful → (held : TreeMap × ℕ) → HoldsUnder store primary log held → ⊥)
+NothingHeld faithful hive store primary log why = IsOfHive hive why × (faithful → IsNoneHeld hive store primary log why)

@@ -9,7 +9,7 @@ ghost use Rattle.disk_model.specs.StoreFiles.{IsOfHive as IsFileOf, primary_file
 ghost use Rattle.disk_model.specs.Unwritten.{OnlySyncs};
 ghost use Rattle.hive_files.specs.Finding.{IsFound};
 ghost use Rattle.hive_files.specs.Frames.{FailsBy};
-ghost use Rattle.hive_flush.specs.Standing.{HoldsUnder, IsOfHive, NothingHeld};
+ghost use Rattle.hive_flush.specs.Standing.{HoldsUnder, IsNoneHeld, IsOfHive, NothingHeld, as_told};
 ghost use Rattle.hive_flush.specs.Planned.{clean_writer, unclean_writer};
 ghost use Rattle.hive_flush.specs.HiveStates.{IsBroken, IsOn, IsWhole, files_of, marked_pages, memory_of, most_repairs, place_of, repairs_left, steps_left, store_of};
 
@@ -36,6 +36,10 @@ impl HiveFile {
     ///
     /// Refused only where the files hold nothing in this store, with `HiveDamaged` of this hive or `Unsupported`; with
     /// `DiskFault` where the device failed; and with `NoMemory`. No file changes but by its sync.
+    ///
+    /// The cause that is told stands in the files: of a clean primary file what is wrong with its own block, or `Truncated`; of an
+    /// unclean one `BadLog`, if its log isn't whole or lacks a page that is needed; of a block of another store `BadStore`; and else
+    /// what is wrong with the bins data that are in use. What is over a limit has the cause `TooLarge`.
     pub fn open<D: Disk>(
         alloc: Global,
         disk: &mut D,
@@ -83,6 +87,7 @@ fn found_told(why: Refusal, hive: u8) -> Refusal
     ensures fault { why ≡ DiskFault → result ≡ DiskFault }
     ensures memory { why ≡ NoMemory → result ≡ NoMemory }
     ensures told { (why ≡ DiskFault → ⊥) → (result ≡ NoMemory) ⊎ IsOfHive hive result }
+    ensures cause { (why ≡ DiskFault → ⊥) → result ≡ as_told hive why }
 {
     if why == Refusal::DiskFault {
         return why;
@@ -94,6 +99,7 @@ fn found_told(why: Refusal, hive: u8) -> Refusal
 fn told(why: Refusal, hive: u8) -> Refusal
     ensures memory { why ≡ NoMemory → result ≡ NoMemory }
     ensures told { (result ≡ NoMemory) ⊎ IsOfHive hive result }
+    ensures cause { result ≡ as_told hive why }
 {
     match why {
         Refusal::NoMemory => Refusal::NoMemory,
@@ -122,8 +128,8 @@ fn of_found(alloc: Global, found: Found, hive: u8, store: Uuid) -> Result<HiveFi
     ensures repairs { IfOk result (λ file. (primary log : List ℕ) → IsFound primary log found →
         repairs_left file ≤ most_repairs primary log) }
     ensures fails { IfErr result (λ why. (why ≡ NoMemory) ⊎ (IsOfHive hive why
-        × ((primary log : List ℕ) → IsFound primary log found → (held : TreeMap × ℕ) →
-        HoldsUnder store primary log held → ⊥))) }
+        × ((primary log : List ℕ) → IsFound primary log found →
+        IsNoneHeld hive store primary log why))) }
 {
     if found.block.store != store {
         return Err(Refusal::HiveDamaged {

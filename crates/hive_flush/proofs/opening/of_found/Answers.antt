@@ -1,7 +1,8 @@
-use Rattle.std.proofs.Common.{◌≡◌, ◌≤◌, ◌+◌, inl, inr, ⊎_elim, ℕ, List, length, refl, sym, ap, subst, ◌∙◌}
+use Rattle.std.proofs.Common.{◌≡◌, ◌≢◌, ◌≤◌, ◌+◌, inl, inr, ⊎_elim, ℕ, List, length, refl, sym, ap, subst, ◌∙◌}
 use Rattle.std.proofs.lemmas.Bool.{cases_Bool, not-false, not-true, MatchBool-at_true, MatchBool-at_false}
 use Rattle.std.proofs.lemmas.Slice.Eq.{bytes_eq-Decides}
 use Rattle.refusals.specs.declared.refusal.Refusal.{Refusal}
+use Rattle.refusals.specs.declared.refusal.Refusal.TheVariants.{NoMemory}
 use Rattle.disk_model.specs.FileState.{FileState, at_rest}
 use Rattle.hive_writer.specs.declared.writer.HiveWriter.{HiveWriter}
 use Rattle.hive_writer.specs.Writing.{calls_left, plan_of}
@@ -12,23 +13,30 @@ use Rattle.hive_flush.specs.Planned.{clean_writer, unclean_writer}
 use Rattle.hive_flush.specs.Standing.{IsOfHive}
 use Rattle.hive_flush.proofs.Going.{same_on}
 use Rattle.hive_flush.proofs.Opened.{IsWriterFor, clean_ready, found_agrees, found_holds, clean_on, unclean_on, true_false, few_left, repairs_few, writer_ahead, writer_number, writer_planned, writer_steady}
+use Rattle.hive_flush.proofs.Telling.{another_told, loaded_told}
 use Rattle.hive_flush.proofs.opening.of_found.Goals as goal
 
 pub returns-then-ne-clause-fails : goal.returns-then-ne-clause-fails
 returns-then-ne-clause-fails c = inr (
   refl,
-  λ primary log f held h.
-      let same = (found_agrees primary log c.args.found c.args.store held f h).0 in
-      true_false _ ((bytes_eq-Decides c.args.found.block.store c.args.store).1 same) (not-true _ (sym c.if-ne.ensures)),
+  λ primary log f.
+      let other : c.args.found.block.store ≢ c.args.store = λ same. true_false _ ((bytes_eq-Decides c.args.found.block.store c.args.store).1 same) (not-true _ (sym c.if-ne.ensures)) in
+      record {
+        none = λ held h. other (found_agrees primary log c.args.found c.args.store held f h).0;
+        tells = another_told c.args.hive c.args.store primary log c.args.found f other;
+      },
 )
 
 pub returns-in-Err-clause-fails : goal.returns-in-Err-clause-fails
 returns-in-Err-clause-fails c = ⊎_elim (λ none. inl none) (λ is. inr (
   is,
-  λ primary log f held h.
+  λ primary log f.
       let block = c.args.found.block in
-      c.refused_bins_exclude_trees.ensures c.args.found.bins.items block.root block.minor c.in-Err.why c.in-Err.ensures.refused
-      (λ none. subst (λ (r : Refusal). IsOfHive c.args.hive r) (c.told.ensures.memory none) is) held.0 (found_agrees primary log c.args.found c.args.store held f h).1,
+      let some : c.in-Err.why ≢ NoMemory = λ none. subst (λ (r : Refusal). IsOfHive c.args.hive r) (c.told.ensures.memory none) is in
+      record {
+        none = λ held h. c.refused_bins_exclude_trees.ensures c.args.found.bins.items block.root block.minor c.in-Err.why c.in-Err.ensures.refused some held.0 (found_agrees primary log c.args.found c.args.store held f h).1;
+        tells = loaded_told c.args.hive c.args.store primary log c.args.found c.told.result c.in-Err.why f c.told.ensures.cause some c.in-Err.ensures.refused;
+      },
 )) c.told.ensures.told
 
 pub plan_fits-requires-clause-size : goal.plan_fits-requires-clause-size

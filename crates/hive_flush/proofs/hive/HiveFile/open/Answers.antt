@@ -1,8 +1,10 @@
-use Rattle.std.proofs.Common.{inl, inr, ⊎_elim, subst}
+use Rattle.std.proofs.Common.{◌≢◌, inl, inr, ⊎_elim, subst}
 use Rattle.std.proofs.lemmas.Result.{IfOk-weaker, IfErr-weaker}
 use Rattle.refusals.specs.declared.refusal.Refusal.{Refusal}
+use Rattle.refusals.specs.declared.refusal.Refusal.TheVariants.{DiskFault}
 use Rattle.disk_model.specs.StoreFiles.{primary_file, log_file}
 use Rattle.hive_files.specs.Finding.{TellsOfHive}
+use Rattle.hive_flush.specs.Standing.{unusable}
 use Rattle.hive_flush.proofs.Opened.{has_hive}
 use Rattle.hive_flush.proofs.hive.HiveFile.open.Goals as goal
 
@@ -19,12 +21,19 @@ returns-in-Ok-clause-repairs g c = IfOk-weaker c.of_found.result _ _ (λ file fe
 pub returns-in-Ok-clause-fails : goal.returns-in-Ok-clause-fails
 returns-in-Ok-clause-fails g c = IfErr-weaker c.of_found.result _ _ (λ why fails. ⊎_elim (λ none. inl none) (λ told. inr (inr (
   told.0,
-  λ faithful held h.
+  λ faithful.
       let old = g.D.Disk.state_at c.args.disk.now (g.D.Disk.clock c.args.disk.now) in
-      told.1 (old (primary_file c.args.hive)).seen (old (log_file c.args.hive)).seen (c.in-Ok.ensures.found faithful) held h,
+      told.1 (old (primary_file c.args.hive)).seen (old (log_file c.args.hive)).seen (c.in-Ok.ensures.found faithful),
 ))) fails) c.of_found.ensures.fails
 
 pub returns-in-Err-clause-fails : goal.returns-in-Err-clause-fails
 returns-in-Err-clause-fails g c = ⊎_elim (λ none. inl (c.found_told.ensures.memory none)) (λ other. ⊎_elim (λ fault. inr (inl (c.found_told.ensures.fault fault.0, fault.1)))
-    (λ nothing. ⊎_elim (λ none. inl none) (λ is. inr (inr (is, λ faithful held h. nothing.1 faithful (has_hive c.args.store _ _ held h))))
-    (c.found_told.ensures.told (λ e. subst (λ (r : Refusal). TellsOfHive r) e nothing.0))) other) c.in-Err.ensures.fails
+    (λ nothing.
+    let works : c.in-Err.why ≢ DiskFault = λ e. subst (λ (r : Refusal). TellsOfHive r) e nothing.0 in
+    ⊎_elim (λ none. inl none) (λ is. inr (inr (
+      is,
+      λ faithful. record {
+        none = λ held h. (nothing.1 faithful).none (has_hive c.args.store _ _ held h);
+        tells = unusable c.in-Err.why (c.found_told.ensures.cause works) (nothing.1 faithful).tells;
+      },
+    ))) (c.found_told.ensures.told works)) other) c.in-Err.ensures.fails
