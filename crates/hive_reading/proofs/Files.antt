@@ -1,5 +1,5 @@
 -- What was read of a file, as its bytes.
-use Rattle.std.proofs.Common.{◌≡◌, inl, inr, length-take-le, ℕ, ◌≤◌, ◌<◌, ◌≢◌, zero, suc, Bool, true, false, ◌&&◌, List, [], ◌++◌, length, take, drop, Option, Some, None, IfSome, refl, sym, ◌∙◌, ap, subst, arith, length-append, drop_at}
+use Rattle.std.proofs.Common.{◌≡◌, inl, inr, length-take-le, ℕ, ◌+◌, ◌≤◌, ◌<◌, ◌≢◌, zero, suc, Bool, true, false, ◌&&◌, List, [], ◌++◌, length, take, drop, Option, Some, None, IfSome, refl, sym, ◌∙◌, ap, subst, arith, length-append, drop_at}
 use Rattle.std.specs.Prelude.{nat_le}
 use Rattle.std.proofs.lemmas.Bool.{and_parts, le-leb}
 use Rattle.std.proofs.lemmas.List.{append-nil, take_at, take-append-le}
@@ -15,7 +15,7 @@ use Rattle.dirt_log.specs.WholeLog.{block_of}
 use Rattle.reg_tree.specs.Maps.{TreeMap}
 use Rattle.dirt_log.specs.Held.{is_clean_file, IsOwn}
 use Rattle.hive_load.specs.Limits.{StandsWithin, BinsRefused}
-use Rattle.hive_reading.specs.Hives.{HasBlock, HoldsHive, NoHive, IsFront, no_sector, no_signature, not_clean, not_usable, not_whole, not_loaded}
+use Rattle.hive_reading.specs.Hives.{HasBlock, HoldsHive, NoHive, IsFront, no_sector, no_signature, not_clean, not_usable, not_loaded}
 use Rattle.hive_reading.specs.Readings.{IsRefused, IsRefusedAs, of_hive}
 
 -- what holds of a known value for another reason
@@ -61,6 +61,11 @@ read_own (Some file) None now head bins block a b long size has = absurd a
 read_own (Some file) (Some rest) None head bins block a b long size has = absurd b
 read_own (Some file) (Some rest) (Some tail) head bins block a b long size has = (has, own_bins file head rest bins tail block a long b has size)
 
+-- a file that ends before its bins data do
+cut_short : (file : List ℕ) (block : BaseBlock) → HasBlock file block → length file < 4096 + block.bins_size → NoHive file (refusal.HiveDamaged 0 cause.Truncated)
+cut_short file block has short =
+    not_usable (refusal.HiveDamaged 0 cause.Truncated) has.clean (inr (refl, subst IsPrimary has.read has.judged, subst (λ (b : BaseBlock). length file < 4096 + b.bins_size) has.read short))
+
 -- bins data that end early
 pub read_short : (known mid now : Option (List ℕ)) (head bins : List ℕ) (block : BaseBlock) → Consumes known mid head → Consumes mid now bins → length head ≡ 4096 → length bins < block.bins_size → IsAtEnd now → IfSome known (λ file. HasBlock file block)
     → IfSome known (λ file. IsRefused file (refusal.HiveDamaged 0 cause.Truncated))
@@ -68,7 +73,7 @@ read_short None mid now head bins block a b long size end has = tt
 read_short (Some file) None now head bins block a b long size end has = absurd a
 read_short (Some file) (Some rest) None head bins block a b long size end has = absurd b
 read_short (Some file) (Some rest) (Some tail) head bins block a b long size end has =
-    inr (not_whole block has (omega (arith, ap length a, length-append head rest, ap length b, length-append bins tail, ap (λ (l : List ℕ). length l) end)))
+    inr (cut_short file block has (omega (arith, ap length a, length-append head rest, ap length b, length-append bins tail, ap (λ (l : List ℕ). length l) end)))
 
 -- what the first sector of a file's front tells
 sector_tells : (file front : List ℕ) (block : BaseBlock) → IsFront front file → 512 ≤ length front → block ≡ block_at (take 512 front) → (block ≡ block_of file) × (512 ≤ length file) × (is_clean_file file ≡ is_clean_block block)
@@ -97,7 +102,7 @@ told_not_clean file front block is long read unclean =
 pub told_not_usable : (file front : List ℕ) (block : BaseBlock) (why : Refusal) → IsFront front file → 512 ≤ length front → block ≡ block_at (take 512 front) → is_clean_block block ≡ true → PrimaryRefused block why → NoHive file why
 told_not_usable file front block why is long read clean refused =
     let tells = sector_tells file front block is long read in
-    not_usable why (tells.2 ∙ clean) (subst (λ b. PrimaryRefused b why) tells.0 refused)
+    not_usable why (tells.2 ∙ clean) (inl (subst (λ b. PrimaryRefused b why) tells.0 refused))
 
 pub told_block : (file front : List ℕ) (block : BaseBlock) → IsFront front file → 512 ≤ length front → block ≡ block_at (take 512 front) → is_clean_block block ≡ true → IsPrimary block → HasBlock file block
 told_block file front block is long read clean judged =
@@ -105,7 +110,7 @@ told_block file front block is long read clean judged =
     record { clean = tells.2 ∙ clean; read = tells.0; judged = judged }
 
 pub told_cut : (file front : List ℕ) (block : BaseBlock) → IsFront front file → HasBlock file block → length front < 4096 → NoHive file (refusal.HiveDamaged 0 cause.Truncated)
-told_cut file front block is has short = not_whole block has (omega (arith, short, whole_front file front is short))
+told_cut file front block is has short = cut_short file block has (omega (arith, short, whole_front file front is short))
 
 -- ---- a file holds a tree or none
 
@@ -167,8 +172,8 @@ pub none_held : ((bytes : List ℕ) (root minor : ℕ) (why : Refusal) → BinsR
 none_held law file why (no_sector short) some tree holds = let no : ⊥ = omega (arith, short, holds.own.long) in no
 none_held law file why (no_signature long other) some tree holds = other (subst (λ (b : BaseBlock). b.signature.0 ≡ 0x6667_6572) holds.has.read holds.has.judged.0.signature)
 none_held law file why (not_clean long unclean) some tree holds = let no : ⊥ = let e : true ≡ false = sym (clean_here file holds.has.clean) ∙ unclean in cc in no
-none_held law file why (not_usable _ clean refused) some tree holds = unusable (block_of file) why refused (subst IsPrimary holds.has.read holds.has.judged)
-none_held law file why (not_whole block has short) some tree holds = let same : block.bins_size ≡ holds.block.bins_size = ap (λ (b : BaseBlock). b.bins_size) (has.read ∙ sym holds.has.read) in omega (arith, short, same, holds.own.long)
+none_held law file why (not_usable _ clean (inl refused)) some tree holds = unusable (block_of file) why refused (subst IsPrimary holds.has.read holds.has.judged)
+none_held law file why (not_usable _ clean (inr (is, judged, short))) some tree holds = omega (arith, short, ap (λ (b : BaseBlock). b.bins_size) holds.has.read, holds.own.long)
 none_held law file why (not_loaded _ block bins has own refused) some tree holds =
     let blocks : block ≡ holds.block = has.read ∙ sym holds.has.read in
     let same : bins ≡ holds.bins = same_bins file bins holds.bins block holds.block own holds.own in

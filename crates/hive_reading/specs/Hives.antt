@@ -1,13 +1,13 @@
 -- Which tree the bytes of a hive's primary file hold, where they are read without a log, and why they hold none.
-use Rattle.std.specs.Prelude.{◌≡◌, ◌≢◌, ℕ, ◌+◌, ◌≤◌, ◌<◌, true, false, List, [], ◌++◌, length}
+use Rattle.std.specs.Prelude.{◌≡◌, ◌≢◌, ℕ, ◌≤◌, ◌<◌, true, false, List, [], ◌++◌, length}
 use Rattle.refusals.specs.declared.refusal.Refusal.{Refusal}
 use Rattle.refusals.specs.declared.refusal.Refusal.TheVariants as refusal
 use Rattle.refusals.specs.declared.refusal.Cause.TheVariants as cause
 use Rattle.base_block.specs.declared.block.BaseBlock.{BaseBlock}
-use Rattle.base_block.specs.Judgements.{IsPrimary, PrimaryRefused}
+use Rattle.base_block.specs.Judgements.{IsPrimary}
 use Rattle.base_block.specs.Layout.{is_clean_block}
 use Rattle.dirt_log.specs.WholeLog.{block_of}
-use Rattle.dirt_log.specs.Held.{is_clean_file, IsOwn}
+use Rattle.dirt_log.specs.Held.{is_clean_file, IsOwn, OwnRefused}
 use Rattle.reg_tree.specs.Maps.{TreeMap}
 use Rattle.hive_load.specs.Limits.{StandsWithin, BinsRefused}
 
@@ -33,10 +33,8 @@ pub data NoHive (file : List ℕ) : Refusal → Type 0 where
   no_signature : 512 ≤ length file → (block_of file).signature.0 ≢ 0x6667_6572 → NoHive file (refusal.HiveDamaged 0 cause.BadBase)
   -- the sum is wrong, or the two numbers differ
   not_clean : 512 ≤ length file → is_clean_block (block_of file) ≡ false → NoHive file (refusal.HiveDamaged 0 cause.NotClean)
-  -- the base block is outside the profile
-  not_usable : (why : Refusal) → is_clean_file file ≡ true → PrimaryRefused (block_of file) why → NoHive file why
-  -- the file ends before its bins data do
-  not_whole : (block : BaseBlock) → HasBlock file block → length file < 4096 + block.bins_size → NoHive file (refusal.HiveDamaged 0 cause.Truncated)
+  -- it is clean, and its base block is outside the profile, or it ends before its bins data do
+  not_usable : (why : Refusal) → is_clean_file file ≡ true → OwnRefused (block_of file) (length file) why → NoHive file why
   -- the bins data stand for no tree within the limits, or memory for them was not given
   not_loaded : (why : Refusal) (block : BaseBlock) (bins : List ℕ) → HasBlock file block → IsOwn file block bins → BinsRefused bins block.root block.minor why → NoHive file why
 
