@@ -8,7 +8,7 @@ use Rattle.disk_model.specs.StoreFiles.{IsOfHive, primary_file, log_file, journa
 use Rattle.disk_model.specs.Unwritten.{IsSyncedOrSame}
 use Rattle.disk_model.proofs.Unwritten.{seen_same, synced_on}
 use Rattle.hive_files.specs.Frames.{FailsBy}
-use Rattle.hive_flush.specs.Standing.{HoldsUnder, NothingHeld}
+use Rattle.hive_flush.specs.Standing.{HoldsUnder, IsNoneHeld, NothingHeld}
 use Rattle.hive_flush.specs.HiveStates.{IsBroken, IsOn, files_of, memory_of, place_of}
 use Rattle.hive_flush.specs.HiveStates as states
 use Rattle.hive_flush.specs.declared.hive.HiveFile.{HiveFile}
@@ -68,9 +68,8 @@ module _ (before after : Type 0) (back : after → before) (store : List ℕ) (t
         lt,
         (
           tells,
-          λ faithful held holds. none faithful held
-              (subst (λ (p : List ℕ). HoldsUnder store p (mid (log_file k)).seen held) (sym (was_seen faithful (primary_file k)))
-              (subst (λ (l : List ℕ). HoldsUnder store (then (primary_file k)).seen l held) (sym (was_seen faithful (log_file k))) holds)),
+          λ faithful. subst (λ (p : List ℕ). IsNoneHeld k store p (then (log_file k)).seen why) (was_seen faithful (primary_file k))
+              (subst (λ (l : List ℕ). IsNoneHeld k store (mid (primary_file k)).seen l why) (was_seen faithful (log_file k)) (none faithful)),
         ),
       ))
 

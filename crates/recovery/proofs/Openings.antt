@@ -37,8 +37,8 @@ tells i refusal.Unsupported e = tt
 tells i _ e = absurd e
 
 -- a hive that holds nothing is what a refusal of it tells
-wrong : (files : ℕ → List ℕ) (i : ℕ) (why : Refusal) → IsOfHive i why → HoldsNothing files i → IsWrong files why
-wrong files i (refusal.HiveDamaged hive cause) e none = inl (subst (HoldsNothing files) (sym e) none)
+wrong : (files : ℕ → List ℕ) (i : ℕ) (why : Refusal) → IsOfHive i why → HoldsNothing files i why → IsWrong files why
+wrong files i (refusal.HiveDamaged hive cause) e none = inl (subst (λ n. HoldsNothing files n (refusal.HiveDamaged hive cause)) (sym e) none)
 wrong files i refusal.Unsupported e none = (i, none)
 wrong files i _ e none = absurd e
 
@@ -50,7 +50,7 @@ refused_hives read faithful back rose risen up store is now old spells why (inr 
 refused_hives read faithful back rose risen up store is now old spells why (inr (inr (i, lt, (of, none)))) =
     inr (inr (
       tells i why of,
-      λ f. wrong (seen_in old) i why of (record { store = store; journal = now; store_is = is; spells = spells f; there = lt }, λ held h. none (back f) held h),
+      λ f. wrong (seen_in old) i why of (record { store = store; journal = now; store_is = is; spells = spells f; there = lt }, none (back f)),
     ))
 
 -- a refusal that tells of no hive

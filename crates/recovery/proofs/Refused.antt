@@ -13,7 +13,7 @@ use Rattle.disk_model.specs.StoreFiles.{primary_file, log_file, journal_file}
 use Rattle.engine_words.specs.Changes.{TimedOp}
 use Rattle.commit_journal.specs.Text.{spelled}
 use Rattle.commit_journal.specs.Store.{Store, SpellsNothing, texts}
-use Rattle.hive_flush.specs.Standing.{HoldsUnder}
+use Rattle.hive_flush.specs.Standing.{HoldsUnder, IsNoneHeld}
 use Rattle.engine_law.specs.States.{tree_of}
 use Rattle.recovery.specs.Reading.{replayed_on}
 use Rattle.recovery.specs.Recovered.{IsRecovered, NothingRecovered}
@@ -55,8 +55,8 @@ module _ (one_store : OneStore) (one_held : OneHeld) (files : ℕ → List ℕ) 
     leads none = none-some (tree_of trees hive) (sym none ∙ sym (ap (λ (j : Spelled TimedOp). replayed_on j hive held) spelled_is) ∙ sym (ap (replayed_on r.recovers.journal hive) same) ∙ (r.recovers.each hive there).replayed)
 
 module _ (one_store : OneStore) (one_held : OneHeld) (files : ℕ → List ℕ) (store : Store) (number : ℕ) (trees : List TreeMap) (r : IsRecovered files store number trees) where
-  not_nothing : (hive : ℕ) → HoldsNothing files hive → ⊥
-  not_nothing hive (of, none) = holds_something one_store one_held files store number trees r hive of none
+  not_nothing : (hive : ℕ) (why : Refusal) → HoldsNothing files hive why → ⊥
+  not_nothing hive why (of, told) = holds_something one_store one_held files store number trees r hive of told.none
 
   never_ahead : (hive : ℕ) → IsAhead files hive → ⊥
   never_ahead hive (of, held, is, above) = not_ahead one_store one_held files store number trees r hive of held is above
@@ -68,9 +68,9 @@ module _ (one_store : OneStore) (one_held : OneHeld) (files : ℕ → List ℕ) 
   spells_something none = none-some r.recovers.journal (sym (none store r.store_is) ∙ r.recovers.spelled)
 
   nothing_wrong : (why : Refusal) → IsWrong files why → ⊥
-  nothing_wrong (refusal.HiveDamaged hive cause) (inl none) = not_nothing hive none
+  nothing_wrong (refusal.HiveDamaged hive cause) (inl none) = not_nothing hive (refusal.HiveDamaged hive cause) none
   nothing_wrong (refusal.HiveDamaged hive cause) (inr (is, ahead)) = never_ahead hive ahead
-  nothing_wrong refusal.Unsupported (hive, none) = not_nothing hive none
+  nothing_wrong refusal.Unsupported (hive, none) = not_nothing hive refusal.Unsupported none
   nothing_wrong refusal.JournalDamaged (inl none) = spells_something none
   nothing_wrong refusal.JournalDamaged (inr (hive, none)) = somewhere hive none
   nothing_wrong _ is = absurd is
@@ -95,11 +95,11 @@ module _ (files others : ℕ → List ℕ) (hive : ℕ) (alike : AreAlike files 
       subst (λ (p : List ℕ). HoldsUnder store.id p (others (log_file hive)) held) (sym alike.primary)
       (subst (λ (l : List ℕ). HoldsUnder store.id (files (primary_file hive)) l held) (sym alike.log) is)
 
-  alike_held : (store : Store) (held : TreeMap × ℕ) → HoldsUnder store.id (others (primary_file hive)) (others (log_file hive)) held → HoldsUnder store.id (files (primary_file hive)) (files (log_file hive)) held
-  alike_held store held is =
-      subst (λ (p : List ℕ). HoldsUnder store.id p (files (log_file hive)) held) alike.primary
-      (subst (λ (l : List ℕ). HoldsUnder store.id (others (primary_file hive)) l held) alike.log is)
+  none_alike : (store : Store) (why : Refusal) → IsNoneHeld hive store.id (files (primary_file hive)) (files (log_file hive)) why → IsNoneHeld hive store.id (others (primary_file hive)) (others (log_file hive)) why
+  none_alike store why none =
+      subst (λ (p : List ℕ). IsNoneHeld hive store.id p (others (log_file hive)) why) (sym alike.primary)
+      (subst (λ (l : List ℕ). IsNoneHeld hive store.id (files (primary_file hive)) l why) (sym alike.log) none)
 
   pub wrong_alike : (cause : Cause) → IsWrong files (refusal.HiveDamaged hive cause) → IsWrong others (refusal.HiveDamaged hive cause)
-  wrong_alike cause (inl (of, none)) = inl (of_others of, λ held is. none held (alike_held of.store held is))
+  wrong_alike cause (inl (of, none)) = inl (of_others of, none_alike of.store (refusal.HiveDamaged hive cause) none)
   wrong_alike cause (inr (is, (of, held, got, above))) = inr (is, (of_others of, held, held_alike of.store held got, above))

@@ -43,8 +43,8 @@ pub record AreOpened (faithful : Type 0) (store : List ℕ) (then now : ℕ → 
   pub files : faithful → (f : ℕ) → IsSyncedOrSame (then f) (now f)
   pub journal : now journal_file ≡ then journal_file
 
--- a refusal tells of one of so many hives, with its number, or of a version that isn't known; and that hive holds nothing, where the
--- device has answered as it should
+-- a refusal tells of one of so many hives, with its number, or of a version that isn't known; and that hive holds nothing for the
+-- cause that is told, where the device has answered as it should
 abbrev pub IsNoHive : Type 0 → List ℕ → ℕ → (ℕ → FileState) → Refusal → Type 0
 IsNoHive faithful store count state why = (i : ℕ) × (i < count)
     × NothingHeld faithful i store (state (primary_file i)).seen (state (log_file i)).seen why

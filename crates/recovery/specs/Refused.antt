@@ -9,6 +9,7 @@ use Rattle.prefix_law.specs.Promises.{Spelled, top}
 use Rattle.disk_model.specs.StoreFiles.{primary_file, log_file, journal_file}
 use Rattle.engine_words.specs.Changes.{TimedOp}
 use Rattle.commit_journal.specs.Store.{Store, IsStore, SpellsNothing}
+use Rattle.hive_flush.specs.Standing.{IsNoneHeld}
 use Rattle.engine_law.specs.Prefixes.{Holds, Spells}
 use Rattle.recovery.specs.Reading.{replayed_on}
 
@@ -24,9 +25,10 @@ pub record IsInStore (files : ℕ → List ℕ) (hive : ℕ) : Type 0 where
 abbrev pub HoldsIn : (files : ℕ → List ℕ) (hive : ℕ) → IsInStore files hive → TreeMap × ℕ → Type 0
 HoldsIn files hive of = Holds of.store (files (primary_file hive)) (files (log_file hive))
 
--- The hive's two files hold nothing in the store that the journal tells.
-abbrev pub HoldsNothing : (ℕ → List ℕ) → ℕ → Type 0
-HoldsNothing files hive = (of : IsInStore files hive) × ((held : TreeMap × ℕ) → HoldsIn files hive of held → ⊥)
+-- The hive's two files hold nothing in the store that the journal tells, and a refusal tells why: by the hive's number and a cause
+-- that stands in them, or of a version, a type or a flag that isn't known.
+abbrev pub HoldsNothing : (ℕ → List ℕ) → ℕ → Refusal → Type 0
+HoldsNothing files hive why = (of : IsInStore files hive) × IsNoneHeld hive of.store.id (files (primary_file hive)) (files (log_file hive)) why
 
 -- The hive is at a number above that of the last change which the journal spells; where it spells none, above the greatest that
 -- there may be.
@@ -37,12 +39,12 @@ IsAhead files hive = (of : IsInStore files hive) × (held : TreeMap × ℕ) × H
 abbrev pub LeadsNowhere : (ℕ → List ℕ) → ℕ → Type 0
 LeadsNowhere files hive = (of : IsInStore files hive) × (held : TreeMap × ℕ) × HoldsIn files hive of held × (replayed_on of.journal hive held ≡ None)
 
--- What a refusal tells is wrong with the files. A damaged hive holds nothing in the journal's store, or, as one with a number that
--- its store doesn't know, it is ahead; where something isn't supported some hive holds nothing; a damaged journal is no store's, or
--- leads nowhere from what some hive holds.
+-- What a refusal tells is wrong with the files. A damaged hive holds nothing in the journal's store for the cause that is told, or, as
+-- one with a number that its store doesn't know, it is ahead; where something isn't supported some hive holds nothing for that; a
+-- damaged journal is no store's, or leads nowhere from what some hive holds.
 abbrev pub IsWrong : (ℕ → List ℕ) → Refusal → Type 0
-IsWrong files (refusal.HiveDamaged hive cause) = HoldsNothing files hive ⊎ ((cause ≡ BadStore) × IsAhead files hive)
-IsWrong files refusal.Unsupported = (hive : ℕ) × HoldsNothing files hive
+IsWrong files (refusal.HiveDamaged hive cause) = HoldsNothing files hive (refusal.HiveDamaged hive cause) ⊎ ((cause ≡ BadStore) × IsAhead files hive)
+IsWrong files refusal.Unsupported = (hive : ℕ) × HoldsNothing files hive refusal.Unsupported
 IsWrong files refusal.JournalDamaged = SpellsNothing (files journal_file) ⊎ ((hive : ℕ) × LeadsNowhere files hive)
 IsWrong files _ = ⊥
 

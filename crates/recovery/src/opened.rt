@@ -81,9 +81,9 @@ impl<D: Disk> Model for Opened<D> {
 /// Refused only for what is wrong with the files, which recover nothing then
 /// ([`laws::refused_files_recover_nothing`](crate::laws::refused_files_recover_nothing)), or for the device or memory:
 ///
-/// - `HiveDamaged` of a hive that holds nothing in the journal's store, or, with the cause `BadStore`, has a number above that of
-///   the journal's last change, or above the greatest of all where there is none;
-/// - `Unsupported`, where some hive holds nothing;
+/// - `HiveDamaged` of a hive that holds nothing in the journal's store, with the cause that stands in its files, or, with the cause
+///   `BadStore`, has a number above that of the journal's last change, or above the greatest of all where there is none;
+/// - `Unsupported`, where some hive holds nothing, for a version, a type or a flag that stands in its files;
 /// - `JournalDamaged`, where the journal is no store's, or one of its changes isn't legal on what some hive holds;
 /// - `DiskFault`, where the device failed; and `NoMemory`.
 ///
