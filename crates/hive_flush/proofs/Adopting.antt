@@ -8,7 +8,7 @@ use Rattle.hive_records.specs.Images.{StandsFor}
 use Rattle.hive_phases.proofs.Moving.{absorbed}
 use Rattle.hive_phases.specs.Holding.{Standing, tree_under}
 use Rattle.hive_phases.specs.Plans.{IsReady, Marks}
-use Rattle.hive_phases.specs.States.{IsQuiet, is_on_in}
+use Rattle.hive_phases.specs.States.{IsQuiet, RestsIn, is_on_in}
 use Rattle.hive_writer.specs.declared.writer.HiveWriter.{HiveWriter}
 use Rattle.hive_writer.specs.declared.stage.Stage.{Stage}
 use Rattle.hive_writer.specs.declared.stage.Stage.TheVariants as stage
@@ -58,4 +58,5 @@ adopted w image bins pages left now memory tree root size time number primary lo
       ends = record { block = refl; final = refl };
       flush = λ any. refl;
       on = subst (λ (q : Stage). is_on_in stands (work_of next bins left now (tree, number)) (phase_in (length next.text) q) primary log) (sym quiet) still;
+      rests = λ working. subst (λ (q : Stage). RestsIn (phase_in 0 q) primary) (sym quiet) tt;
     }

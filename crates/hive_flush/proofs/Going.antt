@@ -17,7 +17,8 @@ use Rattle.hive_writer.specs.declared.stage.Stage.{Stage}
 use Rattle.hive_writer.specs.declared.stage.Stage.TheVariants as stage
 use Rattle.base_block.specs.Layout.{sector_of}
 use Rattle.hive_writer.specs.declared.stage.Purpose.TheVariants as purpose
-use Rattle.hive_writer.specs.Writing.{EndsWith, IsAt, IsFlushing, IsRewriting, KeepsBlocks, LeadsOn, base_after, choice_at, left_after, now_after, phase_in, plan_of, work_of}
+use Rattle.hive_phases.specs.States.{RestsIn}
+use Rattle.hive_writer.specs.Writing.{EndsWith, IsAt, IsFlushing, IsRewriting, KeepsBlocks, LeadsOn, RestsAt, base_after, choice_at, left_after, now_after, phase_in, plan_of, work_of}
 use Rattle.hive_flush.specs.Planned.{block_again}
 use Rattle.hive_flush.specs.HiveStates.{IsOnBy}
 use Rattle.hive_flush.specs.Standing.{IsRight}
@@ -85,7 +86,7 @@ went_on : (result : Result Progress Refusal) (old new : HiveWriter) (image : Lis
 went_on result old new image pages now memory before after not_done flushes size keeps leads on =
     let led = leads on.stands on.plan on.ends on.flush now memory pages (sym size) on.ready on.on in
     let there : IsAt on.stands (work_of on.plan image pages (now_after result now memory) memory) new.hive new.stage after
-    = subst (λ (v : Pages). IsAt on.stands (work_of on.plan image v (now_after result now memory) memory) new.hive new.stage after) (left_same result pages) led in
+    = subst (λ (v : Pages). IsAt on.stands (work_of on.plan image v (now_after result now memory) memory) new.hive new.stage after) (left_same result pages) led.0 in
     let still : IsAt on.stands (work_of on.plan image pages now memory) new.hive new.stage after
     = subst (λ (n : TreeMap × ℕ). IsAt on.stands (work_of on.plan image pages n memory) new.hive new.stage after) (now_same result now memory not_done) there in
     record {
@@ -96,6 +97,7 @@ went_on result old new image pages now memory before after not_done flushes size
       ends = record { block = on.ends.block ∙ sym keeps.block; final = on.ends.final ∙ ap sector_of (sym keeps.block) };
       flush = λ f. on.flush (flushes f) ∙ sym (plan_same old new image pages keeps.block (keeps.base ∙ base_same result old not_done));
       on = subst (λ (h : ℕ). IsAt on.stands (work_of on.plan image pages now memory) h new.stage after) keeps.hive still;
+      rests = λ working. subst (λ (h : ℕ). RestsAt h new.stage after) keeps.hive (led.1 working);
     }
 
 -- ---- the last step
@@ -109,7 +111,7 @@ done_on : (old new : HiveWriter) (image : List ℕ) (pages clean : Pages) (now m
     → IsOnBy (record new { block = block_again new.block }) image clean memory memory (after (primary_file old.hive)) (after (log_file old.hive))
 done_on old new image pages clean now memory before after size keeps quiet leads fits on =
     let next = plan_of (record new { block = block_again new.block }) image clean in
-    let led : IsAt on.stands (work_of on.plan image clean memory memory) new.hive new.stage after = leads on.stands on.plan on.ends on.flush now memory clean size on.ready on.on in
+    let led : IsAt on.stands (work_of on.plan image clean memory memory) new.hive new.stage after = (leads on.stands on.plan on.ends on.flush now memory clean size on.ready on.on).0 in
     let at_rest : IsAt on.stands (work_of on.plan image clean memory memory) new.hive stage.Quiet after
     = subst (λ (q : Stage). IsAt on.stands (work_of on.plan image clean memory memory) new.hive q after) quiet led in
     let again : IsAt on.stands (work_of next image clean memory memory) new.hive stage.Quiet after = record { rest = at_rest.rest; clean = at_rest.clean; behind = at_rest.behind } in
@@ -124,6 +126,7 @@ done_on old new image pages clean now memory before after size keeps quiet leads
       ends = record { block = refl; final = refl };
       flush = λ any. refl;
       on = subst (λ (h : ℕ). IsAt on.stands (work_of next image clean memory memory) h new.stage after) keeps.hive now_at;
+      rests = λ working. subst (λ (q : Stage). RestsIn (phase_in 0 q) (after (primary_file old.hive))) (sym quiet) tt;
     }
 
 -- ---- with the numbers in the writer's blocks

@@ -148,6 +148,7 @@ clean_on hive primary found tree log clean x within ready =
         };
         behind = subst (λ (v : Pages). IsBehind found.bins.items v primary) (sym x.pages) (behind_own primary found.bins.items size x.own.long x.own.part);
       };
+      rests = λ working. tt;
     }
 
 pub unclean_on : (hive : ℕ) (primary log : List ℕ) (found : Found) (tree : TreeMap) → is_clean_file primary ≡ false → IsFoundUnclean primary log found
@@ -182,6 +183,7 @@ unclean_on hive primary log found tree clean x within fits =
       flush = λ not. absurd cc;
       on = repair_begins stands (work_of plan found.bins.items found.pages (tree, block.applied.0) (tree, block.applied.0)) (at_rest primary) (at_rest log) ready refl clean x.sector behind
           (record { rest = refl; front = take-length log });
+      rests = λ working. tt;
     }
 
 -- ---- the writer

@@ -1,5 +1,5 @@
 -- What contracts see of a hive's files and memory.
-use Rattle.std.specs.Prelude.{◌≡◌, ℕ, ◌+◌, if◌then◌else◌, true, List, length}
+use Rattle.std.specs.Prelude.{◌≡◌, ℕ, ◌+◌, if◌then◌else◌, true, false, List, length}
 use Rattle.prefix_law.specs.Promises.{Choice}
 use Rattle.prefix_law.specs.Changes.{AreLegal, applied, ops_on}
 use Rattle.engine_words.specs.Changes.{rules, timed_elements}
@@ -9,7 +9,7 @@ use Rattle.disk_model.specs.FileState.{FileState}
 use Rattle.disk_model.specs.StoreFiles.{primary_file, log_file}
 use Rattle.hive_phases.specs.Holding.{Standing}
 use Rattle.hive_phases.specs.Plans.{Plan, IsReady}
-use Rattle.hive_phases.specs.States.{is_on_in}
+use Rattle.hive_phases.specs.States.{RestsIn, is_on_in}
 use Rattle.dirty_vector.specs.Pages.{Pages, clean_pages, dirty_count}
 use Rattle.dirt_log.specs.Held.{is_clean_file}
 use Rattle.dirt_log.specs.WholeLog.{pages_in}
@@ -55,7 +55,7 @@ IsWhole file = IsFlushing file.writer.stage
 
 -- The primary file and the log are as a writer's stage says, for an image, its pages, and what surely stands and is in memory:
 -- for some rule that is right in the store, and a plan by it that the image fits and that is, of a flush, the one that the
--- writer follows.
+-- writer follows. As long as the device hasn't failed, the primary file rests where no write of it is on its way.
 pub record IsOnBy (writer : HiveWriter) (image : List ℕ) (pages : Pages) (now memory : TreeMap × ℕ) (primary log : FileState) : Type 0 where
   pub stands : Standing TreeMap
   pub right : IsRight writer.block.store stands
@@ -64,6 +64,7 @@ pub record IsOnBy (writer : HiveWriter) (image : List ℕ) (pages : Pages) (now 
   pub ends : EndsWith writer.block plan
   pub flush : IsFlushing writer.stage → plan ≡ plan_of writer image pages
   pub on : is_on_in stands (work_of plan image pages now memory) (phase_in (length plan.text) writer.stage) primary log
+  pub rests : writer.failed ≡ false → RestsIn (phase_in 0 writer.stage) primary
 
 -- the primary file and the log are as the hive's stage says
 abbrev pub IsOn : HiveFile → FileState → FileState → Type 0

@@ -3,10 +3,10 @@ ghost use Rattle.std.specs.Prelude.{◌≡◌, ◌≤◌, List, ℕ};
 ghost use Rattle.prefix_law.specs.Memory.{IsOfMemory};
 ghost use Rattle.prefix_law.specs.Promises.{HiveOn};
 ghost use Rattle.reg_tree.specs.Maps.{TreeMap};
-ghost use Rattle.disk_model.specs.FileState.{FileState, Leaves};
+ghost use Rattle.disk_model.specs.FileState.{FileState, IsSound, Leaves};
 ghost use Rattle.disk_model.specs.Sector.{IsHonest};
 ghost use Rattle.hive_flush.specs.Standing.{HoldsUnder};
-ghost use Rattle.hive_flush.specs.HiveStates.{IsOn, files_of, memory_of, store_of};
+ghost use Rattle.hive_flush.specs.HiveStates.{IsBroken, IsOn, files_of, memory_of, store_of};
 ghost use Rattle.hive_flush.specs.declared.hive.HiveFile.{HiveFile};
 
 use hive_phases::laws::on_leaves;
@@ -20,6 +20,15 @@ pub fn files_hold()
         (λ c. Leaves primary c × IsHonest primary c) (Leaves log) }
 {
     on_leaves::<Tree>();
+}
+
+/// A law: where the two files are as a hive's stage says, what a read gives of the primary file has an honest first sector, as long
+/// as the device hasn't failed in a step of the hive.
+pub fn reads_are_honest()
+    ensures { (file : HiveFile) (primary log : FileState) → IsSound primary → ¬ (IsBroken file) →
+        IsOn file primary log → IsHonest primary primary.seen }
+{
+    hive_phases::laws::reads_are_honest::<Tree>();
 }
 
 /// A law: two files hold at most one tree and number as a hive of a store.

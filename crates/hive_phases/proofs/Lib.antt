@@ -3,3 +3,4 @@ pub mod Leaving
 pub mod Moving
 pub mod Planning
 pub mod Deciding
+pub mod Showing

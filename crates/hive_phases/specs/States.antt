@@ -113,3 +113,14 @@ is_on_in stands work (Finished cause) primary log = IsFinished stands work prima
 -- the primary file and the log are as the hive's phase says
 abbrev pub is_on : {T : Type 0} → Standing T → Hive T → FileState → FileState → Type 0
 is_on stands hive primary log = is_on_in stands hive.work hive.phase primary log
+
+-- Behind the sync of the log, and behind that of the pages, the primary file is at rest, as long as no write of its first sector has
+-- failed.
+abbrev pub RestsIn : Phase → FileState → Type 0
+RestsIn Quiet primary = ⊤
+RestsIn (Logging n) primary = ⊤
+RestsIn Logged primary = primary ≡ at_rest primary.synced
+RestsIn Raised primary = ⊤
+RestsIn (Paging cause n) primary = ⊤
+RestsIn (Paged cause) primary = primary ≡ at_rest primary.synced
+RestsIn (Finished cause) primary = ⊤

@@ -27,6 +27,7 @@ ghost use Rattle.hive_phases.specs.Phases.{
   Purpose,
   Hive,
   Work,
+  Phase,
   Phase.Quiet,
   Phase.Logging,
   Phase.Logged,
@@ -36,7 +37,7 @@ ghost use Rattle.hive_phases.specs.Phases.{
   Phase.Finished,
   choice,
 };
-ghost use Rattle.hive_phases.specs.States.{HasLog, is_on, is_on_in};
+ghost use Rattle.hive_phases.specs.States.{HasLog, RestsIn, is_on, is_on_in};
 
 /// Two files hold at most one tree and number, which the function `held` gives.
 pub fn one_is_held<T>()
@@ -55,6 +56,12 @@ pub fn on_leaves<T>()
     ensures decided { (stands : Standing T) (hive : Hive T) (p l : FileState) →
         is_on stands hive p l →
         HiveOn (HoldsBy (held stands)) (choice hive) (λ c. Leaves p c × IsHonest p c) (Leaves l) }
+{}
+
+/// What a read gives of the primary file has an honest first sector in each phase, as long as no write of that sector has failed.
+pub fn reads_are_honest<T>()
+    ensures { (stands : Standing T) (work : Work T) (phase : Phase) (p l : FileState) →
+        IsSound p → is_on_in stands work phase p l → RestsIn phase p → IsHonest p p.seen }
 {}
 
 /// Where no device call is made: a flush and a repair begin, and a quiet hive absorbs.

@@ -1,6 +1,7 @@
 -- A step: where it begins, its call, and what is taken in of it.
 use Rattle.std.proofs.Common.{◌≡◌, inl, inr, ℕ, ◌*◌, ◌<◌, List, length, refl, sym, ap, ◌∙◌, subst, arith, Option, Result, Ok, Err}
 use Rattle.std.specs.Prelude.{min, IfOk}
+use Rattle.std.proofs.lemmas.Bool.{true≢false}
 use Rattle.refusals.specs.declared.refusal.Refusal.{Refusal}
 use Rattle.refusals.specs.declared.refusal.Refusal.TheVariants.{DiskFault}
 use Rattle.engine_words.specs.declared.Progress.{Progress}
@@ -20,7 +21,7 @@ use Rattle.hive_writer.specs.declared.writer.HiveWriter.{HiveWriter}
 use Rattle.hive_writer.specs.declared.stage.Stage.{Stage}
 use Rattle.hive_writer.specs.declared.stage.Stage.TheVariants as stage
 use Rattle.hive_writer.specs.declared.stage.Purpose.{Purpose}
-use Rattle.hive_writer.specs.Writing.{Falls, calls_left, plan_of, work_of, IsAt, Leads, LeadsOn, IsNext, IsFlushing, BeginsAt, Settles, KeepsBlocks, base_after, choice_at, now_after, left_after}
+use Rattle.hive_writer.specs.Writing.{Falls, calls_left, plan_of, work_of, IsAt, RestsAt, Leads, LeadsOn, IsNext, IsFlushing, BeginsAt, Settles, KeepsBlocks, base_after, choice_at, now_after, left_after}
 
 -- ---- what is taken in
 
@@ -38,29 +39,52 @@ module _ {T : Type 0} (stands : Standing T) (plan : Plan) (image : List ℕ) (pa
   pub settled_on : (called : Result Stage Failed) (result : Result Progress Refusal) (old new : HiveWriter) → Settles called result old new
       → Leads stands plan image pages old.hive old.stage called before after → LeadsOn stands plan image pages result old new before after
   settled_on (Ok stage.Quiet) result old new s leads now memory others size ready on =
-      subst (λ (n : HiveWriter). IsAt stands (work_of plan image (left_after result pages others) (now_after result now memory) memory) n.hive n.stage after) (sym s.1)
-      (subst (λ (r : Result Progress Refusal). IsAt stands (work_of plan image (left_after r pages others) (now_after r now memory) memory) old.hive stage.Quiet after) (sym s.0) (leads now memory others size ready on))
+      let led = leads now memory others size ready on in (
+        subst (λ (n : HiveWriter). IsAt stands (work_of plan image (left_after result pages others) (now_after result now memory) memory) n.hive n.stage after) (sym s.1)
+            (subst (λ (r : Result Progress Refusal). IsAt stands (work_of plan image (left_after r pages others) (now_after r now memory) memory) old.hive stage.Quiet after) (sym s.0) led.0),
+        λ working. subst (λ (n : HiveWriter). RestsAt n.hive n.stage after) (sym s.1) led.1,
+      )
   settled_on (Ok (stage.Logging k)) result old new s leads now memory others size ready on =
-      subst (λ (n : HiveWriter). IsAt stands (work_of plan image (left_after result pages others) (now_after result now memory) memory) n.hive n.stage after) (sym s.1)
-      (subst (λ (r : Result Progress Refusal). IsAt stands (work_of plan image (left_after r pages others) (now_after r now memory) memory) old.hive (stage.Logging k) after) (sym s.0) (leads now memory others size ready on))
+      let led = leads now memory others size ready on in (
+        subst (λ (n : HiveWriter). IsAt stands (work_of plan image (left_after result pages others) (now_after result now memory) memory) n.hive n.stage after) (sym s.1)
+            (subst (λ (r : Result Progress Refusal). IsAt stands (work_of plan image (left_after r pages others) (now_after r now memory) memory) old.hive (stage.Logging k) after) (sym s.0) led.0),
+        λ working. subst (λ (n : HiveWriter). RestsAt n.hive n.stage after) (sym s.1) led.1,
+      )
   settled_on (Ok stage.Logged) result old new s leads now memory others size ready on =
-      subst (λ (n : HiveWriter). IsAt stands (work_of plan image (left_after result pages others) (now_after result now memory) memory) n.hive n.stage after) (sym s.1)
-      (subst (λ (r : Result Progress Refusal). IsAt stands (work_of plan image (left_after r pages others) (now_after r now memory) memory) old.hive stage.Logged after) (sym s.0) (leads now memory others size ready on))
+      let led = leads now memory others size ready on in (
+        subst (λ (n : HiveWriter). IsAt stands (work_of plan image (left_after result pages others) (now_after result now memory) memory) n.hive n.stage after) (sym s.1)
+            (subst (λ (r : Result Progress Refusal). IsAt stands (work_of plan image (left_after r pages others) (now_after r now memory) memory) old.hive stage.Logged after) (sym s.0) led.0),
+        λ working. subst (λ (n : HiveWriter). RestsAt n.hive n.stage after) (sym s.1) led.1,
+      )
   settled_on (Ok stage.Raised) result old new s leads now memory others size ready on =
-      subst (λ (n : HiveWriter). IsAt stands (work_of plan image (left_after result pages others) (now_after result now memory) memory) n.hive n.stage after) (sym s.1)
-      (subst (λ (r : Result Progress Refusal). IsAt stands (work_of plan image (left_after r pages others) (now_after r now memory) memory) old.hive stage.Raised after) (sym s.0) (leads now memory others size ready on))
+      let led = leads now memory others size ready on in (
+        subst (λ (n : HiveWriter). IsAt stands (work_of plan image (left_after result pages others) (now_after result now memory) memory) n.hive n.stage after) (sym s.1)
+            (subst (λ (r : Result Progress Refusal). IsAt stands (work_of plan image (left_after r pages others) (now_after r now memory) memory) old.hive stage.Raised after) (sym s.0) led.0),
+        λ working. subst (λ (n : HiveWriter). RestsAt n.hive n.stage after) (sym s.1) led.1,
+      )
   settled_on (Ok (stage.Paging p k)) result old new s leads now memory others size ready on =
-      subst (λ (n : HiveWriter). IsAt stands (work_of plan image (left_after result pages others) (now_after result now memory) memory) n.hive n.stage after) (sym s.1)
-      (subst (λ (r : Result Progress Refusal). IsAt stands (work_of plan image (left_after r pages others) (now_after r now memory) memory) old.hive (stage.Paging p k) after) (sym s.0) (leads now memory others size ready on))
+      let led = leads now memory others size ready on in (
+        subst (λ (n : HiveWriter). IsAt stands (work_of plan image (left_after result pages others) (now_after result now memory) memory) n.hive n.stage after) (sym s.1)
+            (subst (λ (r : Result Progress Refusal). IsAt stands (work_of plan image (left_after r pages others) (now_after r now memory) memory) old.hive (stage.Paging p k) after) (sym s.0) led.0),
+        λ working. subst (λ (n : HiveWriter). RestsAt n.hive n.stage after) (sym s.1) led.1,
+      )
   settled_on (Ok (stage.Paged p)) result old new s leads now memory others size ready on =
-      subst (λ (n : HiveWriter). IsAt stands (work_of plan image (left_after result pages others) (now_after result now memory) memory) n.hive n.stage after) (sym s.1)
-      (subst (λ (r : Result Progress Refusal). IsAt stands (work_of plan image (left_after r pages others) (now_after r now memory) memory) old.hive (stage.Paged p) after) (sym s.0) (leads now memory others size ready on))
+      let led = leads now memory others size ready on in (
+        subst (λ (n : HiveWriter). IsAt stands (work_of plan image (left_after result pages others) (now_after result now memory) memory) n.hive n.stage after) (sym s.1)
+            (subst (λ (r : Result Progress Refusal). IsAt stands (work_of plan image (left_after r pages others) (now_after r now memory) memory) old.hive (stage.Paged p) after) (sym s.0) led.0),
+        λ working. subst (λ (n : HiveWriter). RestsAt n.hive n.stage after) (sym s.1) led.1,
+      )
   settled_on (Ok (stage.Finished p)) result old new s leads now memory others size ready on =
-      subst (λ (n : HiveWriter). IsAt stands (work_of plan image (left_after result pages others) (now_after result now memory) memory) n.hive n.stage after) (sym s.1)
-      (subst (λ (r : Result Progress Refusal). IsAt stands (work_of plan image (left_after r pages others) (now_after r now memory) memory) old.hive (stage.Finished p) after) (sym s.0) (leads now memory others size ready on))
-  settled_on (Err why) result old new s leads now memory others size ready on =
-      subst (λ (n : HiveWriter). IsAt stands (work_of plan image (left_after result pages others) (now_after result now memory) memory) n.hive n.stage after) (sym s.1)
-      (subst (λ (r : Result Progress Refusal). IsAt stands (work_of plan image (left_after r pages others) (now_after r now memory) memory) old.hive old.stage after) (sym s.0) (leads now memory others size ready on))
+      let led = leads now memory others size ready on in (
+        subst (λ (n : HiveWriter). IsAt stands (work_of plan image (left_after result pages others) (now_after result now memory) memory) n.hive n.stage after) (sym s.1)
+            (subst (λ (r : Result Progress Refusal). IsAt stands (work_of plan image (left_after r pages others) (now_after r now memory) memory) old.hive (stage.Finished p) after) (sym s.0) led.0),
+        λ working. subst (λ (n : HiveWriter). RestsAt n.hive n.stage after) (sym s.1) led.1,
+      )
+  settled_on (Err why) result old new s leads now memory others size ready on = (
+    subst (λ (n : HiveWriter). IsAt stands (work_of plan image (left_after result pages others) (now_after result now memory) memory) n.hive n.stage after) (sym s.1)
+        (subst (λ (r : Result Progress Refusal). IsAt stands (work_of plan image (left_after r pages others) (now_after r now memory) memory) old.hive old.stage after) (sym s.0) (leads now memory others size ready on)),
+    λ working. absurd (true≢false (sym (ap (λ (n : HiveWriter). n.failed) s.1) ∙ working)),
+  )
 
 -- fewer calls are left
 pub settled_falls : (total : ℕ) (pages : Pages) (called : Result Stage Failed) (result : Result Progress Refusal) (old new : HiveWriter)

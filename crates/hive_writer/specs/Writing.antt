@@ -1,5 +1,5 @@
 -- A hive's writer as the work and the phase of a flush or a repair.
-use Rattle.std.specs.Prelude.{◌≡◌, ◌⊎◌, ⊤, ℕ, ◌+◌, ◌-◌, ◌*◌, ◌/◌, ◌<◌, min, true, List, length, Result, Ok, Err, MatchResult}
+use Rattle.std.specs.Prelude.{◌≡◌, ◌⊎◌, ⊤, ℕ, ◌+◌, ◌-◌, ◌*◌, ◌/◌, ◌<◌, min, true, false, List, length, Result, Ok, Err, MatchResult}
 use Rattle.refusals.specs.declared.refusal.Refusal.{Refusal}
 use Rattle.refusals.specs.declared.refusal.Refusal.TheVariants.{DiskFault}
 use Rattle.engine_words.specs.declared.Progress.{Progress}
@@ -18,7 +18,7 @@ use Rattle.hive_phases.specs.Holding.{Standing}
 use Rattle.hive_phases.specs.Plans.{Plan, IsReady, raised_block}
 use Rattle.hive_phases.specs.Phases.{Phase, Phase.Quiet, Phase.Logging, Phase.Logged, Phase.Raised, Phase.Paging, Phase.Paged, Phase.Finished, Work, Purpose.Flush, Purpose.Repair, choice_in}
 use Rattle.hive_phases.specs.Phases as phases
-use Rattle.hive_phases.specs.States.{is_on_in}
+use Rattle.hive_phases.specs.States.{RestsIn, is_on_in}
 use Rattle.hive_writer.specs.declared.writer.HiveWriter.{HiveWriter}
 use Rattle.hive_writer.specs.declared.stage.Stage.{Stage}
 use Rattle.hive_writer.specs.declared.stage.Stage.TheVariants as stage
@@ -81,12 +81,16 @@ left_in (stage.Finished purpose) pages others = pages
 abbrev pub IsAt : {T : Type 0} → Standing T → Work T → ℕ → Stage → (ℕ → FileState) → Type 0
 IsAt stands work hive at states = is_on_in stands work (phase_in (length work.plan.text) at) (states (primary_file hive)) (states (log_file hive))
 
+-- At a stage that a call has led to, the primary file is at rest behind the sync of the log, and behind that of the pages.
+abbrev pub RestsAt : ℕ → Stage → (ℕ → FileState) → Type 0
+RestsAt hive at states = RestsIn (phase_in 0 at) (states (primary_file hive))
+
 -- A call leads from a stage to the next, for whatever stands and is in memory; one that failed leaves the files in theirs.
 abbrev pub Leads : {T : Type 0} → Standing T → Plan → List ℕ → Pages → ℕ → Stage → Result Stage Failed → (ℕ → FileState) → (ℕ → FileState) → Type 0
 Leads {T = T} stands plan image pages hive at result before after =
     (now memory : T × ℕ) (others : Pages) → others.bins_size ≡ length image → IsReady stands memory image pages plan
     → IsAt stands (work_of plan image pages now memory) hive at before
-    → MatchResult result (λ next. IsAt stands (work_of plan image (left_in next pages others) (now_in next now memory) memory) hive next after)
+    → MatchResult result (λ next. IsAt stands (work_of plan image (left_in next pages others) (now_in next now memory) memory) hive next after × RestsAt hive next after)
     (λ _. IsAt stands (work_of plan image pages now memory) hive at after)
 
 -- which stage follows one: as many pieces and pages as there are
@@ -179,12 +183,12 @@ Settles (Ok next) result old new = (result ≡ Ok progress.More) × (new ≡ rec
 Settles (Err why) result old new = (result ≡ Err DiskFault) × (new ≡ record old { failed = true })
 
 -- A step leads a writer's files on, for whatever stands and is in memory; and where it is done, whatever pages are said to be
--- dirty from then on.
+-- dirty from then on. As long as the device hasn't failed in it, the primary file rests where no write of it is on its way.
 abbrev pub LeadsOn : {T : Type 0} → Standing T → Plan → List ℕ → Pages → Result Progress Refusal → HiveWriter → HiveWriter → (ℕ → FileState) → (ℕ → FileState) → Type 0
 LeadsOn {T = T} stands plan image pages result old new before after =
     (now memory : T × ℕ) (others : Pages) → others.bins_size ≡ length image → IsReady stands memory image pages plan
     → IsAt stands (work_of plan image pages now memory) old.hive old.stage before
-    → IsAt stands (work_of plan image (left_after result pages others) (now_after result now memory) memory) new.hive new.stage after
+    → IsAt stands (work_of plan image (left_after result pages others) (now_after result now memory) memory) new.hive new.stage after × (new.failed ≡ false → RestsAt new.hive new.stage after)
 
 -- the block that a primary file has after a step: where it is done, the one that was to be
 abbrev pub base_after : Result Progress Refusal → HiveWriter → BaseBlock

@@ -17,8 +17,10 @@ returns-in-Ok-clause-leads g c = λ faithful stands image pages now memory other
     let l2 = g.D.Disk.state_at c.write_file.new.disk (g.D.Disk.clock c.write_file.new.disk) (log_file hive) in
     let sound = g.met.D.Disk.sound c.args.disk.now (g.D.Disk.clock c.args.disk.now) (primary_file hive) (c.write_file.ensures.faithful faithful) (omega arith) in
     let is = raised_is c.args.self.now.base c.next-raised.result c.write.result c.next-raised.ensures c.write.ensures.text in
-    let done = subst (λ (s : List ℕ). Writes 0 s p p2) is (c.in-Ok.ensures.done faithful) in
-    log_same stands w Raised p2 l l2 c.write_file.ensures.other (raised_written stands w p l p2 sound on done)
+    let done = subst (λ (s : List ℕ). Writes 0 s p p2) is (c.in-Ok.ensures.done faithful) in (
+      log_same stands w Raised p2 l l2 c.write_file.ensures.other (raised_written stands w p l p2 sound on done),
+      tt,
+    )
 
 pub returns-in-Err-clause-leads : goal.returns-in-Err-clause-leads
 returns-in-Err-clause-leads g c = λ faithful stands image pages now memory others size ready on.

@@ -15,8 +15,10 @@ returns-in-Ok-clause-leads g c = λ faithful stands plan image pages ends now me
     let p2 = g.D.Disk.state_at c.sync_file.new.disk (g.D.Disk.clock c.sync_file.new.disk) (primary_file hive) in
     let l2 = g.D.Disk.state_at c.sync_file.new.disk (g.D.Disk.clock c.sync_file.new.disk) (log_file hive) in
     let sound = g.met.D.Disk.sound c.args.disk.now (g.D.Disk.clock c.args.disk.now) (primary_file hive) (c.sync_file.ensures.faithful faithful) (omega arith) in
-    let quiet = final_synced stands w others p l p2 sound on size (c.in-Ok.ensures.done faithful) in
-    record { rest = quiet.rest; clean = quiet.clean; behind = quiet.behind }
+    let quiet = final_synced stands w others p l p2 sound on size (c.in-Ok.ensures.done faithful) in (
+      record { rest = quiet.rest; clean = quiet.clean; behind = quiet.behind },
+      tt,
+    )
 
 pub returns-in-Err-clause-leads : goal.returns-in-Err-clause-leads
 returns-in-Err-clause-leads g c = λ faithful stands plan image pages ends now memory others size ready on.

@@ -1,4 +1,5 @@
-use Rattle.std.proofs.Common.{◌*◌, length, min}
+use Rattle.std.proofs.Common.{◌≡◌, ◌*◌, length, min, sym, subst}
+use Rattle.disk_model.specs.FileState.{at_rest}
 use Rattle.disk_model.specs.StoreFiles.{primary_file, log_file}
 use Rattle.hive_phases.specs.Phases.{Phase.Logging, Phase.Logged}
 use Rattle.hive_writer.specs.Writing.{plan_of, work_of}
@@ -12,8 +13,10 @@ returns-in-Ok-clause-leads g c = λ faithful stands image pages all now memory o
     let p = g.D.Disk.state_at c.args.disk.now (g.D.Disk.clock c.args.disk.now) (primary_file hive) in
     let l = g.D.Disk.state_at c.args.disk.now (g.D.Disk.clock c.args.disk.now) (log_file hive) in
     let p2 = g.D.Disk.state_at c.sync_file.new.disk (g.D.Disk.clock c.sync_file.new.disk) (primary_file hive) in
-    let l2 = g.D.Disk.state_at c.sync_file.new.disk (g.D.Disk.clock c.sync_file.new.disk) (log_file hive) in
-    primary_same stands w Logged p p2 l2 c.sync_file.ensures.other (all_synced stands w c.args.index p l l2 all on (c.in-Ok.ensures.done faithful))
+    let l2 = g.D.Disk.state_at c.sync_file.new.disk (g.D.Disk.clock c.sync_file.new.disk) (log_file hive) in (
+      primary_same stands w Logged p p2 l2 c.sync_file.ensures.other (all_synced stands w c.args.index p l l2 all on (c.in-Ok.ensures.done faithful)),
+      subst (λ s. s ≡ at_rest s.synced) (sym c.sync_file.ensures.other) on.quiet.rest,
+    )
 
 pub returns-in-Err-clause-leads : goal.returns-in-Err-clause-leads
 returns-in-Err-clause-leads g c = λ faithful stands image pages all now memory others size ready on.

@@ -1,4 +1,5 @@
-use Rattle.std.proofs.Common.{◌*◌, arith}
+use Rattle.std.proofs.Common.{◌*◌, ◌∙◌, ap, sym, arith}
+use Rattle.disk_model.specs.FileState.{FileState, at_rest}
 use Rattle.disk_model.specs.StoreFiles.{primary_file, log_file}
 use Rattle.hive_phases.specs.Phases.{Phase.Paging, Phase.Paged}
 use Rattle.hive_writer.specs.Writing.{work_of, purpose_in}
@@ -13,8 +14,10 @@ returns-in-Ok-clause-leads g c = λ faithful stands plan image pages ends none n
     let l = g.D.Disk.state_at c.args.disk.now (g.D.Disk.clock c.args.disk.now) (log_file hive) in
     let p2 = g.D.Disk.state_at c.sync_file.new.disk (g.D.Disk.clock c.sync_file.new.disk) (primary_file hive) in
     let l2 = g.D.Disk.state_at c.sync_file.new.disk (g.D.Disk.clock c.sync_file.new.disk) (log_file hive) in
-    let sound = g.met.D.Disk.sound c.args.disk.now (g.D.Disk.clock c.args.disk.now) (primary_file hive) (c.sync_file.ensures.faithful faithful) (omega arith) in
-    log_same stands w (Paged (purpose_in c.args.purpose)) p2 l l2 c.sync_file.ensures.other (none_left stands w c.args.from p l p2 sound none on (c.in-Ok.ensures.done faithful))
+    let sound = g.met.D.Disk.sound c.args.disk.now (g.D.Disk.clock c.args.disk.now) (primary_file hive) (c.sync_file.ensures.faithful faithful) (omega arith) in (
+      log_same stands w (Paged (purpose_in c.args.purpose)) p2 l l2 c.sync_file.ensures.other (none_left stands w c.args.from p l p2 sound none on (c.in-Ok.ensures.done faithful)),
+      (let e = c.in-Ok.ensures.done faithful in e ∙ ap at_rest (sym (ap (λ (s : FileState). s.synced) e))),
+    )
 
 pub returns-in-Err-clause-leads : goal.returns-in-Err-clause-leads
 returns-in-Err-clause-leads g c = λ faithful stands plan image pages ends none now memory others size ready on.

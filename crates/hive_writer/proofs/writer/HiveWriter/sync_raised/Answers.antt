@@ -14,8 +14,10 @@ returns-in-Ok-clause-leads g c = λ faithful stands image pages now memory other
     let l = g.D.Disk.state_at c.args.disk.now (g.D.Disk.clock c.args.disk.now) (log_file hive) in
     let p2 = g.D.Disk.state_at c.sync_file.new.disk (g.D.Disk.clock c.sync_file.new.disk) (primary_file hive) in
     let l2 = g.D.Disk.state_at c.sync_file.new.disk (g.D.Disk.clock c.sync_file.new.disk) (log_file hive) in
-    let sound = g.met.D.Disk.sound c.args.disk.now (g.D.Disk.clock c.args.disk.now) (primary_file hive) (c.sync_file.ensures.faithful faithful) (omega arith) in
-    log_same stands w (Paging Flush 0) p2 l l2 c.sync_file.ensures.other (raised_synced stands w p l p2 sound on (c.in-Ok.ensures.done faithful))
+    let sound = g.met.D.Disk.sound c.args.disk.now (g.D.Disk.clock c.args.disk.now) (primary_file hive) (c.sync_file.ensures.faithful faithful) (omega arith) in (
+      log_same stands w (Paging Flush 0) p2 l l2 c.sync_file.ensures.other (raised_synced stands w p l p2 sound on (c.in-Ok.ensures.done faithful)),
+      tt,
+    )
 
 pub returns-in-Err-clause-leads : goal.returns-in-Err-clause-leads
 returns-in-Err-clause-leads g c = λ faithful stands image pages now memory others size ready on.

@@ -19,9 +19,11 @@ returns-in-Ok-clause-leads g c = λ faithful stands now memory others size ready
     let p = g.D.Disk.state_at c.args.disk.now (g.D.Disk.clock c.args.disk.now) (primary_file hive) in
     let l = g.D.Disk.state_at c.args.disk.now (g.D.Disk.clock c.args.disk.now) (log_file hive) in
     let p2 = g.D.Disk.state_at c.write_file.new.disk (g.D.Disk.clock c.write_file.new.disk) (primary_file hive) in
-    let l2 = g.D.Disk.state_at c.write_file.new.disk (g.D.Disk.clock c.write_file.new.disk) (log_file hive) in
-    primary_same stands w (Logging (min (65536 * (c.args.index + 1)) (length w.plan.text))) p p2 l2 c.write_file.ensures.other
-    (piece_written stands w c.args.index c.args.piece.now p l l2 c.requires.piece c.requires.some on (subst (λ (n : ℕ). Writes (65536 * n) c.args.piece.now l l2) c.from.ensures (c.in-Ok.ensures.done faithful)))
+    let l2 = g.D.Disk.state_at c.write_file.new.disk (g.D.Disk.clock c.write_file.new.disk) (log_file hive) in (
+      primary_same stands w (Logging (min (65536 * (c.args.index + 1)) (length w.plan.text))) p p2 l2 c.write_file.ensures.other
+          (piece_written stands w c.args.index c.args.piece.now p l l2 c.requires.piece c.requires.some on (subst (λ (n : ℕ). Writes (65536 * n) c.args.piece.now l l2) c.from.ensures (c.in-Ok.ensures.done faithful))),
+      tt,
+    )
 
 pub returns-in-Err-clause-leads : goal.returns-in-Err-clause-leads
 returns-in-Err-clause-leads g c = λ faithful stands now memory others size ready on.

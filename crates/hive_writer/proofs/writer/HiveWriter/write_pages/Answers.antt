@@ -17,9 +17,11 @@ returns-in-Ok-clause-leads g c = λ faithful stands plan ends now memory others 
     let run = c.args.run in
     let last = run.start + c.min.result in
     let some : run.start ≤ last = omega arith in
-    let le : last ≤ run.end = omega (arith, c.min.ensures, c.requires.run.some) in
-    log_same stands w (Paging (purpose_in c.args.purpose) (512 * last)) p2 l l2 c.write_file.ensures.other
-    (run_written stands w c.args.from run.start run.end last p l p2 (take (512 * last - 512 * run.start) (drop (512 * run.start) c.args.image.now)) sound c.requires.size c.requires.run some le refl on (c.in-Ok.ensures.done faithful))
+    let le : last ≤ run.end = omega (arith, c.min.ensures, c.requires.run.some) in (
+      log_same stands w (Paging (purpose_in c.args.purpose) (512 * last)) p2 l l2 c.write_file.ensures.other
+          (run_written stands w c.args.from run.start run.end last p l p2 (take (512 * last - 512 * run.start) (drop (512 * run.start) c.args.image.now)) sound c.requires.size c.requires.run some le refl on (c.in-Ok.ensures.done faithful)),
+      tt,
+    )
 
 pub returns-in-Err-clause-leads : goal.returns-in-Err-clause-leads
 returns-in-Err-clause-leads g c = λ faithful stands plan ends now memory others size ready on.
