@@ -9,3 +9,4 @@ pub mod Legal
 pub mod Ahead
 pub mod Repairing
 pub mod Telling
+pub mod Times

@@ -9,6 +9,7 @@ ghost use Rattle.reg_tree.specs.declared.element.Element.{Element as Change};
 ghost use Rattle.hive_load.specs.Limits.{StandsWithin};
 ghost use Rattle.hive_flush.specs.Standing.{IsRefusedFor};
 ghost use Rattle.hive_flush.specs.HiveStates.{AreLegalOn, IsBroken, IsWhole, StaysOn, files_of, led_to, memory_of, place_of, store_of};
+ghost use Rattle.hive_flush.specs.Times.{time_after, time_of};
 
 use crate::hive::HiveFile;
 use crate::planning::plan_fits;
@@ -25,7 +26,8 @@ use std::alloc::Global;
 
 impl HiveFile {
     /// Absorbs changes into memory, one after another, from two slices: what follows the number in memory up to `upto`. A flush
-    /// that begins then writes the tree that they lead to. No flush is on its way, and the hive is whole.
+    /// that begins then writes the tree that they lead to, and as the last written time the moment of the last of them that has an
+    /// operation on this hive; the time stays if none has. No flush is on its way, and the hive is whole.
     ///
     /// Refused with `NoMemory`, and with `TooLarge` only where the tree that they lead to is over the weight, which legal changes
     /// never leave; nothing has changed then.
@@ -43,6 +45,8 @@ impl HiveFile {
           led_to (place_of self.old) (first.now ++ then.now) (memory_of self.old).0,
           upto,
         )) }
+        ensures time { OnOk result (time_of self.new ≡ time_after (place_of self.old)
+            (first.now ++ then.now) (time_of self.old)) }
         ensures refused { IfErr result (IsRefusedFor (weight (led_to (place_of self.old)
             (first.now ++ then.now) (memory_of self.old).0))) }
         ensures legal { AreLegalOn (place_of self.old) (first.now ++ then.now)
@@ -78,6 +82,7 @@ impl HiveFile {
         requires size { is_bins_size (length bins.items) ≡ true }
         requires larger { length self.old.bins.items ≤ length bins.items }
         ensures memory { memory_of self.new ≡ (tree, number) }
+        ensures time { time_of self.new ≡ time }
         ensures files { files_of self.new ≡ files_of self.old }
         ensures on { StaysOn self.old self.new }
         ensures place { place_of self.new ≡ place_of self.old }

@@ -7,11 +7,13 @@ ghost use Rattle.reg_tree.specs.Maps.{TreeMap};
 ghost use Rattle.refusals.specs.declared.refusal.Refusal.TheVariants.{DiskFault, Faulted};
 ghost use Rattle.disk_model.specs.Call.{OneCall, HasFailed};
 ghost use Rattle.disk_model.specs.StoreFiles.{IsOfHive};
+ghost use Rattle.hive_files.specs.Pieces.{WritesPieces};
 ghost use Rattle.hive_phases.specs.Holding.{Standing, tree_under};
 ghost use Rattle.hive_phases.specs.Plans.{IsReady};
 ghost use Rattle.hive_writer.specs.Writing.{plan_of};
 ghost use Rattle.hive_writer.specs.declared.stage.Stage.TheVariants as stage;
 ghost use Rattle.hive_flush.specs.HiveStates.{GoesOn, IsBroken, IsWhole, Settled, dirty_pages, files_of, memory_of, place_of, repairs_left, steps_left, store_of};
+ghost use Rattle.hive_flush.specs.Times.{time_of};
 
 use crate::hive::HiveFile;
 use crate::planning::{next_block, plan_fits};
@@ -53,7 +55,7 @@ impl HiveFile {
 
     /// One step of a flush of what is in memory, which begins where none is on its way: at most one device call. `More` where
     /// others follow, and `Done` where it was the last one: then what was in memory stands. A flush that begins with `p` dirty
-    /// pages is done within `2 * p + 7` steps, where none is refused.
+    /// pages is done within `2 * p + 7` steps, where none is refused. A write takes at most 65,536 bytes.
     ///
     /// Takes no memory. Refused with `DiskFault` where the device failed in the call, and with `Faulted` exactly where it had
     /// failed in an earlier one: nothing is done then.
@@ -64,6 +66,7 @@ impl HiveFile {
         ensures says { Says (HiveSays (memory_of self.old)) result (files_of self.old) (files_of
             self.new) }
         ensures memory { memory_of self.new ≡ memory_of self.old }
+        ensures time { time_of self.new ≡ time_of self.old }
         ensures place { place_of self.new ≡ place_of self.old }
         ensures store { store_of self.new ≡ store_of self.old }
         ensures whole { IsWhole self.new }
@@ -78,6 +81,8 @@ impl HiveFile {
         ensures still { IsBroken self.old → (self.new ≡ self.old) × (disk.new ≡ disk.old) }
         ensures call { OneCall (IsOfHive (place_of self.old)) (D.state_at disk.old) (D.state_at
             disk.new) (D.clock disk.old) (D.clock disk.new) }
+        ensures pieces { D.faithful disk.new → WritesPieces (D.state_at disk.old)
+            (D.state_at disk.new) (D.clock disk.old) (D.clock disk.new) }
         ensures failures { HasFailed result (D.failures disk.old) (D.failures disk.new) }
         ensures faithful { D.faithful disk.new → D.faithful disk.old }
     {
@@ -136,6 +141,7 @@ impl HiveFile {
             (D.state_at disk.old (D.clock disk.old)) (D.state_at disk.new (D.clock disk.new)) }
         ensures files { files_of self.new ≡ files_of self.old }
         ensures memory { memory_of self.new ≡ memory_of self.old }
+        ensures time { time_of self.new ≡ time_of self.old }
         ensures place { place_of self.new ≡ place_of self.old }
         ensures store { store_of self.new ≡ store_of self.old }
         ensures whole { (result ≡ Ok Progress.Done) → IsWhole self.new }
@@ -151,6 +157,8 @@ impl HiveFile {
         ensures still { IsBroken self.old → (self.new ≡ self.old) × (disk.new ≡ disk.old) }
         ensures call { OneCall (IsOfHive (place_of self.old)) (D.state_at disk.old) (D.state_at
             disk.new) (D.clock disk.old) (D.clock disk.new) }
+        ensures pieces { D.faithful disk.new → WritesPieces (D.state_at disk.old)
+            (D.state_at disk.new) (D.clock disk.old) (D.clock disk.new) }
         ensures failures { HasFailed result (D.failures disk.old) (D.failures disk.new) }
         ensures faithful { D.faithful disk.new → D.faithful disk.old }
     {

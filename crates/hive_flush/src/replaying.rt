@@ -2,6 +2,7 @@
 ghost use Rattle.std.specs.Prelude.{◌≡◌, map, IfOk};
 ghost use Rattle.prefix_law.specs.Changes.{applied, on_hive, ops_on};
 ghost use Rattle.engine_words.specs.Changes.{rules, timed, timed_element, timed_elements};
+ghost use Rattle.hive_flush.specs.Times.{time_after};
 
 use element_text::ChangeText;
 use reg_tree::{Op, Tree};
@@ -63,10 +64,15 @@ fn after_ops(
 }
 
 /// The moment of the last change that has an operation on a hive, or else one that is given.
-pub(crate) fn last_moment(hive: u8, changes: &[ChangeText], otherwise: u64) -> u64 {
-    changes
-        .iter()
-        .rev()
-        .find(|change| change.is_on(hive))
-        .map_or(otherwise, |change| change.moment())
+pub(crate) fn last_moment(hive: u8, changes: &[ChangeText], otherwise: u64) -> u64
+    ensures { result ≡ time_after hive changes.now otherwise }
+{
+    let mut left = changes;
+    'changes: while let Some((change, before)) = left.split_last() {
+        if change.is_on(hive) {
+            return change.moment();
+        }
+        left = before;
+    }
+    otherwise
 }

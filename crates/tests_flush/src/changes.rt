@@ -6,7 +6,7 @@ use reg_tree_parts::Data;
 use std::alloc::Global;
 
 /// The moment of every change.
-const MOMENT: u64 = 7;
+pub const MOMENT: u64 = 7;
 
 /// The byte that a value's data have but at one place.
 const FILLER: u8 = 0x5a;

@@ -1,5 +1,5 @@
 //! Flushes that are stopped, and what is opened then.
-use crate::changes::creation;
+use crate::changes::{MOMENT, creation};
 use crate::held::first_block;
 use crate::hives::{PRIMARY, bytes_of, flushed, fresh, has, left, open, open_whole};
 use crate::stops::{TEARS, stopped};
@@ -33,6 +33,7 @@ fn a_flush_that_is_done_is_found_whatever_is_torn(rt: HostRuntime) -> Result<(),
         assert_eq!(rt; file.applied(), 1);
         let block = first_block(&bytes_of(alloc, &mut disk, PRIMARY)?)?;
         assert_eq!(rt; (block.primary.0, block.secondary.0), (next, next));
+        assert_eq!(rt; block.last_written, MOMENT);
         for tear in TEARS {
             let mut disk = left(alloc, &disk, tear)?;
             assert_eq!(rt; found(alloc, &mut disk, b'K')?, (1, true), "{tear:?}");

@@ -4,7 +4,9 @@ use Rattle.reg_tree.specs.Maps.{TreeMap, weight}
 use Rattle.reg_tree.specs.declared.element.Element.{Element}
 use Rattle.hive_flush.specs.HiveStates.{led_to}
 use Rattle.hive_flush.specs.Standing.{IsRefusedFor}
+use Rattle.hive_flush.specs.Times.{time_of, time_after}
 use Rattle.hive_flush.proofs.Legal.{led_on, legal_told}
+use Rattle.hive_flush.proofs.Times.{time_on}
 use Rattle.hive_flush.proofs.hive.HiveFile.absorb.Goals as goal
 
 led : (hive : ℕ) (first then : List Element) (tree made between last : TreeMap) → made ≡ tree → between ≡ led_to hive first made → last ≡ led_to hive then between
@@ -34,3 +36,10 @@ returns-clause-memory c =
     let hive = c.args.self.now.writer.hive in
     c.adopt.ensures.memory ∙ ap (λ (t : TreeMap). (t, c.args.upto))
     (led hive c.args.first.now c.args.then.now c.args.self.now.tree c.in_ok-clone.field-0 c.in_ok-tree.tree c.in_ok-tree-2.tree c.in_ok-clone.ensures c.in_ok-tree.ensures c.in_ok-tree-2.ensures)
+
+pub returns-clause-time : goal.returns-clause-time
+returns-clause-time c =
+    let hive = c.args.self.now.writer.hive in
+    let before = time_of c.args.self.now in
+    c.adopt.ensures.time ∙ c.last_moment-time-2.ensures ∙ ap (time_after hive c.args.then.now) c.last_moment-time.ensures
+    ∙ sym (time_on hive c.args.first.now c.args.then.now before)
