@@ -1,5 +1,5 @@
 //! What is found in a hive's two files.
-ghost use Rattle.std.specs.Prelude.{◌≡◌, ◌⊎◌, ◌+◌, ◌<◌, ◌≤◌, ℕ, List, length, take, drop, true, false, IfOk, IfErr, IfSome, IfNone};
+ghost use Rattle.std.specs.Prelude.{◌≡◌, ◌<◌, ◌≤◌, ℕ, List, length, take, drop, true, false, IfOk, IfErr, IfSome, IfNone};
 ghost use Rattle.base_block.specs.Judgements.{IsLog, IsPrimary};
 ghost use Rattle.base_block.specs.Layout.{is_clean_block};
 ghost use Rattle.dirt_log.specs.WholeLog.{IsWhole, block_of, not_whole};
@@ -8,7 +8,7 @@ ghost use Rattle.disk_model.specs.Call.{Extends};
 ghost use Rattle.disk_model.specs.FileState.{at_rest};
 ghost use Rattle.disk_model.specs.StoreFiles.{IsOfHive, primary_file, log_file};
 ghost use Rattle.disk_model.specs.Unwritten.{OnlyReads, OnlySyncs};
-ghost use Rattle.hive_files.specs.Finding.{HasNoOwn, IsByLog, IsFound, IsLogOf, IsLogged, IsPart, NothingThere, TellsOfHive, as_primary};
+ghost use Rattle.hive_files.specs.Finding.{HasNoOwn, IsByLog, IsFound, IsLogOf, IsLogged, IsPart, NothingThere, TellsOfHive};
 ghost use Rattle.hive_files.specs.Frames.{FailsBy};
 ghost use Rattle.hive_files.specs.Pieces.{calls_of_part, calls_to_find};
 ghost use Rattle.refusals.specs.Answers.{RefusedFor};
