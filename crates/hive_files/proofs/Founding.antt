@@ -15,7 +15,7 @@ use Rattle.dirt_log.specs.Held.{is_clean_file, IsOwn, IsRepaired, OwnRefused}
 use Rattle.dirt_log.specs.LogText.{bitmap_end, pages_at}
 use Rattle.dirt_log.specs.WholeLog.{IsWhole, IsCovered, block_of, pages_in, page_bytes_in, log_end, not_whole, repaired}
 use Rattle.dirt_log.specs.declared.reading.DirtLog.{DirtLog}
-use Rattle.hive_files.specs.Finding.{HasNone, HasNoOwn, IsByLog, IsFound, IsLogOf, IsLogged, IsPart, TellsOfHive}
+use Rattle.hive_files.specs.Finding.{HasNone, HasNoOwn, IsByLog, IsFound, IsLogOf, IsLogged, IsPart, IsShortRefused, TellsOfHive}
 use Rattle.hive_files.specs.Frames.{FailsBy}
 use Rattle.hive_files.specs.declared.found.Found.{Found}
 use Rattle.hive_files.proofs.Frames.{fails_on}
@@ -73,10 +73,10 @@ sector_tells primary sector block is read long =
 pub short_unclean : (primary : List ℕ) → length primary < 512 → is_clean_file primary ≡ false
 short_unclean primary short = ap (λ (t : Bool). t && is_clean_block (block_of primary)) (lt-leb 512 (length primary) short)
 
-pub short_has_none : (primary log : List ℕ) → length primary < 512 → HasNone primary log not_whole
-short_has_none primary log short = record {
+pub short_has_none : (primary log : List ℕ) (why : Refusal) → length primary < 512 → IsShortRefused primary log why → HasNone primary log why
+short_has_none primary log why short told = record {
   none = λ has. omega (arith, short, has.sector (short_unclean primary short));
-  tells = match_at_false _ _ (short_unclean primary short) (refl, inl short);
+  tells = match_at_false _ _ (short_unclean primary short) (⊎_elim (λ unrepaired. inl unrepaired) (λ is. inr (is, short)) told);
 }
 
 pub clean_found : (primary log : List ℕ) (found : Found) → is_clean_file primary ≡ true → found.is_clean ≡ true → found.block ≡ block_of primary → IsPrimary found.block
@@ -102,7 +102,7 @@ clean_has_none primary log block why clean is own_none = record {
 pub unclean_has_none : (primary log : List ℕ) (why : Refusal) → is_clean_file primary ≡ false → why ≡ not_whole → (IsLogged primary log → ⊥) → HasNone primary log why
 unclean_has_none primary log why unclean told none = record {
   none = λ has. let by : IsRepaired primary log has.block has.bins = MatchBool-at_false _ _ unclean has.in_use in none (record { whole = by.whole; covered = by.covered });
-  tells = match_at_false _ _ unclean (told, inr none);
+  tells = match_at_false _ _ unclean (inl (told, none));
 }
 
 -- ---- what is told of a hive

@@ -2,6 +2,7 @@
 use Rattle.std.specs.Prelude.{◌≡◌, ◌⊎◌, ℕ, ◌+◌, ◌≤◌, ◌<◌, true, false, List, length, take, drop, MatchBool}
 use Rattle.refusals.specs.declared.refusal.Refusal.{Refusal}
 use Rattle.refusals.specs.declared.refusal.Refusal.TheVariants as refusal
+use Rattle.refusals.specs.declared.refusal.Cause.TheVariants.{Truncated}
 use Rattle.base_block.specs.declared.block.BaseBlock.{BaseBlock}
 use Rattle.base_block.specs.Judgements.{IsPrimary}
 use Rattle.dirty_vector.specs.Pages.{clean_pages}
@@ -69,12 +70,16 @@ TellsOfHive refusal.Unsupported = Unit {0}
 TellsOfHive _ = ⊥
 
 -- Why a primary file and its log have nothing that may be used, as a refusal tells it. A clean primary file is refused for its own
--- block or its length, whatever its log is. An unclean one is told as BadLog: it has no first sector, or its log isn't whole, or
--- lacks a page that the primary file lacks too.
+-- block or its length, whatever its log is. An unclean one is told as BadLog, if its log isn't whole, or lacks a page that the
+-- primary file lacks too; or as Truncated, if it has no first sector.
 abbrev pub IsUnusable : List ℕ → List ℕ → Refusal → Type 0
 IsUnusable primary log why =
     MatchBool (is_clean_file primary) (OwnRefused (block_of primary) (length primary) why)
-    ((why ≡ not_whole) × ((length primary < 512) ⊎ (IsLogged primary log → ⊥)))
+    (((why ≡ not_whole) × (IsLogged primary log → ⊥)) ⊎ ((why ≡ refusal.HiveDamaged 0 Truncated) × (length primary < 512)))
+
+-- why two files are refused of which the primary one has no first sector: for the log, or since that one ends too early
+abbrev pub IsShortRefused : List ℕ → List ℕ → Refusal → Type 0
+IsShortRefused primary log why = ((why ≡ not_whole) × (IsLogged primary log → ⊥)) ⊎ (why ≡ refusal.HiveDamaged 0 Truncated)
 
 -- two files have nothing that may be used, and a refusal tells why
 pub record HasNone (primary log : List ℕ) (why : Refusal) : Type 0 where

@@ -8,7 +8,7 @@ ghost use Rattle.disk_model.specs.Call.{Extends};
 ghost use Rattle.disk_model.specs.FileState.{at_rest};
 ghost use Rattle.disk_model.specs.StoreFiles.{IsOfHive, primary_file, log_file};
 ghost use Rattle.disk_model.specs.Unwritten.{OnlyReads, OnlySyncs};
-ghost use Rattle.hive_files.specs.Finding.{HasNoOwn, IsByLog, IsFound, IsLogOf, IsLogged, IsPart, NothingThere, TellsOfHive};
+ghost use Rattle.hive_files.specs.Finding.{HasNoOwn, IsByLog, IsFound, IsLogOf, IsLogged, IsPart, IsShortRefused, NothingThere, TellsOfHive};
 ghost use Rattle.hive_files.specs.Frames.{FailsBy};
 ghost use Rattle.hive_files.specs.Pieces.{calls_of_part, calls_to_find};
 ghost use Rattle.refusals.specs.Answers.{RefusedFor};
@@ -30,8 +30,8 @@ const MOST_LOG_BYTES: u64 = 67_126_272;
 ///
 /// Refused with `DiskFault` where the device failed, with `NoMemory`, and only where nothing that may be used stands in the
 /// files with a cause of hive 0, `Unsupported` or `TooLarge`: a clean primary file with that of its base block, or with
-/// `Truncated` where it is shorter than its bins data; an unclean one with `BadLog`, also where it has no first sector. What is
-/// told is so in the bytes. No file changes but by its sync.
+/// `Truncated` where it is shorter than its bins data; an unclean one with `BadLog`, if its log isn't whole or lacks a page that is
+/// needed, or with `Truncated`, if it has no first sector. What is told is so in the bytes. No file changes but by its sync.
 pub fn find<D: Disk>(alloc: Global, disk: &mut D, hive: u8) -> Result<Found, Refusal>
     ensures found { IfOk result (λ found. D.faithful disk.new → IsFound
         (D.state_at disk.old (D.clock disk.old) (primary_file hive)).seen
@@ -67,7 +67,7 @@ pub fn find<D: Disk>(alloc: Global, disk: &mut D, hive: u8) -> Result<Found, Ref
         Err(why) => return Err(why),
     };
     match block_in(&sector) {
-        None => Err(Refusal::from(Cause::BadLog)),
+        None => Err(short_refused(alloc, disk, hive)),
         Some(block) => {
             if block.is_clean() {
                 find_own(alloc, disk, primary, block)
@@ -131,6 +131,27 @@ fn find_own<D: Disk>(
         pages,
         is_clean: true,
     })
+}
+
+// why an unclean primary file without a first sector is refused: for its log, or else since it ends too early
+fn short_refused<D: Disk>(alloc: Global, disk: &mut D, hive: u8) -> Refusal
+    ensures fails { FailsBy (D.failures disk.old < D.failures disk.new)
+        (λ why. TellsOfHive why × (D.faithful disk.new → IsShortRefused
+        (D.state_at disk.old (D.clock disk.old) (primary_file hive)).seen
+        (D.state_at disk.old (D.clock disk.old) (log_file hive)).seen why)) result }
+    ensures synced { D.faithful disk.new → OnlySyncs (D.state_at disk.old) (D.state_at disk.new)
+        (D.clock disk.old) (D.clock disk.new) }
+    ensures others { (f : ℕ) → ¬ (f ≡ log_file hive) →
+        D.state_at disk.new (D.clock disk.new) f ≡ D.state_at disk.old (D.clock disk.old) f }
+    ensures time { Extends (D.state_at disk.old) (D.state_at disk.new) (D.clock disk.old)
+        (D.clock disk.new) }
+    ensures failures { D.failures disk.old ≤ D.failures disk.new }
+    ensures faithful { D.faithful disk.new → D.faithful disk.old }
+{
+    match find_repaired(alloc, disk, hive) {
+        Ok(_) => Refusal::from(Cause::Truncated),
+        Err(why) => why,
+    }
 }
 
 // what an unclean primary file holds by its log, which is synced first

@@ -37,8 +37,9 @@ impl HiveFile {
     /// `DiskFault` where the device failed; and with `NoMemory`. No file changes but by its sync.
     ///
     /// The cause that is told stands in the files: of a clean primary file what is wrong with its own block, or `Truncated`; of an
-    /// unclean one `BadLog`, if its log isn't whole or lacks a page that is needed; of a block of another store `BadStore`; and else
-    /// what is wrong with the bins data that are in use. What is over a limit has the cause `TooLarge`.
+    /// unclean one `BadLog`, if its log isn't whole or lacks a page that is needed, or `Truncated`, if it has no first sector; of a
+    /// block of another store `BadStore`; and else what is wrong with the bins data that are in use. What is over a limit has the cause
+    /// `TooLarge`.
     pub fn open<D: Disk>(
         alloc: Global,
         disk: &mut D,

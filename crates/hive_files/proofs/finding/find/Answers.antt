@@ -1,13 +1,12 @@
 use Rattle.std.proofs.Common.{◌≡◌, ◌≢◌, ℕ, ◌+◌, ◌≤◌, true, false, List, length, take, drop, length-take, inl, inr, refl, sym, ap, subst, ◌∙◌, arith, ◌<◌}
 use Rattle.std.proofs.lemmas.Result.{IfErr-weaker, IfOk-weaker}
-use Rattle.refusals.specs.declared.refusal.Refusal.{Refusal}
 use Rattle.base_block.specs.declared.block.BaseBlock.{BaseBlock}
 use Rattle.base_block.specs.Judgements.{IsPrimary}
 use Rattle.disk_model.specs.FileState.{FileState, at_rest}
 use Rattle.disk_model.specs.StoreFiles.{primary_file, log_file}
 use Rattle.disk_model.proofs.Unwritten.{only_reads, still, sync_call, syncs_on}
 use Rattle.dirty_vector.specs.Pages.{clean_pages}
-use Rattle.hive_files.specs.Finding.{HasNone, HasNoOwn, IsByLog, IsLogged, IsPart, TellsOfHive}
+use Rattle.hive_files.specs.Finding.{HasNoOwn, IsByLog, IsLogged, IsPart, IsShortRefused}
 use Rattle.hive_files.proofs.Founding.{sector_tells, short_has_none, clean_found, unclean_found, clean_has_none, unclean_has_none, told_on, log_told_on}
 use Rattle.hive_files.proofs.Frames.{ok_joined, ok_of_three}
 use Rattle.hive_files.proofs.Pieces.{clean_calls, unclean_calls}
@@ -17,18 +16,22 @@ use Rattle.dirt_log.specs.WholeLog.{block_of}
 use Rattle.hive_files.proofs.finding.find.Goals as goal
 
 pub returns-in-None-clause-fails : goal.returns-in-None-clause-fails
-returns-in-None-clause-fails g c = inr (inr (
-  subst (λ (r : Refusal). TellsOfHive r) (sym c.from.ensures) refl,
-  λ faithful.
-      let old = g.D.Disk.state_at c.args.disk.now (g.D.Disk.clock c.args.disk.now) in
-      let mid = g.D.Disk.state_at c.sync.new.self (g.D.Disk.clock c.sync.new.self) in
-      let primary = (old (primary_file c.args.hive)).seen in
-      let number : c.primary_number-primary.result ≡ primary_file c.args.hive = c.primary_number-primary.ensures in
-      let shown : (mid c.primary_number-primary.result).seen ≡ primary = ap (λ (s : FileState). s.seen) (c.in_ok-sync.ensures.synced (c.in-Ok.ensures.faithful faithful)) ∙ ap (λ (f : ℕ). (old f).seen) number in
-      let sector : c.in-Ok.sector.items ≡ take 512 primary = c.in-Ok.ensures.bytes faithful ∙ ap (λ (l : List ℕ). take 512 l) shown in
-      let short : length primary < 512 = omega (arith, c.in-None.ensures.none, ap (λ (l : List ℕ). length l) (c.deref.ensures.value ∙ sector), length-take 512 primary) in
-      subst (HasNone primary _) (sym c.from.ensures) (short_has_none primary _ short),
-))
+returns-in-None-clause-fails g c = told_on _ _ _ _ c.short_refused.result (λ f. omega (arith, f, c.in-Ok.ensures.failures, c.in_ok-sync.ensures.failures)) (λ told faithful.
+    let old = g.D.Disk.state_at c.args.disk.now (g.D.Disk.clock c.args.disk.now) in
+    let mid = g.D.Disk.state_at c.sync.new.self (g.D.Disk.clock c.sync.new.self) in
+    let late = g.D.Disk.state_at c.read_part.new.disk (g.D.Disk.clock c.read_part.new.disk) in
+    let why = c.short_refused.result in
+    let primary = (old (primary_file c.args.hive)).seen in
+    let log = (old (log_file c.args.hive)).seen in
+    let read = c.short_refused.ensures.faithful faithful in
+    let number : c.primary_number-primary.result ≡ primary_file c.args.hive = c.primary_number-primary.ensures in
+    let shown : (mid c.primary_number-primary.result).seen ≡ primary = ap (λ (s : FileState). s.seen) (c.in_ok-sync.ensures.synced (c.in-Ok.ensures.faithful read)) ∙ ap (λ (f : ℕ). (old f).seen) number in
+    let sector : c.in-Ok.sector.items ≡ take 512 primary = c.in-Ok.ensures.bytes read ∙ ap (λ (l : List ℕ). take 512 l) shown in
+    let there : (late (primary_file c.args.hive)).seen ≡ primary = ap (λ (f : ℕ). (late f).seen) (sym number) ∙ ap (λ (s : FileState). s.seen) (still c.in-Ok.ensures.reads c.primary_number-primary.result) ∙ shown in
+    let apart : log_file c.args.hive ≢ c.primary_number-primary.result = λ same. omega (arith, same, number) in
+    let behind : (late (log_file c.args.hive)).seen ≡ log = ap (λ (s : FileState). s.seen) (still c.in-Ok.ensures.reads (log_file c.args.hive) ∙ c.in_ok-sync.ensures.others (log_file c.args.hive) apart) in
+    short_has_none primary log why (omega (arith, c.in-None.ensures.none, ap (λ (l : List ℕ). length l) (c.deref.ensures.value ∙ sector), length-take 512 primary))
+    (subst (λ (l : List ℕ). IsShortRefused primary l why) behind (subst (λ (p : List ℕ). IsShortRefused p (late (log_file c.args.hive)).seen why) there (told faithful)))) c.short_refused.ensures.fails
 
 pub returns-then-is_clean-clause-found : goal.returns-then-is_clean-clause-found
 returns-then-is_clean-clause-found g c = ok_of_three c.find_own.result _ _ _ _ (λ found bins judged says faithful.
