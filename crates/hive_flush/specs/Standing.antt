@@ -61,7 +61,8 @@ as_told hive _ = refusal.Unsupported
 
 -- Why two files hold nothing as a hive of a store, by what stands in their bytes.
 pub data TellsWhy (hive : ℕ) (store primary log : List ℕ) (told : Refusal) : Type 0 where
-  -- they have nothing that may be used: a clean primary file for its own block or its length, an unclean one for its log
+  -- they have nothing that may be used: a clean primary file for its own block or its length, an unclean one for its log, or since it
+  -- has no first sector
   unusable : (why : Refusal) → told ≡ as_told hive why → IsUnusable primary log why → TellsWhy hive store primary log told
   -- the block in use is that of another store
   of_another : told ≡ refusal.HiveDamaged hive BadStore → (has : HasHive primary log) → has.block.store ≢ store → TellsWhy hive store primary log told
