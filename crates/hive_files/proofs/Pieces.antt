@@ -1,18 +1,18 @@
 -- Calls that find what two files hold, counted; and writes, a piece at a time.
-use Rattle.std.proofs.Common.{◌≡◌, inl, inr, ℕ, ◌+◌, ◌≤◌, Bool, cond, true, false, List, length, take, drop, sym, ap, ◌∙◌, subst, arith}
+use Rattle.std.proofs.Common.{◌≡◌, inl, inr, ℕ, ◌+◌, ◌≤◌, Bool, cond, true, false, List, length, sym, ap, ◌∙◌, subst, arith}
 use Rattle.std.specs.Prelude.{Result, Ok, Err, OnOk, OnErr}
 use Rattle.std.proofs.lemmas.Bool.{cases_lt, cases_eq}
 use Rattle.disk_model.specs.Call.{Passes, KeepsOthers, Extends}
 use Rattle.disk_model.specs.FileState.{FileState, Cuts, MayCut, MayWrite, Syncs, Writes, after_write}
-use Rattle.hive_files.specs.Pieces.{HasShortWrites, WritesPieces, calls_of_part, calls_to_find}
+use Rattle.hive_files.specs.Pieces.{HasShortWrites, WritesPieces, calls_by_log, calls_of_part, calls_to_find}
 use Rattle.hive_files.specs.declared.found.Found.{Found}
 
 module _ (primary log : List ℕ) (found : Found) where
   pub clean_calls : found.is_clean ≡ true → calls_to_find primary log found ≡ 1 + calls_of_part 512 + calls_of_part found.block.bins_size
-  clean_calls is = ap (λ (b : Bool). 1 + calls_of_part 512 + cond b (calls_of_part found.block.bins_size) (1 + calls_of_part (length (take 67126272 log)) + calls_of_part (length (take found.block.bins_size (drop 4096 primary))))) is
+  clean_calls is = ap (λ (b : Bool). 1 + calls_of_part 512 + cond b (calls_of_part found.block.bins_size) (1 + calls_by_log primary log found.block.bins_size)) is
 
-  pub unclean_calls : found.is_clean ≡ false → calls_to_find primary log found ≡ 1 + calls_of_part 512 + (1 + calls_of_part (length (take 67126272 log)) + calls_of_part (length (take found.block.bins_size (drop 4096 primary))))
-  unclean_calls is = ap (λ (b : Bool). 1 + calls_of_part 512 + cond b (calls_of_part found.block.bins_size) (1 + calls_of_part (length (take 67126272 log)) + calls_of_part (length (take found.block.bins_size (drop 4096 primary))))) is
+  pub unclean_calls : found.is_clean ≡ false → calls_to_find primary log found ≡ 1 + calls_of_part 512 + (1 + calls_by_log primary log found.block.bins_size)
+  unclean_calls is = ap (λ (b : Bool). 1 + calls_of_part 512 + cond b (calls_of_part found.block.bins_size) (1 + calls_by_log primary log found.block.bins_size)) is
 
 -- ---- writes
 

@@ -10,7 +10,7 @@ ghost use Rattle.disk_model.specs.StoreFiles.{IsOfHive, primary_file, log_file};
 ghost use Rattle.disk_model.specs.Unwritten.{OnlyReads, OnlySyncs};
 ghost use Rattle.hive_files.specs.Finding.{HasNoOwn, IsByLog, IsFound, IsLogOf, IsLogged, IsPart, IsShortRefused, NothingThere, TellsOfHive};
 ghost use Rattle.hive_files.specs.Frames.{FailsBy};
-ghost use Rattle.hive_files.specs.Pieces.{calls_of_part, calls_to_find};
+ghost use Rattle.hive_files.specs.Pieces.{calls_by_log, calls_of_part, calls_to_find};
 ghost use Rattle.refusals.specs.Answers.{RefusedFor};
 
 use crate::files::{BINS_AT, SECTOR_BYTES, log_number, primary_number, read_part};
@@ -26,7 +26,7 @@ use std::alloc::Global;
 const MOST_LOG_BYTES: u64 = 67_126_272;
 
 /// Finds what is in use in a hive's two files. The primary file is synced first; and so is the log, but where the primary file
-/// is clean: then it isn't looked at. A read takes at most 65,536 bytes, and no file is read in more calls than these need.
+/// is clean: then it isn't looked at. Both are read in pieces of 65,536 bytes, in as few calls as that takes.
 ///
 /// Refused with `DiskFault` where the device failed, with `NoMemory`, and only where nothing that may be used stands in the
 /// files with a cause of hive 0, `Unsupported` or `TooLarge`: a clean primary file with that of its base block, or with
@@ -161,10 +161,9 @@ fn find_repaired<D: Disk>(alloc: Global, disk: &mut D, hive: u8) -> Result<Found
         (D.state_at disk.old (D.clock disk.old) (log_file hive)).seen found) }
     ensures clean { IfOk result (λ found. found.is_clean ≡ false) }
     ensures calls { IfOk result (λ found. D.faithful disk.new → D.clock disk.new
-        ≡ D.clock disk.old + (1 + calls_of_part (length (take 67126272
-        (D.state_at disk.old (D.clock disk.old) (log_file hive)).seen)) + calls_of_part (length
-        (take found.block.bins_size (drop 4096
-        (D.state_at disk.old (D.clock disk.old) (primary_file hive)).seen))))) }
+        ≡ D.clock disk.old + (1 + calls_by_log
+        (D.state_at disk.old (D.clock disk.old) (primary_file hive)).seen
+        (D.state_at disk.old (D.clock disk.old) (log_file hive)).seen found.block.bins_size)) }
     ensures rest { IfOk result (λ found. D.faithful disk.new →
         D.state_at disk.new (D.clock disk.new) (log_file hive)
         ≡ at_rest (D.state_at disk.old (D.clock disk.old) (log_file hive)).seen) }
@@ -192,10 +191,9 @@ fn read_repaired<D: Disk>(alloc: Global, disk: &mut D, hive: u8) -> Result<Found
         (D.state_at disk.old (D.clock disk.old) (log_file hive)).seen found) }
     ensures clean { IfOk result (λ found. found.is_clean ≡ false) }
     ensures calls { IfOk result (λ found. D.faithful disk.new → D.clock disk.new
-        ≡ D.clock disk.old + calls_of_part (length (take 67126272
-        (D.state_at disk.old (D.clock disk.old) (log_file hive)).seen)) + calls_of_part (length
-        (take found.block.bins_size (drop 4096
-        (D.state_at disk.old (D.clock disk.old) (primary_file hive)).seen)))) }
+        ≡ D.clock disk.old + calls_by_log
+        (D.state_at disk.old (D.clock disk.old) (primary_file hive)).seen
+        (D.state_at disk.old (D.clock disk.old) (log_file hive)).seen found.block.bins_size) }
     ensures fails { IfErr result (FailsBy (D.failures disk.old < D.failures disk.new)
         (λ why. (why ≡ not_whole) × (D.faithful disk.new → IsLogged
         (D.state_at disk.old (D.clock disk.old) (primary_file hive)).seen

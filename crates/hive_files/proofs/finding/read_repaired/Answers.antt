@@ -1,9 +1,8 @@
-use Rattle.std.proofs.Common.{ℕ, ◌+◌, List, length, take, drop, sym, ap, ◌∙◌}
+use Rattle.std.proofs.Common.{ℕ, List, length, take, drop, sym, ap, ◌∙◌, arith}
 use Rattle.std.proofs.lemmas.Result.{IfOk-weaker, IfErr-weaker}
 use Rattle.disk_model.specs.FileState.{FileState}
 use Rattle.disk_model.specs.StoreFiles.{primary_file, log_file}
 use Rattle.disk_model.proofs.Unwritten.{reads_on, still}
-use Rattle.hive_files.specs.Pieces.{calls_of_part}
 use Rattle.hive_files.proofs.Founding.{told_of_log}
 use Rattle.hive_files.proofs.finding.read_repaired.Goals as goal
 
@@ -55,9 +54,7 @@ returns-clause-calls g c = IfOk-weaker c.repaired.result _ _ (λ found size fait
     c.in-Ok-read_part.ensures.bytes faithful ∙ ap (λ (n : ℕ). take n (drop 4096 (mid c.primary_number.result).seen)) (c.bins_size-size.ensures.value ∙ sym size)
     ∙ ap (λ (f : ℕ). take found.block.bins_size (drop 4096 (mid f).seen)) c.primary_number.ensures
     ∙ ap (λ (s : FileState). take found.block.bins_size (drop 4096 s.seen)) (still c.in-Ok.ensures.reads (primary_file c.args.hive)) in
-    c.in-Ok-read_part.ensures.calls
-    ∙ ap (λ (n : ℕ). n + calls_of_part (length c.in-Ok-read_part.bins.items)) (c.in-Ok.ensures.calls ∙ ap (λ (l : List ℕ). g.D.Disk.clock c.args.disk.now + calls_of_part (length l)) text)
-    ∙ ap (λ (l : List ℕ). g.D.Disk.clock c.args.disk.now + calls_of_part (length (take 67126272 (state (log_file c.args.hive)).seen)) + calls_of_part (length l)) bins) c.repaired.ensures.size
+    omega (arith, c.in-Ok-read_part.ensures.calls, c.in-Ok.ensures.calls, ap (λ (l : List ℕ). length l) text, ap (λ (l : List ℕ). length l) bins)) c.repaired.ensures.size
 
 pub returns-clause-reads : goal.returns-clause-reads
 returns-clause-reads g c = reads_on _ _ _ _ _ _ c.in-Ok.ensures.reads c.in-Ok-read_part.ensures.reads
