@@ -1,9 +1,6 @@
--- An engine may cross threads as its disk may, and so may a lock over it and a counted reference to that.
+-- An engine may cross threads as its disk may, and so may a lock over it.
 use denote.RattleType.{RattleType}
 use denote.Param.Send.{IsSend, IsSync, sendable}
-use Rattle.std_alloc.specs.contracts.arc.Arc as Arc
-use Rattle.std_heap.specs.contracts.Global as Heap
-use Rattle.std_heap.specs.contracts.GlobalAllocator.TheImpl.{ghosts}
 use Rattle.std.proofs.Crossing as std
 use Rattle.std.specs.contracts.sync.Mutex as Mutex
 use Rattle.disk_model.specs.declared.disk.Disk as Disk
@@ -19,9 +16,3 @@ module _ (D : RattleType) (d : Disk.Ghosts D.Denot) where
 
   pub lock_sync : IsSend D → IsSync (Mutex.the_row (Engine.the_row D d))
   lock_sync s = let e = engine_send s in search (e, std.crosses, sendable) depth 40
-
-  pub owner_send : IsSend D → IsSend (Arc.the_row (Mutex.the_row (Engine.the_row D d)) Heap.the_row ghosts)
-  owner_send s = std.Arc-send (Mutex.the_row (Engine.the_row D d)) (lock_send s) (lock_sync s)
-
-  pub owner_sync : IsSend D → IsSync (Arc.the_row (Mutex.the_row (Engine.the_row D d)) Heap.the_row ghosts)
-  owner_sync s = std.Arc-sync (Mutex.the_row (Engine.the_row D d)) (lock_send s) (lock_sync s)
