@@ -1,8 +1,10 @@
--- No event but a step is answered that the device failed.
-use Rattle.std.proofs.Common.{◌≡◌, inl, inr, ℕ, Bool, true, false, List, [], ◌∷◌, Option, Some, None, Result, Ok, Err, cond, refl, ap}
+-- A store is faulted only by the device, and what is told of the device is told by a store that is faulted then. No event but a step is
+-- answered that the device failed.
+use Rattle.std.proofs.Common.{◌≡◌, ◌⊎◌, inl, inr, ℕ, ◌==◌, length, Bool, true, false, List, [], ◌∷◌, Option, Some, None, Result, Ok, Err, cond, refl, sym, ◌∙◌, ap, subst}
 use Rattle.std.specs.Prelude.{slice_get}
+use Rattle.std.proofs.lemmas.Bool.{true≢false}
 use Rattle.refusals.specs.declared.refusal.Refusal.{Refusal}
-use Rattle.refusals.specs.declared.refusal.Refusal.TheVariants.{DiskFault, NotFound, HasSubkeys, TooDeep, TooLarge, Fixed, NotActive}
+use Rattle.refusals.specs.declared.refusal.Refusal.TheVariants.{DiskFault, Faulted, NoMemory, NotFound, HasSubkeys, TooDeep, TooLarge, Fixed, NotActive}
 use Rattle.reg_tree.specs.Maps.{TreeMap, row}
 use Rattle.reg_tree.specs.Operations.{hive_of}
 use Rattle.reg_tree.specs.Judgement.{judged, judged_there, legal_after, legal_if, legal}
@@ -13,152 +15,266 @@ use Rattle.reg_tree.specs.declared.op.Op.TheVariants.{CreateKey, DeleteKey, SetV
 use Rattle.reg_tree.specs.declared.op.Legality.{Legality}
 use Rattle.reg_tree.specs.declared.op.Legality.TheVariants.{Legal, Opened}
 use Rattle.machine.specs.Transactions.{Transaction, Places, missing_refusal, inactive_refusal, view, is_active}
-use Rattle.machine.specs.Machine.{Machine, trees_now, found_in, first_of, refused_if, refusal_by, fault, closed_refusal, call_refusal, tx_call_refusal, start_refusal, read_refusal, room_refusal, write_refusal, begin_refusal, added_refusal_if, commit_refusal_if}
-use Rattle.machine.specs.Steps.{Step, Refuses, IsRefused, is_step}
+use Rattle.machine.specs.Machine.{Machine, trees_now, found_in, first_of, refused_if, refusal_by, fault, closed_refusal, call_refusal, tx_call_refusal, start_refusal, read_refusal, room_refusal, write_refusal, begin_refusal, added_refusal_if, commit_refusal_if, is_open, is_of_device}
+use Rattle.machine.specs.Steps.{Step, Run, Refuses, IsRefused, StepFails, no_hive, after_commit, is_step, with_session}
 use Rattle.machine.specs.declared.handle.Tx.{Tx}
 use Rattle.machine.specs.declared.event.Found.{Found}
 use Rattle.machine.specs.declared.event.Event.{Event}
 use Rattle.machine.specs.declared.event.Event.TheVariants as event
+use Rattle.machine.specs.declared.event.Reply.{Reply}
 use Rattle.machine.specs.declared.event.Reply.TheVariants as reply
+use Rattle.machine.proofs.Replies.{done_or, read_or, accepted_or, added_or, begun_or, awaits_or, stands_or, receipt_or, stepped_or}
 
--- a refusal that is another
-abbrev IsOther : Option Refusal → Type 0
-IsOther wanted = wanted ≡ Some DiskFault → ⊥
+-- What faults a store
 
-abbrev IsOtherAnswer : Result Legality Refusal → Type 0
-IsOtherAnswer answer = answer ≡ Err DiskFault → ⊥
+-- it is faulted as it was, or the device failed
+abbrev Faults : Machine → Machine → Reply → Type 0
+Faults old new r = (new.faulted ≡ old.faulted) ⊎ ((r ≡ reply.Refused DiskFault) × (new.faulted ≡ true))
 
-other_first : (a b : Option Refusal) → IsOther a → IsOther b → IsOther (first_of a b)
-other_first None b f g = g
-other_first (Some r) b f g = f
+module _ (old new : Machine) where
+  same : (r : Reply) → new ≡ old → Faults old new r
+  same r e = inl (ap (λ (m : Machine). m.faulted) e)
 
-other_if : (t : Bool) (r : Refusal) → (r ≡ DiskFault → ⊥) → IsOther (refused_if t r)
-other_if true r f = λ e. f (let same : r ≡ DiskFault = cc in same)
-other_if false r f = λ e. cc
+  aside : (r : Reply) (mid : Machine) → mid.faulted ≡ old.faulted → new ≡ mid → Faults old new r
+  aside r mid still e = inl (ap (λ (m : Machine). m.faulted) e ∙ still)
+
+  either_way : (t : Bool) (mid : Machine) → mid.faulted ≡ old.faulted → (cond t old mid).faulted ≡ old.faulted
+  either_way true mid still = refl
+  either_way false mid still = still
+
+  committed : (moment : ℕ) (one : Transaction) → (after_commit old moment one).faulted ≡ old.faulted
+  committed moment one = either_way (length one.ops == 0) _ refl
+
+  opened : (session : ℕ) → (with_session old session).faulted ≡ old.faulted
+  opened session = either_way (is_open old session) _ refl
+
+  broken : (wanted : Option Refusal) (why : Refusal) → StepFails old wanted why new → Faults old new (reply.Refused why)
+  broken wanted why (inl refused) = same (reply.Refused why) refused.1
+  broken wanted why (inr broke) = inr (ap reply.Refused broke.1.told, ap (λ (m : Machine). m.faulted) broke.1.next)
+
+  pub faults : (e : Event) (r : Reply) → Step old e r new → (new.faulted ≡ old.faulted) ⊎ ((r ≡ reply.Refused DiskFault) × (new.faulted ≡ true))
+  faults (event.StartSession session) r s = done_or (Faults old new) _ _ r s (λ d. aside reply.Done (with_session old session) (opened session) d.1) (λ e f. same (reply.Refused e) f.1)
+  faults (event.EndSession session) r s = done_or (Faults old new) _ _ r s (λ d. aside reply.Done _ refl d.next) (λ e f. same (reply.Refused e) f.1)
+  faults (event.Read session hive path question) r s = read_or (Faults old new) _ _ r s (λ v d. same (reply.Read v) d.next) (λ e f. same (reply.Refused e) f.1)
+  faults (event.Write session moment op) r s = accepted_or (Faults old new) _ _ _ r s (λ l n d. aside (reply.Accepted l n) _ refl d.next) (λ d. same reply.Opened d.next) (λ e f. same (reply.Refused e) f.1)
+  faults (event.Begin session id) r s = begun_or (Faults old new) _ _ r s (λ tx d. aside (reply.Begun tx) _ refl d.next) (λ e f. same (reply.Refused e) f.1)
+  faults (event.TxRead session tx hive path question) r s = read_or (Faults old new) _ _ r s (λ v d. same (reply.Read v) d.next) (λ e f. same (reply.Refused e) f.1)
+  faults (event.TxWrite session tx moment op) r s = added_or (Faults old new) _ _ _ r s (λ l d. aside (reply.Added l) _ refl d.1.1) (λ d. same reply.Opened d.2) (λ e f. same (reply.Refused e) f.1)
+  faults (event.CommitAccept session tx moment) r s = awaits_or (Faults old new) _ _ r s (λ n d. aside (reply.Awaits n) _ (committed moment d.one) d.next) (λ e f. same (reply.Refused e) f.1)
+  faults (event.Rollback session tx) r s = done_or (Faults old new) _ _ r s (λ d. aside reply.Done _ refl d.1) (λ e f. same (reply.Refused e) f.1)
+  faults (event.Close session tx) r s = done_or (Faults old new) _ _ r s (λ d. aside reply.Done _ refl d.1) (λ e f. same (reply.Refused e) f.1)
+  faults (event.Outcome session tx) r s = stands_or (Faults old new) _ _ r s (λ o d. same (reply.Stands o) d.next) (λ e f. same (reply.Refused e) f.1)
+  faults event.FlushAsk r s = awaits_or (Faults old new) _ _ r s (λ n d. same (reply.Awaits n) d.2) (λ e f. same (reply.Refused e) f.1)
+  faults (event.Acked number) r s = receipt_or (Faults old new) _ _ _ r s (λ n d. same (reply.Receipt n) d.2) (λ d. same reply.NotYet d.2) (λ e f. same (reply.Refused e) f.1.1)
+  faults event.JournalStep r s = stepped_or (Faults old new) _ _ r s (λ p d. aside (reply.Stepped p) _ refl d.next) (λ e f. broken _ e f)
+  faults (event.FlusherStep hive) r s = stepped_or (Faults old new) _ _ r s (λ p d. same (reply.Stepped p) d.next) (λ e f. broken _ e f)
+  faults event.TrimStep r s = stepped_or (Faults old new) _ _ r s (λ p d. aside (reply.Stepped p) _ refl d.next) (λ e f. broken _ e f)
+
+  -- a store that is faulted stays so
+  pub stays_faulted : (e : Event) (r : Reply) → Step old e r new → old.faulted ≡ true → new.faulted ≡ true
+  stays_faulted e r s was = elim (faults e r s) [ inl still ↦ still ∙ was | inr broke ↦ broke.1 ]
+
+pub run_stays_faulted : (old new : Machine) (es : List Event) (rs : List Reply) → Run old es rs new → old.faulted ≡ true → new.faulted ≡ true
+run_stays_faulted old new [] [] run was = ap (λ (m : Machine). m.faulted) run ∙ was
+run_stays_faulted old new [] (r ∷ rs) run was = absurd run
+run_stays_faulted old new (e ∷ es) [] run was = absurd run
+run_stays_faulted old new (e ∷ es) (r ∷ rs) (mid, step, rest) was = run_stays_faulted mid new es rs rest (stays_faulted old mid e r step was)
+
+-- What tells of the device
+
+-- a refusal tells of it only that it failed earlier, and only if the store is faulted
+abbrev IsRight : Bool → Option Refusal → Type 0
+IsRight was wanted = (r : Refusal) → wanted ≡ Some r → is_of_device r ≡ true → (r ≡ Faulted) × (was ≡ true)
+
+abbrev IsOther : Result Legality Refusal → Type 0
+IsOther answer = (r : Refusal) → answer ≡ Err r → is_of_device r ≡ true → ⊥
+
+right_none : (was : Bool) → IsRight was None
+right_none was r e is = absurd cc
+
+right_some : (was : Bool) (why : Refusal) → is_of_device why ≡ false → IsRight was (Some why)
+right_some was why other r e is = let same : why ≡ r = cc in absurd (true≢false (sym (ap is_of_device same ∙ is) ∙ other))
+
+right_first : (was : Bool) (a b : Option Refusal) → IsRight was a → IsRight was b → IsRight was (first_of a b)
+right_first was None b f g = g
+right_first was (Some r) b f g = f
+
+right_if : (was t : Bool) (why : Refusal) → is_of_device why ≡ false → IsRight was (refused_if t why)
+right_if was true why other = right_some was why other
+right_if was false why other = right_none was
 
 -- Judgements
 
-may : (l : Legality) → IsOtherAnswer (Ok l)
-may l e = cc
+may : (l : Legality) → IsOther (Ok l)
+may l r e is = cc
 
-may_not : (r : Refusal) → (r ≡ DiskFault → ⊥) → IsOtherAnswer (Err r)
-may_not r f e = f (let same : r ≡ DiskFault = cc in same)
+may_not : (why : Refusal) → is_of_device why ≡ false → IsOther (Err why)
+may_not why other r e is = let same : why ≡ r = cc in true≢false (sym (ap is_of_device same ∙ is) ∙ other)
 
-either : (t : Bool) (a b : Result Legality Refusal) → IsOtherAnswer a → IsOtherAnswer b → IsOtherAnswer (cond t a b)
+either : (t : Bool) (a b : Result Legality Refusal) → IsOther a → IsOther b → IsOther (cond t a b)
 either true a b f g = f
 either false a b f g = g
 
-there : (o : Option Row) (judge : Row → Result Legality Refusal) → ((key : Row) → IsOtherAnswer (judge key)) → IsOtherAnswer (judged_there o judge)
-there None judge f = may_not NotFound (λ e. cc)
+there : (o : Option Row) (judge : Row → Result Legality Refusal) → ((key : Row) → IsOther (judge key)) → IsOther (judged_there o judge)
+there None judge f = may_not NotFound refl
 there (Some key) judge f = f key
 
-judgement : (tree : TreeMap) (op : Op) → IsOtherAnswer (judged tree op)
-judgement tree (CreateKey hive path) = either _ _ _ (may Opened) (either _ _ _ (may_not TooDeep (λ e. cc)) (may Legal))
-judgement tree (DeleteKey hive []) = may_not Fixed (λ e. cc)
-judgement tree (DeleteKey hive (name ∷ path)) = there (row tree (folded_path (name ∷ path))) _ (λ key. either _ _ _ (may_not Fixed (λ e. cc)) (either _ _ _ (may_not HasSubkeys (λ e. cc)) (may Legal)))
-judgement tree (SetValue hive path name kind bytes) = there (row tree (folded_path path)) _ (λ key. either _ _ _ (may_not TooLarge (λ e. cc)) (may Legal))
-judgement tree (DeleteValue hive path name) = there (row tree (folded_path path)) _ (λ key. either _ _ _ (may_not NotFound (λ e. cc)) (may Legal))
+judgement : (tree : TreeMap) (op : Op) → IsOther (judged tree op)
+judgement tree (CreateKey hive path) = either _ _ _ (may Opened) (either _ _ _ (may_not TooDeep refl) (may Legal))
+judgement tree (DeleteKey hive []) = may_not Fixed refl
+judgement tree (DeleteKey hive (name ∷ path)) = there (row tree (folded_path (name ∷ path))) _ (λ key. either _ _ _ (may_not Fixed refl) (either _ _ _ (may_not HasSubkeys refl) (may Legal)))
+judgement tree (SetValue hive path name kind bytes) = there (row tree (folded_path path)) _ (λ key. either _ _ _ (may_not TooLarge refl) (may Legal))
+judgement tree (DeleteValue hive path name) = there (row tree (folded_path path)) _ (λ key. either _ _ _ (may_not NotFound refl) (may Legal))
 
-weighing : (op : Op) (j : Result Legality Refusal) (total : ℕ) → IsOtherAnswer j → IsOtherAnswer (legal_after op j total)
+weighing : (op : Op) (j : Result Legality Refusal) (total : ℕ) → IsOther j → IsOther (legal_after op j total)
 weighing op (Err r) total f = f
 weighing op (Ok Opened) total f = may Opened
-weighing (CreateKey hive path) (Ok Legal) total f = either _ _ _ (may_not TooLarge (λ e. cc)) (may Legal)
+weighing (CreateKey hive path) (Ok Legal) total f = either _ _ _ (may_not TooLarge refl) (may Legal)
 weighing (DeleteKey hive path) (Ok Legal) total f = may Legal
-weighing (SetValue hive path name kind bytes) (Ok Legal) total f = either _ _ _ (may_not TooLarge (λ e. cc)) (may Legal)
+weighing (SetValue hive path name kind bytes) (Ok Legal) total f = either _ _ _ (may_not TooLarge refl) (may Legal)
 weighing (DeleteValue hive path name) (Ok Legal) total f = may Legal
 
-legality : (trees : List TreeMap) (op : Op) → IsOtherAnswer (legal trees op)
+legality : (trees : List TreeMap) (op : Op) → IsOther (legal trees op)
 legality trees op = by_hive (slice_get trees (hive_of op))
   where
-    by_hive : (o : Option TreeMap) → IsOtherAnswer (legal_if o op)
-    by_hive None = may_not NotFound (λ e. cc)
+    by_hive : (o : Option TreeMap) → IsOther (legal_if o op)
+    by_hive None = may_not NotFound refl
     by_hive (Some tree) = weighing op (judged tree op) _ (judgement tree op)
 
-by_legality : (j : Result Legality Refusal) (further : Option Refusal) → IsOtherAnswer j → IsOther further → IsOther (refusal_by j further)
-by_legality (Err r) further f g = λ e. f (let same : r ≡ DiskFault = cc in ap refused same)
+by_legality : (was : Bool) (j : Result Legality Refusal) (further : Option Refusal) → IsOther j → IsRight was further → IsRight was (refusal_by j further)
+by_legality was (Err why) further f g = λ r e is. let same : why ≡ r = cc in absurd (f r (ap refused same) is)
   where
     refused : Refusal → Result Legality Refusal
     refused r = Err r
-by_legality (Ok Opened) further f g = λ e. cc
-by_legality (Ok Legal) further f g = g
+by_legality was (Ok Opened) further f g = right_none was
+by_legality was (Ok Legal) further f g = g
 
 -- Why an event is refused
 
 module _ (old : Machine) where
-  faulted : IsOther (fault old)
-  faulted = other_if old.faulted _ (λ e. cc)
+  abbrev Right : Option Refusal → Type 0
+  Right wanted = IsRight old.faulted wanted
 
-  closed : (session : ℕ) → IsOther (closed_refusal old session)
-  closed session = other_if _ _ (λ e. cc)
+  faulted : Right (fault old)
+  faulted = by_case old.faulted
+    where
+      by_case : (was : Bool) → IsRight was (refused_if was Faulted)
+      by_case true r e is = let same : r ≡ Faulted = cc in (same, refl)
+      by_case false r e is = absurd cc
 
-  calling : (session hive : ℕ) → IsOther (call_refusal old session hive)
-  calling session hive = other_first (closed_refusal old session) _ (closed session) (other_if _ _ (λ e. cc))
+  closed : (session : ℕ) → Right (closed_refusal old session)
+  closed session = right_if old.faulted _ _ refl
 
-  starting : (session : ℕ) → IsOther (start_refusal old session)
-  starting session = other_first (fault old) _ faulted (other_if _ _ (λ e. cc))
+  calling : (session hive : ℕ) → Right (call_refusal old session hive)
+  calling session hive = right_first old.faulted (closed_refusal old session) _ (closed session) (right_if old.faulted _ _ refl)
 
-  room : (long : ℕ) → IsOther (room_refusal old long)
-  room long = other_first _ _ (other_if _ _ (λ e. cc)) (other_if _ _ (λ e. cc))
+  starting : (session : ℕ) → Right (start_refusal old session)
+  starting session = right_first old.faulted (fault old) _ faulted (right_if old.faulted _ _ refl)
 
-  writing : (session moment : ℕ) (op : Op) → IsOther (write_refusal old session moment op)
-  writing session moment op = other_first (fault old) _ faulted (other_first (call_refusal old session (hive_of op)) _ (calling session (hive_of op)) (by_legality (legal (trees_now old) op) _ (legality (trees_now old) op) (room _)))
+  room : (long : ℕ) → Right (room_refusal old long)
+  room long = right_first old.faulted _ _ (right_if old.faulted _ _ refl) (right_if old.faulted _ _ refl)
 
-  beginning : (session : ℕ) → IsOther (begin_refusal old session)
-  beginning session = other_first (fault old) _ faulted (other_first (closed_refusal old session) _ (closed session) (other_if _ _ (λ e. cc)))
+  writing : (session moment : ℕ) (op : Op) → Right (write_refusal old session moment op)
+  writing session moment op = right_first old.faulted (fault old) _ faulted (right_first old.faulted (call_refusal old session (hive_of op)) _ (calling session (hive_of op)) (by_legality old.faulted (legal (trees_now old) op) _ (legality (trees_now old) op) (room _)))
 
-reading : (o : Option Found) → IsOther (read_refusal o)
-reading None = λ e. cc
-reading (Some found) = λ e. cc
+  beginning : (session : ℕ) → Right (begin_refusal old session)
+  beginning session = right_first old.faulted (fault old) _ faulted (right_first old.faulted (closed_refusal old session) _ (closed session) (right_if old.faulted _ _ refl))
 
-missing : (o : Option Transaction) → IsOther (missing_refusal o)
-missing None = λ e. cc
-missing (Some one) = λ e. cc
+  reading : (o : Option Found) → Right (read_refusal o)
+  reading None = right_some old.faulted NotFound refl
+  reading (Some found) = right_none old.faulted
 
-inactive : (o : Option Transaction) → IsOther (inactive_refusal o)
-inactive None = λ e. cc
-inactive (Some one) = by_case (is_active one)
-  where
-    by_case : (t : Bool) → IsOther (cond t None (Some NotActive))
-    by_case true = λ e. cc
-    by_case false = λ e. cc
+  missing : (o : Option Transaction) → Right (missing_refusal o)
+  missing None = right_some old.faulted _ refl
+  missing (Some one) = right_none old.faulted
 
-tx_calling : (old : Machine) (session : ℕ) (tx : Tx) (hive : ℕ) → IsOther (tx_call_refusal old session tx hive)
-tx_calling old session tx hive = other_first _ _ (inactive (found_in old session tx)) (other_if _ _ (λ e. cc))
+  inactive : (o : Option Transaction) → Right (inactive_refusal o)
+  inactive None = right_some old.faulted _ refl
+  inactive (Some one) = by_case (is_active one)
+    where
+      by_case : (t : Bool) → Right (cond t None (Some NotActive))
+      by_case true = right_none old.faulted
+      by_case false = right_some old.faulted NotActive refl
 
-adding : (now : List TreeMap) (places : Places) (place : ℕ) (op : Op) (o : Option Transaction) → IsOther (added_refusal_if now places place op o)
-adding now places place op None = λ e. cc
-adding now places place op (Some one) = other_first (inactive_refusal (Some one)) _ (inactive (Some one)) (by_legality (legal (view now one) op) _ (legality (view now one) op) (other_first _ _ (other_if _ _ (λ e. cc)) (other_if _ _ (λ e. cc))))
+  tx_calling : (session : ℕ) (tx : Tx) (hive : ℕ) → Right (tx_call_refusal old session tx hive)
+  tx_calling session tx hive = right_first old.faulted _ _ (inactive (found_in old session tx)) (right_if old.faulted _ _ refl)
 
-committing : (old : Machine) (moment : ℕ) (o : Option Transaction) → IsOther (commit_refusal_if old moment o)
-committing old moment None = λ e. cc
-committing old moment (Some one) = other_first (inactive_refusal (Some one)) _ (inactive (Some one)) (by_case _ _ _)
-  where
-    by_case : (t heavy : Bool) (long : ℕ) → IsOther (cond t None (first_of (refused_if heavy TooLarge) (room_refusal old long)))
-    by_case true heavy long = λ e. cc
-    by_case false heavy long = other_first _ _ (other_if heavy TooLarge (λ e. cc)) (room old long)
+  adding : (now : List TreeMap) (places : Places) (place : ℕ) (op : Op) (o : Option Transaction) → Right (added_refusal_if now places place op o)
+  adding now places place op None = right_some old.faulted _ refl
+  adding now places place op (Some one) = right_first old.faulted (inactive_refusal (Some one)) _ (inactive (Some one)) (by_legality old.faulted (legal (view now one) op) _ (legality (view now one) op) (right_first old.faulted _ _ (right_if old.faulted _ _ refl) (right_if old.faulted _ _ refl)))
 
--- no such event is refused so
-refuses : {X : Type 0} (old new : Machine) (wanted : Option Refusal) → IsOther wanted → Refuses old wanted DiskFault new → X
-refuses old new wanted f (inl e, same) = absurd (f e)
-refuses old new wanted f (inr e, same) = absurd cc
+  committing : (moment : ℕ) (o : Option Transaction) → Right (commit_refusal_if old moment o)
+  committing moment None = right_some old.faulted _ refl
+  committing moment (Some one) = right_first old.faulted (inactive_refusal (Some one)) _ (inactive (Some one)) (by_case _ _ _)
+    where
+      by_case : (t heavy : Bool) (long : ℕ) → Right (cond t None (first_of (refused_if heavy TooLarge) (room_refusal old long)))
+      by_case true heavy long = right_none old.faulted
+      by_case false heavy long = right_first old.faulted _ _ (right_if old.faulted heavy TooLarge refl) (room long)
 
-is_refused : {X : Type 0} (old new : Machine) (wanted : Option Refusal) → IsOther wanted → IsRefused old wanted DiskFault new → X
-is_refused old new wanted f s = absurd (f s.0)
+  module _ (new : Machine) (why : Refusal) (tells : is_of_device why ≡ true) where
+    -- it was so before
+    abbrev Was : Type 0
+    Was = (why ≡ Faulted) × (old.faulted ≡ true) × (new ≡ old)
+
+    is_refused : (wanted : Option Refusal) → Right wanted → IsRefused old wanted why new → Was
+    is_refused wanted right s = let r = right why s.0 tells in (r.0, r.1, s.1)
+
+    refuses : (wanted : Option Refusal) → Right wanted → Refuses old wanted why new → Was
+    refuses wanted right (inl e, still) = let r = right why e tells in (r.0, r.1, still)
+    refuses wanted right (inr e, still) = absurd (true≢false (sym tells ∙ ap is_of_device e))
+
+    calm : (e : Event) → is_step e ≡ false → Step old e (reply.Refused why) new → Was
+    calm (event.StartSession session) q s = refuses _ (starting session) s
+    calm (event.EndSession session) q s = is_refused _ (closed session) s
+    calm (event.Read session hive path question) q s = refuses _ (right_first old.faulted _ _ (calling session hive) (reading _)) s
+    calm (event.Write session moment op) q s = refuses _ (writing session moment op) s
+    calm (event.Begin session id) q s = refuses _ (beginning session) s
+    calm (event.TxRead session tx hive path question) q s = refuses _ (right_first old.faulted _ _ (tx_calling session tx hive) (reading _)) s
+    calm (event.TxWrite session tx moment op) q s = refuses _ (right_first old.faulted _ _ faulted (right_first old.faulted _ _ (tx_calling session tx (hive_of op)) (adding (trees_now old) old.places tx.place op (found_in old session tx)))) s
+    calm (event.CommitAccept session tx moment) q s = refuses _ (right_first old.faulted _ _ faulted (committing moment (found_in old session tx))) s
+    calm (event.Rollback session tx) q s = is_refused _ (inactive _) s
+    calm (event.Close session tx) q s = is_refused _ (missing _) s
+    calm (event.Outcome session tx) q s = is_refused _ (right_first old.faulted _ _ faulted (missing _)) s
+    calm event.FlushAsk q s = is_refused _ faulted s
+    calm (event.Acked number) q s = is_refused _ faulted s.1
+    calm event.JournalStep q s = absurd cc
+    calm (event.FlusherStep hive) q s = absurd cc
+    calm event.TrimStep q s = absurd cc
+
+    stepping : (wanted : Option Refusal) → Right wanted → StepFails old wanted why new → new.faulted ≡ true
+    stepping wanted right (inl s) = by_was (refuses wanted right s)
+      where
+        by_was : Was → new.faulted ≡ true
+        by_was w = ap (λ (m : Machine). m.faulted) w.2 ∙ w.1
+    stepping wanted right (inr broke) = ap (λ (m : Machine). m.faulted) broke.1.next
+
+    hiveless : (hive : ℕ) → Right (no_hive old hive)
+    hiveless hive = by_case _
+      where
+        by_case : (t : Bool) → Right (cond t None (Some NotFound))
+        by_case true = right_none old.faulted
+        by_case false = right_some old.faulted NotFound refl
+
+    step : (e : Event) → is_step e ≡ true → Step old e (reply.Refused why) new → new.faulted ≡ true
+    step event.JournalStep q s = stepping _ faulted s
+    step (event.FlusherStep hive) q s = stepping _ (right_first old.faulted _ _ faulted (hiveless hive)) s
+    step event.TrimStep q s = stepping _ faulted s
+    step _ q s = absurd cc
+
+    -- what is told of the device is told by a store that is faulted then
+    pub told_faulted : (e : Event) → Step old e (reply.Refused why) new → new.faulted ≡ true
+    told_faulted e s = by_test (is_step e) refl
+      where
+        by_test : (t : Bool) → is_step e ≡ t → new.faulted ≡ true
+        by_test true q = step e q s
+        by_test false q = let w = calm e q s in ap (λ (m : Machine). m.faulted) w.2 ∙ w.1
 
 pub steps_alone_fail : (old new : Machine) (e : Event) → Step old e (reply.Refused DiskFault) new → is_step e ≡ true
-steps_alone_fail old new (event.StartSession session) s = refuses old new _ (starting old session) s
-steps_alone_fail old new (event.EndSession session) s = is_refused old new _ (closed old session) s
-steps_alone_fail old new (event.Read session hive path question) s = refuses old new _ (other_first _ _ (calling old session hive) (reading _)) s
-steps_alone_fail old new (event.Write session moment op) s = refuses old new _ (writing old session moment op) s
-steps_alone_fail old new (event.Begin session id) s = refuses old new _ (beginning old session) s
-steps_alone_fail old new (event.TxRead session tx hive path question) s = refuses old new _ (other_first _ _ (tx_calling old session tx hive) (reading _)) s
-steps_alone_fail old new (event.TxWrite session tx moment op) s = refuses old new _ (other_first _ _ (faulted old) (other_first _ _ (tx_calling old session tx (hive_of op)) (adding (trees_now old) old.places tx.place op (found_in old session tx)))) s
-steps_alone_fail old new (event.CommitAccept session tx moment) s = refuses old new _ (other_first _ _ (faulted old) (committing old moment (found_in old session tx))) s
-steps_alone_fail old new (event.Rollback session tx) s = is_refused old new _ (inactive _) s
-steps_alone_fail old new (event.Close session tx) s = is_refused old new _ (missing _) s
-steps_alone_fail old new (event.Outcome session tx) s = is_refused old new _ (other_first _ _ (faulted old) (missing _)) s
-steps_alone_fail old new event.FlushAsk s = is_refused old new _ (faulted old) s
-steps_alone_fail old new (event.Acked number) s = is_refused old new _ (faulted old) s.1
-steps_alone_fail old new event.JournalStep s = refl
-steps_alone_fail old new (event.FlusherStep hive) s = refl
-steps_alone_fail old new event.TrimStep s = refl
+steps_alone_fail old new e s = by_test (is_step e) refl
+  where
+    apart : DiskFault ≡ Faulted → ⊥
+    apart same = cc
+
+    by_test : (t : Bool) → is_step e ≡ t → is_step e ≡ true
+    by_test true q = q
+    by_test false q = absurd (apart (calm old new DiskFault refl e q s).0)

@@ -123,6 +123,12 @@ abbrev pub refused_if : Bool → Refusal → Option Refusal
 refused_if true why = Some why
 refused_if false why = None
 
+-- whether a refusal tells of the device: that it failed in this call, or in an earlier one
+abbrev pub is_of_device : Refusal → Bool
+is_of_device refusal.DiskFault = true
+is_of_device refusal.Faulted = true
+is_of_device _ = false
+
 -- a store that is faulted takes no change
 abbrev pub fault : Machine → Option Refusal
 fault machine = refused_if machine.faulted Faulted
