@@ -1,5 +1,5 @@
 //! What is found in a hive's two files.
-ghost use Rattle.std.specs.Prelude.{◌≡◌, ◌<◌, ◌≤◌, ℕ, List, length, take, drop, true, false, IfOk, IfErr, IfSome, IfNone};
+ghost use Rattle.std.specs.Prelude.{◌≡◌, ◌+◌, ◌<◌, ◌≤◌, ℕ, List, length, take, drop, true, false, IfOk, IfErr, IfSome, IfNone};
 ghost use Rattle.base_block.specs.Judgements.{IsLog, IsPrimary};
 ghost use Rattle.base_block.specs.Layout.{is_clean_block};
 ghost use Rattle.dirt_log.specs.WholeLog.{IsWhole, block_of, not_whole};
