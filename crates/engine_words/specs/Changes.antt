@@ -33,5 +33,9 @@ is_legal (Err refusal) = false
 
 -- The project's trees and operations as the law takes them: what an operation makes of its hive's tree, and where it is legal
 -- there. More is not asked of a tree.
-unfoldable pub rules : law.Rules TreeMap TimedOp
-rules = record { apply = λ o t. changed t o.1 o.0; legal = λ o t. is_legal (legal_in t o.1); allows = λ i n t. true }
+unfoldable pub tree_rules : law.Rules TreeMap TimedOp
+tree_rules = record { apply = λ o t. changed t o.1 o.0; legal = λ o t. is_legal (legal_in t o.1); allows = λ i n t. true }
+
+-- the same of a store whose calls name so many hives, of which each tree is allowed
+abbrev pub rules : ℕ → law.Rules TreeMap TimedOp
+rules named = tree_rules

@@ -14,7 +14,7 @@ use Rattle.reg_tree.specs.declared.op.Legality.{Legality}
 use Rattle.reg_tree.specs.declared.element.Element.{Element}
 use Rattle.prefix_law.specs.Changes.{applied, ops_on, replay}
 use Rattle.prefix_law.proofs.Replays.{applied-append, ops_on-append}
-use Rattle.engine_words.specs.Changes.{TimedOp, is_legal, rules, timed_element, timed_elements}
+use Rattle.engine_words.specs.Changes.{TimedOp, is_legal, tree_rules, timed_element, timed_elements}
 use Rattle.hive_flush.specs.HiveStates.{led_to}
 
 -- ---- two lists of changes as one
@@ -25,9 +25,9 @@ timed-append (x ∷ xs) ys = ap (λ (l : List (List (ℕ × TimedOp))). timed_el
 
 pub led_on : (hive : ℕ) (xs ys : List Element) (tree : TreeMap) → led_to hive (xs ++ ys) tree ≡ led_to hive ys (led_to hive xs tree)
 led_on hive xs ys tree =
-    ap (λ (l : List (List (ℕ × TimedOp))). applied rules (ops_on hive l) tree) (timed-append xs ys)
-    ∙ ap (λ (l : List TimedOp). applied rules l tree) (ops_on-append hive (timed_elements xs) (timed_elements ys))
-    ∙ applied-append rules (ops_on hive (timed_elements xs)) (ops_on hive (timed_elements ys)) tree
+    ap (λ (l : List (List (ℕ × TimedOp))). applied tree_rules (ops_on hive l) tree) (timed-append xs ys)
+    ∙ ap (λ (l : List TimedOp). applied tree_rules l tree) (ops_on-append hive (timed_elements xs) (timed_elements ys))
+    ∙ applied-append tree_rules (ops_on hive (timed_elements xs)) (ops_on hive (timed_elements ys)) tree
 
 -- ---- weights
 
@@ -47,11 +47,11 @@ was_legal true o u go = (refl, go)
 was_legal false o u go = absurd (none-some u go)
 
 pub legal_within : WeightsStay → TreesStay → (ops : List TimedOp) (tree made : TreeMap) → IsTree tree → weight tree ≤ MOST_WEIGHT
-    → replay rules ops tree ≡ Some made → weight (applied rules ops tree) ≤ MOST_WEIGHT
-unfolding rules
+    → replay tree_rules ops tree ≡ Some made → weight (applied tree_rules ops tree) ≤ MOST_WEIGHT
+unfolding tree_rules
 legal_within weights trees [] tree made is within go = within
 legal_within weights trees (op ∷ ops) tree made is within go =
-    let step = was_legal (is_legal (legal_in tree op.1)) (replay rules ops (changed tree op.1 op.0)) made go in
+    let step = was_legal (is_legal (legal_in tree op.1)) (replay tree_rules ops (changed tree op.1 op.0)) made go in
     legal_within weights trees ops (changed tree op.1 op.0) made (trees tree is op.1 op.0) (weights tree is op.1 op.0 within (legal_ok (legal_in tree op.1) step.0)) step.1
 
 -- ---- refusals

@@ -10,27 +10,27 @@ use Rattle.reg_tree.specs.Operations.{hive_of}
 use Rattle.reg_tree.specs.Judgement.{changed}
 use Rattle.reg_tree.specs.declared.op.Op.{Op}
 use Rattle.reg_tree.specs.declared.element.Element.{Element}
-use Rattle.engine_words.specs.Changes.{TimedOp, rules, timed, timed_element, timed_elements}
+use Rattle.engine_words.specs.Changes.{TimedOp, tree_rules, timed, timed_element, timed_elements}
 
 -- an operation on the hive, and one on another
 pub op_here : (hive moment : ℕ) (op : Op) (rest : List Op) (tree made : TreeMap) → hive_of op ≡ hive → made ≡ changed tree op moment
-    → applied rules (on_hive hive (map (timed moment) (op ∷ rest))) tree ≡ applied rules (on_hive hive (map (timed moment) rest)) made
-unfolding rules
+    → applied tree_rules (on_hive hive (map (timed moment) (op ∷ rest))) tree ≡ applied tree_rules (on_hive hive (map (timed moment) rest)) made
+unfolding tree_rules
 op_here hive moment op rest tree made here is =
     let behind = on_hive hive (map (timed moment) rest) in
-    ap (λ (b : Bool). applied rules (if b then (moment, op) ∷ behind else behind) tree) (eq-eqb (hive_of op) hive here) ∙ ap (applied rules behind) (sym is)
+    ap (λ (b : Bool). applied tree_rules (if b then (moment, op) ∷ behind else behind) tree) (eq-eqb (hive_of op) hive here) ∙ ap (applied tree_rules behind) (sym is)
 
 pub op_elsewhere : (hive moment : ℕ) (op : Op) (rest : List Op) (tree : TreeMap) → hive_of op ≢ hive
-    → applied rules (on_hive hive (map (timed moment) (op ∷ rest))) tree ≡ applied rules (on_hive hive (map (timed moment) rest)) tree
+    → applied tree_rules (on_hive hive (map (timed moment) (op ∷ rest))) tree ≡ applied tree_rules (on_hive hive (map (timed moment) rest)) tree
 op_elsewhere hive moment op rest tree other =
     let behind = on_hive hive (map (timed moment) rest) in
-    ap (λ (b : Bool). applied rules (if b then (moment, op) ∷ behind else behind) tree) (ne_eqb (hive_of op) hive other)
+    ap (λ (b : Bool). applied tree_rules (if b then (moment, op) ∷ behind else behind) tree) (ne_eqb (hive_of op) hive other)
 
 -- a change
-pub change_here : (hive : ℕ) (element : Element) (rest : List Element) (tree made : TreeMap) → made ≡ applied rules (on_hive hive (timed_element element)) tree
-    → applied rules (ops_on hive (timed_elements (element ∷ rest))) tree ≡ applied rules (ops_on hive (timed_elements rest)) made
+pub change_here : (hive : ℕ) (element : Element) (rest : List Element) (tree made : TreeMap) → made ≡ applied tree_rules (on_hive hive (timed_element element)) tree
+    → applied tree_rules (ops_on hive (timed_elements (element ∷ rest))) tree ≡ applied tree_rules (ops_on hive (timed_elements rest)) made
 change_here hive element rest tree made is =
-    applied-append rules (on_hive hive (timed_element element)) (ops_on hive (timed_elements rest)) tree ∙ ap (applied rules (ops_on hive (timed_elements rest))) (sym is)
+    applied-append tree_rules (on_hive hive (timed_element element)) (ops_on hive (timed_elements rest)) tree ∙ ap (applied tree_rules (ops_on hive (timed_elements rest))) (sym is)
 
 -- those of some operations that are on the hive are all that these have there
 same_here : (hive moment : ℕ) (ops : List Op) → on_hive hive (map (timed moment) (filter (λ op. hive_of op == hive) ops)) ≡ on_hive hive (map (timed moment) ops)

@@ -2,7 +2,7 @@
 use Rattle.std.specs.Prelude.{◌≡◌, ℕ, ◌+◌, if◌then◌else◌, true, false, List, length}
 use Rattle.prefix_law.specs.Promises.{Choice}
 use Rattle.prefix_law.specs.Changes.{AreLegal, applied, ops_on}
-use Rattle.engine_words.specs.Changes.{rules, timed_elements}
+use Rattle.engine_words.specs.Changes.{tree_rules, timed_elements}
 use Rattle.reg_tree.specs.Maps.{TreeMap}
 use Rattle.reg_tree.specs.declared.element.Element.{Element}
 use Rattle.disk_model.specs.FileState.{FileState}
@@ -36,11 +36,11 @@ files_of file = choice_at file.writer.stage (now_of file) (memory_of file)
 
 -- the tree that changes lead to on a hive's tree: their operations on the hive, one after another, each at its change's moment
 abbrev pub led_to : ℕ → List Element → TreeMap → TreeMap
-led_to hive changes tree = applied rules (ops_on hive (timed_elements changes)) tree
+led_to hive changes tree = applied tree_rules (ops_on hive (timed_elements changes)) tree
 
 -- the changes' operations on a hive are legal on its tree, each where its turn comes
 abbrev pub AreLegalOn : ℕ → List Element → TreeMap → Type 0
-AreLegalOn hive changes tree = AreLegal rules (ops_on hive (timed_elements changes)) tree
+AreLegalOn hive changes tree = AreLegal tree_rules (ops_on hive (timed_elements changes)) tree
 
 -- the number of the hive in its store, and the store
 abbrev pub place_of : HiveFile → ℕ

@@ -1,7 +1,7 @@
 //! Changes, replayed on one hive's tree.
 ghost use Rattle.std.specs.Prelude.{◌≡◌, map, IfOk};
 ghost use Rattle.prefix_law.specs.Changes.{applied, on_hive, ops_on};
-ghost use Rattle.engine_words.specs.Changes.{rules, timed, timed_element, timed_elements};
+ghost use Rattle.engine_words.specs.Changes.{tree_rules, timed, timed_element, timed_elements};
 ghost use Rattle.hive_flush.specs.Times.{time_after};
 
 use element_text::ChangeText;
@@ -16,7 +16,7 @@ pub(crate) fn replayed(
     changes: &[ChangeText],
 ) -> Result<Tree, AllocError>
     ensures { IfOk result (λ made. made
-        ≡ applied rules (ops_on hive (timed_elements changes.now)) tree) }
+        ≡ applied tree_rules (ops_on hive (timed_elements changes.now)) tree) }
 {
     let mut made = tree;
     for change in changes {
@@ -33,7 +33,7 @@ fn after_change(
     change: &ChangeText,
 ) -> Result<Tree, AllocError>
     ensures { IfOk result (λ made. made
-        ≡ applied rules (on_hive hive (timed_element change.now)) tree) }
+        ≡ applied tree_rules (on_hive hive (timed_element change.now)) tree) }
 {
     // that a change is elsewhere is told sooner by its hives alone
     if !change.is_on(hive) {
@@ -52,7 +52,7 @@ fn after_ops(
     moment: u64,
 ) -> Result<Tree, AllocError>
     ensures { IfOk result (λ made. made
-        ≡ applied rules (on_hive hive (map (timed moment) ops.now)) tree) }
+        ≡ applied tree_rules (on_hive hive (map (timed moment) ops.now)) tree) }
 {
     let mut made = tree;
     for op in ops {
