@@ -22,6 +22,7 @@ answered {D = D} states clock failures is_faithful event answer old new on comes
   one = on.call.one;
   quiet = λ q. ap clock (on.quiet q);
   failed = on.failed;
+  works = on.works;
   idle = idle;
   nears = comes.nears;
   begins_trim = comes.begins_trim;

@@ -39,6 +39,12 @@ has_failed (Err why) old new failed told =
     let one : new ≡ old + 1 = subst (λ w. HasFailed {T = Progress} (Err w) old new) is failed in
     omega (arith, one)
 
+-- and at any other answer it hasn't
+pub works_else : (come : Result Progress Refusal) (old new : ℕ) → HasFailed come old new → (reply_to come ≡ Refused DiskFault → ⊥) → new ≡ old
+works_else (Ok come) old new failed other = failed
+works_else (Err DiskFault) old new failed other = absurd (other refl)
+works_else (Err _) old new failed other = failed
+
 -- A step that needs no device leaves the disk: an idle one does, and one that is refused for another reason than the device.
 
 told_refused : (come : Result Progress Refusal) (why : Refusal) → reply_to come ≡ Refused why → come ≡ Err why
@@ -101,6 +107,7 @@ module _ {D : Type 0} (states : D → ℕ → ℕ → FileState) (clock failures
     call = record { later = omega arith; one = omega arith; past = λ k f le. refl; others = λ f none. refl };
     quiet = λ q. refl;
     failed = λ e. absurd (fine e);
+    works = λ other. refl;
     faithful = λ f. f;
     life = (refl, refl);
     journal_stays = λ nj nt. refl;
@@ -123,6 +130,7 @@ module _ {D : Type 0} (states : D → ℕ → ℕ → FileState) (clock failures
         call = subst (λ (d : D). OneCall AnyFile (states d) (states new.disk) (clock d) (clock new.disk)) disk on.call;
         quiet = λ q. on.quiet q ∙ disk;
         failed = λ e. subst (λ (d : D). failures d < failures new.disk) disk (on.failed e);
+        works = λ other. on.works other ∙ ap failures disk;
         faithful = λ f. subst is_faithful disk (on.faithful f);
         life = (on.life.0 ∙ ap (λ (p : Parts D). p.base) rest, on.life.1 ∙ ap (λ (p : Parts D). (changes_of p.spelled.value)) rest);
         journal_stays = λ nj nt. on.journal_stays nj nt ∙ journal;

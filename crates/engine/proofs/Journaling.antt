@@ -47,7 +47,7 @@ use Rattle.engine.proofs.Idling.{has_all}
 use Rattle.engine_law.specs.Engines.{NeedsNoDevice}
 use Rattle.engine_law.specs.Idle.{HasAll}
 use Rattle.std.proofs.lemmas.Option.{slice_get_within, slice_get-get_or}
-use Rattle.engine.proofs.Frames.{any_call, has_failed}
+use Rattle.engine.proofs.Frames.{any_call, has_failed, works_else}
 
 -- The laws that are used
 
@@ -144,6 +144,7 @@ module _ {D : Type 0} (states : D → ℕ → ℕ → FileState) (clock failures
         call = any_call IsJournal (states s.disk) (states disk) (clock s.disk) (clock disk) call;
         quiet = quiet;
         failed = has_failed come (failures s.disk) (failures disk) fails;
+        works = works_else come (failures s.disk) (failures disk) fails;
         faithful = faithful;
         life = (refl, refl);
         journal_stays = λ nj nt. absurd (elim (steps) [ inl j ↦ nj j | inr t ↦ nt t ]);

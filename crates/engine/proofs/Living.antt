@@ -1,12 +1,11 @@
 -- Lives go on from one another.
-use Rattle.std.proofs.Common.{◌≡◌, inl, inr, ℕ, ◌-◌, ◌≤◌, List, [], ◌∷◌, length, take, refl, sym, ◌∙◌, ap, subst, arith}
+use Rattle.std.proofs.Common.{◌≡◌, inl, inr, ℕ, ◌-◌, ◌≤◌, Bool, true, false, List, [], ◌∷◌, length, take, refl, sym, ◌∙◌, ap, subst, arith}
 use Rattle.reg_tree.specs.Maps.{TreeMap}
 use Rattle.reg_tree.specs.Sequences.{after_elements}
 use Rattle.reg_tree.specs.declared.element.Element.{Element}
 use Rattle.disk_model.specs.FileState.{FileState, Leaves, at_rest}
 use Rattle.disk_model.specs.Sector.{IsHonest}
 use Rattle.disk_model.specs.Crash.{LeavesHonest}
-use Rattle.disk_model.specs.StoreFiles.{IsPrimary}
 use Rattle.disk_model.proofs.Leaves.{left_at_rest}
 use Rattle.disk_model.proofs.Sectors.{honest_at_rest}
 use Rattle.disk_model.specs.Unwritten.{IsSyncedOrSame}
@@ -15,12 +14,12 @@ use Rattle.machine.specs.Machine.{Machine, bounds_of, last_number, opened_machin
 use Rattle.machine.specs.Steps.{Run}
 use Rattle.machine.specs.declared.event.Event.{Event}
 use Rattle.machine.specs.declared.event.Reply.{Reply}
-use Rattle.engine_law.specs.Prefixes.{IsSafeAt, Recover, trees_after}
+use Rattle.engine_law.specs.Prefixes.{IsPrimaryOf, IsSafeAt, Recover, trees_after}
 use Rattle.engine_law.specs.Engines.{EngineView}
 use Rattle.engine_law.specs.Runs.{AnswersInTurn, IsBoundary, RunsSafely}
 use Rattle.engine_law.proofs.Bridge.{all_long}
 use Rattle.recovery.specs.Recovered.{IsRecovered, seen_in}
-use Rattle.engine.specs.Lives.{Life, Life.Unopened, Life.Opened, IsSafe, IsLife, IsNext, AreLives, OpensFrom, EachGoesOn, FirstOpensAt}
+use Rattle.engine.specs.Lives.{Life, Life.Unopened, Life.Opened, IsSafe, IsLife, IsNext, AreLives, OpensFrom, EachGoesOn, FirstOpensAt, ReadsSafely, end_of, faulted_in}
 use Rattle.engine.proofs.OpenedStays.{run_stays}
 
 abbrev pub OneRecovered : Type 0
@@ -32,45 +31,64 @@ rests_as bytes = record { no_shorter = omega arith; no_longer = omega arith; kep
 
 -- A file that was synced, or is as it was
 
-module _ (state end : ℕ → FileState) (seen : LeavesHonest IsPrimary state (seen_in state)) (kept : (f : ℕ) → IsSyncedOrSame (state f) (end f)) (files : ℕ → List ℕ) (left : LeavesHonest IsPrimary end files) where
-  left_before : (f : ℕ) → Leaves (state f) (files f)
-  left_before f = elim (kept f) [
-    | inl same ↦ subst (λ (s : FileState). Leaves s (files f)) same (left.0 f)
-    | inr synced ↦ subst (λ (c : List ℕ). Leaves (state f) c) (sym (left_at_rest (state f).seen (files f) (subst (λ (s : FileState). Leaves s (files f)) synced (left.0 f)))) (seen.0 f)
-  ]
+module _ (hives : ℕ) (state end : ℕ → FileState) (seen : ReadsSafely hives state) (kept : (f : ℕ) → IsSyncedOrSame (state f) (end f)) where
+  -- what a read gives is still what a crash may leave
+  pub seen_after : ReadsSafely hives end
+  seen_after = (
+    λ f. elim (kept f) [
+      | inl same ↦ subst (λ (s : FileState). Leaves s s.seen) (sym same) (seen.0 f)
+      | inr synced ↦ subst (λ (s : FileState). Leaves s s.seen) (sym synced) (rests_as (state f).seen)
+    ],
+    λ f primary. elim (kept f) [
+      | inl same ↦ subst (λ (s : FileState). IsHonest s s.seen) (sym same) (seen.1 f primary)
+      | inr synced ↦ subst (λ (s : FileState). IsHonest s s.seen) (sym synced) (honest_at_rest (state f).seen (state f).seen (rests_as (state f).seen))
+    ],
+  )
 
-  honest_before : (f : ℕ) → IsPrimary f → IsHonest (state f) (files f)
-  honest_before f primary = elim (kept f) [
-    | inl same ↦ subst (λ (s : FileState). IsHonest s (files f)) same (left.1 f primary)
-    | inr synced ↦ subst (λ (c : List ℕ). IsHonest (state f) c) (sym (left_at_rest (state f).seen (files f) (subst (λ (s : FileState). Leaves s (files f)) synced (left.0 f)))) (seen.1 f primary)
-  ]
+  module _ (files : ℕ → List ℕ) (left : LeavesHonest (IsPrimaryOf hives) end files) where
+    left_before : (f : ℕ) → Leaves (state f) (files f)
+    left_before f = elim (kept f) [
+      | inl same ↦ subst (λ (s : FileState). Leaves s (files f)) same (left.0 f)
+      | inr synced ↦ subst (λ (c : List ℕ). Leaves (state f) c) (sym (left_at_rest (state f).seen (files f) (subst (λ (s : FileState). Leaves s (files f)) synced (left.0 f)))) (seen.0 f)
+    ]
 
-  pub before : LeavesHonest IsPrimary state files
-  before = (left_before, honest_before)
+    honest_before : (f : ℕ) → IsPrimaryOf hives f → IsHonest (state f) (files f)
+    honest_before f primary = elim (kept f) [
+      | inl same ↦ subst (λ (s : FileState). IsHonest s (files f)) same (left.1 f primary)
+      | inr synced ↦ subst (λ (c : List ℕ). IsHonest (state f) c) (sym (left_at_rest (state f).seen (files f) (subst (λ (s : FileState). Leaves s (files f)) synced (left.0 f)))) (seen.1 f primary)
+    ]
+
+    pub before : LeavesHonest (IsPrimaryOf hives) state files
+    before = (left_before, honest_before)
 
 -- The next life's files
 
 -- all that may be left of them may have been left of those before, and so may what a read gives
-next_left : (end next : ℕ → FileState) → IsNext end next → (files : ℕ → List ℕ) → LeavesHonest IsPrimary next files → LeavesHonest IsPrimary end files
-next_left end next (inl (left, was, is)) files there =
+next_left : (hives : ℕ) (life : Life) (next : ℕ → FileState) → IsNext hives life next → (files : ℕ → List ℕ) → LeavesHonest (IsPrimaryOf hives) next files → LeavesHonest (IsPrimaryOf hives) (end_of life) files
+next_left hives life next (inl (left, was, is)) files there =
     let same : (f : ℕ) → files f ≡ left f = λ f. left_at_rest (left f) (files f) (subst (λ (s : FileState). Leaves s (files f)) (is f) (there.0 f)) in (
-      λ f. subst (λ (c : List ℕ). Leaves (end f) c) (sym (same f)) (was.0 f),
-      λ f primary. subst (λ (c : List ℕ). IsHonest (end f) c) (sym (same f)) (was.1 f primary),
+      λ f. subst (λ (c : List ℕ). Leaves (end_of life f) c) (sym (same f)) (was.0 f),
+      λ f primary. subst (λ (c : List ℕ). IsHonest (end_of life f) c) (sym (same f)) (was.1 f primary),
     )
-next_left end next (inr (seen, is)) files there = (
+next_left hives life next (inr (seen, is)) files there = (
   λ f. subst (λ (s : FileState). Leaves s (files f)) (is f) (there.0 f),
   λ f primary. subst (λ (s : FileState). IsHonest s (files f)) (is f) (there.1 f primary),
 )
 
-next_seen : (end next : ℕ → FileState) → IsNext end next → LeavesHonest IsPrimary next (seen_in next)
-next_seen end next (inl (left, was, is)) = (
+by_fault : {X : Type 0} (faulted : Bool) → (faulted ≡ true → X) → (faulted ≡ false → X) → X
+by_fault true f g = f refl
+by_fault false f g = g refl
+
+next_seen : (hives : ℕ) (life : Life) (next : ℕ → FileState) → (faulted_in life ≡ false → ReadsSafely hives (end_of life)) → IsNext hives life next → ReadsSafely hives next
+next_seen hives life next reads (inl (left, was, is)) = (
   λ f. subst (λ (s : FileState). Leaves s s.seen) (sym (is f)) (rests_as (left f)),
   λ f primary. subst (λ (s : FileState). IsHonest s s.seen) (sym (is f)) (honest_at_rest (left f) (left f) (rests_as (left f))),
 )
-next_seen end next (inr (seen, is)) = (
-  λ f. subst (λ (s : FileState). Leaves s s.seen) (sym (is f)) (seen.0 f),
-  λ f primary. subst (λ (s : FileState). IsHonest s s.seen) (sym (is f)) (seen.1 f primary),
-)
+next_seen hives life next reads (inr (seen, is)) =
+    let read = by_fault (faulted_in life) seen reads in (
+      λ f. subst (λ (s : FileState). Leaves s s.seen) (sym (is f)) (read.0 f),
+      λ f primary. subst (λ (s : FileState). IsHonest s s.seen) (sym (is f)) (read.1 f primary),
+    )
 
 -- A prefix is recovered
 recovers : (store : Store) (m : Machine) (files : ℕ → List ℕ) → IsStore store → length m.opened ≡ store.hives → (n : ℕ) → Recover store (length m.opened) files n (trees_after m n) → IsRecovered files store n (trees_after m n)
@@ -81,37 +99,46 @@ recovers store m files is many n found = record {
 }
 
 module _ (one : OneRecovered) (store : Store) (is : IsStore store) where
-  opens_from : (m : Machine) (state : ℕ → FileState) (number : ℕ) (trees : List TreeMap) → length m.opened ≡ store.hives → IsSafe store m state → LeavesHonest IsPrimary state (seen_in state) → IsRecovered (seen_in state) store number trees → OpensFrom m number trees
-  opens_from m state number trees many safe seen found = by_prefix (safe (seen_in state) seen)
+  opens_from : (m : Machine) (state : ℕ → FileState) (number : ℕ) (trees : List TreeMap) → length m.opened ≡ store.hives → IsSafe store m state → ReadsSafely store.hives state → IsRecovered (seen_in state) store number trees → OpensFrom m number trees
+  opens_from m state number trees many safe seen found = by_prefix (safe (seen_in state) (subst (λ n. ReadsSafely n state) (sym many) seen))
     where
       by_prefix : (n : ℕ) × (m.durable ≤ n) × (n ≤ last_number m) × Recover store (length m.opened) (seen_in state) n (trees_after m n) → OpensFrom m number trees
       by_prefix (n, low, high, there) =
           let same = one (seen_in state) store store number n trees (trees_after m n) found (recovers store m (seen_in state) is many n there) in
           record { low = omega (arith, low, same.1); high = omega (arith, high, same.1); trees_are = same.2 ∙ ap (trees_after m) (sym same.1) }
 
-  pub go_on : (m : Machine) (state : ℕ → FileState) (lives : List Life) → length m.opened ≡ store.hives → IsSafe store m state → LeavesHonest IsPrimary state (seen_in state) → AreLives store state lives → EachGoesOn m lives
+  -- what may be left of the next files may have been left of a life's, by the number of a machine's trees
+  left_of : (n : ℕ) (life : Life) (next : ℕ → FileState) → n ≡ store.hives → IsNext store.hives life next → (files : ℕ → List ℕ) → LeavesHonest (IsPrimaryOf n) next files → LeavesHonest (IsPrimaryOf n) (end_of life) files
+  left_of n life next many on files left =
+      subst (λ k. LeavesHonest (IsPrimaryOf k) (end_of life) files) (sym many) (next_left store.hives life next on files (subst (λ k. LeavesHonest (IsPrimaryOf k) next files) many left))
+
+  pub go_on : (m : Machine) (state : ℕ → FileState) (lives : List Life) → length m.opened ≡ store.hives → IsSafe store m state → ReadsSafely store.hives state → AreLives store state lives → EachGoesOn m lives
   go_on m state [] many safe seen rest = tt
   go_on m state (Unopened end ∷ lives) many safe seen (kept, (next, on, rest)) =
-      go_on m next lives many (λ files left. safe files (before state end seen kept files (next_left end next on files left))) (next_seen end next on) rest
-  go_on m state (Opened number trees last end ∷ lives) many safe seen ((found, come, left), (next, on, rest)) = (
-    opens_from m state number trees many safe seen found,
-    go_on last next lives (run_stays (record (opened_machine (bounds_of trees) trees number [] 0) { room = come.room }) last come.events come.replies come.run ∙ found.many)
-        (λ files there. left files (next_left end next on files there)) (next_seen end next on) rest,
-  )
+      go_on m next lives many
+      (λ files left. safe files (subst (λ n. LeavesHonest (IsPrimaryOf n) state files) (sym many) (before store.hives state end seen kept files (next_left store.hives (Unopened end) next on files (subst (λ n. LeavesHonest (IsPrimaryOf n) next files) many left)))))
+      (next_seen store.hives (Unopened end) next (λ e. seen_after store.hives state end seen kept) on) rest
+  go_on m state (Opened number trees last end ∷ lives) many safe seen ((found, come, left, reads), (next, on, rest)) =
+      let long : length last.opened ≡ store.hives = run_stays (record (opened_machine (bounds_of trees) trees number [] 0) { room = come.room; faulted = come.broken }) last come.events come.replies come.run ∙ found.many in (
+        opens_from m state number trees many safe seen found,
+        go_on last next lives long (λ files there. left files (left_of (length last.opened) (Opened number trees last end) next long on files there))
+            (next_seen store.hives (Opened number trees last end) next (λ e. subst (λ n. ReadsSafely n end) long (reads e)) on) rest,
+      )
 
 -- Calls
 
 none_taken : (n : ℕ) → take {A = Element} (n - n) [] ≡ []
 none_taken n = let e : n - n ≡ 0 = omega arith in ap (λ k. take {A = Element} k []) e
 
-pub repaired : (store : Store) (state end : ℕ → FileState) (number room : ℕ) (trees : List TreeMap) → IsRecovered (seen_in state) store number trees → ((files : ℕ → List ℕ) → LeavesHonest IsPrimary end files → IsRecovered files store number trees)
-    → IsLife store state (Opened number trees (record (opened_machine (bounds_of trees) trees number [] 0) { room = room }) end)
-repaired store state end number room trees found stays = (
+pub repaired : (store : Store) (state end : ℕ → FileState) (number room : ℕ) (failed : Bool) (trees : List TreeMap) → IsRecovered (seen_in state) store number trees → ((files : ℕ → List ℕ) → LeavesHonest (IsPrimaryOf store.hives) end files → IsRecovered files store number trees)
+    → (failed ≡ false → ReadsSafely store.hives end) → IsLife store state (Opened number trees (record (opened_machine (bounds_of trees) trees number [] 0) { room = room; faulted = failed }) end)
+repaired store state end number room failed trees found stays reads = (
   found,
-  record { room = room; events = []; replies = []; run = refl },
+  record { room = room; broken = failed; events = []; replies = []; run = refl },
   λ files left.
-      let there = stays files left in
+      let there = stays files (subst (λ n. LeavesHonest (IsPrimaryOf n) end files) found.many left) in
       (number, omega arith, omega arith, subst (λ (l : List Element). Recover store (length trees) files number (after_elements trees l)) (sym (none_taken number)) (subst (λ k. Recover store k files number trees) (sym there.many) there.recovers)),
+  λ works. subst (λ n. ReadsSafely n end) (sym found.many) (reads works),
 )
 
 -- A store that was made
@@ -123,11 +150,12 @@ first_at trees (Opened number found last end ∷ lives) (from, on) =
     let zero : number ≡ 0 = omega (arith, from.high) in
     (zero, from.trees_are ∙ ap (trees_after (opened_machine (bounds_of trees) trees 0 [] 0)) zero ∙ ap (λ (l : List Element). after_elements trees l) (none_taken 0))
 
-pub opens_as_made : OneRecovered → (store : Store) (trees : List TreeMap) (state : ℕ → FileState) (lives : List Life) → ((files : ℕ → List ℕ) → LeavesHonest IsPrimary state files → IsRecovered files store 0 trees)
-    → LeavesHonest IsPrimary state (seen_in state) → AreLives store state lives → FirstOpensAt 0 trees lives × EachGoesOn (opened_machine (bounds_of trees) trees 0 [] 0) lives
+pub opens_as_made : OneRecovered → (store : Store) (trees : List TreeMap) (state : ℕ → FileState) (lives : List Life) → ((files : ℕ → List ℕ) → LeavesHonest (IsPrimaryOf (length trees)) state files → IsRecovered files store 0 trees)
+    → ReadsSafely (length trees) state → AreLives store state lives → FirstOpensAt 0 trees lives × EachGoesOn (opened_machine (bounds_of trees) trees 0 [] 0) lives
 opens_as_made one store trees state lives made seen rest =
     let found = made (seen_in state) seen in
-    let on = go_on one store found.store_is (opened_machine (bounds_of trees) trees 0 [] 0) state lives found.many (repaired store state state 0 0 trees found made).2 seen rest in
+    let safe = repaired store state state 0 0 false trees found (λ files left. made files (subst (λ n. LeavesHonest (IsPrimaryOf n) state files) (sym found.many) left)) (λ works. subst (λ n. ReadsSafely n state) found.many seen) in
+    let on = go_on one store found.store_is (opened_machine (bounds_of trees) trees 0 [] 0) state lives found.many safe.2 (subst (λ n. ReadsSafely n state) found.many seen) rest in
     (first_at trees lives on, on)
 
 abbrev pub EachMoment : Type 0
@@ -139,7 +167,7 @@ AreRuns = (old new : EngineView) (events : List Event) (replies : List Reply) �
 
 pub ran : EachMoment → AreRuns → (store : Store) (state : ℕ → FileState) (number room : ℕ) (trees : List TreeMap) (states : ℕ → ℕ → FileState) (moment : ℕ) (events : List Event) (replies : List Reply) (old new : EngineView) → IsRecovered (seen_in state) store number trees
     → old.machine ≡ record (opened_machine (bounds_of trees) trees number [] 0) { room = room } → RunsSafely (IsSafeAt store states) old events replies new → old.clock ≤ moment → moment ≤ new.clock
-    → IsBoundary (λ at machine. IsLife store state (Opened number trees machine (states at))) old events replies new moment
+    → IsBoundary (λ at machine. (machine.faulted ≡ false → ReadsSafely (length machine.opened) (states at)) → IsLife store state (Opened number trees machine (states at))) old events replies new moment
 ran each runs store state number room trees states moment events replies old new found begins run low high =
     let b = each store states old new events replies run moment low high in
     record {
@@ -149,14 +177,16 @@ ran each runs store state number room trees states moment events replies old new
       then_at = b.then_at;
       so_far = b.so_far;
       then_on = b.then_on;
-      holds = (
+      holds = λ reads. (
         found,
         record {
           room = room;
+          broken = false;
           events = take b.answered events;
           replies = take b.answered replies;
           run = subst (λ (m : Machine). Run m (take b.answered events) (take b.answered replies) b.engine.machine) begins (runs old b.engine (take b.answered events) (take b.answered replies) b.so_far).0;
         },
         b.holds,
+        reads,
       );
     }

@@ -16,7 +16,7 @@ use Rattle.machine.specs.Machine.{Machine}
 use Rattle.machine.specs.Steps.{Step}
 use Rattle.machine.specs.declared.event.Event.TheVariants as event
 use Rattle.transactions.specs.Stores.{StoreView}
-use Rattle.engine_words.specs.Changes.{TimedOp, rules, timed_elements}
+use Rattle.engine_words.specs.Changes.{TimedOp, tree_rules, timed_elements}
 use Rattle.engine_words.specs.Steps.{Says}
 use Rattle.engine_words.specs.declared.Progress.{Progress}
 use Rattle.commit_journal.specs.Journals.{choice_of}
@@ -76,7 +76,7 @@ module _ (s : StoreView) (base : ℕ) (opened : List Element) (journal : Journal
           ∙ sym (ops_split (life_of s.machine base opened) k (memory_of old).1 gone s.machine.durable le high ∙ ap (λ (os : List TimedOp). os ++ ops_in (life_of s.machine base opened) k gone s.machine.durable) none)
 
   pub lawful : Lacks → (es : List Element) → ops_on k (timed_elements es) ≡ ops_on k (timed_elements (opened_above base opened (memory_of old).1 ++ accepted_above s.machine (memory_of old).1)) → AreLegalOn (place_of old) es (memory_of old).0
-  lawful law es e = subst (λ n. AreLegalOn n es (memory_of old).0) (sym (a.placed.place k old is)) (subst (λ (os : List TimedOp). AreLegal rules os (memory_of old).0) (sym e)
+  lawful law es e = subst (λ n. AreLegalOn n es (memory_of old).0) (sym (a.placed.place k old is)) (subst (λ (os : List TimedOp). AreLegal tree_rules os (memory_of old).0) (sym e)
       (law s.machine base opened (choice_of journal) (map view_of hives) k (view_of old) a.kept (view_at hives k old is)).1)
 
   -- what was taken in, or nothing
@@ -89,7 +89,7 @@ module _ (s : StoreView) (base : ℕ) (opened : List Element) (journal : Journal
       kept : (r : Result (Unit {0}) Refusal) → OnOk r (memory_of new ≡ (led_to (place_of old) es (memory_of old).0, durable)) → OnErr r (new ≡ old) → IsConsistent s.machine base opened (choice_of journal) (slice_set (map view_of hives) k (view_of new))
       kept (Ok u) o f =
           let told : memory_of new ≡ absorbed s.machine base opened k (memory_of old) = o ∙ ap (λ n. (led_to n es (memory_of old).0, durable)) (a.placed.place k old is)
-          ∙ ap (λ (os : List TimedOp). (applied rules os (memory_of old).0, durable)) e ∙ ap (λ n. (led_to k (opened_above base opened (memory_of old).1 ++ accepted_above s.machine (memory_of old).1) (memory_of old).0, n)) d in
+          ∙ ap (λ (os : List TimedOp). (applied tree_rules os (memory_of old).0, durable)) e ∙ ap (λ n. (led_to k (opened_above base opened (memory_of old).1 ++ accepted_above s.machine (memory_of old).1) (memory_of old).0, n)) d in
           let view : view_of new ≡ record { files = files_of old; memory = absorbed s.machine base opened k (memory_of old) } = ap (λ (c : Choice (TreeMap × ℕ)). let v : HiveView = record { files = c; memory = memory_of new } in v) files
           ∙ ap (λ (x : TreeMap × ℕ). let v : HiveView = record { files = files_of old; memory = x } in v) told in
           subst (λ (v : HiveView). IsConsistent s.machine base opened (choice_of journal) (slice_set (map view_of hives) k v)) (sym view)

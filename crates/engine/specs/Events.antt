@@ -34,7 +34,7 @@ parts_view clock failures parts = record {
 
 -- Over a disk of these states, this clock and these failures, the parts go on by an event with an answer. It is a step of the
 -- machine, with at most one call of the device. The parts stay sound, and on the disk as they say, where they were and the disk
--- is faithful. The files are of the same store. The device has failed where the answer says so. What the journal spelled at the
+-- is faithful. The files are of the same store. The device has failed where the answer says so, and at no other answer. What the journal spelled at the
 -- opening stays; the journal changes in a step of it or of a trim alone, and a hive in a step of its flush. The disk stays where the
 -- answer is told without it.
 pub record GoesOn {D : Type 0} (states : D → ℕ → ℕ → FileState) (clock failures : D → ℕ) (is_faithful : D → Type 0)
@@ -47,6 +47,7 @@ pub record GoesOn {D : Type 0} (states : D → ℕ → ℕ → FileState) (clock
   pub call : OneCall AnyFile (states old.disk) (states new.disk) (clock old.disk) (clock new.disk)
   pub quiet : NeedsNoDevice event answer → new.disk ≡ old.disk
   pub failed : answer ≡ Refused DiskFault → failures old.disk < failures new.disk
+  pub works : ¬ (answer ≡ Refused DiskFault) → failures new.disk ≡ failures old.disk
   pub faithful : is_faithful new.disk → is_faithful old.disk
   pub life : (new.base ≡ old.base) × (changes_of new.spelled.value ≡ changes_of old.spelled.value)
   pub journal_stays : ¬ (event ≡ events.JournalStep) → ¬ (event ≡ events.TrimStep) → new.journal ≡ old.journal

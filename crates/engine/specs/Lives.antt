@@ -1,16 +1,15 @@
 -- Lives of a store, one after another on the same files.
-use Rattle.std.specs.Prelude.{◌≡◌, ◌⊎◌, ℕ, ◌≤◌, ⊤, List, [], ◌∷◌}
+use Rattle.std.specs.Prelude.{◌≡◌, ◌⊎◌, ℕ, ◌≤◌, ⊤, Bool, true, false, List, [], ◌∷◌, length}
 use Rattle.reg_tree.specs.Maps.{TreeMap}
 use Rattle.disk_model.specs.FileState.{FileState, at_rest}
 use Rattle.disk_model.specs.Crash.{LeavesHonest}
-use Rattle.disk_model.specs.StoreFiles.{IsPrimary}
 use Rattle.disk_model.specs.Unwritten.{IsSyncedOrSame}
 use Rattle.machine.specs.Machine.{Machine, bounds_of, last_number, opened_machine}
 use Rattle.machine.specs.Steps.{Run}
 use Rattle.machine.specs.declared.event.Event.{Event}
 use Rattle.machine.specs.declared.event.Reply.{Reply}
 use Rattle.commit_journal.specs.Store.{Store}
-use Rattle.engine_law.specs.Prefixes.{IsPrefix, trees_after}
+use Rattle.engine_law.specs.Prefixes.{IsPrefix, IsPrimaryOf, trees_after}
 use Rattle.recovery.specs.Recovered.{IsRecovered, seen_in}
 
 -- A life of a store, up to some moment at which the files are in this state: it hasn't opened, since an opening was refused or was on
@@ -23,33 +22,46 @@ abbrev pub end_of : Life → ℕ → FileState
 end_of (Unopened end) = end
 end_of (Opened number trees last end) = end
 
--- A machine that was opened at a number and trees, with some room, has come to this one by events.
+-- whether the device failed in a life that opened
+abbrev pub faulted_in : Life → Bool
+faulted_in (Unopened end) = false
+faulted_in (Opened number trees last end) = last.faulted
+
+-- A machine that was opened at a number and trees, with some room, and faulted if the device failed in a repair, has come to this
+-- one by events.
 pub record HasCome (number : ℕ) (trees : List TreeMap) (last : Machine) : Type 0 where
   pub room : ℕ
+  pub broken : Bool
   pub events : List Event
   pub replies : List Reply
-  pub run : Run (record (opened_machine (bounds_of trees) trees number [] 0) { room = room }) events replies last
+  pub run : Run (record (opened_machine (bounds_of trees) trees number [] 0) { room = room; faulted = broken }) events replies last
 
--- whatever a crash leaves of these files is a prefix of a machine's changes
+-- whatever a crash leaves of these files, with honest first sectors of the store's primary files, is a prefix of a machine's changes
 abbrev pub IsSafe : Store → Machine → (ℕ → FileState) → Type 0
-IsSafe store machine state = (files : ℕ → List ℕ) → LeavesHonest IsPrimary state files → IsPrefix store machine files
+IsSafe store machine state = (files : ℕ → List ℕ) → LeavesHonest (IsPrimaryOf (length machine.opened)) state files → IsPrefix store machine files
+
+-- what a read gives of the files of so many hives is what a crash may leave of them, with honest first sectors
+abbrev pub ReadsSafely : ℕ → (ℕ → FileState) → Type 0
+ReadsSafely hives state = LeavesHonest (IsPrimaryOf hives) state (seen_in state)
 
 -- A life on files that are in this state as it begins. Before it has opened, each file is as it was, or synced. It opens at what
--- the files recover, as they are read; and then what a crash leaves is a prefix of what it accepted since.
+-- the files recover, as they are read; and then what a crash leaves is a prefix of what it accepted since, and so is what a read gives
+-- as long as the device hasn't failed.
 abbrev pub IsLife : Store → (ℕ → FileState) → Life → Type 0
 IsLife store state (Unopened end) = (f : ℕ) → IsSyncedOrSame (state f) (end f)
-IsLife store state (Opened number trees last end) = IsRecovered (seen_in state) store number trees × HasCome number trees last × IsSafe store last end
+IsLife store state (Opened number trees last end) =
+    IsRecovered (seen_in state) store number trees × HasCome number trees last × IsSafe store last end × (last.faulted ≡ false → ReadsSafely (length last.opened) end)
 
 -- Where a life has ended the next one begins: behind a crash on whatever that left, with honest first sectors; or, without one, on the
--- files as they are, of which what a read gives has honest first sectors too.
-abbrev pub IsNext : (ℕ → FileState) → (ℕ → FileState) → Type 0
-IsNext end next = ((left : ℕ → List ℕ) × LeavesHonest IsPrimary end left × ((f : ℕ) → next f ≡ at_rest (left f)))
-    ⊎ (LeavesHonest IsPrimary end (seen_in end) × ((f : ℕ) → next f ≡ end f))
+-- files as they are. If the device failed in the life, what a read gives of them has honest first sectors then.
+abbrev pub IsNext : ℕ → Life → (ℕ → FileState) → Type 0
+IsNext hives life next = ((left : ℕ → List ℕ) × LeavesHonest (IsPrimaryOf hives) (end_of life) left × ((f : ℕ) → next f ≡ at_rest (left f)))
+    ⊎ ((faulted_in life ≡ true → ReadsSafely hives (end_of life)) × ((f : ℕ) → next f ≡ end_of life f))
 
 -- lives, one after another
 abbrev pub AreLives : Store → (ℕ → FileState) → List Life → Type 0
 AreLives store state [] = ⊤
-AreLives store state (life ∷ lives) = IsLife store state life × ((next : ℕ → FileState) × IsNext (end_of life) next × AreLives store next lives)
+AreLives store state (life ∷ lives) = IsLife store state life × ((next : ℕ → FileState) × IsNext store.hives life next × AreLives store next lives)
 
 -- An opening goes on from a machine: at one of its numbers, not below the durable one, and at the trees after it.
 pub record OpensFrom (machine : Machine) (number : ℕ) (trees : List TreeMap) : Type 0 where

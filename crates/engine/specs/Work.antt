@@ -1,5 +1,5 @@
 -- Which hives of an engine have something to flush.
-use Rattle.std.specs.Prelude.{◌≡◌, ◌⊎◌, ℕ, ◌<◌, ◌≤◌, List, length, slice_get, Some, None}
+use Rattle.std.specs.Prelude.{◌≡◌, ◌⊎◌, ℕ, ◌<◌, ◌≤◌, false, List, length, slice_get, Some, None}
 use Rattle.reg_tree.specs.declared.element.Element.{Element}
 use Rattle.machine.specs.Machine.{Machine}
 use Rattle.engine_law.specs.Idle.{IsFlushed}
@@ -8,6 +8,10 @@ use Rattle.engine_law.specs.States.{HiveView}
 -- no flush of a hive is on its way
 abbrev pub AreAtRest : List HiveView → Type 0
 AreAtRest hives = (i : ℕ) (hive : HiveView) → slice_get hives i ≡ Some hive → hive.files.next ≡ None
+
+-- What a read gives is of what a crash may leave: the device hasn't failed, or no flush is on its way.
+abbrev pub IsReadable : Machine → List HiveView → Type 0
+IsReadable machine hives = (machine.faulted ≡ false) ⊎ AreAtRest hives
 
 -- none of the hives in these places has
 abbrev pub AreFlushed : Machine → ℕ → List Element → List HiveView → ℕ → ℕ → Type 0

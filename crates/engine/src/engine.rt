@@ -2,6 +2,7 @@
 ghost use Rattle.std.specs.Prelude.{◌≡◌, ◌⊎◌, ◌↔◌, ◌+◌, ◌<◌, ◌≤◌, ◌^◌, [], ℕ, false, true, IfErr, IfNone, IfOk, IfSome, OnErr, OnOk, None, Some, is_some, length, map, replicate, slice_get};
 ghost use Rattle.refusals.specs.declared.refusal.Refusal.TheVariants.{NoMemory};
 ghost use Rattle.disk_model.specs.Call.{OneCall};
+ghost use Rattle.disk_model.specs.Crash.{LeavesHonest};
 ghost use Rattle.machine.specs.Machine.{bounds_of, last_number, opened_machine, trees_now};
 ghost use Rattle.commit_journal.specs.Store.{room_of};
 ghost use Rattle.commit_journal.specs.Journals.{changes_of, choice_of};
@@ -12,13 +13,13 @@ ghost use Rattle.engine_law.specs.Idle.{IsTrimmed};
 ghost use Rattle.engine_law.specs.Progress.{HasPending};
 ghost use Rattle.machine.specs.Steps.{Step, Run};
 ghost use Rattle.machine.specs.declared.event.Reply.TheVariants as reply;
-ghost use Rattle.engine_law.specs.Prefixes.{AnyFile, IsPrefix, IsSafeAt, Recover, view_of};
+ghost use Rattle.engine_law.specs.Prefixes.{AnyFile, IsPrefix, IsPrimaryOf, IsSafeAt, Recover, view_of};
 ghost use Rattle.recovery.specs.Recovered.{seen_in};
 ghost use Rattle.engine_law.specs.Runs.{AnswersInTurn, IsHeld, RunsSafely};
 ghost use Rattle.std.specs.List.{AllByRecursion};
 ghost use Rattle.commit_journal.specs.Naming.{HasCounted};
 ghost use Rattle.engine.specs.Shown.{engine_view};
-ghost use Rattle.engine.specs.Work.{AreAtRest, AreFlushed, IsNextAround};
+ghost use Rattle.engine.specs.Work.{AreFlushed, IsNextAround, IsReadable};
 ghost use Rattle.transactions.specs.Prepared.{Foretells, Shows, may_accept, told_by};
 ghost use Rattle.std.specs.Option.{option_map};
 
@@ -27,6 +28,7 @@ use disk_model::Disk;
 use engine_law::laws::{
     crashes_leave_prefixes, openings_begin, quiet_ends_recover, receipts_are_durable,
 };
+use hive_flush::laws::reads_are_honest;
 use machine::{Event, Reply};
 use recovery::{Found, Opened};
 use refusals::Refusal;
@@ -253,13 +255,18 @@ impl<D: Disk> Engine<D> {
         let _ = self.parts.store.durable();
     }
 
-    /// A law: as long as no flush is on its way, what a read gives of the files recovers such a number too, as an opening finds it
-    /// behind a life that is ended without a crash. If all is durable, it is the last number and the trees of now.
+    /// A law: as long as the device hasn't failed, or no flush is on its way, what a read gives of the files is of what a crash may
+    /// leave, and so recovers such a number too, as an opening finds it behind a life that is ended without a crash. If all is durable,
+    /// it is the last number and the trees of now.
     pub fn reads_a_prefix(&self)
-        ensures prefix { D.faithful self.now.disk → AreAtRest self.now.hives →
+        ensures honest { D.faithful self.now.disk → IsReadable self.now.machine self.now.hives →
+            LeavesHonest (IsPrimaryOf (length self.now.machine.opened))
+            (D.state_at self.now.disk (D.clock self.now.disk))
+            (seen_in (D.state_at self.now.disk (D.clock self.now.disk))) }
+        ensures prefix { D.faithful self.now.disk → IsReadable self.now.machine self.now.hives →
             IsPrefix self.now.store self.now.machine
             (seen_in (D.state_at self.now.disk (D.clock self.now.disk))) }
-        ensures quiet { D.faithful self.now.disk → AreAtRest self.now.hives →
+        ensures quiet { D.faithful self.now.disk → IsReadable self.now.machine self.now.hives →
             ¬ (HasPending self.now.machine) →
             Recover self.now.store (length self.now.machine.opened)
             (seen_in (D.state_at self.now.disk (D.clock self.now.disk)))
@@ -267,6 +274,7 @@ impl<D: Disk> Engine<D> {
     {
         crashes_leave_prefixes();
         quiet_ends_recover();
+        reads_are_honest();
         // what the type keeps is known where a field is looked at
         let _ = self.parts.store.durable();
     }

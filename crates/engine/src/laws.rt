@@ -1,18 +1,17 @@
 //! Lives of a store, one after another: laws over what its calls promise.
-ghost use Rattle.std.specs.Prelude.{◌≡◌, ℕ, ◌≤◌, [], List, length};
+ghost use Rattle.std.specs.Prelude.{◌≡◌, ℕ, ◌≤◌, [], Bool, false, List, length};
 ghost use Rattle.reg_tree.specs.Maps.{TreeMap};
 ghost use Rattle.disk_model.specs.FileState.{FileState};
 ghost use Rattle.disk_model.specs.Crash.{LeavesHonest};
-ghost use Rattle.disk_model.specs.StoreFiles.{IsPrimary};
 ghost use Rattle.commit_journal.specs.Store.{Store, IsStore};
 ghost use Rattle.machine.specs.Machine.{Machine, bounds_of, opened_machine};
 ghost use Rattle.machine.specs.declared.event.Event.{Event};
 ghost use Rattle.machine.specs.declared.event.Reply.{Reply};
 ghost use Rattle.engine_law.specs.Engines.{EngineView};
-ghost use Rattle.engine_law.specs.Prefixes.{IsSafeAt};
+ghost use Rattle.engine_law.specs.Prefixes.{IsPrimaryOf, IsSafeAt};
 ghost use Rattle.engine_law.specs.Runs.{IsBoundary, RunsSafely};
 ghost use Rattle.recovery.specs.Recovered.{IsRecovered, seen_in};
-ghost use Rattle.engine.specs.Lives.{AreLives, EachGoesOn, FirstOpensAt, IsLife, IsSafe, Life, Life.Opened, Life.Unopened};
+ghost use Rattle.engine.specs.Lives.{AreLives, EachGoesOn, FirstOpensAt, IsLife, IsSafe, Life, Life.Opened, Life.Unopened, ReadsSafely};
 
 use engine_law::laws::safe_runs_go_on;
 use recovery::laws::one_is_recovered;
@@ -21,12 +20,12 @@ use recovery::laws::one_is_recovered;
 /// that opened: not below what was durable there. A life may end anywhere: within an opening, within a repair, within an event or
 /// between two, by a crash or without one.
 ///
-/// It begins with a machine of which whatever a crash leaves is a prefix, as of a store that was made.
+/// It begins with a machine of which whatever a crash leaves is a prefix, and what a read gives is of that, as of a store that was
+/// made.
 pub fn lives_go_on()
     ensures { (store : Store) (machine : Machine) (state : ℕ → FileState) (lives : List Life) →
         IsStore store → length machine.opened ≡ store.hives → IsSafe store machine state →
-        LeavesHonest IsPrimary state (seen_in state) → AreLives store state lives →
-        EachGoesOn machine lives }
+        ReadsSafely store.hives state → AreLives store state lives → EachGoesOn machine lives }
 {
     one_is_recovered();
 }
@@ -35,8 +34,8 @@ pub fn lives_go_on()
 /// trees; and each later one goes on from the last one before it that did.
 pub fn made_stores_open_as_made()
     ensures { (store : Store) (trees : List TreeMap) (state : ℕ → FileState) (lives : List Life) →
-        ((files : ℕ → List ℕ) → LeavesHonest IsPrimary state files →
-        IsRecovered files store 0 trees) → LeavesHonest IsPrimary state (seen_in state) →
+        ((files : ℕ → List ℕ) → LeavesHonest (IsPrimaryOf (length trees)) state files →
+        IsRecovered files store 0 trees) → ReadsSafely (length trees) state →
         AreLives store state lives →
         FirstOpensAt 0 trees lives × EachGoesOn (opened_machine (bounds_of trees) trees 0 [] 0) lives }
 {
@@ -45,24 +44,29 @@ pub fn made_stores_open_as_made()
 
 /// Each call says of its life what these lives ask.
 ///
-/// - `repairs`: a life that has opened and is being repaired, as `Opened::repair_step` tells at each of its moments.
-/// - `runs`: a life whose engine runs, as `Engine::run` tells at each moment.
+/// - `repairs`: a life that has opened and is being repaired, as `Opened::repair_step` and `Opened::keeps_what_was_found` tell.
+/// - `runs`: a life whose engine runs, as `Engine::run` tells at each moment of what a crash leaves; what a read gives then
+///   [`Engine::reads_a_prefix`](crate::Engine::reads_a_prefix) tells.
 ///
 /// Of a life that hasn't opened `open` tells it itself.
 pub fn calls_are_lives()
-    ensures repairs { (store : Store) (state end : ℕ → FileState) (number room : ℕ)
+    ensures repairs { (store : Store) (state end : ℕ → FileState) (number room : ℕ) (failed : Bool)
         (trees : List TreeMap) → IsRecovered (seen_in state) store number trees →
-        ((files : ℕ → List ℕ) → LeavesHonest IsPrimary end files →
-        IsRecovered files store number trees) → IsLife store state
-        (Opened number trees
-        (record (opened_machine (bounds_of trees) trees number [] 0) { room = room }) end) }
+        ((files : ℕ → List ℕ) → LeavesHonest (IsPrimaryOf store.hives) end files →
+        IsRecovered files store number trees) → (failed ≡ false → ReadsSafely store.hives end) →
+        IsLife store state (Opened number trees
+        (record (opened_machine (bounds_of trees) trees number [] 0) {
+          room = room;
+          faulted = failed;
+        }) end) }
     ensures runs { (store : Store) (state : ℕ → FileState) (number room : ℕ) (trees : List TreeMap)
         (states : ℕ → ℕ → FileState) (moment : ℕ) (events : List Event) (replies : List Reply)
         (old new : EngineView) → IsRecovered (seen_in state) store number trees →
         old.machine ≡ record (opened_machine (bounds_of trees) trees number [] 0) { room = room } →
         RunsSafely (IsSafeAt store states) old events replies new →
         old.clock ≤ moment → moment ≤ new.clock → IsBoundary
-        (λ at machine. IsLife store state (Opened number trees machine (states at)))
+        (λ at machine. (machine.faulted ≡ false → ReadsSafely (length machine.opened) (states at)) →
+        IsLife store state (Opened number trees machine (states at)))
         old events replies new moment }
 {
     safe_runs_go_on();

@@ -16,7 +16,7 @@ use Rattle.machine.specs.Steps.{Step, is_calm}
 use Rattle.machine.specs.Kept.{IsKept, AreLegalChanges, Stays, Grows}
 use Rattle.machine.specs.declared.event.Event.{Event}
 use Rattle.machine.specs.declared.event.Reply.{Reply}
-use Rattle.engine_words.specs.Changes.{TimedOp, rules, timed, timed_element, timed_elements}
+use Rattle.engine_words.specs.Changes.{TimedOp, tree_rules, timed, timed_element, timed_elements}
 use Rattle.commit_journal.specs.Store.{room_of}
 use Rattle.engine_law.specs.States.{HiveView, tree_of, life_of, state_of, IsBatch, IsConsistent}
 use Rattle.engine_law.proofs.Bridge.{all_long, last_is, tree_is, trees_at_last, run_ops, names, all_allowed}
@@ -40,19 +40,19 @@ names_some ts [] moment l some = absurd (omega (arith, some))
 names_some ts (op ∷ ops) moment l some = names ts op ops moment l
 
 module _ (base : ℕ) (opened : List Element) (journal : Choice (Spelled TimedOp)) (hives : List HiveView) where
-  law_keeps : (old new : Machine) → old.before ≡ base + length opened → Stays old new ⊎ Grows old new → law.IsKept rules GREATEST_NUMBER (length old.opened) (state_of old base opened journal hives)
-      → law.IsKept rules GREATEST_NUMBER (length new.opened) (state_of new base opened journal hives)
+  law_keeps : (old new : Machine) → old.before ≡ base + length opened → Stays old new ⊎ Grows old new → law.IsKept tree_rules GREATEST_NUMBER (length old.opened) (state_of old base opened journal hives)
+      → law.IsKept tree_rules GREATEST_NUMBER (length new.opened) (state_of new base opened journal hives)
   law_keeps old new begun (inl s) kept =
-      subst (λ (ts : List TreeMap). law.IsKept rules GREATEST_NUMBER (length ts) (state_of new base opened journal hives)) (sym s.opened)
-      (moved rules GREATEST_NUMBER (length old.opened) (state_of old base opened journal hives) (state_of new base opened journal hives) (life_of old base opened) old.durable journal
+      subst (λ (ts : List TreeMap). law.IsKept tree_rules GREATEST_NUMBER (length ts) (state_of new base opened journal hives)) (sym s.opened)
+      (moved tree_rules GREATEST_NUMBER (length old.opened) (state_of old base opened journal hives) (state_of new base opened journal hives) (life_of old base opened) old.durable journal
       (life_is base opened old new s.opened s.accepted) s.durable refl (λ j lt. refl) kept)
   law_keeps old new begun (inr g) kept =
-      subst (λ (ts : List TreeMap). law.IsKept rules GREATEST_NUMBER (length ts) (state_of new base opened journal hives)) (sym g.opened)
-      (step_accept rules GREATEST_NUMBER (length old.opened) (state_of old base opened journal hives) (state_of new base opened journal hives) kept (record {
+      subst (λ (ts : List TreeMap). law.IsKept tree_rules GREATEST_NUMBER (length ts) (state_of new base opened journal hives)) (sym g.opened)
+      (step_accept tree_rules GREATEST_NUMBER (length old.opened) (state_of old base opened journal hives) (state_of new base opened journal hives) kept (record {
         element = timed_element g.element;
         room = omega (arith, g.number, last_is old base opened begun);
         names = subst (λ n. NamesHive n (timed_element g.element)) (all_long old.opened old.accepted) (names_some (trees_now old) g.element.ops g.element.moment g.legal g.some);
-        legal = λ i lt. legal_at rules i (timed_element g.element) (trees_now old) _ _ (run_ops (trees_now old) g.element.ops g.element.moment g.legal) (now_is i lt);
+        legal = λ i lt. legal_at tree_rules i (timed_element g.element) (trees_now old) _ _ (run_ops (trees_now old) g.element.ops g.element.moment g.legal) (now_is i lt);
         allowed = λ i lt. all_allowed i _ _;
         life = grown;
         durable = g.durable;
@@ -60,9 +60,9 @@ module _ (base : ℕ) (opened : List Element) (journal : Choice (Spelled TimedOp
         files = λ j lt. refl;
       }))
     where
-      now_is : (i : ℕ) → i < length old.opened → slice_get (trees_now old) i ≡ Some (tree_at rules (life_of old base opened) (life.last_number (life_of old base opened)) i)
+      now_is : (i : ℕ) → i < length old.opened → slice_get (trees_now old) i ≡ Some (tree_at tree_rules (life_of old base opened) (life.last_number (life_of old base opened)) i)
       now_is i lt = ap (λ (ts : List TreeMap). slice_get ts i) (sym (trees_at_last old)) ∙ tree_is old base opened begun (last_number old) i lt
-          ∙ ap (λ n. Some (tree_at rules (life_of old base opened) n i)) (sym (last_is old base opened begun))
+          ∙ ap (λ n. Some (tree_at tree_rules (life_of old base opened) n i)) (sym (last_is old base opened begun))
 
       grown : life_of new base opened ≡ with_accepted (life_of old base opened) (timed_element g.element)
       grown = ap (λ (ts : List TreeMap). let l : Life TreeMap TimedOp = record { trees = tree_of ts; base = base; opened = timed_elements opened; accepted = timed_elements new.accepted } in l) g.opened

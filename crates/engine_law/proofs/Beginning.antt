@@ -19,7 +19,7 @@ use Rattle.prefix_law.proofs.MemoryCounts.{remembered}
 use Rattle.machine.specs.Machine.{opened_machine, room_with}
 use Rattle.machine.specs.Kept.{IsKept}
 use Rattle.machine.specs.declared.bounds.Bounds.{Bounds}
-use Rattle.engine_words.specs.Changes.{TimedOp, rules, timed_element, timed_elements}
+use Rattle.engine_words.specs.Changes.{TimedOp, tree_rules, timed_element, timed_elements}
 use Rattle.engine_law.specs.States.{HiveView}
 use Rattle.engine_law.specs.States.{tree_of, counted, files_in, state_of, IsConsistent}
 use Rattle.commit_journal.specs.Store.{room_of}
@@ -38,8 +38,8 @@ nothing_left k [] e = drop_nil {A = Element} k
 nothing_left k (x ∷ xs) e = absurd cc
 
 module _ (bounds : Bounds) (trees : List TreeMap) (n failures base : ℕ) (opened : List Element) (journal : Choice (Spelled TimedOp)) (hives : List HiveView) (found : IsFound trees n base opened journal hives) where
-  first : law.IsKept rules GREATEST_NUMBER (length trees) (opened_state n (tree_of trees) (spelled_by found.below opened) (held_by hives))
-  first = begun rules GREATEST_NUMBER (length trees) (spelled_by found.below opened) (held_by hives) n (tree_of trees) found.recovers found.named
+  first : law.IsKept tree_rules GREATEST_NUMBER (length trees) (opened_state n (tree_of trees) (spelled_by found.below opened) (held_by hives))
+  first = begun tree_rules GREATEST_NUMBER (length trees) (spelled_by found.below opened) (held_by hives) n (tree_of trees) found.recovers found.named
 
   settled_is : (h : HiveView) → h.files ≡ settled h.memory → with_memory h.files h.memory ≡ with_memory (settled h.files.now) h.files.now
   settled_is h e = ap (λ (x : TreeMap × ℕ). under_way h.files.now x) (sym (ap (λ (c : Choice (TreeMap × ℕ)). c.now) e))
@@ -55,7 +55,7 @@ module _ (bounds : Bounds) (trees : List TreeMap) (n failures base : ℕ) (opene
   begins kept = record {
     kept = kept bounds trees n opened failures found.are_trees found.recovers.limit;
     fits = λ some. absurd (omega (arith, some, ap (λ (es : List Element). length es) (nothing_left (n - n) [] refl)));
-    law = remembered rules GREATEST_NUMBER (length trees) (held_by hives) (opened_state n (tree_of trees) (spelled_by found.below opened) (held_by hives)) (state_of (opened_machine bounds trees n opened failures) base opened journal hives) first (record {
+    law = remembered tree_rules GREATEST_NUMBER (length trees) (held_by hives) (opened_state n (tree_of trees) (spelled_by found.below opened) (held_by hives)) (state_of (opened_machine bounds trees n opened failures) base opened journal hives) first (record {
       fits = λ i lt. record { fits = first.hive_fits i lt (held_by hives i) (inl refl); higher = omega arith };
       life = ap (λ b. let l : Life TreeMap TimedOp = record { trees = tree_of trees; base = b; opened = timed_elements opened; accepted = [] } in l) found.base_is;
       durable = refl;

@@ -25,7 +25,7 @@ use Rattle.machine.specs.Machine.{Machine, fault, first_of, refused_if}
 use Rattle.machine.specs.Steps.{Step, no_hive}
 use Rattle.machine.specs.declared.event.Event.TheVariants as event
 use Rattle.machine.specs.declared.event.Reply.TheVariants as reply
-use Rattle.engine_words.specs.Changes.{TimedOp, rules, timed_element, timed_elements}
+use Rattle.engine_words.specs.Changes.{TimedOp, tree_rules, timed_element, timed_elements}
 use Rattle.engine_words.specs.Steps.{Says}
 use Rattle.engine_words.specs.declared.Progress.{Progress}
 use Rattle.engine_words.specs.declared.Progress.TheVariants as progress
@@ -91,7 +91,7 @@ module _ (m : Machine) (base : ℕ) (opened : List Element) (journal : Choice (S
   counted_is : files_in hives k ≡ with_memory old.files old.memory
   counted_is = ap counted is
 
-  fits_memory : MemoryFits rules (state_of m base opened journal hives) k old.memory
+  fits_memory : MemoryFits tree_rules (state_of m base opened journal hives) k old.memory
   fits_memory = record {
     fits = i.law.hive_fits k there old.memory (inr (ap (λ (c : Choice (TreeMap × ℕ)). c.next) counted_is));
     higher = i.law.rises k there old.memory (inr (ap (λ (c : Choice (TreeMap × ℕ)). c.next) counted_is));
@@ -109,11 +109,11 @@ module _ (m : Machine) (base : ℕ) (opened : List Element) (journal : Choice (S
   lacks : List Element
   lacks = drop (old.memory.1 - base) opened ++ drop (old.memory.1 - m.before) (take (m.durable - m.before) m.accepted)
 
-  pub may_take : (es : List Element) → es ≡ drop (old.memory.1 - base) opened ++ drop (old.memory.1 - m.before) (take (m.durable - m.before) m.accepted) → AreLegal rules (ops_on k (timed_elements es)) old.memory.0
-  may_take es are = subst (λ (os : List TimedOp). AreLegal rules os old.memory.0) (lacked_is m base opened i.begun since k old.memory.1 ∙ ap (λ (l : List Element). ops_on k (timed_elements l)) (sym are))
-      (may_absorb rules GREATEST_NUMBER (length m.opened) (state_of m base opened journal hives) k old.memory m.durable fits_memory up (omega arith))
+  pub may_take : (es : List Element) → es ≡ drop (old.memory.1 - base) opened ++ drop (old.memory.1 - m.before) (take (m.durable - m.before) m.accepted) → AreLegal tree_rules (ops_on k (timed_elements es)) old.memory.0
+  may_take es are = subst (λ (os : List TimedOp). AreLegal tree_rules os old.memory.0) (lacked_is m base opened i.begun since k old.memory.1 ∙ ap (λ (l : List Element). ops_on k (timed_elements l)) (sym are))
+      (may_absorb tree_rules GREATEST_NUMBER (length m.opened) (state_of m base opened journal hives) k old.memory m.durable fits_memory up (omega arith))
 
-  with_hive : (v : HiveView) → IsOfMemory v.files v.memory → law_kept.IsKept rules GREATEST_NUMBER (length m.opened) (state_of m base opened journal (slice_set hives k v)) → IsConsistent m base opened journal (slice_set hives k v)
+  with_hive : (v : HiveView) → IsOfMemory v.files v.memory → law_kept.IsKept tree_rules GREATEST_NUMBER (length m.opened) (state_of m base opened journal (slice_set hives k v)) → IsConsistent m base opened journal (slice_set hives k v)
   with_hive v own l = record {
     kept = i.kept;
     law = l;
@@ -132,18 +132,18 @@ module _ (m : Machine) (base : ℕ) (opened : List Element) (journal : Choice (S
   new_is v = ap counted (get_same hives k v (slice_get_within hives k old is))
 
   pub takes : (es : List Element) (v : HiveView) → es ≡ drop (old.memory.1 - base) opened ++ drop (old.memory.1 - m.before) (take (m.durable - m.before) m.accepted) → old.files.next ≡ None
-      → v ≡ record { files = old.files; memory = (applied rules (ops_on k (timed_elements es)) old.memory.0, m.durable) } → IsConsistent m base opened journal (slice_set hives k v)
+      → v ≡ record { files = old.files; memory = (applied tree_rules (ops_on k (timed_elements es)) old.memory.0, m.durable) } → IsConsistent m base opened journal (slice_set hives k v)
   takes es v are idle v_is = with_hive v (inl (ap (λ (x : HiveView). x.files.next) v_is ∙ idle))
-      (memory_absorbs rules GREATEST_NUMBER (length m.opened) (state_of m base opened journal hives) (state_of m base opened journal (slice_set hives k v)) i.law (record {
+      (memory_absorbs tree_rules GREATEST_NUMBER (length m.opened) (state_of m base opened journal hives) (state_of m base opened journal (slice_set hives k v)) i.law (record {
         hive = k;
         file = old.files;
         memory = old.memory;
         upto = m.durable;
-        tree = applied rules (ops_on k (timed_elements es)) old.memory.0;
+        tree = applied tree_rules (ops_on k (timed_elements es)) old.memory.0;
         before = counted_is;
         low = up;
         high = omega arith;
-        replayed = subst (λ (os : List TimedOp). replay rules os old.memory.0 ≡ Some (applied rules (ops_on k (timed_elements es)) old.memory.0)) (sym (lacked_is m base opened i.begun since k old.memory.1 ∙ ap (λ (l : List Element). ops_on k (timed_elements l)) (sym are))) (may_take es are);
+        replayed = subst (λ (os : List TimedOp). replay tree_rules os old.memory.0 ≡ Some (applied tree_rules (ops_on k (timed_elements es)) old.memory.0)) (sym (lacked_is m base opened i.begun since k old.memory.1 ∙ ap (λ (l : List Element). ops_on k (timed_elements l)) (sym are))) (may_take es are);
         after = new_is v ∙ ap (λ (x : HiveView). with_memory x.files x.memory) v_is;
         life = refl;
         durable = refl;
@@ -153,7 +153,7 @@ module _ (m : Machine) (base : ℕ) (opened : List Element) (journal : Choice (S
 
   pub steps : (a : Answer) (v : HiveView) → v.memory ≡ old.memory → HiveSays old.memory a old.files v.files → IsConsistent m base opened journal (slice_set hives k v)
   steps a v same says = with_hive v (subst (IsOfMemory v.files) (sym same) (own_after old.memory a old.files v.files (i.own k old is) says))
-      (memory_flushes rules GREATEST_NUMBER (length m.opened) a (state_of m base opened journal hives) (state_of m base opened journal (slice_set hives k v)) i.law (record {
+      (memory_flushes tree_rules GREATEST_NUMBER (length m.opened) a (state_of m base opened journal hives) (state_of m base opened journal (slice_set hives k v)) i.law (record {
         hive = k;
         memory = old.memory;
         file = old.files;

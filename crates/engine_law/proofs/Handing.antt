@@ -13,7 +13,7 @@ use Rattle.prefix_law.specs.Kept as kept
 use Rattle.prefix_law.specs.Steps.{pending_elements}
 use Rattle.machine.specs.Machine.{Machine, pending}
 use Rattle.machine.specs.Kept.{AreLegalHistory}
-use Rattle.engine_words.specs.Changes.{TimedOp, rules, timed_element, timed_elements}
+use Rattle.engine_words.specs.Changes.{TimedOp, tree_rules, timed_element, timed_elements}
 use Rattle.commit_journal.specs.Handed.{IsHanded, OnHives, IsShort}
 use Rattle.commit_journal.specs.Store.{room_of}
 use Rattle.engine_law.specs.States.{HiveView, state_of, IsConsistent}
@@ -30,7 +30,7 @@ all_dropped P zero (x ∷ xs) h = h
 all_dropped P (suc k) [] h = h
 all_dropped P (suc k) (x ∷ xs) h = all_dropped P k xs h.1
 
-pub may_be_handed : ((s : State TreeMap TimedOp) (hives : ℕ) → kept.IsKept rules GREATEST_NUMBER hives s → MayFollow GREATEST_NUMBER s.durable (pending_elements s) s.journal.now)
+pub may_be_handed : ((s : State TreeMap TimedOp) (hives : ℕ) → kept.IsKept tree_rules GREATEST_NUMBER hives s → MayFollow GREATEST_NUMBER s.durable (pending_elements s) s.journal.now)
     → (m : Machine) (base : ℕ) (opened : List Element) (journal : Choice (Spelled TimedOp)) (hives : List HiveView) → IsConsistent m base opened journal hives → AllByRecursion IsShort (pending m)
     → IsHanded (length hives) (65 + room_of journal.now.elements) (m.durable + 1) (pending m) journal.now
 may_be_handed follows m base opened journal hives i short =

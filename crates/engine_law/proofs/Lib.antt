@@ -9,6 +9,6 @@ mod Stepping
 mod Advancing
 mod FlushesEnd
 mod Flushing
-mod Standing
+pub mod Standing
 mod Running
 mod Receipts

@@ -9,11 +9,11 @@ use Rattle.prefix_law.specs.Promises.{Choice, Spelled, settled, JournalOn, HiveO
 use Rattle.prefix_law.specs.Files.{FilesPrefix, HiveRecovers}
 use Rattle.prefix_law.proofs.OfFiles.{files_prefix}
 use Rattle.prefix_law.proofs.MemoryCounts.{left_with_memory}
-use Rattle.disk_model.specs.FileState.{FileState}
+use Rattle.disk_model.specs.FileState.{FileState, IsSound}
 use Rattle.disk_model.specs.FileState as file
 use Rattle.disk_model.specs.Sector.{IsHonest}
 use Rattle.disk_model.specs.Crash.{LeavesHonest}
-use Rattle.disk_model.specs.StoreFiles.{IsPrimary, primary_file, log_file, journal_file}
+use Rattle.disk_model.specs.StoreFiles.{primary_file, log_file, journal_file}
 use Rattle.commit_journal.specs.OnDisk.{is_on}
 use Rattle.commit_journal.specs.Store.{Store, texts}
 use Rattle.commit_journal.specs.Text.{Texts, spelled}
@@ -27,10 +27,10 @@ use Rattle.hive_flush.specs.HiveStates as states
 use Rattle.hive_flush.specs.Standing.{HoldsUnder}
 use Rattle.hive_flush.specs.declared.hive.HiveFile.{HiveFile}
 use Rattle.machine.specs.Machine.{Machine}
-use Rattle.engine_words.specs.Changes.{TimedOp, rules}
+use Rattle.engine_words.specs.Changes.{TimedOp, tree_rules}
 use Rattle.engine_law.specs.States.{HiveView, counted, state_of, IsConsistent}
-use Rattle.engine_law.specs.Prefixes.{Spells, Holds, view_of, IsPrefix, IsSafeAt, AreOnDisk, ArePlaced}
-use Rattle.engine_law.proofs.HiveLists.{viewed}
+use Rattle.engine_law.specs.Prefixes.{IsPrimaryOf, Spells, Holds, view_of, IsPrefix, IsSafeAt, AreOnDisk, ArePlaced}
+use Rattle.engine_law.proofs.HiveLists.{at_slot, viewed}
 use Rattle.engine_law.proofs.Bridge.{last_is, tree_of_is}
 
 module _ (store : Store) (m : Machine) (base : ℕ) (opened : List Element) (journal : Choice (Spelled TimedOp)) (hives : List HiveView)
@@ -42,7 +42,7 @@ module _ (store : Store) (m : Machine) (base : ℕ) (opened : List Element) (jou
   holds = Holds store
 
   -- the law's prefix is the machine's
-  of_law : (files : ℕ → List ℕ) → FilesPrefix rules spells holds GREATEST_NUMBER (length m.opened) (state_of m base opened journal hives) files → IsPrefix store m files
+  of_law : (files : ℕ → List ℕ) → FilesPrefix tree_rules spells holds GREATEST_NUMBER (length m.opened) (state_of m base opened journal hives) files → IsPrefix store m files
   of_law files (n, low, high, found) = (
     n,
     low,
@@ -52,17 +52,17 @@ module _ (store : Store) (m : Machine) (base : ℕ) (opened : List Element) (jou
       spelled = found.spelled;
       last = found.last;
       limit = found.limit;
-      each = λ j lt. subst (HiveRecovers rules (holds (files (1 + 2 * j)) (files (2 + 2 * j))) found.journal j n) (sym (tree_of_is m base opened i.begun n j lt)) (found.each j lt);
+      each = λ j lt. subst (HiveRecovers tree_rules (holds (files (1 + 2 * j)) (files (2 + 2 * j))) found.journal j n) (sym (tree_of_is m base opened i.begun n j lt)) (found.each j lt);
     },
   )
 
   pub stands : (state : ℕ → FileState) → JournalOn spells journal (file.Leaves (state 0))
       → ((j : ℕ) (h : HiveView) → slice_get hives j ≡ Some h → HiveOn holds h.files (λ c. file.Leaves (state (1 + 2 * j)) c × IsHonest (state (1 + 2 * j)) c) (file.Leaves (state (2 + 2 * j))))
-      → (files : ℕ → List ℕ) → LeavesHonest IsPrimary state files → IsPrefix store m files
+      → (files : ℕ → List ℕ) → LeavesHonest (IsPrimaryOf (length m.opened)) state files → IsPrefix store m files
   stands state on each files left = of_law files
-      (files_prefix rules spells holds GREATEST_NUMBER (length m.opened) (state_of m base opened journal hives) i.law (file.Leaves (state 0)) on
+      (files_prefix tree_rules spells holds GREATEST_NUMBER (length m.opened) (state_of m base opened journal hives) i.law (file.Leaves (state 0)) on
       (λ j c. file.Leaves (state (1 + 2 * j)) c × IsHonest (state (1 + 2 * j)) c) (λ j. file.Leaves (state (2 + 2 * j))) (λ j lt. by_slot j lt (slice_get hives j) refl)
-      files (left.0 0) (λ j lt. ((left.0 (1 + 2 * j), left.1 (1 + 2 * j) (j, refl)), left.0 (2 + 2 * j))))
+      files (left.0 0) (λ j lt. ((left.0 (1 + 2 * j), left.1 (1 + 2 * j) (j, lt, refl)), left.0 (2 + 2 * j))))
     where
       by_slot : (j : ℕ) → j < length m.opened → (o : Option HiveView) → slice_get hives j ≡ o
           → HiveOn holds (counted o) (λ c. file.Leaves (state (1 + 2 * j)) c × IsHonest (state (1 + 2 * j)) c) (file.Leaves (state (2 + 2 * j)))
@@ -91,7 +91,15 @@ disk_stands spells_on holds_on store m base opened journal hives states_at k i o
 -- what is past stays safe
 pub past_stays : (store : Store) (old_states new_states : ℕ → ℕ → FileState) (clock : ℕ) → ((k f : ℕ) → k ≤ clock → new_states k f ≡ old_states k f)
     → (k : ℕ) (m : Machine) → k ≤ clock → IsSafeAt store old_states k m → IsSafeAt store new_states k m
-past_stays store old_states new_states clock past k m le safe = λ files left. safe files (subst (λ (s : ℕ → FileState). LeavesHonest IsPrimary s files) (same_state (new_states k) (old_states k) (λ f. past k f le)) left)
+past_stays store old_states new_states clock past k m le safe = λ files left. safe files (subst (λ (s : ℕ → FileState). LeavesHonest (IsPrimaryOf (length m.opened)) s files) (same_state (new_states k) (old_states k) (λ f. past k f le)) left)
   where
     same_state : (a b : ℕ → FileState) → ((f : ℕ) → a f ≡ b f) → a ≡ b
     same_state a b each = λ i f. each f i
+
+-- what a read gives of a store's files is what a crash may leave of them, with honest first sectors, where each hive's primary file shows one
+pub reads_left : (state : ℕ → FileState) (hives : List HiveFile) → ((f : ℕ) → IsSound (state f)) → ((i : ℕ) (hive : HiveFile) → slice_get hives i ≡ Some hive → IsHonest (state (primary_file i)) (state (primary_file i)).seen)
+    → LeavesHonest (IsPrimaryOf (length hives)) state (λ f. (state f).seen)
+reads_left state hives sound honest = (
+  λ f. (sound f).left,
+  λ f (i, lt, is). let at = at_slot hives i lt in subst (λ n. IsHonest (state n) (state n).seen) (sym is) (honest i at.0 at.1),
+)

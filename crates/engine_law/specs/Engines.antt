@@ -40,7 +40,7 @@ NeedsNoDevice asked answer = (is_step asked ≡ false) ⊎ ((answer ≡ Stepped 
 -- - `step`: it is a step of the machine.
 -- - `later`, `one`: with at most one call of the device.
 -- - `quiet`: with none, where the answer is told without the device. So an event that accepts a change makes none.
--- - `failed`: that the device failed is answered only where it did, in this event.
+-- - `failed`, `works`: that the device failed is answered only where it did, in this event; and at any other answer it didn't.
 -- - `idle`: a step is idle exactly where there is nothing to do, as long as the store isn't faulted.
 -- - `nears`: a step of the journal that isn't refused, where some change waits, brings it nearer to being durable.
 -- - `begins_trim`, `ends_trim`: a step of a trim begins one, and the next step of the journal or of a trim ends it.
@@ -53,6 +53,7 @@ pub record EngineAnswers (asked : Event) (answer : Reply) (old new : EngineView)
   pub one : new.clock ≤ old.clock + 1
   pub quiet : NeedsNoDevice asked answer → new.clock ≡ old.clock
   pub failed : answer ≡ Refused DiskFault → old.failures < new.failures
+  pub works : ¬ (answer ≡ Refused DiskFault) → new.failures ≡ old.failures
   pub idle : old.machine.faulted ≡ false → IdlesExactly asked answer old.machine old.base old.opened old.journal old.hives
   pub nears : asked ≡ event.JournalStep → IsMade answer → HasPending old.machine → NearsDurable old.machine old.left new.machine new.left
   pub begins_trim : asked ≡ event.TrimStep → IsMade answer → ¬ (answer ≡ Stepped Idle) → ¬ (IsTrimming old.journal)

@@ -27,6 +27,6 @@ pub record IsFound (trees : List TreeMap) (number base : ℕ) (opened : List Ele
   pub base_is : base ≡ floor number (record { below = below; elements = timed_elements opened })
   pub each : (i : ℕ) (hive : HiveView) → slice_get hives i ≡ Some hive → hive.files ≡ settled hive.memory
   pub all : length hives ≡ length trees
-  pub recovers : Recovers rules GREATEST_NUMBER (length trees) (record { below = below; elements = timed_elements opened }) (held_by hives) number (tree_of trees)
+  pub recovers : Recovers (rules (length trees)) GREATEST_NUMBER (length trees) (record { below = below; elements = timed_elements opened }) (held_by hives) number (tree_of trees)
   pub named : AllByRecursion (NamesHive (length trees)) (timed_elements opened)
   pub are_trees : AreTrees trees

@@ -1,5 +1,5 @@
 -- What a crash leaves of an engine: the headline's words.
-use Rattle.std.specs.Prelude.{◌≡◌, ℕ, ◌-◌, ◌≤◌, List, length, take, slice_get, Some, ⊤}
+use Rattle.std.specs.Prelude.{◌≡◌, ℕ, ◌-◌, ◌<◌, ◌≤◌, List, length, take, slice_get, Some, ⊤}
 use Rattle.refusals.specs.declared.limits.TheConstants.{GREATEST_NUMBER}
 use Rattle.reg_tree.specs.Maps.{TreeMap}
 use Rattle.reg_tree.specs.Sequences.{after_elements}
@@ -7,7 +7,7 @@ use Rattle.prefix_law.specs.Promises.{Spelled}
 use Rattle.prefix_law.specs.Files.{SpellsBy, FilesRecover}
 use Rattle.disk_model.specs.FileState.{FileState}
 use Rattle.disk_model.specs.Crash.{LeavesHonest}
-use Rattle.disk_model.specs.StoreFiles.{IsPrimary, primary_file, log_file, journal_file}
+use Rattle.disk_model.specs.StoreFiles.{primary_file, log_file, journal_file}
 use Rattle.engine_words.specs.Changes.{TimedOp, rules}
 use Rattle.commit_journal.specs.Text.{spelled}
 use Rattle.commit_journal.specs.Store.{Store, texts}
@@ -33,7 +33,7 @@ Holds store = HoldsUnder store.id
 -- last one, or else the greatest of a hive, and each hive's tree is the one that its files hold with the operations of the
 -- changes above its own number applied in order, each legal.
 abbrev pub Recover : Store → ℕ → (ℕ → List ℕ) → ℕ → List TreeMap → Type 0
-Recover store hives files number trees = FilesRecover rules (Spells store) (Holds store) GREATEST_NUMBER hives files number (tree_of trees)
+Recover store hives files number trees = FilesRecover (rules store.hives) (Spells store) (Holds store) GREATEST_NUMBER hives files number (tree_of trees)
 
 -- the trees after the change numbered n
 abbrev pub trees_after : Machine → ℕ → List TreeMap
@@ -44,9 +44,14 @@ abbrev pub IsPrefix : Store → Machine → (ℕ → List ℕ) → Type 0
 IsPrefix store machine files = (n : ℕ) × (machine.durable ≤ n) × (n ≤ last_number machine)
     × Recover store (length machine.opened) files n (trees_after machine n)
 
--- Whatever a crash at this moment leaves, with honest first sectors, is a prefix of the machine's changes.
+-- the primary file of one of so many hives: the files of a store that have a first sector
+abbrev pub IsPrimaryOf : ℕ → ℕ → Type 0
+IsPrimaryOf hives f = (i : ℕ) × (i < hives) × (f ≡ primary_file i)
+
+-- Whatever a crash at this moment leaves, with honest first sectors of the store's primary files, is a prefix of the machine's
+-- changes.
 abbrev pub IsSafeAt : Store → (ℕ → ℕ → FileState) → ℕ → Machine → Type 0
-IsSafeAt store states moment machine = (files : ℕ → List ℕ) → LeavesHonest IsPrimary (states moment) files → IsPrefix store machine files
+IsSafeAt store states moment machine = (files : ℕ → List ℕ) → LeavesHonest (IsPrimaryOf (length machine.opened)) (states moment) files → IsPrefix store machine files
 
 -- what the law sees of a hive
 abbrev pub view_of : HiveFile → HiveView

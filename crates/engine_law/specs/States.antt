@@ -63,7 +63,7 @@ pub record IsConsistent (machine : Machine) (base : ℕ) (opened : List Element)
     (hives : List HiveView) : Type 0 where
   pub kept : IsKept machine
   pub fits : 0 < length (pending machine) → machine.room ≤ MOST_JOURNAL_BYTES
-  pub law : law.IsKept rules GREATEST_NUMBER (length machine.opened) (state_of machine base opened journal hives)
+  pub law : law.IsKept (rules machine.bounds.hives) GREATEST_NUMBER (length machine.opened) (state_of machine base opened journal hives)
   pub begun : machine.before ≡ base + length opened
   pub all : length hives ≡ length machine.opened
   pub own : (i : ℕ) (hive : HiveView) → slice_get hives i ≡ Some hive → IsOfMemory hive.files hive.memory

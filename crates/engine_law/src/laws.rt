@@ -24,14 +24,13 @@ ghost use Rattle.refusals.specs.declared.refusal.Refusal.TheVariants.{Faulted};
 ghost use Rattle.engine_law.specs.Answers.{reply_to, after_step, after_flush, MayTrim, opened_above, accepted_above, absorbed};
 ghost use Rattle.disk_model.specs.FileState.{FileState};
 ghost use Rattle.disk_model.specs.Crash.{LeavesHonest};
-ghost use Rattle.disk_model.specs.StoreFiles.{IsPrimary};
 ghost use Rattle.std.specs.List.{AllByRecursion};
 ghost use Rattle.commit_journal.specs.Store.{Store, room_of};
 ghost use Rattle.commit_journal.specs.Handed.{IsHanded, IsShort};
 ghost use Rattle.commit_journal.specs.Journals.{choice_of, store_of};
 ghost use Rattle.commit_journal.specs.declared.journal.Journal.{Journal};
 ghost use Rattle.hive_flush.specs.declared.hive.HiveFile.{HiveFile};
-ghost use Rattle.engine_law.specs.Prefixes.{ArePlaced, AreOnDisk, IsPrefix, IsSafeAt, Recover, view_of};
+ghost use Rattle.engine_law.specs.Prefixes.{AreOnDisk, ArePlaced, IsPrefix, IsPrimaryOf, IsSafeAt, Recover, view_of};
 ghost use Rattle.engine_law.specs.Engines.{EngineAnswers, EngineView};
 ghost use Rattle.engine_law.specs.Runs.{AnswersInTurn, RunsSafely, IsBoundary, IsHeld};
 ghost use Rattle.engine_law.specs.Openings.{IsFound};
@@ -237,6 +236,6 @@ pub fn quiet_ends_recover()
         Recover store (length machine.opened) files (last_number machine) (trees_now machine) }
     ensures crash { (store : Store) (states : ℕ → ℕ → FileState) (moment : ℕ) (machine : Machine) →
         IsSafeAt store states moment machine → ¬ (HasPending machine) → (files : ℕ → List ℕ) →
-        LeavesHonest IsPrimary (states moment) files →
+        LeavesHonest (IsPrimaryOf (length machine.opened)) (states moment) files →
         Recover store (length machine.opened) files (last_number machine) (trees_now machine) }
 {}

@@ -9,7 +9,7 @@ use Rattle.prefix_law.specs.Changes.{ops_on, replay}
 use Rattle.prefix_law.specs.Promises.{floor, top}
 use Rattle.prefix_law.proofs.Replays.{ops_on-append}
 use Rattle.prefix_law.proofs.Lists.{drop_nil}
-use Rattle.engine_words.specs.Changes.{TimedOp, rules, timed_element, timed_elements}
+use Rattle.engine_words.specs.Changes.{TimedOp, tree_rules, timed_element, timed_elements}
 use Rattle.commit_journal.specs.Naming.{AreLastIn}
 use Rattle.hive_flush.specs.HiveStates.{memory_of}
 use Rattle.hive_flush.specs.declared.hive.HiveFile.{HiveFile}
@@ -44,9 +44,9 @@ module _ (base below : ℕ) (changes kept : List Element) (hives : List HiveFile
 
 pub same_replay : (base below : ℕ) (changes kept : List Element) (hives : List HiveFile) → AreAtHand (floor below (spelled_as base changes)) changes below kept hives → (i : ℕ) (hive : HiveFile) → slice_get hives i ≡ Some hive
     → replayed_on (spelled_as base changes) i (memory_of hive) ≡ replayed_on (spelled_as below kept) i (memory_of hive)
-same_replay base below [] kept hives hand i hive is = ap (λ (os : List TimedOp). replay rules os (memory_of hive).0)
+same_replay base below [] kept hives hand i hive is = ap (λ (os : List TimedOp). replay tree_rules os (memory_of hive).0)
     (ap (ops_on i) (drop_nil {A = law.Element TimedOp} ((memory_of hive).1 - base)) ∙ sym (ap (ops_on i) (drop_nil {A = law.Element TimedOp} ((memory_of hive).1 - below))) ∙ ap (λ (l : List Element). ops_on i (drop ((memory_of hive).1 - below) (timed_elements l))) (sym (hand.are ∙ drop_nil {A = Element} (below - below))))
-same_replay base below (x ∷ xs) kept hives hand i hive is = ap (λ (os : List TimedOp). replay rules os (memory_of hive).0) (same_ops base below (x ∷ xs) kept hives hand i hive is)
+same_replay base below (x ∷ xs) kept hives hand i hive is = ap (λ (os : List TimedOp). replay tree_rules os (memory_of hive).0) (same_ops base below (x ∷ xs) kept hives hand i hive is)
 
 pub lead_all : (base below : ℕ) (changes kept : List Element) (hives : List HiveFile) (trees : List TreeMap) → AreAtHand (floor below (spelled_as base changes)) changes below kept hives → LeadTo (spelled_as below kept) hives trees → LeadTo (spelled_as base changes) hives trees
 lead_all base below changes kept hives trees hand lead i hive tree is at = same_replay base below changes kept hives hand i hive is ∙ lead i hive tree is at

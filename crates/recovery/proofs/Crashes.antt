@@ -8,7 +8,6 @@ use Rattle.prefix_law.specs.Promises.{Choice, Spelled}
 use Rattle.prefix_law.proofs.Lists.{take_nil}
 use Rattle.disk_model.specs.FileState.{FileState}
 use Rattle.disk_model.specs.Crash.{LeavesHonest}
-use Rattle.disk_model.specs.StoreFiles.{IsPrimary}
 use Rattle.machine.specs.Machine.{Machine, bounds_of, opened_machine}
 use Rattle.machine.specs.declared.bounds.Bounds.{Bounds}
 use Rattle.engine_words.specs.Changes.{TimedOp}
@@ -18,7 +17,7 @@ use Rattle.commit_journal.specs.declared.journal.Journal.{Journal}
 use Rattle.hive_flush.specs.declared.hive.HiveFile.{HiveFile}
 use Rattle.engine_law.specs.States.{HiveView, IsConsistent}
 use Rattle.engine_law.specs.Openings.{IsFound}
-use Rattle.engine_law.specs.Prefixes.{AreOnDisk, ArePlaced, IsSafeAt, Recover, view_of}
+use Rattle.engine_law.specs.Prefixes.{AreOnDisk, ArePlaced, IsPrimaryOf, IsSafeAt, Recover, view_of}
 use Rattle.recovery.specs.Kept.{IsKept}
 use Rattle.recovery.specs.Recovered.{IsRecovered}
 use Rattle.recovery.specs.Shown.{Shown}
@@ -36,13 +35,20 @@ abbrev pub Safe : Type 0
 Safe = (store : Store) (machine : Machine) (base : ℕ) (opened : List Element) (journal : Journal) (hives : List HiveFile) (states : ℕ → ℕ → FileState) (moment : ℕ) → IsConsistent machine base opened (choice_of journal) (map view_of hives)
     → store_of journal ≡ store → ArePlaced store hives → AreOnDisk journal hives (states moment) → IsSafeAt store states moment machine
 
+-- what was found has a tree for each hive
+pub found_long : Begins → (found : Found) → IsKept found → length found.trees ≡ (store_of found.journal).hives
+found_long begins found kept =
+    let begun = begins (bounds_of found.trees) found.trees found.number 0 found.base (changes_of found.journal) (choice_of found.journal) (map view_of found.hives.items) kept.recovers in
+    sym begun.all ∙ length-map found.hives.items view_of ∙ kept.many
+
 -- an opened store's files recover what was found, whatever a crash leaves of them
 pub still_recovered : Begins → Safe → (found : Found) → IsKept found → (states : ℕ → ℕ → FileState) (moment : ℕ) → AreOnDisk found.journal found.hives.items (states moment)
-    → (files : ℕ → List ℕ) → LeavesHonest IsPrimary (states moment) files → IsRecovered files (store_of found.journal) found.number found.trees
+    → (files : ℕ → List ℕ) → LeavesHonest (IsPrimaryOf (store_of found.journal).hives) (states moment) files → IsRecovered files (store_of found.journal) found.number found.trees
 still_recovered begins safe found kept states moment on files left =
     let begun = begins (bounds_of found.trees) found.trees found.number 0 found.base (changes_of found.journal) (choice_of found.journal) (map view_of found.hives.items) kept.recovers in
-    let p = safe (store_of found.journal) _ found.base (changes_of found.journal) found.journal found.hives.items states moment begun refl kept.placed on files left in
-    let long : length found.trees ≡ (store_of found.journal).hives = sym begun.all ∙ length-map found.hives.items view_of ∙ kept.many in
+    let long = found_long begins found kept in
+    let own = subst (λ n. LeavesHonest (IsPrimaryOf n) (states moment) files) (sym long) left in
+    let p = safe (store_of found.journal) _ found.base (changes_of found.journal) found.journal found.hives.items states moment begun refl kept.placed on files own in
     let number : p.0 ≡ found.number = omega (arith, p.1, p.2) in
     record {
       store_is = kept.store;
@@ -62,21 +68,22 @@ module _ {D : Type 0} (state_at : D → ℕ → ℕ → FileState) (clock : D �
     (on_disk : faithful inside.disk → AreOnDisk inside.found.journal inside.found.hives.items (state_at inside.disk (clock inside.disk))) where
   -- whatever a crash leaves at a moment of a disk recovers what is shown
   abbrev pub StillShown : D → ℕ → Type 0
-  StillShown disk moment = faithful disk → (files : ℕ → List ℕ) → LeavesHonest IsPrimary (state_at disk moment) files → IsRecovered files (shown.store_of it) it.found.number it.found.trees
+  StillShown disk moment = faithful disk → (files : ℕ → List ℕ) → LeavesHonest (IsPrimaryOf (shown.store_of it).hives) (state_at disk moment) files → IsRecovered files (shown.store_of it) it.found.number it.found.trees
 
   pub before_call : (disk : D) → (faithful disk → faithful inside.disk) → ((k f : ℕ) → k ≤ clock inside.disk → state_at disk k f ≡ state_at inside.disk k f) → StillShown disk (clock it.disk)
   before_call disk back past =
-      subst (λ (v : Shown D). faithful disk → (files : ℕ → List ℕ) → LeavesHonest IsPrimary (state_at disk (clock v.disk)) files → IsRecovered files (shown.store_of v) v.found.number v.found.trees) is
+      subst (λ (v : Shown D). faithful disk → (files : ℕ → List ℕ) → LeavesHonest (IsPrimaryOf (shown.store_of v).hives) (state_at disk (clock v.disk)) files → IsRecovered files (shown.store_of v) v.found.number v.found.trees) is
       (λ f. still_recovered begins safe inside.found kept (state_at disk) (clock inside.disk)
       (subst (AreOnDisk inside.found.journal inside.found.hives.items) (same_moment (state_at inside.disk) (state_at disk) (clock inside.disk) past) (on_disk (back f))))
 
   pub no_call : StillShown it.disk (clock it.disk)
-  no_call = subst (λ (v : Shown D). faithful v.disk → (files : ℕ → List ℕ) → LeavesHonest IsPrimary (state_at v.disk (clock v.disk)) files → IsRecovered files (shown.store_of v) v.found.number v.found.trees) is
+  no_call = subst (λ (v : Shown D). faithful v.disk → (files : ℕ → List ℕ) → LeavesHonest (IsPrimaryOf (shown.store_of v).hives) (state_at v.disk (clock v.disk)) files → IsRecovered files (shown.store_of v) v.found.number v.found.trees) is
       (λ f. still_recovered begins safe inside.found kept (state_at inside.disk) (clock inside.disk) (on_disk f))
 
   pub after_call : (disk : D) (found : Found) → (faithful disk → faithful inside.disk) → found ≡ record inside.found { hives = found.hives } → IsKept found
       → (faithful disk → AreOnDisk inside.found.journal inside.found.hives.items (state_at inside.disk (clock inside.disk)) → AreOnDisk found.journal found.hives.items (state_at disk (clock disk))) → StillShown disk (clock disk)
   after_call disk found back rest still on =
-      subst (λ (v : Shown D). faithful disk → (files : ℕ → List ℕ) → LeavesHonest IsPrimary (state_at disk (clock disk)) files → IsRecovered files (shown.store_of v) v.found.number v.found.trees) is
+      subst (λ (v : Shown D). faithful disk → (files : ℕ → List ℕ) → LeavesHonest (IsPrimaryOf (shown.store_of v).hives) (state_at disk (clock disk)) files → IsRecovered files (shown.store_of v) v.found.number v.found.trees) is
       (λ f files left. subst (λ (x : Found). IsRecovered files (journals.store_of x.journal) x.number x.trees) rest
-      (still_recovered begins safe found still (state_at disk) (clock disk) (on f (on_disk (back f))) files left))
+      (still_recovered begins safe found still (state_at disk) (clock disk) (on f (on_disk (back f))) files
+      (subst (λ (x : Found). LeavesHonest (IsPrimaryOf (journals.store_of x.journal).hives) (state_at disk (clock disk)) files) (sym rest) left)))

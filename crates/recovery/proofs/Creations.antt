@@ -1,5 +1,5 @@
 -- A store that is made recovers the trees of which it is made, at number 0.
-use Rattle.std.proofs.Common.{◌≡◌, inl, inr, ℕ, ◌+◌, ◌<◌, ◌≤◌, List, [], ◌∷◌, ◌++◌, length, refl, sym, ◌∙◌, ap, subst, arith, Some, slice_get}
+use Rattle.std.proofs.Common.{◌≡◌, inl, inr, ℕ, ◌+◌, ◌<◌, ◌≤◌, List, [], ◌∷◌, ◌++◌, length, take, refl, sym, ◌∙◌, ap, subst, arith, Some, slice_get}
 use Rattle.std.proofs.lemmas.Option.{get_or_from_slice_get, none-some, same_Some, slice_get_within}
 use Rattle.std.proofs.lemmas.Bool.{cases_eq}
 use Rattle.std.specs.Prelude.{min}
@@ -13,9 +13,10 @@ use Rattle.prefix_law.specs.Recovery.{Recovers}
 use Rattle.prefix_law.proofs.OfFiles.{files_recover}
 use Rattle.disk_model.specs.FileState.{FileState, Leaves}
 use Rattle.disk_model.specs.Call.{Extends}
+use Rattle.disk_model.specs.Sector.{IsHonest}
 use Rattle.disk_model.specs.StoreFiles.{IsJournal, IsOfHive, primary_file, log_file, journal_file}
 use Rattle.disk_model.proofs.Leaves.{left_at_rest}
-use Rattle.engine_words.specs.Changes.{TimedOp, rules}
+use Rattle.engine_words.specs.Changes.{TimedOp, tree_rules}
 use Rattle.commit_journal.specs.Text.{spelled}
 use Rattle.commit_journal.specs.Store.{IsStore, Store, texts}
 use Rattle.commit_journal.specs.OnDisk.{Value, is_on}
@@ -84,6 +85,12 @@ hives_stay id trees mid new others made i tree is =
     subst (λ (p : FileState). AreCreated id tree p (new (log_file i))) (sym (others (primary_file i) (λ e. omega (arith, e))))
     (subst (λ (l : FileState). AreCreated id tree (mid (primary_file i)) l) (sym (others (log_file i) (λ e. omega (arith, e)))) (made i tree is))
 
+-- a primary file that was made is at rest
+pub made_honest : (id : List ℕ) (tree : TreeMap) (primary log : FileState) → AreCreated id tree primary log → IsHonest primary primary.seen
+made_honest id tree primary log made =
+    let rest = made.made.whole in
+    inl (ap (λ (s : FileState). take 512 s.seen) rest ∙ sym (ap (λ (s : FileState). take 512 s.synced) rest))
+
 pub stays_off : (hives : ℕ) (first mid last : ℕ → ℕ → FileState) (a b c : ℕ) → StaysOff (IsOfHives hives) first mid a b → Extends mid last b c → ((f : ℕ) → ¬ (IsJournal f) → last c f ≡ mid b f) → StaysOff (IsOfStore hives) first last a c
 stays_off hives first mid last a b c stays time others = record {
   time = extends_on first mid last a b c stays.time time;
@@ -111,8 +118,8 @@ nothing_left law journal store is empty state on c left =
     stands s (inr next) = absurd (none-some s (sym (ap (λ (c : Choice (Spelled TimedOp)). c.next) empty) ∙ next))
 
 -- from trees that hives hold at number 0, and no change, they are recovered
-fresh : (trees : List TreeMap) → 1 ≤ length trees → Recovers rules GREATEST_NUMBER (length trees) nothing (λ i. (tree_of trees i, 0)) 0 (tree_of trees)
-unfolding rules
+fresh : (trees : List TreeMap) → 1 ≤ length trees → Recovers tree_rules GREATEST_NUMBER (length trees) nothing (λ i. (tree_of trees i, 0)) 0 (tree_of trees)
+unfolding tree_rules
 fresh trees some = record {
   last = (0, omega (arith, some), refl);
   limit = omega arith;
@@ -127,7 +134,7 @@ pub recovers_made : Spelling → (journal : Journal) (id : List ℕ) (trees : Li
 recovers_made law journal id trees is empty store state on hives files left = record {
   store_is = store;
   many = refl;
-  recovers = files_recover rules (Spells (new_store id trees)) (Holds (new_store id trees)) GREATEST_NUMBER (length trees) files nothing (λ i. (tree_of trees i, 0)) 0 (tree_of trees)
+  recovers = files_recover tree_rules (Spells (new_store id trees)) (Holds (new_store id trees)) GREATEST_NUMBER (length trees) files nothing (λ i. (tree_of trees i, 0)) 0 (tree_of trees)
       (nothing_left law journal (new_store id trees) is empty (state journal_file) on (files journal_file) (left journal_file)) held (fresh trees store.some_hives);
 }
   where

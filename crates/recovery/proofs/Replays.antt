@@ -18,38 +18,38 @@ use Rattle.reg_tree.specs.declared.element.Element.{Element}
 use Rattle.reg_tree.specs.Judgement.{changed, legal_in}
 use Rattle.reg_tree.specs.declared.op.Legality.TheVariants.{Legal, Opened}
 use Rattle.refusals.specs.declared.refusal.Refusal.{Refusal}
-use Rattle.engine_words.specs.Changes.{TimedOp, is_legal, rules, timed, timed_element, timed_elements}
+use Rattle.engine_words.specs.Changes.{TimedOp, is_legal, tree_rules, timed, timed_element, timed_elements}
 
--- an operation that is written is legal, and leads where the rules say; one that opens a key, or is refused, isn't
-pub legal_is : (tree : TreeMap) (op : Op) (moment : ℕ) (made : TreeMap) → (legal_in tree op ≡ Ok Legal) × (made ≡ changed tree op moment) → (rules.legal (moment, op) tree ≡ true) × (made ≡ rules.apply (moment, op) tree)
-unfolding rules
+-- an operation that is written is legal, and leads where the tree_rules say; one that opens a key, or is refused, isn't
+pub legal_is : (tree : TreeMap) (op : Op) (moment : ℕ) (made : TreeMap) → (legal_in tree op ≡ Ok Legal) × (made ≡ changed tree op moment) → (tree_rules.legal (moment, op) tree ≡ true) × (made ≡ tree_rules.apply (moment, op) tree)
+unfolding tree_rules
 legal_is tree op moment made (is, same) = (ap is_legal is, same)
 
-pub opened_is : (tree : TreeMap) (op : Op) (moment : ℕ) → legal_in tree op ≡ Ok Opened → rules.legal (moment, op) tree ≡ false
-unfolding rules
+pub opened_is : (tree : TreeMap) (op : Op) (moment : ℕ) → legal_in tree op ≡ Ok Opened → tree_rules.legal (moment, op) tree ≡ false
+unfolding tree_rules
 opened_is tree op moment is = ap is_legal is
 
-pub refused_is : (tree : TreeMap) (op : Op) (moment : ℕ) (why : Refusal) → legal_in tree op ≡ Err why → rules.legal (moment, op) tree ≡ false
-unfolding rules
+pub refused_is : (tree : TreeMap) (op : Op) (moment : ℕ) (why : Refusal) → legal_in tree op ≡ Err why → tree_rules.legal (moment, op) tree ≡ false
+unfolding tree_rules
 refused_is tree op moment why is = ap is_legal is
 
 module _ (hive moment : ℕ) (op : Op) (rest : List Op) (tree : TreeMap) where
   abbrev behind : List TimedOp
   behind = on_hive hive (map (timed moment) rest)
 
-  taken : hive_of op ≡ hive → replay rules (on_hive hive (map (timed moment) (op ∷ rest))) tree ≡ replay rules ((moment, op) ∷ behind) tree
-  taken here = ap (λ (b : Bool). replay rules (if b then (moment, op) ∷ behind else behind) tree) (eq-eqb (hive_of op) hive here)
+  taken : hive_of op ≡ hive → replay tree_rules (on_hive hive (map (timed moment) (op ∷ rest))) tree ≡ replay tree_rules ((moment, op) ∷ behind) tree
+  taken here = ap (λ (b : Bool). replay tree_rules (if b then (moment, op) ∷ behind else behind) tree) (eq-eqb (hive_of op) hive here)
 
   -- an operation on the hive that is legal, one that isn't, and one on another
-  pub legal_here : (made : TreeMap) → hive_of op ≡ hive → rules.legal (moment, op) tree ≡ true → made ≡ rules.apply (moment, op) tree
-      → replay rules (on_hive hive (map (timed moment) (op ∷ rest))) tree ≡ replay rules (on_hive hive (map (timed moment) rest)) made
-  legal_here made here legal is = taken here ∙ ap (λ (b : Bool). if b then replay rules behind (rules.apply (moment, op) tree) else None) legal ∙ ap (replay rules behind) (sym is)
+  pub legal_here : (made : TreeMap) → hive_of op ≡ hive → tree_rules.legal (moment, op) tree ≡ true → made ≡ tree_rules.apply (moment, op) tree
+      → replay tree_rules (on_hive hive (map (timed moment) (op ∷ rest))) tree ≡ replay tree_rules (on_hive hive (map (timed moment) rest)) made
+  legal_here made here legal is = taken here ∙ ap (λ (b : Bool). if b then replay tree_rules behind (tree_rules.apply (moment, op) tree) else None) legal ∙ ap (replay tree_rules behind) (sym is)
 
-  pub illegal_here : hive_of op ≡ hive → rules.legal (moment, op) tree ≡ false → replay rules (on_hive hive (map (timed moment) (op ∷ rest))) tree ≡ None
-  illegal_here here illegal = taken here ∙ ap (λ (b : Bool). if b then replay rules behind (rules.apply (moment, op) tree) else None) illegal
+  pub illegal_here : hive_of op ≡ hive → tree_rules.legal (moment, op) tree ≡ false → replay tree_rules (on_hive hive (map (timed moment) (op ∷ rest))) tree ≡ None
+  illegal_here here illegal = taken here ∙ ap (λ (b : Bool). if b then replay tree_rules behind (tree_rules.apply (moment, op) tree) else None) illegal
 
-  pub elsewhere : hive_of op ≢ hive → replay rules (on_hive hive (map (timed moment) (op ∷ rest))) tree ≡ replay rules (on_hive hive (map (timed moment) rest)) tree
-  elsewhere other = ap (λ (b : Bool). replay rules (if b then (moment, op) ∷ behind else behind) tree) (ne_eqb (hive_of op) hive other)
+  pub elsewhere : hive_of op ≢ hive → replay tree_rules (on_hive hive (map (timed moment) (op ∷ rest))) tree ≡ replay tree_rules (on_hive hive (map (timed moment) rest)) tree
+  elsewhere other = ap (λ (b : Bool). replay tree_rules (if b then (moment, op) ∷ behind else behind) tree) (ne_eqb (hive_of op) hive other)
 
 -- a front that isn't legal
 nowhere_on : {T O : Type 0} (r : Rules T O) (xs ys : List O) (t : T) → replay r xs t ≡ None → replay r (xs ++ ys) t ≡ None
@@ -61,13 +61,13 @@ nowhere_on r (x ∷ xs) ys t e = by_test (r.legal x t) e (nowhere_on r xs ys (r.
     by_test false e rest = refl
 
 -- a change that is legal, and one that isn't
-pub change_on : (hive : ℕ) (element : Element) (rest : List Element) (tree made : TreeMap) → replay rules (on_hive hive (timed_element element)) tree ≡ Some made
-    → replay rules (ops_on hive (timed_elements (element ∷ rest))) tree ≡ replay rules (ops_on hive (timed_elements rest)) made
-change_on hive element rest tree made is = replay_on rules (on_hive hive (timed_element element)) (ops_on hive (timed_elements rest)) tree made is
+pub change_on : (hive : ℕ) (element : Element) (rest : List Element) (tree made : TreeMap) → replay tree_rules (on_hive hive (timed_element element)) tree ≡ Some made
+    → replay tree_rules (ops_on hive (timed_elements (element ∷ rest))) tree ≡ replay tree_rules (ops_on hive (timed_elements rest)) made
+change_on hive element rest tree made is = replay_on tree_rules (on_hive hive (timed_element element)) (ops_on hive (timed_elements rest)) tree made is
 
-pub change_nowhere : (hive : ℕ) (element : Element) (rest : List Element) (tree : TreeMap) → replay rules (on_hive hive (timed_element element)) tree ≡ None
-    → replay rules (ops_on hive (timed_elements (element ∷ rest))) tree ≡ None
-change_nowhere hive element rest tree none = nowhere_on rules (on_hive hive (timed_element element)) (ops_on hive (timed_elements rest)) tree none
+pub change_nowhere : (hive : ℕ) (element : Element) (rest : List Element) (tree : TreeMap) → replay tree_rules (on_hive hive (timed_element element)) tree ≡ None
+    → replay tree_rules (ops_on hive (timed_elements (element ∷ rest))) tree ≡ None
+change_nowhere hive element rest tree none = nowhere_on tree_rules (on_hive hive (timed_element element)) (ops_on hive (timed_elements rest)) tree none
 
 -- the changes above a number are those behind as many as lie below it, or behind all
 pub lacked_is : {A : Type 0} (skipped most : ℕ) (xs : List A) → skipped ≡ min most (length xs) → take (length xs - skipped) (drop skipped xs) ≡ drop most xs
@@ -77,7 +77,7 @@ lacked_is skipped most xs is = take_all (length xs - skipped) (drop skipped xs) 
 ]
 
 pub replayed_is : (journal : Spelled TimedOp) (place skipped : ℕ) (elements : List Element) (memory : TreeMap × ℕ) → journal.elements ≡ timed_elements elements → skipped ≡ min (memory.1 - journal.below) (length elements)
-    → replayed_on journal place memory ≡ replay rules (ops_on place (timed_elements (take (length elements - skipped) (drop skipped elements)))) memory.0
+    → replayed_on journal place memory ≡ replay tree_rules (ops_on place (timed_elements (take (length elements - skipped) (drop skipped elements)))) memory.0
 replayed_is journal place skipped elements memory are is =
-    ap (λ (es : List (law.Element TimedOp)). replay rules (ops_on place es) memory.0)
+    ap (λ (es : List (law.Element TimedOp)). replay tree_rules (ops_on place es) memory.0)
     (ap (drop (memory.1 - journal.below)) are ∙ drop-map timed_element (memory.1 - journal.below) elements ∙ ap timed_elements (sym (lacked_is skipped (memory.1 - journal.below) elements is)))

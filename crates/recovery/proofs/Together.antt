@@ -18,7 +18,7 @@ use Rattle.prefix_law.specs.Recovery.{Recovers, IsLastNumber}
 use Rattle.prefix_law.specs.Life.{NamesHive}
 use Rattle.prefix_law.proofs.OfFiles.{files_once, files_recover}
 use Rattle.disk_model.specs.StoreFiles.{primary_file, log_file, journal_file}
-use Rattle.engine_words.specs.Changes.{TimedOp, rules, timed, timed_element, timed_elements}
+use Rattle.engine_words.specs.Changes.{TimedOp, tree_rules, timed, timed_element, timed_elements}
 use Rattle.element_text.specs.Text.{Fits, OpFits}
 use Rattle.commit_journal.specs.Text.{spelled}
 use Rattle.commit_journal.specs.Store.{Store, IsStore, texts}
@@ -137,7 +137,7 @@ module _ (journal : Journal) (below : ℕ) (elements : List Element) (hives : Li
             let w = within g.0 g.1 g.2 in
             omega (arith, w, g.3, n)
 
-    recovers : Recovers rules GREATEST_NUMBER (length trees) its (held_by (map view_of hives)) number (tree_of trees)
+    recovers : Recovers tree_rules GREATEST_NUMBER (length trees) its (held_by (map view_of hives)) number (tree_of trees)
     recovers = record {
       last = subst (λ n. IsLastNumber n (λ i. (held_by (map view_of hives) i).1) below (timed_elements elements) number) (sym many) (last_of number is);
       limit = limit;
@@ -214,7 +214,7 @@ of_found trees number base opened journal hives found store many files of =
       store_is = store;
       many = long;
       recovers = subst (λ n. Recover (store_of journal) n files number trees) long
-          (files_recover rules (Spells (store_of journal)) (Holds (store_of journal)) GREATEST_NUMBER (length trees) files (spelled_as found.below opened) (held_by (map view_of hives)) number (tree_of trees)
+          (files_recover tree_rules (Spells (store_of journal)) (Holds (store_of journal)) GREATEST_NUMBER (length trees) files (spelled_as found.below opened) (held_by (map view_of hives)) number (tree_of trees)
           (of.spells ∙ ap (λ (c : Choice (Spelled TimedOp)). Some c.now) found.journal_is) (λ i lt. holds i (omega (arith, lt, long, many))) found.recovers);
     }
   where
@@ -262,5 +262,5 @@ pub recovered_once : OneStore → OneHeld → (files : ℕ → List ℕ) (a b : 
 recovered_once one_store one_held files a b n m ts us x y =
     let which : b ≡ a = one_store (files journal_file) b a y.recovers.journal x.recovers.journal y.store_is x.store_is y.recovers.spelled x.recovers.spelled in
     let other : Recover a a.hives files m us = subst (λ (s : Store). Recover s s.hives files m us) which y.recovers in
-    let once = files_once rules (Spells a) (Holds a) GREATEST_NUMBER a.hives (λ bytes s t e f. same_Some s t (sym e ∙ f)) (λ p l u v h k. one_held a.id p l u v h k) files n m (tree_of ts) (tree_of us) x.recovers other in
+    let once = files_once tree_rules (Spells a) (Holds a) GREATEST_NUMBER a.hives (λ bytes s t e f. same_Some s t (sym e ∙ f)) (λ p l u v h k. one_held a.id p l u v h k) files n m (tree_of ts) (tree_of us) x.recovers other in
     (sym which, once.0, same_lists fresh_tree ts us (x.many ∙ ap (λ (s : Store). s.hives) (sym which) ∙ sym y.many) (λ i lt. once.1 i (omega (arith, lt, x.many))))

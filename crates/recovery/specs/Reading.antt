@@ -10,7 +10,7 @@ use Rattle.prefix_law.specs.Promises.{Spelled, floor, settled, top}
 use Rattle.prefix_law.specs.Recovery.{above}
 use Rattle.disk_model.specs.FileState.{FileState}
 use Rattle.disk_model.specs.StoreFiles.{primary_file, log_file, journal_file}
-use Rattle.engine_words.specs.Changes.{TimedOp, rules, timed_elements}
+use Rattle.engine_words.specs.Changes.{TimedOp, tree_rules, timed_elements}
 use Rattle.element_text.specs.Text.{Fits}
 use Rattle.commit_journal.specs.Text.{spelled}
 use Rattle.commit_journal.specs.Store.{Store, IsStore, texts}
@@ -78,7 +78,7 @@ IsNumber last hives number = ((0 < last) × (number ≡ last)) ⊎ ((last ≡ 0)
 
 -- What the changes of a journal above a hive's own number make of what it has in memory: each is legal where its turn comes.
 abbrev pub replayed_on : Spelled TimedOp → ℕ → TreeMap × ℕ → Option TreeMap
-replayed_on journal i memory = replay rules (ops_on i (above memory.1 journal)) memory.0
+replayed_on journal i memory = replay tree_rules (ops_on i (above memory.1 journal)) memory.0
 
 -- the first trees, so many as there are, are those to which the journal leads from what the hives have in memory
 abbrev pub LeadTo : Spelled TimedOp → List HiveFile → List TreeMap → Type 0

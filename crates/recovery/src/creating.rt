@@ -5,7 +5,7 @@ ghost use Rattle.refusals.specs.declared.refusal.Refusal.TheVariants.{DiskFault,
 ghost use Rattle.reg_tree.specs.Sequences.{AreWithin};
 ghost use Rattle.disk_model.specs.Call.{CountsFailure};
 ghost use Rattle.disk_model.specs.Crash.{LeavesHonest};
-ghost use Rattle.disk_model.specs.StoreFiles.{IsPrimary};
+ghost use Rattle.engine_law.specs.Prefixes.{IsPrimaryOf};
 ghost use Rattle.hive_files.specs.Frames.{StaysOff};
 ghost use Rattle.recovery.specs.Created.{AreImagesOf, AreWritten, IsMade, IsOfHives, IsOfStore, IsRefusedFor, SomeIsHeavy, new_store};
 ghost use Rattle.recovery.specs.Recovered.{IsRecovered, seen_in};
@@ -31,11 +31,16 @@ pub fn create<D: Disk>(alloc: Global, disk: &mut D, id: Uuid, trees: &Trees) -> 
     ensures made { OnOk result (D.faithful disk.new →
         IsMade id trees.now (D.state_at disk.new (D.clock disk.new))) }
     ensures recovers { OnOk result (D.faithful disk.new → (files : ℕ → List ℕ) →
-        LeavesHonest IsPrimary (D.state_at disk.new (D.clock disk.new)) files →
+        LeavesHonest (IsPrimaryOf (length trees.now))
+        (D.state_at disk.new (D.clock disk.new)) files →
         IsRecovered files (new_store id trees.now) 0 trees.now) }
     ensures seen { OnOk result (D.faithful disk.new →
         IsRecovered (seen_in (D.state_at disk.new (D.clock disk.new)))
         (new_store id trees.now) 0 trees.now) }
+    ensures shows { OnOk result (D.faithful disk.new →
+        LeavesHonest (IsPrimaryOf (length trees.now))
+        (D.state_at disk.new (D.clock disk.new))
+        (seen_in (D.state_at disk.new (D.clock disk.new)))) }
     ensures refused { IfErr result (λ why.
         ((why ≡ DiskFault) × (D.failures disk.old < D.failures disk.new))
         ⊎ (IsRefusedFor trees.now why × (disk.new ≡ disk.old))) }

@@ -6,8 +6,8 @@ ghost use Rattle.refusals.specs.declared.refusal.Refusal.TheVariants.{HiveDamage
 ghost use Rattle.reg_tree.specs.Maps.{TreeMap};
 ghost use Rattle.disk_model.specs.Crash.{LeavesHonest};
 ghost use Rattle.disk_model.specs.FileState.{FileState};
-ghost use Rattle.disk_model.specs.StoreFiles.{IsPrimary};
 ghost use Rattle.commit_journal.specs.Store.{Store};
+ghost use Rattle.engine_law.specs.Prefixes.{IsPrimaryOf};
 ghost use Rattle.recovery.specs.Beginnings.{AllCameToNothing, MayBegin, after_crash};
 ghost use Rattle.recovery.specs.Recovered.{IsRecovered, NothingRecovered, seen_in};
 ghost use Rattle.recovery.specs.Refused.{AreAlike, IsWrong};
@@ -40,7 +40,7 @@ pub fn refused_files_recover_nothing()
 }
 
 /// Laws of openings, one after another, that came to nothing: each ended in a crash at any moment of it, or was refused. They began
-/// on files on which a life may begin.
+/// on files on which a life of a store of so many hives may begin.
 ///
 /// - `begins`: a life may begin on the files then, too; `crash`: as it may on any that a crash left.
 /// - `left`: whatever a crash leaves then, with honest first sectors, one might have left at first.
@@ -48,16 +48,18 @@ pub fn refused_files_recover_nothing()
 ///   after a crash at first.
 /// - `recovered`: where that is one number and trees whatever a crash left at first, it is those.
 pub fn openings_lose_nothing()
-    ensures crash { (files : ℕ → List ℕ) → MayBegin (after_crash files) }
-    ensures begins { (first last : ℕ → FileState) → MayBegin first →
-        AllCameToNothing first last → MayBegin last }
-    ensures left { (first last : ℕ → FileState) → MayBegin first → AllCameToNothing first last →
-        (files : ℕ → List ℕ) → LeavesHonest IsPrimary last files →
-        LeavesHonest IsPrimary first files }
-    ensures read { (first last : ℕ → FileState) → MayBegin first → AllCameToNothing first last →
-        LeavesHonest IsPrimary first (seen_in last) }
-    ensures recovered { (first last : ℕ → FileState) → MayBegin first →
-        AllCameToNothing first last → (store : Store) (number : ℕ) (trees : List TreeMap) →
-        ((files : ℕ → List ℕ) → LeavesHonest IsPrimary first files →
+    ensures crash { (hives : ℕ) (files : ℕ → List ℕ) → MayBegin hives (after_crash files) }
+    ensures begins { (hives : ℕ) (first last : ℕ → FileState) → MayBegin hives first →
+        AllCameToNothing hives first last → MayBegin hives last }
+    ensures left { (hives : ℕ) (first last : ℕ → FileState) → MayBegin hives first →
+        AllCameToNothing hives first last → (files : ℕ → List ℕ) →
+        LeavesHonest (IsPrimaryOf hives) last files →
+        LeavesHonest (IsPrimaryOf hives) first files }
+    ensures read { (hives : ℕ) (first last : ℕ → FileState) → MayBegin hives first →
+        AllCameToNothing hives first last →
+        LeavesHonest (IsPrimaryOf hives) first (seen_in last) }
+    ensures recovered { (hives : ℕ) (first last : ℕ → FileState) → MayBegin hives first →
+        AllCameToNothing hives first last → (store : Store) (number : ℕ) (trees : List TreeMap) →
+        ((files : ℕ → List ℕ) → LeavesHonest (IsPrimaryOf hives) first files →
         IsRecovered files store number trees) → IsRecovered (seen_in last) store number trees }
 {}

@@ -1,13 +1,14 @@
 //! A store that was opened, as its callers see it, and its repair: what it keeps is in its type.
-ghost use Rattle.std.specs.Prelude.{◌≡◌, ◌⊎◌, ◌↔◌, ℕ, ◌+◌, ◌<◌, ◌≤◌, List, IsTrue, Ok, Err, IfErr, IfOk, OnOk, false, true};
+ghost use Rattle.std.specs.Prelude.{◌≡◌, ◌⊎◌, ◌↔◌, ℕ, ◌+◌, ◌<◌, ◌≤◌, List, length, IsTrue, Ok, Err, IfErr, IfOk, OnOk, false, true};
 ghost use Rattle.refusals.specs.declared.refusal.Refusal.TheVariants.{DiskFault, Faulted};
 ghost use Rattle.engine_words.specs.declared.Progress.TheVariants as Progress;
 ghost use Rattle.disk_model.specs.Call.{Extends, OneCall, HasFailed};
 ghost use Rattle.disk_model.specs.Crash.{LeavesHonest};
-ghost use Rattle.disk_model.specs.StoreFiles.{IsPrimary};
+ghost use Rattle.disk_model.specs.StoreFiles.{journal_file};
 ghost use Rattle.disk_model.specs.Unwritten.{OnlySyncs};
 ghost use Rattle.hive_files.specs.Frames.{FailsBy};
-ghost use Rattle.engine_law.specs.Prefixes.{AnyFile, AreOnDisk};
+ghost use Rattle.commit_journal.specs.Journals.{choice_of};
+ghost use Rattle.engine_law.specs.Prefixes.{AnyFile, AreOnDisk, IsPrimaryOf, Spells};
 ghost use Rattle.recovery.specs.Kept.{AllWork, IsKept};
 ghost use Rattle.recovery.specs.Recovered.{IsNoStore, IsRecovered, seen_in};
 ghost use Rattle.recovery.specs.Repairs.{most_repairs, repairs_left};
@@ -18,6 +19,7 @@ use crate::opening::find;
 use disk_model::Disk;
 use engine_law::laws::{crashes_leave_prefixes, openings_begin};
 use engine_words::Progress;
+use hive_flush::laws::reads_are_honest;
 use refusals::Refusal;
 use reg_tree::Trees;
 use std::alloc::Global;
@@ -92,6 +94,9 @@ pub fn open<D: Disk>(alloc: Global, disk: D) -> Result<Opened<D>, (Refusal, D)>
     ensures recovered { IfOk result (λ opened. D.faithful opened.disk →
         IsRecovered (seen_in (D.state_at disk (D.clock disk)))
         (store_of opened) opened.found.number opened.found.trees) }
+    ensures spells { IfOk result (λ opened. D.faithful opened.disk → Spells (store_of opened)
+        (seen_in (D.state_at disk (D.clock disk)) journal_file)
+        (choice_of opened.found.journal).now) }
     ensures works { IfOk result (λ opened. opened.failed ≡ false) }
     ensures few { IfOk result (λ opened. D.faithful opened.disk →
         repairs_left opened.found.hives.items
@@ -106,6 +111,7 @@ pub fn open<D: Disk>(alloc: Global, disk: D) -> Result<Opened<D>, (Refusal, D)>
         (D.clock disk) (D.clock opened.disk)) }
     ensures back_time { IfErr result (λ back. Extends (D.state_at disk) (D.state_at back.1)
         (D.clock disk) (D.clock back.1)) }
+    ensures failures { IfOk result (λ opened. D.failures disk ≤ D.failures opened.disk) }
     ensures faithful { IfOk result (λ opened. D.faithful opened.disk → D.faithful disk) }
     ensures back_faithful { IfErr result (λ back. D.faithful back.1 → D.faithful disk) }
 {
@@ -169,10 +175,12 @@ impl<D: Disk> Opened<D> {
         ensures still { (result ≡ Err Faulted) → self.new ≡ self.old }
         ensures works { OnOk result (self.new.failed ≡ self.old.failed) }
         ensures before { D.faithful self.new.disk → (files : ℕ → List ℕ) →
-            LeavesHonest IsPrimary (D.state_at self.new.disk (D.clock self.old.disk)) files →
+            LeavesHonest (IsPrimaryOf (store_of self.old).hives)
+            (D.state_at self.new.disk (D.clock self.old.disk)) files →
             IsRecovered files (store_of self.old) self.old.found.number self.old.found.trees }
         ensures after { D.faithful self.new.disk → (files : ℕ → List ℕ) →
-            LeavesHonest IsPrimary (D.state_at self.new.disk (D.clock self.new.disk)) files →
+            LeavesHonest (IsPrimaryOf (store_of self.old).hives)
+            (D.state_at self.new.disk (D.clock self.new.disk)) files →
             IsRecovered files (store_of self.old) self.old.found.number self.old.found.trees }
         ensures call { OneCall AnyFile (D.state_at self.old.disk) (D.state_at self.new.disk)
             (D.clock self.old.disk) (D.clock self.new.disk) }
@@ -196,14 +204,22 @@ impl<D: Disk> Opened<D> {
     }
 
     /// A law: whatever a crash leaves of the files as they are, with honest first sectors, recovers the number and the trees that
-    /// were found.
+    /// were found, of which there is one for each hive. As long as the device hasn't failed in the repair, what a read gives is of
+    /// that too.
     pub fn keeps_what_was_found(&self)
-        ensures { D.faithful self.now.disk → (files : ℕ → List ℕ) →
-            LeavesHonest IsPrimary (D.state_at self.now.disk (D.clock self.now.disk)) files →
+        ensures many { length self.now.found.trees ≡ (store_of self.now).hives }
+        ensures crash { D.faithful self.now.disk → (files : ℕ → List ℕ) →
+            LeavesHonest (IsPrimaryOf (store_of self.now).hives)
+            (D.state_at self.now.disk (D.clock self.now.disk)) files →
             IsRecovered files (store_of self.now) self.now.found.number self.now.found.trees }
+        ensures read { D.faithful self.now.disk → self.now.failed ≡ false →
+            LeavesHonest (IsPrimaryOf (store_of self.now).hives)
+            (D.state_at self.now.disk (D.clock self.now.disk))
+            (seen_in (D.state_at self.now.disk (D.clock self.now.disk))) }
     {
         openings_begin();
         crashes_leave_prefixes();
+        reads_are_honest();
         // what the type keeps is known where a field is looked at
         let _ = self.found.journal.hives();
     }

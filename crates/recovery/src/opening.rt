@@ -4,13 +4,13 @@ ghost use Rattle.disk_model.specs.Call.{Extends};
 ghost use Rattle.disk_model.specs.FileState.{FileState};
 ghost use Rattle.disk_model.specs.Unwritten.{OnlySyncs};
 ghost use Rattle.disk_model.specs.StoreFiles.{IsJournal, journal_file};
-ghost use Rattle.commit_journal.specs.Journals.{store_of};
+ghost use Rattle.commit_journal.specs.Journals.{choice_of, store_of};
 ghost use Rattle.commit_journal.specs.Store.{IsStore, SpellsNothing};
 ghost use Rattle.commit_journal.specs.Windows as journals;
 ghost use Rattle.hive_flush.specs.HiveStates.{files_of};
 ghost use Rattle.hive_flush.specs.Standing.{IsOfHive};
 ghost use Rattle.hive_flush.specs.declared.hive.HiveFile.{HiveFile};
-ghost use Rattle.engine_law.specs.Prefixes.{AreOnDisk};
+ghost use Rattle.engine_law.specs.Prefixes.{AreOnDisk, Spells};
 ghost use Rattle.hive_files.specs.Frames.{FailsBy};
 ghost use Rattle.recovery.specs.Kept.{AllWork, IsKept};
 ghost use Rattle.recovery.specs.Reading.{IsOnlyStore, IsOpened, IsRead};
@@ -41,6 +41,10 @@ pub(crate) fn find<D: Disk>(alloc: Global, disk: &mut D) -> Result<Found, Refusa
     ensures recovered { IfOk result (λ found. D.faithful disk.new →
         IsRecovered (seen_in (D.state_at disk.old (D.clock disk.old)))
         (store_of found.journal) found.number found.trees) }
+    ensures spells { IfOk result (λ found. D.faithful disk.new →
+        Spells (store_of found.journal)
+        (seen_in (D.state_at disk.old (D.clock disk.old)) journal_file)
+        (choice_of found.journal).now) }
     ensures on_disk { IfOk result (λ found. D.faithful disk.new →
         AreOnDisk found.journal found.hives.items (D.state_at disk.new (D.clock disk.new))) }
     ensures fails { IfErr result (FailsBy (D.failures disk.old < D.failures disk.new)
@@ -49,6 +53,7 @@ pub(crate) fn find<D: Disk>(alloc: Global, disk: &mut D) -> Result<Found, Refusa
         (D.clock disk.old) (D.clock disk.new) }
     ensures time { Extends (D.state_at disk.old) (D.state_at disk.new) (D.clock disk.old)
         (D.clock disk.new) }
+    ensures failures { D.failures disk.old ≤ D.failures disk.new }
     ensures faithful { D.faithful disk.new → D.faithful disk.old }
 {
     let owner = Journal::owner(alloc, disk)?;

@@ -3,7 +3,7 @@ ghost use Rattle.std.specs.Prelude.{◌≡◌, ◌⊎◌, map, true, false, Some
 ghost use Rattle.refusals.specs.Answers.{RefusedFor};
 ghost use Rattle.refusals.specs.declared.refusal.Refusal.TheVariants.{JournalDamaged, NoMemory};
 ghost use Rattle.prefix_law.specs.Changes.{on_hive, ops_on, replay};
-ghost use Rattle.engine_words.specs.Changes.{rules, timed, timed_element, timed_elements};
+ghost use Rattle.engine_words.specs.Changes.{tree_rules, timed, timed_element, timed_elements};
 
 use element_text::ChangeText;
 use refusals::Refusal;
@@ -21,9 +21,9 @@ pub(crate) fn replayed(
     changes: &[ChangeText],
 ) -> Result<Tree, Refusal>
     ensures made { IfOk result (λ made.
-        replay rules (ops_on hive (timed_elements changes.now)) tree ≡ Some made) }
+        replay tree_rules (ops_on hive (timed_elements changes.now)) tree ≡ Some made) }
     ensures fails { IfErr result (RefusedFor JournalDamaged
-        (replay rules (ops_on hive (timed_elements changes.now)) tree ≡ None)) }
+        (replay tree_rules (ops_on hive (timed_elements changes.now)) tree ≡ None)) }
 {
     let mut made = tree;
     for change in changes {
@@ -35,9 +35,9 @@ pub(crate) fn replayed(
 // the tree after the operations on a hive of a change, of which only these are read
 fn after_change(alloc: Global, tree: Tree, hive: u8, change: &ChangeText) -> Result<Tree, Refusal>
     ensures made { IfOk result (λ made.
-        replay rules (on_hive hive (timed_element change.now)) tree ≡ Some made) }
+        replay tree_rules (on_hive hive (timed_element change.now)) tree ≡ Some made) }
     ensures fails { IfErr result (RefusedFor JournalDamaged
-        (replay rules (on_hive hive (timed_element change.now)) tree ≡ None)) }
+        (replay tree_rules (on_hive hive (timed_element change.now)) tree ≡ None)) }
 {
     // that a change is elsewhere is told sooner by its hives alone
     if !change.is_on(hive) {
@@ -50,9 +50,9 @@ fn after_change(alloc: Global, tree: Tree, hive: u8, change: &ChangeText) -> Res
 // the tree after the operations on a hive among some, at one moment
 fn after_ops(alloc: Global, tree: Tree, hive: u8, ops: &[Op], moment: u64) -> Result<Tree, Refusal>
     ensures made { IfOk result (λ made.
-        replay rules (on_hive hive (map (timed moment) ops.now)) tree ≡ Some made) }
+        replay tree_rules (on_hive hive (map (timed moment) ops.now)) tree ≡ Some made) }
     ensures fails { IfErr result (RefusedFor JournalDamaged
-        (replay rules (on_hive hive (map (timed moment) ops.now)) tree ≡ None)) }
+        (replay tree_rules (on_hive hive (map (timed moment) ops.now)) tree ≡ None)) }
 {
     let mut made = tree;
     for op in ops {
@@ -65,10 +65,10 @@ fn after_ops(alloc: Global, tree: Tree, hive: u8, ops: &[Op], moment: u64) -> Re
 
 // the tree after an operation that is legal there
 fn after_op(alloc: Global, tree: &Tree, op: &Op, moment: u64) -> Result<Tree, Refusal>
-    ensures made { IfOk result (λ made. (rules.legal (moment, op.now) tree.now ≡ true)
-        × (made ≡ rules.apply (moment, op.now) tree.now)) }
+    ensures made { IfOk result (λ made. (tree_rules.legal (moment, op.now) tree.now ≡ true)
+        × (made ≡ tree_rules.apply (moment, op.now) tree.now)) }
     ensures fails { IfErr result (RefusedFor JournalDamaged
-        (rules.legal (moment, op.now) tree.now ≡ false)) }
+        (tree_rules.legal (moment, op.now) tree.now ≡ false)) }
 {
     match tree.write(alloc, op, moment) {
         Ok(Some(made)) => Ok(made),

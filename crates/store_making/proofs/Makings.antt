@@ -5,14 +5,14 @@ use Rattle.reg_script.specs.declared.status.Status.{Status}
 use Rattle.reg_tree.specs.Maps.{TreeMap}
 use Rattle.disk_model.specs.FileState.{FileState}
 use Rattle.disk_model.specs.Crash.{LeavesHonest}
-use Rattle.disk_model.specs.StoreFiles.{IsPrimary}
+use Rattle.engine_law.specs.Prefixes.{IsPrimaryOf}
 use Rattle.recovery.specs.Created.{IsMade, new_store}
 use Rattle.recovery.specs.Recovered.{IsRecovered, seen_in}
 use Rattle.store_making.specs.Makings.{IsNewStore, IsNotMade, IsTold}
 
 -- what was made, what a crash leaves of it and what a read gives are those of a new store
 pub new_where_made : {T E : Type 0} (result : Result T E) (faithful : Type 0) (id : List ℕ) (trees : List TreeMap) (state : ℕ → FileState) → OnOk result (faithful → IsMade id trees state)
-    → OnOk result (faithful → (files : ℕ → List ℕ) → LeavesHonest IsPrimary state files → IsRecovered files (new_store id trees) 0 trees) → OnOk result (faithful → IsRecovered (seen_in state) (new_store id trees) 0 trees)
+    → OnOk result (faithful → (files : ℕ → List ℕ) → LeavesHonest (IsPrimaryOf (length trees)) state files → IsRecovered files (new_store id trees) 0 trees) → OnOk result (faithful → IsRecovered (seen_in state) (new_store id trees) 0 trees)
     → OnOk result (faithful → IsNewStore id trees state)
 new_where_made (Ok x) faithful id trees state made recovers seen = λ f. record { made = made f; recovers = recovers f; seen = seen f }
 new_where_made (Err e) faithful id trees state made recovers seen = tt

@@ -1,5 +1,5 @@
 -- A store as it is made, and what is said of it.
-use Rattle.std.specs.Prelude.{◌≡◌, ◌⊎◌, ℕ, List, Option, Result, Ok, Err}
+use Rattle.std.specs.Prelude.{◌≡◌, ◌⊎◌, ℕ, List, length, Option, Result, Ok, Err}
 use Rattle.std.specs.Io.KnownBytes.{Appends}
 use Rattle.refusals.specs.declared.refusal.Refusal.{Refusal}
 use Rattle.refusals.specs.declared.refusal.Refusal.TheVariants.{DiskFault}
@@ -11,7 +11,7 @@ use Rattle.reg_script.specs.declared.status.Status.{Status}
 use Rattle.reg_script.specs.declared.status.Status.TheVariants as status
 use Rattle.disk_model.specs.FileState.{FileState}
 use Rattle.disk_model.specs.Crash.{LeavesHonest}
-use Rattle.disk_model.specs.StoreFiles.{IsPrimary}
+use Rattle.engine_law.specs.Prefixes.{IsPrimaryOf}
 use Rattle.recovery.specs.Created.{IsMade, new_store}
 use Rattle.recovery.specs.Recovered.{IsRecovered, seen_in}
 
@@ -19,7 +19,7 @@ use Rattle.recovery.specs.Recovered.{IsRecovered, seen_in}
 -- honest first sectors, recovers the trees at number 0, as does what a read gives.
 pub record IsNewStore (id : List ℕ) (trees : List TreeMap) (state : ℕ → FileState) : Type 0 where
   pub made : IsMade id trees state
-  pub recovers : (files : ℕ → List ℕ) → LeavesHonest IsPrimary state files → IsRecovered files (new_store id trees) 0 trees
+  pub recovers : (files : ℕ → List ℕ) → LeavesHonest (IsPrimaryOf (length trees)) state files → IsRecovered files (new_store id trees) 0 trees
   pub seen : IsRecovered (seen_in state) (new_store id trees) 0 trees
 
 -- why no store is made: the device failed, or there is another reason, and the disk is as it was

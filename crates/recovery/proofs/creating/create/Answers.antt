@@ -3,11 +3,13 @@ use Rattle.disk_model.specs.FileState.{FileState, at_rest}
 use Rattle.commit_journal.specs.Store.{IsStore, Store, created_text, texts}
 use Rattle.hive_flush.specs.declared.image.HiveImage.{HiveImage}
 use Rattle.reg_tree.specs.Maps.{TreeMap}
-use Rattle.disk_model.specs.StoreFiles.{IsJournal}
+use Rattle.disk_model.specs.Sector.{IsHonest}
+use Rattle.disk_model.specs.StoreFiles.{IsJournal, log_file, primary_file}
+use Rattle.engine_law.proofs.HiveLists.{at_slot}
 use Rattle.hive_files.specs.Frames.{StaysOff}
 use Rattle.recovery.specs.Created.{AreImagesOf, AreWritten, HivesAreMade, IsOfHives, new_store}
 use Rattle.recovery.specs.Recovered.{seen_in}
-use Rattle.recovery.proofs.Creations.{hives_made, hives_stay, recovers_made, stays_off}
+use Rattle.recovery.proofs.Creations.{hives_made, hives_stay, made_honest, recovers_made, stays_off}
 use Rattle.recovery.proofs.creating.create.Goals as goal
 
 -- what is written, of the images and the journal that were made
@@ -68,6 +70,18 @@ returns-clause-seen g c = λ f.
     new (c.in_ok-write.ensures.on f)
     (hives_of c.args.id trees c.in_ok-hives.hives.items c.deref.result.now mid new c.deref.ensures.value images.many images.images (c.in_ok-write_hives.ensures.made (c.write.ensures.faithful f)) c.write.ensures.others)
     (seen_in new) (λ k. (g.met.D.Disk.sound c.write.new.disk (D.clock c.write.new.disk) k f (omega arith)).left)
+
+pub returns-clause-shows : goal.returns-clause-shows
+returns-clause-shows g c = λ f.
+    let D = g.D.Disk in
+    let trees = c.args.trees.now in
+    let mid = D.state_at c.write_hives.new.disk (D.clock c.write_hives.new.disk) in
+    let new : ℕ → FileState = D.state_at c.write.new.disk (D.clock c.write.new.disk) in
+    let images = c.in_ok-hives.ensures in
+    let made = hives_of c.args.id trees c.in_ok-hives.hives.items c.deref.result.now mid new c.deref.ensures.value images.many images.images (c.in_ok-write_hives.ensures.made (c.write.ensures.faithful f)) c.write.ensures.others in (
+      λ k. (g.met.D.Disk.sound c.write.new.disk (D.clock c.write.new.disk) k f (omega arith)).left,
+      λ k (i, lt, is). let at = at_slot trees i lt in subst (λ n. IsHonest (new n) (new n).seen) (sym is) (made_honest c.args.id at.0 (new (primary_file i)) (new (log_file i)) (made i at.0 at.1)),
+    )
 
 pub returns-clause-stays : goal.returns-clause-stays
 returns-clause-stays g c =

@@ -6,13 +6,13 @@ pub returns-clause-crash : goal.returns-clause-crash
 returns-clause-crash c = after_crashes
 
 pub returns-clause-begins : goal.returns-clause-begins
-returns-clause-begins c = λ first last begins openings. (all first last begins openings).0
+returns-clause-begins c = λ hives first last begins openings. (all hives first last begins openings).0
 
 pub returns-clause-left : goal.returns-clause-left
-returns-clause-left c = λ first last begins openings. (all first last begins openings).1
+returns-clause-left c = λ hives first last begins openings. (all hives first last begins openings).1
 
 pub returns-clause-read : goal.returns-clause-read
 returns-clause-read c = read_then
 
 pub returns-clause-recovered : goal.returns-clause-recovered
-returns-clause-recovered c = λ first last begins openings store number trees each. each (seen_in last) (read_then first last begins openings)
+returns-clause-recovered c = λ hives first last begins openings store number trees each. each (seen_in last) (read_then hives first last begins openings)

@@ -1,9 +1,11 @@
-use Rattle.std.proofs.Common.{inl, inr, ◌≡◌, ◌<◌, ◌≤◌, sym, subst, arith, List, ℕ}
+use Rattle.std.proofs.Common.{inl, inr, ◌≡◌, ◌<◌, ◌≤◌, Some, sym, subst, arith, List, ℕ}
 use Rattle.std.proofs.lemmas.Result.{err_from_is_err_and}
 use Rattle.disk_model.specs.FileState.{FileState}
+use Rattle.disk_model.specs.StoreFiles.{journal_file}
 use Rattle.disk_model.proofs.Unwritten.{still}
 use Rattle.commit_journal.specs.Store.{Store}
-use Rattle.commit_journal.specs.Journals.{changes_of, store_of}
+use Rattle.commit_journal.specs.Text.{spelled}
+use Rattle.commit_journal.specs.Journals.{changes_of, choice_of, store_of, texts_of}
 use Rattle.commit_journal.specs.declared.journal.Journal.{Journal}
 use Rattle.hive_flush.specs.declared.hive.HiveFile.{HiveFile}
 use Rattle.engine_law.specs.Prefixes.{AreOnDisk}
@@ -104,3 +106,13 @@ returns-clause-few g c = λ f.
     (subst (λ (hs : List HiveFile). repairs_left hs ≤ most_repairs (seen_in old) (store_of c.in_ok-hives.read.journal).hives) (sym c.in_ok-found.ensures.hives)
     (subst (λ (s : Store). repairs_left c.in_ok-hives.hives.items ≤ most_repairs (seen_in old) s.hives) (sym e.read.of)
     (subst (λ (s : ℕ → FileState). repairs_left c.in_ok-hives.hives.items ≤ most_repairs (seen_in s) own.hives) same (e.few f))))
+
+pub returns-clause-spells : goal.returns-clause-spells
+returns-clause-spells g c = λ f.
+    let D = g.D.Disk in
+    let old = D.state_at c.args.disk.now (D.clock c.args.disk.now) in
+    let then = D.state_at c.owner.new.disk (D.clock c.owner.new.disk) in
+    let same : then ≡ old = (λ i f. still c.owner.ensures.still f i) in
+    let read = c.in_ok-hives.read.journal in
+    subst (λ (x : Journal). spelled (texts_of x) (seen_in old journal_file) ≡ Some (choice_of x).now) (sym c.in_ok-found.ensures.journal)
+    (subst (λ (s : ℕ → FileState). spelled (texts_of read) (seen_in s journal_file) ≡ Some (choice_of read).now) same (c.in_ok-hives.ensures.read.spells f))

@@ -1,7 +1,7 @@
 use Rattle.std.proofs.Common.{◌≡◌, drop, map}
 use Rattle.prefix_law.specs.Changes.{replay, on_hive}
-use Rattle.engine_words.specs.Changes.{rules, timed}
+use Rattle.engine_words.specs.Changes.{tree_rules, timed}
 use Rattle.recovery.proofs.replaying.after_ops.Given as goal
 
 abbrev pub invariant-loop-op : goal.invariant-loop-op
-invariant-loop-op l = replay rules (on_hive l.hive (map (timed l.moment) (drop l.op-index l.ops))) l.made ≡ replay rules (on_hive l.hive (map (timed l.moment) l.ops)) l.fn.tree
+invariant-loop-op l = replay tree_rules (on_hive l.hive (map (timed l.moment) (drop l.op-index l.ops))) l.made ≡ replay tree_rules (on_hive l.hive (map (timed l.moment) l.ops)) l.fn.tree

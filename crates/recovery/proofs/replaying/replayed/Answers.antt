@@ -3,7 +3,7 @@ use Rattle.std.proofs.lemmas.List.{drop_more}
 use Rattle.std.proofs.lemmas.Result.{err_from_is_err_and}
 use Rattle.prefix_law.specs.Changes.{ops_on, replay}
 use Rattle.reg_tree.specs.declared.element.Element.{Element}
-use Rattle.engine_words.specs.Changes.{rules, timed_elements}
+use Rattle.engine_words.specs.Changes.{tree_rules, timed_elements}
 use Rattle.recovery.proofs.Replays.{change_on, change_nowhere}
 use Rattle.recovery.proofs.replaying.replayed.Goals as goal
 
@@ -17,7 +17,7 @@ returns-in_err-made-clause-fails c =
     let next : drop c.loop-change.change-index changes ≡ change ∷ rest = drop_more changes c.loop-change.change-index change c.loop-change-test.true ∙ ap (λ (x : Element). x ∷ rest) (sym c.change-item.is) in
     rw (p.1, p.2) (⊎_elim (λ h. inl (
       h.0,
-      sym c.loop-change.invariant ∙ ap (λ (l : List Element). replay rules (ops_on hive (timed_elements l)) c.loop-change.made) next
+      sym c.loop-change.invariant ∙ ap (λ (l : List Element). replay tree_rules (ops_on hive (timed_elements l)) c.loop-change.made) next
           ∙ change_nowhere hive change rest c.loop-change.made h.1,
     )) (λ h. inr h) c.in_err-made.ensures.fails)
 
@@ -29,4 +29,4 @@ loop-change-preserved c =
     let rest = drop (c.loop-change.change-index + 1) changes in
     let next : drop c.loop-change.change-index changes ≡ change ∷ rest = drop_more changes c.loop-change.change-index change c.loop-change-test.true ∙ ap (λ (x : Element). x ∷ rest) (sym c.change-item.is) in
     sym (change_on hive change rest c.loop-change.made c.in_ok-made.made c.in_ok-made.ensures.made)
-    ∙ (sym (ap (λ (l : List Element). replay rules (ops_on hive (timed_elements l)) c.loop-change.made) next) ∙ c.loop-change.invariant)
+    ∙ (sym (ap (λ (l : List Element). replay tree_rules (ops_on hive (timed_elements l)) c.loop-change.made) next) ∙ c.loop-change.invariant)

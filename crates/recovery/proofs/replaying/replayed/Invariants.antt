@@ -1,7 +1,7 @@
 use Rattle.std.proofs.Common.{◌≡◌, drop}
 use Rattle.prefix_law.specs.Changes.{replay, ops_on}
-use Rattle.engine_words.specs.Changes.{rules, timed_elements}
+use Rattle.engine_words.specs.Changes.{tree_rules, timed_elements}
 use Rattle.recovery.proofs.replaying.replayed.Given as goal
 
 abbrev pub invariant-loop-change : goal.invariant-loop-change
-invariant-loop-change l = replay rules (ops_on l.hive (timed_elements (drop l.change-index l.changes))) l.made ≡ replay rules (ops_on l.hive (timed_elements l.changes)) l.fn.tree
+invariant-loop-change l = replay tree_rules (ops_on l.hive (timed_elements (drop l.change-index l.changes))) l.made ≡ replay tree_rules (ops_on l.hive (timed_elements l.changes)) l.fn.tree

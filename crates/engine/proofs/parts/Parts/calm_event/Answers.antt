@@ -22,6 +22,7 @@ returns-clause-goes_on g c =
       call = record { later = omega arith; one = omega arith; past = λ k f le. refl; others = λ f none. refl };
       quiet = λ q. refl;
       failed = λ told. absurd (true≢false (sym c.requires.calm ∙ ap not (c.steps_alone_fail.ensures m n c.args.event (subst (λ r. Step m c.args.event r n) told step))));
+      works = λ other. refl;
       faithful = λ f. f;
       life = (refl, refl);
       journal_stays = λ nj nt. refl;

@@ -11,7 +11,7 @@ use Rattle.disk_model.specs.StoreFiles.{IsOfHive, primary_file, log_file}
 use Rattle.commit_journal.specs.Journals.{changes_of}
 use Rattle.engine.specs.Events.{GoesOn}
 use Rattle.engine.proofs.Sound.{at_place, flush_sound}
-use Rattle.engine.proofs.Frames.{any_call, has_failed, quiet_by, flush_still}
+use Rattle.engine.proofs.Frames.{any_call, has_failed, works_else, quiet_by, flush_still}
 use Rattle.engine_law.proofs.HiveLists.{get_other, hive_writes, view_at}
 use Rattle.engine_law.specs.Prefixes.{view_of}
 use Rattle.engine.specs.declared.parts.Parts.{Parts}
@@ -48,6 +48,7 @@ returns-clause-goes_on g c =
       call = any_call (IsOfHive (place_of c.index_mut.result.now)) _ _ _ _ call.call;
       quiet = quiet_by (event.FlusherStep c.args.place) c.step-come.result _ _ refl (λ e. absurd (subst (λ r. Says (HiveSays (memory_of c.index_mut.result.now)) r (files_of c.index_mut.result.now) (files_of c.step-come.new.self)) e call.says)) (flush_still c.step-come.result _ _ call.refused (λ e. (call.still (call.faulted.0 e)).1));
       failed = has_failed c.step-come.result _ _ call.failures;
+      works = works_else c.step-come.result _ _ call.failures;
       faithful = call.faithful;
       life = (refl, refl);
       journal_stays = λ nj nt. refl;
