@@ -1,5 +1,5 @@
 -- Why nothing opens behind a loss of power.
-use Rattle.std.proofs.Common.{◌≡◌, ◌≢◌, ℕ, ◌<◌, ◌∙◌, inl, inr, sym, subst}
+use Rattle.std.proofs.Common.{◌≡◌, ◌≢◌, ℕ, ◌∙◌, inl, inr, sym, subst}
 use Rattle.disk_model.specs.FileState.{FileState}
 use Rattle.disk_model.specs.declared.tear.Tear.{Tear}
 use Rattle.recovery.specs.Recovered.{IsNoStore, TellsOfFiles, seen_in}
@@ -21,8 +21,8 @@ wants_no_fault : NoMemory ≢ DiskFault
 wants_no_fault same = subst IsOther same tt
 
 -- a device that failed found no memory; else it is told what is told of the files that are left
-pub stays_shut : (tear : Tear) (files left : ℕ → FileState) (failures : ℕ) (why told : Refusal) → IsLeftBy tear files left → MayNotOpen failures (Unit {0}) (seen_in left) why
+pub stays_shut : (tear : Tear) (files left : ℕ → FileState) (failed : Type 0) (why told : Refusal) → IsLeftBy tear files left → MayNotOpen failed (Unit {0}) (seen_in left) why
     → (why ≡ DiskFault → told ≡ NoMemory) → (why ≢ DiskFault → told ≡ why) → MayStayShut tear files told
-stays_shut tear files left failures why told by (inl wanting) fault other = inl (other (λ is. wants_no_fault (sym wanting ∙ is)) ∙ wanting)
-stays_shut tear files left failures why told by (inr (inl failed)) fault other = inl (fault failed.0)
-stays_shut tear files left failures why told by (inr (inr none)) fault other = inr (left, by, subst (IsNoStore (Unit {0}) (seen_in left)) (sym (other (tells_no_fault why none.0))) none)
+stays_shut tear files left failed why told by (inl wanting) fault other = inl (other (λ is. wants_no_fault (sym wanting ∙ is)) ∙ wanting)
+stays_shut tear files left failed why told by (inr (inl broke)) fault other = inl (fault broke.0)
+stays_shut tear files left failed why told by (inr (inr none)) fault other = inr (left, by, subst (IsNoStore (Unit {0}) (seen_in left)) (sym (other (tells_no_fault why none.0))) none)

@@ -7,15 +7,17 @@ use Rattle.machine.specs.Machine.{Machine}
 use Rattle.recovery.specs.Recovered.{IsNoStore, seen_in}
 use Rattle.refusals.specs.declared.refusal.Refusal.{Refusal}
 use Rattle.refusals.specs.declared.refusal.Refusal.TheVariants.{NoMemory}
-use Rattle.regtx_parts.specs.Running.{IsOpenedOn}
+use Rattle.commit_journal.specs.Store.{Store}
+use Rattle.regtx_parts.specs.Running.{IsOpenedOn, session_0}
 
 -- each file is left as the tear says
 abbrev pub IsLeftBy : Tear → (ℕ → FileState) → (ℕ → FileState) → Type 0
 IsLeftBy tear files left = (f : ℕ) → IsCrashOf tear (files f) (left f)
 
--- The files that are left recover this number, at which the machine begins with the trees that they recover.
+-- The files that are left recover this number, at which the machine begins with the trees that they recover, and with the room that
+-- their journal takes.
 abbrev pub OpensBehind : Tear → (ℕ → FileState) → ℕ → Machine → Type 0
-OpensBehind tear files number machine = (left : ℕ → FileState) × IsLeftBy tear files left × IsOpenedOn ⊤ (seen_in left) number machine
+OpensBehind tear files number machine = (left : ℕ → FileState) × IsLeftBy tear files left × ((store : Store) × IsOpenedOn ⊤ (seen_in left) store number session_0 machine)
 
 -- Why nothing opens: memory was wanting, or the files that are left recover nothing, of which the refusal tells.
 abbrev pub MayStayShut : Tear → (ℕ → FileState) → Refusal → Type 0

@@ -6,4 +6,7 @@ mod LineEnds
 pub mod Runs
 mod Waited
 mod Worked
+mod Later
+mod Told
+mod Played
 mod Ran

@@ -9,10 +9,11 @@ use Rattle.reg_script.specs.declared.reply.ReplyLine.{ReplyLine}
 use Rattle.reg_script.specs.declared.reply.ReplyLine.TheVariants as reply
 use Rattle.reg_script.specs.Statuses.{with_refusal}
 use Rattle.regtx_parts.specs.Scripts.{Script, Answers, fresh_script, hives_asked, line_asked}
-use Rattle.regtx_parts.specs.Plays.{lines_of, AreFirst, AreReadOf, WereRead, wrong_text, Ends, KeepsUp, PlaysOn, IsPlayed, IsPlayedOn, is_refusal}
-use Rattle.regtx_parts.specs.Turns.{TakesLine, Turns}
+use Rattle.regtx_parts.specs.Plays.{lines_of, AreFirst, AreReadOf, WereRead, wrong_text, Ends, KeepsUp, MayReply, PlaysOn, IsPlayed, IsPlayedOn, is_refusal}
+use Rattle.regtx_parts.specs.Faults.{tells_of_device}
+use Rattle.regtx_parts.specs.Turns.{IsPlayedTo, TakesLine, Turns}
 use Rattle.regtx_parts.specs.declared.working.Pace.{Pace}
-use Rattle.regtx_parts.specs.declared.working.Pace.TheVariants.{AsAsked}
+use Rattle.regtx_parts.specs.declared.working.Pace.TheVariants.{AsAsked, FreesRoom}
 use Rattle.regtx_parts.specs.declared.ending.Ending.{Ending}
 use Rattle.regtx_parts.specs.declared.ending.Ending.TheVariants.{Ended, Broken, OutOfMemory}
 use Rattle.reg_script.specs.declared.status.Status.{Status}
@@ -75,14 +76,30 @@ stops_wrong pace old new number known rest before after line status taken none w
 
 -- a line was answered, behind what was written out
 pub turned : (pace : Pace) (old new : Script) (number : ℕ) (known rest before mid after : Option (List ℕ)) (line : List ℕ) (asked : Line) (told : ReplyLine) (refused : Bool)
-    → TakesLine known rest line → line_asked line ≡ Some asked → Answers old asked told new → Keeps before mid → Appends mid after (reply_line told) → refused ≡ is_refusal told
+    → TakesLine known rest line → line_asked line ≡ Some asked → Answers old asked told new → Keeps before mid → Appends mid after (reply_line told) → refused ≡ is_refusal told → MayReply pace told
     → Turns pace old number known before (Replied refused) new rest after
-turned pace old new number known rest before mid after line asked told refused taken is answered still written said =
-    (line, asked, told, taken, is, answered, kept_appends before mid after (reply_line told) still written, said)
+turned pace old new number known rest before mid after line asked told refused taken is answered still written said may =
+    (line, asked, told, taken, is, answered, kept_appends before mid after (reply_line told) still written, said, may)
 
 -- there is no further line
 pub ends_here : (pace : Pace) (old new : Script) (number : ℕ) (known before after : Option (List ℕ)) (ending : Ending) (text : List ℕ) (status : Status) → WereRead known [] (Some ending) → Ends ending text status → Appends before after text → new ≡ old → IsPlayedOn pace old number known before after status new
 ends_here pace old new number known before after ending text status read how written same = ([], Some ending, text, read, (how, same), written)
+
+-- a store in memory isn't one that frees its room
+pub in_memory_alone : (pace : Pace) → pace ≡ AsAsked → pace ≡ FreesRoom → ⊥
+in_memory_alone pace e f = cc
+
+-- a run that leaves the script so, and one of a store in memory of which nothing is asked any more
+pub to_end : (pace : Pace) (old new : Script) (number : ℕ) (known before after : Option (List ℕ)) (status : Status) → IsPlayedOn pace old number known before after status new → IsPlayedTo pace old number known before after status new
+to_end pace old new number known before after status on = (new, on, λ e. refl)
+
+pub to_none : (pace : Pace) (old end new : Script) (number : ℕ) (known before after : Option (List ℕ)) (status : Status) → pace ≡ AsAsked → IsPlayedOn pace old number known before after status end → IsPlayedTo pace old number known before after status new
+to_none pace old end new number known before after status in_memory on = (end, on, λ e. absurd (in_memory_alone pace in_memory e))
+
+-- a store that frees its room may be told of the device, and one in memory isn't
+pub may_reply : (pace : Pace) (told : ReplyLine) → (pace ≡ AsAsked → tells_of_device told ≡ false) → MayReply pace told
+may_reply AsAsked told other = other refl
+may_reply FreesRoom told other = tt
 
 -- a line was answered, the store worked, and the run goes on
 pub goes_on : (pace : Pace) (old new kept end : Script) (number : ℕ) (known rest before told mid after : Option (List ℕ)) (refused : Bool) (status : Status)
@@ -95,7 +112,7 @@ goes_on pace old new kept end number known rest before told mid after refused st
       on.1,
       reply_line reply ++ on.2,
       more_read known rest line on.0 on.1 turn.3 on.3,
-      inr (turn.1, reply, new, kept, on.2, status, turn.4, turn.5, worked, on.4, refl, ap (λ b. with_refusal b status) turn.7),
+      inr (turn.1, reply, new, kept, on.2, status, turn.4, turn.5, turn.8, worked, on.4, refl, ap (λ b. with_refusal b status) turn.7),
       appends_more before mid after (reply_line reply) on.2 (appends_kept before told mid (reply_line reply) turn.6 still) on.5,
     )
 
@@ -121,7 +138,7 @@ begins known rest before mid after line hives old end status taken asked fresh w
   on.1,
   reply_line reply.Done ++ on.2,
   more_read known rest line on.0 on.1 taken on.3,
-  inr (hives, on.2, end, asked, subst (λ script. PlaysOn AsAsked script 2 on.0 on.1 on.2 status end) fresh on.4, refl),
+  inr (hives, on.2, end, asked, subst (λ script. PlaysOn (MayReply AsAsked) AsAsked script 2 on.0 on.1 on.2 status end) fresh on.4, refl),
   appends_more before mid after (reply_line reply.Done) on.2 written on.5,
 )
 

@@ -1,5 +1,7 @@
 pub mod Requests
 pub mod Waits
+pub mod Faults
+pub mod Later
 pub mod Work
 pub mod Scripts
 pub mod Parting

@@ -1,5 +1,5 @@
 -- What a script prints, and how its run ends.
-use Rattle.std.specs.Prelude.{◌≡◌, ℕ, ◌+◌, ◌==◌, ◌⊎◌, ◌||◌, Bool, true, false, if◌then◌else◌, List, [], ◌∷◌, ◌++◌, Option, Some, None, IfSome, codes}
+use Rattle.std.specs.Prelude.{◌≡◌, ⊤, ℕ, ◌+◌, ◌==◌, ◌⊎◌, ◌||◌, Bool, true, false, if◌then◌else◌, List, [], ◌∷◌, ◌++◌, Option, Some, None, IfSome, codes}
 use Rattle.std.specs.Fmt.{decimal}
 use Rattle.std.specs.Io.KnownBytes.{Appends}
 use Rattle.refusals.specs.Refusals.{refusal_text}
@@ -10,9 +10,10 @@ use Rattle.reg_script.specs.declared.line.Line.{Line}
 use Rattle.reg_script.specs.declared.reply.ReplyLine.{ReplyLine}
 use Rattle.reg_script.specs.declared.reply.ReplyLine.TheVariants as reply
 use Rattle.regtx_parts.specs.Scripts.{Script, Answers, fresh_script, hives_asked, line_asked}
+use Rattle.regtx_parts.specs.Faults.{tells_of_device}
 use Rattle.regtx_parts.specs.Work.{Between, is_fault}
 use Rattle.regtx_parts.specs.declared.working.Pace.{Pace}
-use Rattle.regtx_parts.specs.declared.working.Pace.TheVariants.{AsAsked}
+use Rattle.regtx_parts.specs.declared.working.Pace.TheVariants.{AsAsked, FreesRoom}
 use Rattle.reg_script.specs.Statuses.{with_refusal}
 use Rattle.regtx_parts.specs.declared.ending.Ending.{Ending}
 use Rattle.regtx_parts.specs.declared.ending.Ending.TheVariants.{Ended, Broken, OutOfMemory}
@@ -73,15 +74,20 @@ EndsAs (Some ending) text status = Ends ending text status
 abbrev pub KeepsUp : Pace → Script → Script → Type 0
 KeepsUp pace old new = (ended : Option Refusal) × Between pace ended old.machine new.machine × (new ≡ record old { machine = new.machine; failed = old.failed || is_fault ended })
 
+-- A store that makes no steps between lines is one in memory, whose disk never fails: none of its replies tells of the device.
+abbrev pub MayReply : Pace → ReplyLine → Type 0
+MayReply AsAsked told = tells_of_device told ≡ false
+MayReply FreesRoom told = ⊤
+
 -- From old, at the line of this number, the lines and the way that reading ended print this text, end with this status and
--- leave the script so: each line is answered in turn, up to one that is not understood; and between the lines the store works at
--- this pace.
-abbrev pub PlaysOn : Pace → Script → ℕ → List (List ℕ) → Option Ending → List ℕ → Status → Script → Type 0
-PlaysOn pace old number [] ending text status end = EndsAs ending text status × (end ≡ old)
-PlaysOn pace old number (line ∷ lines) ending text status end =
+-- leave the script so: each line is answered in turn, by a reply that may be given, up to one that is not understood; and between
+-- the lines the store works at this pace.
+abbrev pub PlaysOn : (ReplyLine → Type 0) → Pace → Script → ℕ → List (List ℕ) → Option Ending → List ℕ → Status → Script → Type 0
+PlaysOn may pace old number [] ending text status end = EndsAs ending text status × (end ≡ old)
+PlaysOn may pace old number (line ∷ lines) ending text status end =
     ((line_asked line ≡ None) × IsWrong number lines ending text status × (end ≡ old))
     ⊎ ((asked : Line) × (told : ReplyLine) × (new kept : Script) × (rest : List ℕ) × (later : Status) × (line_asked line ≡ Some asked) × Answers old asked told new
-    × KeepsUp pace new kept × PlaysOn pace kept (number + 1) lines ending rest later end × (text ≡ reply_line told ++ rest)
+    × may told × KeepsUp pace new kept × PlaysOn may pace kept (number + 1) lines ending rest later end × (text ≡ reply_line told ++ rest)
     × (status ≡ with_refusal (is_refusal told) later))
 
 -- the first line says how many hives there are; a script without a line is wrong at line 1
@@ -92,7 +98,7 @@ Plays [] (Some OutOfMemory) text status = Ends OutOfMemory text status
 Plays [] None text status = ⊥
 Plays (line ∷ lines) ending text status =
     ((hives_asked line ≡ None) × IsWrong 1 lines ending text status)
-    ⊎ ((hives : ℕ) × (rest : List ℕ) × (end : Script) × (hives_asked line ≡ Some hives) × PlaysOn AsAsked (fresh_script hives) 2 lines ending rest status end
+    ⊎ ((hives : ℕ) × (rest : List ℕ) × (end : Script) × (hives_asked line ≡ Some hives) × PlaysOn (MayReply AsAsked) AsAsked (fresh_script hives) 2 lines ending rest status end
     × (text ≡ reply_line reply.Done ++ rest))
 
 -- some lines were read, and what was written is what they print
@@ -103,4 +109,4 @@ IsPlayed known before after status =
 -- the same from a script's later line on, over a store that works at this pace; it leaves the script so
 abbrev pub IsPlayedOn : Pace → Script → ℕ → Option (List ℕ) → Option (List ℕ) → Option (List ℕ) → Status → Script → Type 0
 IsPlayedOn pace old number known before after status end =
-    (lines : List (List ℕ)) × (ending : Option Ending) × (text : List ℕ) × WereRead known lines ending × PlaysOn pace old number lines ending text status end × Appends before after text
+    (lines : List (List ℕ)) × (ending : Option Ending) × (text : List ℕ) × WereRead known lines ending × PlaysOn (MayReply pace) pace old number lines ending text status end × Appends before after text

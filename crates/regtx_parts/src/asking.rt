@@ -2,6 +2,7 @@
 ghost use Rattle.std.specs.Prelude.{◌≡◌};
 ghost use Rattle.engine_law.specs.Progress.{HasPending, IsMade, NearsDurable};
 ghost use Rattle.machine.specs.Steps.{Step};
+ghost use Rattle.regtx_parts.specs.Later.{IsLater};
 
 use disk_model::Disk;
 use engine::Engine;
@@ -14,7 +15,7 @@ pub(crate) fn ask<D: Disk>(engine: &mut Engine<D>, event: Event) -> Reply
         NearsDurable engine.old.machine engine.old.left engine.new.machine engine.new.left }
     ensures left { ¬ (event ≡ Event.JournalStep) → ¬ (event ≡ Event.TrimStep) →
         engine.new.left ≡ engine.old.left }
-    ensures faithful { D.faithful engine.new.disk → D.faithful engine.old.disk }
+    ensures later { IsLater D.faithful D.failures engine.old engine.new }
 {
     engine.event(event)
 }

@@ -6,7 +6,7 @@
 //! `specs/Plays` and `specs/Running`.
 //!
 //! What a run is made of is public, for runs of another kind: [`begin_on`] makes the store that a script's first line asks for, on a disk
-//! in memory that fails as a plan says, and [`open_store`] opens the one that is on a disk; a [`Player`] answers one line after another; [`next_line`], [`end`] and [`wrong`] read a
+//! in memory that fails as a plan says, and [`open_store`] opens the one that is on a disk, or [`open_engine`] without a session; a [`Player`] answers one line after another; [`next_line`], [`end`] and [`wrong`] read a
 //! script's lines and tell how they end.
 #![tactic(auto)]
 
@@ -25,7 +25,7 @@ mod working;
 
 pub use ending::Ending;
 pub use making::{begin_on, make_journal_room};
-pub use opening::open_store;
+pub use opening::{open_engine, open_store};
 pub use player::Player;
 pub use reg_script::Status;
 pub use runner::{end, is_refusal, next_line, play, refuse_script, wrong};

@@ -4,6 +4,7 @@ ghost use Rattle.machine.specs.Steps.{Step};
 ghost use Rattle.reg_script.specs.declared.line.Line.{Line as AnyLine};
 ghost use Rattle.reg_script.specs.declared.reply.ReplyLine.{ReplyLine as AnyReplyLine};
 ghost use Rattle.regtx_parts.specs.Scripts.{Asks, Answers, AsksAndWaits, event_alone, event_inside, later_line, line_asked, script_at};
+ghost use Rattle.regtx_parts.specs.Later.{IsLater};
 ghost use Rattle.regtx_parts.specs.Players.{engine_of, script_of, reply_by};
 ghost use Rattle.regtx_parts.specs.Plays.{KeepsUp};
 
@@ -64,7 +65,7 @@ impl<D: Disk> Player<D> {
     /// What the store does between two lines, at this pace. That the device failed in it is kept for the end.
     pub fn keep_up(&mut self, pace: Pace)
         ensures kept { KeepsUp pace (script_of self.old) (script_of self.new) }
-        ensures faithful { D.faithful (engine_of self.new).disk → D.faithful (engine_of self.old).disk }
+        ensures later { IsLater D.faithful D.failures (engine_of self.old) (engine_of self.new) }
     {
         let ended = keep_up(&mut self.engine, pace);
         self.failed = self.failed || is_fault(ended);
@@ -115,7 +116,7 @@ impl<D: Disk> Player<D> {
         ensures some { IfOk result (λ made. IfSome made
             (λ told. (asked : AnyLine) × (line_asked bytes.now ≡ Some asked)
             × Answers (script_of self.old) asked told (script_of self.new))) }
-        ensures faithful { D.faithful (engine_of self.new).disk → D.faithful (engine_of self.old).disk }
+        ensures later { IsLater D.faithful D.failures (engine_of self.old) (engine_of self.new) }
     {
         match read_line(alloc, bytes) {
             Ok(line) => Ok(self.answer(alloc, line)),
@@ -129,7 +130,7 @@ impl<D: Disk> Player<D> {
         ensures told { MatchOption result ((later_line (Some line) ≡ None) × (self.new ≡ self.old))
             (λ told. (later_line (Some line) ≡ Some line)
             × Answers (script_of self.old) line told (script_of self.new)) }
-        ensures faithful { D.faithful (engine_of self.new).disk → D.faithful (engine_of self.old).disk }
+        ensures later { IsLater D.faithful D.failures (engine_of self.old) (engine_of self.new) }
     {
         let told = match line {
             Line::Hives { .. } | Line::Lab { .. } => return None,
@@ -157,7 +158,7 @@ impl<D: Disk> Player<D> {
     // opens the session, and makes it the current one
     fn enter(&mut self, number: u32) -> ReplyLine
         ensures told { Answers (script_of self.old) (Line.Session number) result (script_of self.new) }
-        ensures faithful { D.faithful (engine_of self.new).disk → D.faithful (engine_of self.old).disk }
+        ensures later { IsLater D.faithful D.failures (engine_of self.old) (engine_of self.new) }
     {
         match self.event(Event::StartSession { session: number }) {
             Reply::Done => {
@@ -174,7 +175,7 @@ impl<D: Disk> Player<D> {
         ensures refused { IfErr result (λ refusal.
             Answers (script_of self.old) (Line.Plain request) (ReplyLine.Refused refusal)
             (script_of self.new)) }
-        ensures faithful { D.faithful (engine_of self.new).disk → D.faithful (engine_of self.old).disk }
+        ensures later { IsLater D.faithful D.failures (engine_of self.old) (engine_of self.new) }
     {
         let event = self.event_alone(demand_of(alloc, request)?);
         Ok(self.ask(event))
@@ -191,7 +192,7 @@ impl<D: Disk> Player<D> {
         ensures refused { IfErr result (λ refusal.
             Answers (script_of self.old) (Line.Inside label request) (ReplyLine.Refused refusal)
             (script_of self.new)) }
-        ensures faithful { D.faithful (engine_of self.new).disk → D.faithful (engine_of self.old).disk }
+        ensures later { IsLater D.faithful D.failures (engine_of self.old) (engine_of self.new) }
     {
         let asked = demand_of(alloc, request)?;
         let event = self.event_inside(self.tx(label)?, asked);
@@ -256,7 +257,7 @@ impl<D: Disk> Player<D> {
         ensures refused { IfErr result (λ refusal.
             Answers (script_of self.old) (Line.Begin label id) (ReplyLine.Refused refusal)
             (script_of self.new)) }
-        ensures faithful { D.faithful (engine_of self.new).disk → D.faithful (engine_of self.old).disk }
+        ensures later { IsLater D.faithful D.failures (engine_of self.old) (engine_of self.new) }
     {
         self.labels.make_room(label)?;
         let session = self.session;
@@ -275,7 +276,7 @@ impl<D: Disk> Player<D> {
         ensures refused { IfErr result (λ refusal.
             Answers (script_of self.old) (Line.Commit label) (ReplyLine.Refused refusal)
             (script_of self.new)) }
-        ensures faithful { D.faithful (engine_of self.new).disk → D.faithful (engine_of self.old).disk }
+        ensures later { IsLater D.faithful D.failures (engine_of self.old) (engine_of self.new) }
     {
         let session = self.session;
         let moment = self.moment;
@@ -297,7 +298,7 @@ impl<D: Disk> Player<D> {
         ensures refused { IfErr result (λ refusal.
             Answers (script_of self.old) (Line.Rollback label) (ReplyLine.Refused refusal)
             (script_of self.new)) }
-        ensures faithful { D.faithful (engine_of self.new).disk → D.faithful (engine_of self.old).disk }
+        ensures later { IsLater D.faithful D.failures (engine_of self.old) (engine_of self.new) }
     {
         let session = self.session;
         let tx = self.tx(label)?;
@@ -310,7 +311,7 @@ impl<D: Disk> Player<D> {
         ensures refused { IfErr result (λ refusal.
             Answers (script_of self.old) (Line.Close label) (ReplyLine.Refused refusal)
             (script_of self.new)) }
-        ensures faithful { D.faithful (engine_of self.new).disk → D.faithful (engine_of self.old).disk }
+        ensures later { IsLater D.faithful D.failures (engine_of self.old) (engine_of self.new) }
     {
         let session = self.session;
         let tx = self.tx(label)?;
@@ -323,7 +324,7 @@ impl<D: Disk> Player<D> {
         ensures refused { IfErr result (λ refusal.
             Answers (script_of self.old) (Line.Outcome label) (ReplyLine.Refused refusal)
             (script_of self.new)) }
-        ensures faithful { D.faithful (engine_of self.new).disk → D.faithful (engine_of self.old).disk }
+        ensures later { IsLater D.faithful D.failures (engine_of self.old) (engine_of self.new) }
     {
         let session = self.session;
         let tx = self.tx(label)?;
@@ -333,7 +334,7 @@ impl<D: Disk> Player<D> {
     /// Makes all accepted changes durable, as the line `flush` does.
     pub fn flush(&mut self) -> ReplyLine
         ensures told { Answers (script_of self.old) Line.Flush result (script_of self.new) }
-        ensures faithful { D.faithful (engine_of self.new).disk → D.faithful (engine_of self.old).disk }
+        ensures later { IsLater D.faithful D.failures (engine_of self.old) (engine_of self.new) }
     {
         match self.ask_and_wait(Event::FlushAsk) {
             Ok(number) => ReplyLine::Flushed { number },
@@ -357,7 +358,7 @@ impl<D: Disk> Player<D> {
     fn event(&mut self, event: Event) -> Reply
         ensures step { Step self.old.engine.machine event result self.new.engine.machine }
         ensures rest { self.new ≡ record self.old { engine = self.new.engine } }
-        ensures faithful { D.faithful (engine_of self.new).disk → D.faithful (engine_of self.old).disk }
+        ensures later { IsLater D.faithful D.failures (engine_of self.old) (engine_of self.new) }
     {
         ask(&mut self.engine, event)
     }
@@ -365,7 +366,7 @@ impl<D: Disk> Player<D> {
     /// Asks the store one event, whose answer is the reply: nothing else of the script changes.
     pub fn ask(&mut self, event: Event) -> ReplyLine
         ensures told { Asks (script_of self.old) event result (script_of self.new) }
-        ensures faithful { D.faithful (engine_of self.new).disk → D.faithful (engine_of self.old).disk }
+        ensures later { IsLater D.faithful D.failures (engine_of self.old) (engine_of self.new) }
     {
         reply_of(self.event(event))
     }
@@ -375,7 +376,7 @@ impl<D: Disk> Player<D> {
     fn ask_and_wait(&mut self, event: Event) -> Result<u64, ReplyLine>
         ensures told { (tell : ℕ → AnyReplyLine) → AsksAndWaits (script_of self.old) event tell
             (reply_by tell result) (script_of self.new) }
-        ensures faithful { D.faithful (engine_of self.new).disk → D.faithful (engine_of self.old).disk }
+        ensures later { IsLater D.faithful D.failures (engine_of self.old) (engine_of self.new) }
     {
         match self.event(event) {
             Reply::Awaits { number } => match wait(&mut self.engine, number) {

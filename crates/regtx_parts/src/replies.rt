@@ -1,8 +1,10 @@
 //! An answer of the store as the reply to a line.
 ghost use Rattle.std.specs.Prelude.{◌≡◌};
+ghost use Rattle.regtx_parts.specs.Faults.{tells_of_device};
 ghost use Rattle.regtx_parts.specs.Scripts.{reply_of, found_reply, accepted_reply, added_reply, standing_reply, step_reply};
 
 use machine::{Found, Outcome, Progress, Reply};
+use refusals::Refusal;
 use reg_script::ReplyLine;
 use reg_tree::Value;
 
@@ -23,6 +25,18 @@ pub(crate) fn reply_of(answer: Reply) -> ReplyLine
         Reply::Done | Reply::Begun { .. } | Reply::Receipt { .. } | Reply::NotYet => {
             ReplyLine::Done
         }
+    }
+}
+
+/// Whether a reply tells of the device: that it failed in this call, or in an earlier one.
+pub(crate) fn tells_of_device(told: &ReplyLine) -> bool
+    ensures { result ≡ tells_of_device told.now }
+{
+    match told {
+        ReplyLine::Refused {
+            refusal: Refusal::DiskFault | Refusal::Faulted,
+        } => true,
+        _ => false,
     }
 }
 

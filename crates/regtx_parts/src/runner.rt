@@ -3,13 +3,15 @@ ghost use Rattle.std.specs.Prelude.{◌≡◌, ℕ, List, [], ◌++◌, ◌∷�
 ghost use Rattle.std.specs.Io.KnownBytes.{Appends, Keeps};
 ghost use Rattle.std.specs.Io.BufRead.{strip_last};
 ghost use Rattle.reg_script.specs.Replies.{reply_line};
-ghost use Rattle.regtx_parts.specs.Plays.{Ends, KeepsUp, WereRead, IsPlayed, IsPlayedOn, is_refusal, wrong_text};
-ghost use Rattle.regtx_parts.specs.Players.{script_of};
-ghost use Rattle.regtx_parts.specs.Turns.{TakesLine, Turns};
+ghost use Rattle.regtx_parts.specs.Plays.{Ends, KeepsUp, WereRead, IsPlayed, is_refusal, wrong_text};
+ghost use Rattle.regtx_parts.specs.Later.{IsLater};
+ghost use Rattle.regtx_parts.specs.Players.{engine_of, script_of};
+ghost use Rattle.regtx_parts.specs.Turns.{IsPlayedTo, TakesLine, Turns};
 
 use crate::ending::Ending;
 use crate::making::begin;
 use crate::player::Player;
+use crate::replies::tells_of_device;
 use crate::working::Pace;
 use disk_model::Disk;
 use refusals::Refusal;
@@ -99,10 +101,10 @@ pub(crate) fn play_lines<D: Disk, R: BufRead, W: Write>(
     reader: &mut R,
     writer: &mut W,
 ) -> io::Result<Status>
-    ensures played { IfOk result (λ status. IsPlayedOn pace (script_of player.old) 1
+    ensures played { IfOk result (λ status. IsPlayedTo pace (script_of player.old) 1
         (R.remaining reader.old) (W.contents writer.old) (W.contents writer.new) status
         (script_of player.new)) }
-    ensures faithful { D.faithful player.new.engine.disk → D.faithful player.old.engine.disk }
+    ensures later { IsLater D.faithful D.failures (engine_of player.old) (engine_of player.new) }
 {
     let mut line = Vec::new(alloc);
     go_on(alloc, player, pace, 1, reader, &mut line, writer)
@@ -118,10 +120,10 @@ fn go_on<D: Disk, R: BufRead, W: Write>(
     line: &mut Vec<u8>,
     writer: &mut W,
 ) -> io::Result<Status>
-    ensures played { IfOk result (λ status. IsPlayedOn pace (script_of player.old) first
+    ensures played { IfOk result (λ status. IsPlayedTo pace (script_of player.old) first
         (R.remaining reader.old) (W.contents writer.old) (W.contents writer.new) status
         (script_of player.new)) }
-    ensures faithful { D.faithful player.new.engine.disk → D.faithful player.old.engine.disk }
+    ensures later { IsLater D.faithful D.failures (engine_of player.old) (engine_of player.new) }
 {
     let mut has_refusal = false;
     for number in first..u64::MAX {
@@ -140,7 +142,7 @@ fn go_on<D: Disk, R: BufRead, W: Write>(
 fn keep_up<D: Disk, W: Write>(player: &mut Player<D>, pace: Pace, writer: &mut W) -> io::Result<()>
     ensures kept { OnOk result (KeepsUp pace (script_of player.old) (script_of player.new)
         × Keeps (W.contents writer.old) (W.contents writer.new)) }
-    ensures faithful { D.faithful player.new.engine.disk → D.faithful player.old.engine.disk }
+    ensures later { IsLater D.faithful D.failures (engine_of player.old) (engine_of player.new) }
 {
     write_out(writer, player.works_at(pace))?;
     player.keep_up(pace);
@@ -170,7 +172,7 @@ fn take_turn<D: Disk, R: BufRead, W: Write>(
     ensures told { IfOk result (λ told. Turns pace (script_of player.old) number
         (R.remaining reader.old) (W.contents writer.old) told (script_of player.new)
         (R.remaining reader.new) (W.contents writer.new)) }
-    ensures faithful { D.faithful player.new.engine.disk → D.faithful player.old.engine.disk }
+    ensures later { IsLater D.faithful D.failures (engine_of player.old) (engine_of player.new) }
 {
     if let Err(ending) = next_line(reader, line) {
         let status = end(writer, ending)?;
@@ -180,6 +182,11 @@ fn take_turn<D: Disk, R: BufRead, W: Write>(
     write_out(writer, waits)?;
     match player.reply_to(alloc, line) {
         Ok(Some(told)) => {
+            if pace.is_in_memory() && tells_of_device(&told) {
+                // a disk in memory fails only where it finds no memory
+                let status = end(writer, Ending::OutOfMemory)?;
+                return Ok(Turn::Over { status });
+            }
             let is_refusal = write_reply(writer, &told, waits)?;
             Ok(Turn::Replied { is_refusal })
         }

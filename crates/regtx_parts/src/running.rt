@@ -1,12 +1,14 @@
 //! Runs a script over the store that is on a disk.
-ghost use Rattle.std.specs.Prelude.{◌≡◌, ◌++◌, ◌∷◌, [], ℕ, List, Option, Some, IfErr, IfOk, IsOk, Ok, is_some};
+ghost use Rattle.std.specs.Prelude.{◌≡◌, ◌<◌, ◌≤◌, ◌++◌, ◌∷◌, [], ℕ, List, Option, Some, IfErr, IfOk, IsOk, Ok, is_some};
 ghost use Rattle.std.specs.Io.KnownBytes.{Appends, Keeps};
 ghost use Rattle.refusals.specs.Refusals.{refusal_text};
 ghost use Rattle.recovery.specs.Recovered.{seen_in};
 ghost use Rattle.reg_script.specs.Statuses.{with_refusal};
+ghost use Rattle.machine.specs.Machine.{Machine};
+ghost use Rattle.regtx_parts.specs.Faults.{Comes};
 ghost use Rattle.regtx_parts.specs.Plays.{WereRead, is_refusal};
 ghost use Rattle.regtx_parts.specs.Players.{script_of};
-ghost use Rattle.regtx_parts.specs.Running.{HasBegun, HasEnded, IsRun, IsUnopened, LeavesPrefix, flushed_text, undone, undone_text};
+ghost use Rattle.regtx_parts.specs.Running.{GoesOnTo, HasBegun, HasEnded, HasFailedSince, IsRun, IsUnopened, LeavesLife, LeavesPrefix, MayHaveFailed, flushed_text, undone, undone_text};
 ghost use Rattle.regtx_parts.specs.declared.ending.Ending.{Ending as AnyEnding};
 ghost use Rattle.regtx_parts.specs.declared.ending.Ending.TheVariants.{Broken};
 
@@ -29,22 +31,25 @@ use std::io::{BufRead, Write};
 /// device failed in a step that no line asked for. That a run which ends with status 0 leaves hives with all its changes is tested:
 /// no clause says that the steps at its end leave nothing to do.
 ///
-/// Before the store waits for the disk, and after each commit and flush, the replies so far are written out.
+/// Before the store waits for the disk, and after each commit and flush, the replies so far are written out. No reply tells of the
+/// device unless it failed in the run.
 ///
-/// If no store is opened, why is told, and no line is read. The disk is handed back in any case: whatever a crash leaves of it from
-/// then on recovers what was durable at the end. `Err` says that a write
-/// failed, which ends the run.
+/// If no store is opened, why is told, and no line is read. The disk is handed back in any case, also if a write fails: whatever a
+/// crash leaves of it from then on recovers what was durable at the end. `Err` says that a write failed, which ends the run.
 pub fn run<D: Disk, R: BufRead, W: Write>(
     alloc: Global,
     disk: D,
     reader: &mut R,
     writer: &mut W,
 ) -> (D, io::Result<Status>)
-    ensures { IfOk result.1 (λ status. (lines : List (List ℕ)) × (ending : Option AnyEnding)
-        × WereRead (R.remaining reader.old) lines ending × IsRun (D.failures result.0) (D.faithful result.0)
+    ensures runs { IfOk result.1 (λ status. (lines : List (List ℕ)) × (ending : Option AnyEnding)
+        × WereRead (R.remaining reader.old) lines ending
+        × IsRun (D.failures disk < D.failures result.0) (D.faithful result.0)
         (LeavesPrefix (D.faithful result.0) (D.state_at result.0) (D.clock result.0))
         (seen_in (D.state_at disk (D.clock disk))) lines ending
         (W.contents writer.old) (W.contents writer.new) status) }
+    ensures left { LeavesLife (D.failures disk < D.failures result.0) (D.faithful result.0)
+        (D.state_at disk (D.clock disk)) (D.state_at result.0 (D.clock result.0)) }
 {
     match begin_run(alloc, disk, writer) {
         Ok(mut player) => {
@@ -61,10 +66,13 @@ pub fn run_unread<D: Disk, W: Write>(
     disk: D,
     writer: &mut W,
 ) -> (D, io::Result<Status>)
-    ensures { IfOk result.1 (λ status. IsRun (D.failures result.0) (D.faithful result.0)
+    ensures runs { IfOk result.1 (λ status. IsRun (D.failures disk < D.failures result.0)
+        (D.faithful result.0)
         (LeavesPrefix (D.faithful result.0) (D.state_at result.0) (D.clock result.0))
         (seen_in (D.state_at disk (D.clock disk))) [] (Some Broken)
         (W.contents writer.old) (W.contents writer.new) status) }
+    ensures left { LeavesLife (D.failures disk < D.failures result.0) (D.faithful result.0)
+        (D.state_at disk (D.clock disk)) (D.state_at result.0 (D.clock result.0)) }
 {
     match begin_run(alloc, disk, writer) {
         Ok(player) => {
@@ -82,16 +90,24 @@ fn begin_run<D: Disk, W: Write>(
     writer: &mut W,
 ) -> Result<Player<D>, (D, io::Result<Status>)>
     ensures begun { IfOk result (λ player. HasBegun (D.faithful player.engine.disk)
-        (seen_in (D.state_at disk (D.clock disk))) (W.contents writer.old)
+        (seen_in (D.state_at disk (D.clock disk))) player.engine.store (W.contents writer.old)
         (W.contents writer.new) (script_of player)) }
+    ensures failures { IfOk result (λ player. D.failures disk ≤ D.failures player.engine.disk) }
     ensures unopened { IfErr result (λ back. IfOk back.1 (λ status.
-        IsUnopened (D.failures back.0) (D.faithful back.0) (seen_in (D.state_at disk (D.clock disk)))
+        IsUnopened (D.failures disk < D.failures back.0) (D.faithful back.0)
+        (seen_in (D.state_at disk (D.clock disk)))
         (W.contents writer.old) (W.contents writer.new) status)) }
+    ensures left { IfErr result (λ back. LeavesLife (D.failures disk < D.failures back.0)
+        (D.faithful back.0) (D.state_at disk (D.clock disk)) (D.state_at back.0 (D.clock back.0))) }
 {
     match open_store(alloc, disk) {
         Ok((engine, number)) => match writeln!(writer, "opened {number}") {
             Ok(()) => Ok(Player::new(alloc, engine)),
-            Err(error) => Err((engine.into_disk(), Err(error))),
+            Err(error) => {
+                engine.keeps_a_prefix();
+                engine.reads_a_prefix();
+                Err((engine.into_disk(), Err(error)))
+            }
         },
         Err((why, disk)) => Err((disk, tell_refusal(writer, why))),
     }
@@ -104,9 +120,17 @@ fn end_run<D: Disk, W: Write>(
     writer: &mut W,
 ) -> (D, io::Result<Status>)
     ensures ended { IfOk result.1 (λ status. IfOk played (λ came_to.
-        HasEnded (LeavesPrefix (D.faithful result.0) (D.state_at result.0) (D.clock result.0))
+        HasEnded (MayHaveFailed (script_of player) (D.failures player.engine.disk)
+        (D.failures result.0))
+        (LeavesPrefix (D.faithful result.0) (D.state_at result.0) (D.clock result.0)
+        player.engine.store)
         (script_of player) came_to (W.contents writer.old) (W.contents writer.new) status)) }
     ensures played { IsOk result.1 → IsOk played }
+    ensures left { D.faithful result.0 → (last : Machine) × Comes player.engine.machine last
+        × GoesOnTo (HasFailedSince player.engine.machine (D.failures player.engine.disk)
+        (D.failures result.0)) player.engine.store last
+        (D.state_at result.0 (D.clock result.0)) }
+    ensures failures { D.failures player.engine.disk ≤ D.failures result.0 }
     ensures faithful { D.faithful result.0 → D.faithful player.engine.disk }
 {
     let mut player = player;
@@ -116,6 +140,7 @@ fn end_run<D: Disk, W: Write>(
     let mut engine = player.into_engine();
     let ended = settle(&mut engine);
     engine.keeps_a_prefix();
+    engine.reads_a_prefix();
     let played = tell_flush(writer, told, played);
     (
         engine.into_disk(),

@@ -3,6 +3,7 @@ ghost use Rattle.std.specs.Prelude.{◌≡◌, ◌<◌, ◌≤◌, MatchResult, 
 ghost use Rattle.engine_law.specs.Progress.{steps_to_all};
 ghost use Rattle.machine.specs.Machine.{last_number};
 ghost use Rattle.machine.specs.Steps.{Step};
+ghost use Rattle.regtx_parts.specs.Later.{IsLater};
 ghost use Rattle.regtx_parts.specs.Waits.{IsWaited, IsAsked, IsStepped};
 
 use crate::asking::ask;
@@ -15,7 +16,7 @@ use refusals::Refusal;
 /// the first question or step that is refused.
 pub(crate) fn wait<D: Disk>(engine: &mut Engine<D>, number: u64) -> Result<(), Refusal>
     requires { number ≤ last_number engine.old.machine }
-    ensures faithful { D.faithful engine.new.disk → D.faithful engine.old.disk }
+    ensures later { IsLater D.faithful D.failures engine.old engine.new }
     ensures waited { MatchResult result (λ _. IsWaited engine.old.machine number None engine.new.machine)
         (λ refusal. IsWaited engine.old.machine number (Some refusal) engine.new.machine) }
 {
@@ -28,7 +29,7 @@ pub(crate) fn wait<D: Disk>(engine: &mut Engine<D>, number: u64) -> Result<(), R
 // whether there is a receipt of the change
 fn has_receipt<D: Disk>(engine: &mut Engine<D>, number: u64) -> Result<bool, Refusal>
     ensures left { engine.new.left ≡ engine.old.left }
-    ensures faithful { D.faithful engine.new.disk → D.faithful engine.old.disk }
+    ensures later { IsLater D.faithful D.failures engine.old engine.new }
     ensures asked { MatchResult result (λ has. IsAsked engine.old.machine number has engine.new.machine)
         (λ refusal. Step engine.old.machine (Event.Acked number) (Reply.Refused refusal)
         engine.new.machine) }
@@ -42,7 +43,7 @@ fn has_receipt<D: Disk>(engine: &mut Engine<D>, number: u64) -> Result<bool, Ref
 
 // one step of the journal
 fn step<D: Disk>(engine: &mut Engine<D>) -> Result<(), Refusal>
-    ensures faithful { D.faithful engine.new.disk → D.faithful engine.old.disk }
+    ensures later { IsLater D.faithful D.failures engine.old engine.new }
     ensures made { MatchResult result (λ _. IsStepped engine.old.machine engine.new.machine)
         (λ refusal. Step engine.old.machine Event.JournalStep (Reply.Refused refusal)
         engine.new.machine) }

@@ -1,8 +1,9 @@
 //! What a store does beside the lines of a script: durable changes go into the hives, and the journal's room is freed.
-ghost use Rattle.std.specs.Prelude.{◌≡◌, IfSome, MatchOption};
+ghost use Rattle.std.specs.Prelude.{◌≡◌, true, false, IfSome, MatchOption};
 ghost use Rattle.machine.specs.Steps.{Step};
 ghost use Rattle.machine.specs.declared.event.Reply.{Reply as AnyReply};
 ghost use Rattle.machine.specs.declared.event.Reply.TheVariants.{Refused as WasRefused};
+ghost use Rattle.regtx_parts.specs.Later.{IsLater};
 ghost use Rattle.regtx_parts.specs.Work.{Between, IsStep, WasMade, Works, is_fault};
 
 use crate::asking::ask;
@@ -22,8 +23,16 @@ pub enum Pace {
 }
 
 impl Pace {
-    /// Whether a store at this pace waits for the disk at a line, if it is one: at a `commit` and at a `flush`. A store that makes no
-    /// steps between lines is one in memory, which waits for nothing.
+    /// Whether a store at this pace is one in memory: it makes no steps between lines.
+    pub(crate) fn is_in_memory(self) -> bool
+        ensures memory { result ≡ true → self ≡ Pace.AsAsked }
+        ensures disk { result ≡ false → self ≡ Pace.FreesRoom }
+    {
+        matches!(self, Pace::AsAsked)
+    }
+
+    /// Whether a store at this pace waits for the disk at a line, if it is one: at a `commit` and at a `flush`. One in memory waits for
+    /// nothing.
     pub(crate) fn waits_at(self, line: &[u8]) -> bool {
         match self {
             Pace::AsAsked => false,
@@ -41,7 +50,7 @@ const BUSY_ROOM: u64 = MOST_JOURNAL_BYTES / 2;
 /// steps between lines would never come to one while further lines are written; and each flush of a hive writes all its pages anew.
 pub(crate) fn keep_up<D: Disk>(engine: &mut Engine<D>, pace: Pace) -> Option<Refusal>
     ensures works { Between pace result engine.old.machine engine.new.machine }
-    ensures faithful { D.faithful engine.new.disk → D.faithful engine.old.disk }
+    ensures later { IsLater D.faithful D.failures engine.old engine.new }
 {
     match pace {
         Pace::AsAsked => None,
@@ -69,7 +78,7 @@ pub fn frees_room<D: Disk>(engine: &Engine<D>) -> bool {
 /// journal's room is free. The first refused step ends it: its refusal is the answer.
 pub fn settle<D: Disk>(engine: &mut Engine<D>) -> Option<Refusal>
     ensures works { Works result engine.old.machine engine.new.machine }
-    ensures faithful { D.faithful engine.new.disk → D.faithful engine.old.disk }
+    ensures later { IsLater D.faithful D.failures engine.old engine.new }
 {
     for _ in 0..u64::MAX {
         let Some(event) = next_step(engine) else {
@@ -87,7 +96,7 @@ fn make_step<D: Disk>(engine: &mut Engine<D>, event: Event) -> Option<Refusal>
     ensures step { MatchOption result
         ((answer : AnyReply) × WasMade answer × Step engine.old.machine event answer engine.new.machine)
         (λ refusal. Step engine.old.machine event (WasRefused refusal) engine.new.machine) }
-    ensures faithful { D.faithful engine.new.disk → D.faithful engine.old.disk }
+    ensures later { IsLater D.faithful D.failures engine.old engine.new }
 {
     match ask(engine, event) {
         Reply::Refused { refusal } => Some(refusal),

@@ -1,6 +1,7 @@
 //! A script whose caller makes the steps of its store: what a commit and a flush ask, apart from the wait for it.
 ghost use Rattle.std.specs.Prelude.{◌≡◌};
 ghost use Rattle.machine.specs.Steps.{Step};
+ghost use Rattle.regtx_parts.specs.Later.{IsLater};
 ghost use Rattle.regtx_parts.specs.Parting.{AsksFor, AsksForCommit};
 ghost use Rattle.regtx_parts.specs.Players.{engine_of, script_of};
 ghost use Rattle.regtx_parts.specs.Scripts.{Asks, IsLabelled, script_at};
@@ -22,7 +23,7 @@ impl<D: Disk> Player<D> {
             (λ tx. Asks (script_of self.old) (Event.CommitAccept (script_of self.old).session tx
             (script_of self.old).moment) result (script_of self.new))
             (script_of self.old) result (script_of self.new) }
-        ensures faithful { D.faithful (engine_of self.new).disk → D.faithful (engine_of self.old).disk }
+        ensures later { IsLater D.faithful D.failures (engine_of self.old) (engine_of self.new) }
     {
         let session = self.session;
         let moment = self.moment;
@@ -39,6 +40,7 @@ impl<D: Disk> Player<D> {
     /// What the line `commit` asks: the number of the change to wait for, or the reply that it comes to without a wait.
     pub fn ask_commit(&mut self, label: Label) -> Result<u64, ReplyLine>
         ensures asked { AsksForCommit (script_of self.old) label result (script_of self.new) }
+        ensures later { IsLater D.faithful D.failures (engine_of self.old) (engine_of self.new) }
     {
         let session = self.session;
         let moment = self.moment;
@@ -55,6 +57,7 @@ impl<D: Disk> Player<D> {
     /// What the line `flush` asks, likewise.
     pub fn ask_flush(&mut self) -> Result<u64, ReplyLine>
         ensures asked { AsksFor (script_of self.old) Event.FlushAsk result (script_of self.new) }
+        ensures later { IsLater D.faithful D.failures (engine_of self.old) (engine_of self.new) }
     {
         self.ask_for(Event::FlushAsk)
     }
@@ -64,7 +67,7 @@ impl<D: Disk> Player<D> {
         ensures step { Step (engine_of self.old).machine event result (engine_of self.new).machine }
         ensures rest { script_of self.new
             ≡ record (script_of self.old) { machine = (script_of self.new).machine } }
-        ensures faithful { D.faithful (engine_of self.new).disk → D.faithful (engine_of self.old).disk }
+        ensures later { IsLater D.faithful D.failures (engine_of self.old) (engine_of self.new) }
     {
         self.event(event)
     }
@@ -72,6 +75,7 @@ impl<D: Disk> Player<D> {
     // asks an event whose answer is a number to wait for, or the reply
     fn ask_for(&mut self, event: Event) -> Result<u64, ReplyLine>
         ensures asked { AsksFor (script_of self.old) event result (script_of self.new) }
+        ensures later { IsLater D.faithful D.failures (engine_of self.old) (engine_of self.new) }
     {
         match self.event(event) {
             Reply::Awaits { number } => Ok(number),

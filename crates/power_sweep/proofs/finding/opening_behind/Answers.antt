@@ -10,7 +10,7 @@ returns-in-Ok c =
     let left = c.in_ok-left.left in
     let now = states disk.past disk.files.items (length (earlier disk.past)) in
     let by = subst (λ k. (f : ℕ) → IsCrashOf c.args.tear (now f) (states left.past left.files.items k f)) (sym c.in_ok-left.ensures.clock) c.in_ok-left.ensures.left in
-    found_open c.args.tear c.args.bounds now (states left.past left.files.items (length (earlier left.past))) c.in-Ok.number c.in-Ok.engine.machine c.finding_of.result by c.in-Ok.ensures.ok c.finding_of.ensures
+    found_open c.args.tear c.args.bounds now (states left.past left.files.items (length (earlier left.past))) c.in-Ok.engine.store c.in-Ok.number c.in-Ok.engine.machine c.finding_of.result by c.in-Ok.ensures.ok c.finding_of.ensures
 
 pub returns : goal.returns
 returns c =

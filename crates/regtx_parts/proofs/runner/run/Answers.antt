@@ -5,7 +5,8 @@ use Rattle.regtx_parts.specs.Scripts.{hives_asked, script_at}
 use Rattle.machine.specs.Machine.{bounds_for, fresh_machine}
 use Rattle.machine.specs.Steps.{with_session}
 use Rattle.regtx_parts.specs.Players.{script_of}
-use Rattle.regtx_parts.specs.Plays.{Ends, IsPlayed, IsPlayedOn, wrong_text}
+use Rattle.regtx_parts.specs.Plays.{Ends, IsPlayed, wrong_text}
+use Rattle.regtx_parts.specs.Turns.{IsPlayedTo}
 use Rattle.regtx_parts.specs.declared.ending.Ending.TheVariants.{OutOfMemory}
 use Rattle.reg_script.specs.declared.status.Status.TheVariants.{Wrong}
 use Rattle.regtx_parts.specs.declared.working.Pace.TheVariants.{AsAsked}
@@ -21,9 +22,8 @@ returns-in-Ok-Some g c =
     let after = g.W.Write.contents c.go_on.new.writer in
     let some = subst (λ made. IfSome made (λ engine. (hives : ℕ) × (hives_asked c.deref.result.now ≡ Some hives) × (engine.machine ≡ with_session (fresh_machine (bounds_for hives)) 0))) c.in-Ok-Some.field-0-is c.in-Ok-Some.ensures.some in
     let old = script_of c.new-player.result in
-    let end = script_of c.go_on.new.player in
-    if_ok (λ status. IsPlayedOn AsAsked old 2 rest mid after status end) (IsPlayed known before after) c.go_on.result
-    (λ status on. begins known rest before mid after c.next_line.new.line.items some.0 old end status c.in-Ok.ensures.line (ap hives_asked (sym c.deref.ensures.value) ∙ some.1) (c.new-player.ensures.script ∙ ap script_at some.2) c.in_ok-write-in-Ok-Some.ensures on)
+    if_ok (λ status. IsPlayedTo AsAsked old 2 rest mid after status (script_of c.go_on.new.player)) (IsPlayed known before after) c.go_on.result
+    (λ status on. begins known rest before mid after c.next_line.new.line.items some.0 old on.0 status c.in-Ok.ensures.line (ap hives_asked (sym c.deref.ensures.value) ∙ some.1) (c.new-player.ensures.script ∙ ap script_at some.2) c.in_ok-write-in-Ok-Some.ensures on.1)
     c.go_on.ensures.played
 
 pub returns-in-Ok-None : goal.returns-in-Ok-None

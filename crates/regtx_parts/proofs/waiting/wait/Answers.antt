@@ -1,5 +1,6 @@
 use Rattle.std.proofs.Common.{Some, None, false, subst}
 use Rattle.regtx_parts.specs.Waits.{IsWaited, IsAsked}
+use Rattle.regtx_parts.proofs.Later.{later_on, later_same}
 use Rattle.regtx_parts.proofs.Waited.{question_refused, step_refused, one_step_more, still_accepted, handed_on}
 use Rattle.regtx_parts.proofs.waiting.wait.Goals as goal
 
@@ -24,20 +25,26 @@ returns-in_err-step-clause-waited g c =
 
 pub loop-engine-preserved : goal.loop-engine-preserved
 loop-engine-preserved g c =
+    let D = g.D.Disk in
     let old = c.loop-engine.engine.machine in
     let mid = c.has_receipt.new.engine.machine in
     let next = c.step.new.engine.machine in
     let asked : IsAsked old c.args.number false mid = subst (λ has. IsAsked old c.args.number has mid) c.if-not-branch.true c.in_ok-has_receipt.ensures.asked in (
       still_accepted old mid next c.args.number asked c.in_ok-step.ensures.made c.loop-engine.invariant.0,
-      λ faithful. c.loop-engine.invariant.1 (c.has_receipt.ensures.faithful (c.step.ensures.faithful faithful)),
+      later_on D.faithful D.failures c.args.engine.now c.loop-engine.engine c.step.new.engine c.loop-engine.invariant.1 (later_on D.faithful D.failures c.loop-engine.engine c.has_receipt.new.engine c.step.new.engine c.has_receipt.ensures.later c.step.ensures.later),
       λ ended new waited. c.loop-engine.invariant.2 ended new (one_step_more old mid next c.args.number ended new asked c.in_ok-step.ensures.made waited),
     )
 
-pub returns-in_err-has_receipt-clause-faithful : goal.returns-in_err-has_receipt-clause-faithful
-returns-in_err-has_receipt-clause-faithful g c = λ faithful. c.loop-engine.invariant.1 (c.has_receipt.ensures.faithful faithful)
+pub returns-in_err-has_receipt-clause-later : goal.returns-in_err-has_receipt-clause-later
+returns-in_err-has_receipt-clause-later g c = let D = g.D.Disk in later_on D.faithful D.failures c.args.engine.now c.loop-engine.engine c.has_receipt.new.engine c.loop-engine.invariant.1 c.has_receipt.ensures.later
 
-pub returns-in_err-step-clause-faithful : goal.returns-in_err-step-clause-faithful
-returns-in_err-step-clause-faithful g c = λ faithful. c.loop-engine.invariant.1 (c.has_receipt.ensures.faithful (c.step.ensures.faithful faithful))
+pub returns-in_err-step-clause-later : goal.returns-in_err-step-clause-later
+returns-in_err-step-clause-later g c =
+    let D = g.D.Disk in
+    later_on D.faithful D.failures c.args.engine.now c.loop-engine.engine c.step.new.engine c.loop-engine.invariant.1 (later_on D.faithful D.failures c.loop-engine.engine c.has_receipt.new.engine c.step.new.engine c.has_receipt.ensures.later c.step.ensures.later)
 
-pub returns-clause-faithful : goal.returns-clause-faithful
-returns-clause-faithful g c = λ faithful. c.loop-engine.invariant.1 (c.has_receipt.ensures.faithful faithful)
+pub returns-clause-later : goal.returns-clause-later
+returns-clause-later g c = let D = g.D.Disk in later_on D.faithful D.failures c.args.engine.now c.loop-engine.engine c.has_receipt.new.engine c.loop-engine.invariant.1 c.has_receipt.ensures.later
+
+pub loop-engine-init : goal.loop-engine-init
+loop-engine-init g c = let D = g.D.Disk in (c.requires, later_same D.faithful D.failures c.args.engine.now, λ ended new waited. waited)

@@ -2,12 +2,13 @@ use Rattle.std.proofs.Common.{◌≤◌, Option}
 use Rattle.refusals.specs.declared.refusal.Refusal.{Refusal}
 use Rattle.machine.specs.Machine.{Machine, last_number}
 use Rattle.engine_law.specs.Progress.{steps_to_all}
+use Rattle.regtx_parts.specs.Later.{IsLater}
 use Rattle.regtx_parts.specs.Waits.{IsWaited}
 use Rattle.regtx_parts.proofs.waiting.wait.Given as goal
 
--- however the wait goes on from here, it is the whole wait; and a disk that is faithful then was so before
+-- however the wait goes on from here, it is the whole wait; and the store has gone on so far
 abbrev pub invariant-loop-engine : goal.invariant-loop-engine
-invariant-loop-engine g l = (l.number ≤ last_number l.engine.machine) × (g.D.Disk.faithful l.engine.disk → g.D.Disk.faithful l.fn.engine.disk) × ((ended : Option Refusal) (new : Machine) → IsWaited l.engine.machine l.number ended new → IsWaited l.fn.engine.machine l.number ended new)
+invariant-loop-engine g l = (l.number ≤ last_number l.engine.machine) × IsLater g.D.Disk.faithful g.D.Disk.failures l.fn.engine l.engine × ((ended : Option Refusal) (new : Machine) → IsWaited l.engine.machine l.number ended new → IsWaited l.fn.engine.machine l.number ended new)
 
 -- how many steps of the journal are left at most
 abbrev pub decreases-loop-engine : goal.decreases-loop-engine

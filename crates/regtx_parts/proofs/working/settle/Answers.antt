@@ -1,4 +1,5 @@
 use Rattle.std.proofs.Common.{Some, None}
+use Rattle.regtx_parts.proofs.Later.{later_on, later_same}
 use Rattle.regtx_parts.proofs.Worked.{none_made, one_before, one_refused}
 use Rattle.regtx_parts.proofs.working.settle.Goals as goal
 
@@ -12,10 +13,17 @@ returns-in-Some-make_step-clause-works g c =
 
 pub loop-preserved : goal.loop-preserved
 loop-preserved g c =
+    let D = g.D.Disk in
     let made = c.in_default-make_step.ensures.step in (
-      λ faithful. c.loop.invariant.0 (c.make_step.ensures.faithful faithful),
+      later_on D.faithful D.failures c.args.engine.now c.loop.engine c.make_step.new.engine c.loop.invariant.0 c.make_step.ensures.later,
       λ ended new on. c.loop.invariant.1 ended new (one_before c.loop.engine.machine c.make_step.new.engine.machine new c.in-Some.event made.0 ended c.in-Some.ensures made.1 made.2 on),
     )
 
 pub returns-clause-works : goal.returns-clause-works
 returns-clause-works g c = c.loop.invariant.1 None c.loop.engine.machine (none_made c.loop.engine.machine)
+
+pub returns-in-Some-make_step-clause-later : goal.returns-in-Some-make_step-clause-later
+returns-in-Some-make_step-clause-later g c = let D = g.D.Disk in later_on D.faithful D.failures c.args.engine.now c.loop.engine c.make_step.new.engine c.loop.invariant.0 c.make_step.ensures.later
+
+pub loop-init : goal.loop-init
+loop-init g c = let D = g.D.Disk in (later_same D.faithful D.failures c.args.engine.now, λ ended new on. on)

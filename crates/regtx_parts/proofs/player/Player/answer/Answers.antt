@@ -1,7 +1,10 @@
-use Rattle.std.proofs.Common.{Ok, refl, ap}
+use Rattle.std.proofs.Common.{Ok, refl, ap, sym, subst}
 use Rattle.reg_script.specs.declared.line.Line.TheVariants.{At, Session, End, Plain, Inside, Begin, Commit, Rollback, Close, Outcome, Flush}
 use Rattle.reg_script.specs.declared.reply.ReplyLine.TheVariants.{Done}
 use Rattle.regtx_parts.proofs.Answered.{carried}
+use Rattle.regtx_parts.proofs.Later.{later_same}
+use Rattle.regtx_parts.specs.Later.{IsLater}
+use Rattle.regtx_parts.specs.declared.player.Player.{Player}
 use Rattle.regtx_parts.specs.Players.{script_of}
 use Rattle.regtx_parts.proofs.player.Player.answer.Goals.{in-At, in-Session, in-End, in-Plain, in-Inside, in-Begin, in-Commit, in-Rollback, in-Close, in-Outcome, in-Flush}
 use Rattle.regtx_parts.proofs.player.Player.answer.Goals as goal
@@ -25,3 +28,42 @@ returns-in-Ok-clause-told g c =
       | in-Outcome w ↦ carried old (script_of w.outcome-told.new.self) then line (Outcome w.in-Outcome.label) w.outcome-told.result told c.in-Ok.told w.in-Outcome.is refl w.told-is c.in-Ok.is (ap script_of w.self-is) w.outcome-told.ensures.ok
       | in-Flush w ↦ carried old (script_of w.flush.new.self) then line Flush (Ok w.flush.result) told c.in-Ok.told w.in-Flush.is refl w.told-is c.in-Ok.is (ap script_of w.self-is) w.flush.ensures.told
     ]
+
+pub returns-in-Ok-clause-later : goal.returns-in-Ok-clause-later
+returns-in-Ok-clause-later g c =
+    let D = g.D.Disk in
+    let old = c.args.self.now in
+    elim c.match-line.branch [
+      | in-At w ↦ subst (λ (p : Player _). IsLater D.faithful D.failures old.engine p.engine) (sym w.self-is) (later_same D.faithful D.failures old.engine)
+      | in-Session w ↦ subst (λ (p : Player _). IsLater D.faithful D.failures old.engine p.engine) (sym w.self-is) w.enter.ensures.later
+      | in-End w ↦ subst (λ (p : Player _). IsLater D.faithful D.failures old.engine p.engine) (sym w.self-is) w.ask.ensures.later
+      | in-Plain w ↦ subst (λ (p : Player _). IsLater D.faithful D.failures old.engine p.engine) (sym w.self-is) w.alone-told.ensures.later
+      | in-Inside w ↦ subst (λ (p : Player _). IsLater D.faithful D.failures old.engine p.engine) (sym w.self-is) w.inside-told.ensures.later
+      | in-Begin w ↦ subst (λ (p : Player _). IsLater D.faithful D.failures old.engine p.engine) (sym w.self-is) w.begin_as-told.ensures.later
+      | in-Commit w ↦ subst (λ (p : Player _). IsLater D.faithful D.failures old.engine p.engine) (sym w.self-is) w.commit-told.ensures.later
+      | in-Rollback w ↦ subst (λ (p : Player _). IsLater D.faithful D.failures old.engine p.engine) (sym w.self-is) w.rollback-told.ensures.later
+      | in-Close w ↦ subst (λ (p : Player _). IsLater D.faithful D.failures old.engine p.engine) (sym w.self-is) w.close-told.ensures.later
+      | in-Outcome w ↦ subst (λ (p : Player _). IsLater D.faithful D.failures old.engine p.engine) (sym w.self-is) w.outcome-told.ensures.later
+      | in-Flush w ↦ subst (λ (p : Player _). IsLater D.faithful D.failures old.engine p.engine) (sym w.self-is) w.flush.ensures.later
+    ]
+
+pub returns-in-Err-clause-later : goal.returns-in-Err-clause-later
+returns-in-Err-clause-later g c =
+    let D = g.D.Disk in
+    let old = c.args.self.now in
+    elim c.match-line.branch [
+      | in-At w ↦ subst (λ (p : Player _). IsLater D.faithful D.failures old.engine p.engine) (sym w.self-is) (later_same D.faithful D.failures old.engine)
+      | in-Session w ↦ subst (λ (p : Player _). IsLater D.faithful D.failures old.engine p.engine) (sym w.self-is) w.enter.ensures.later
+      | in-End w ↦ subst (λ (p : Player _). IsLater D.faithful D.failures old.engine p.engine) (sym w.self-is) w.ask.ensures.later
+      | in-Plain w ↦ subst (λ (p : Player _). IsLater D.faithful D.failures old.engine p.engine) (sym w.self-is) w.alone-told.ensures.later
+      | in-Inside w ↦ subst (λ (p : Player _). IsLater D.faithful D.failures old.engine p.engine) (sym w.self-is) w.inside-told.ensures.later
+      | in-Begin w ↦ subst (λ (p : Player _). IsLater D.faithful D.failures old.engine p.engine) (sym w.self-is) w.begin_as-told.ensures.later
+      | in-Commit w ↦ subst (λ (p : Player _). IsLater D.faithful D.failures old.engine p.engine) (sym w.self-is) w.commit-told.ensures.later
+      | in-Rollback w ↦ subst (λ (p : Player _). IsLater D.faithful D.failures old.engine p.engine) (sym w.self-is) w.rollback-told.ensures.later
+      | in-Close w ↦ subst (λ (p : Player _). IsLater D.faithful D.failures old.engine p.engine) (sym w.self-is) w.close-told.ensures.later
+      | in-Outcome w ↦ subst (λ (p : Player _). IsLater D.faithful D.failures old.engine p.engine) (sym w.self-is) w.outcome-told.ensures.later
+      | in-Flush w ↦ subst (λ (p : Player _). IsLater D.faithful D.failures old.engine p.engine) (sym w.self-is) w.flush.ensures.later
+    ]
+
+pub returns-in-Hives-clause-later : goal.returns-in-Hives-clause-later
+returns-in-Hives-clause-later g c = let D = g.D.Disk in later_same D.faithful D.failures c.args.self.now.engine
