@@ -1,5 +1,5 @@
 -- What a creation leaves, and what is told of it.
-use Rattle.std.proofs.Common.{ℕ, List, Option, Result, Ok, Err, OnOk, IfOk, IfErr, MatchResult, inl, inr}
+use Rattle.std.proofs.Common.{ℕ, List, length, Option, Result, Ok, Err, OnOk, IfOk, IfErr, MatchResult, inl, inr}
 use Rattle.refusals.specs.declared.refusal.Refusal.{Refusal}
 use Rattle.reg_script.specs.declared.status.Status.{Status}
 use Rattle.reg_tree.specs.Maps.{TreeMap}
