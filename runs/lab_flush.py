@@ -9,7 +9,7 @@ new ones; and between the two what is left of that sector decides.
 import os
 import sys
 
-sys.path.insert(0, os.path.join(os.path.dirname(os.path.dirname(os.path.abspath(__file__))), "tools"))
+sys.path.insert(0, os.path.join(os.path.dirname(os.path.dirname(os.path.abspath(__file__))), "tests"))
 from transcript import write  # noqa: E402
 
 CALLS = 10

@@ -1,9 +1,9 @@
-"""Prints a run over a key whose subkeys lie in groups of groups of leaves, and its values in leaves, changed in each; tools/memory plays it
+"""Prints a run over a key whose subkeys lie in groups of groups of leaves, and its values in leaves, changed in each; tests/memory plays it
 too."""
 import os
 import sys
 
-sys.path.insert(0, os.path.join(os.path.dirname(os.path.dirname(os.path.abspath(__file__))), "tools"))
+sys.path.insert(0, os.path.join(os.path.dirname(os.path.dirname(os.path.abspath(__file__))), "tests"))
 from transcript import listed, write  # noqa: E402
 
 ID = "00000000-0000-0000-0000-000000000001"
