@@ -49,6 +49,12 @@ def shown(thing):
     return text if len(text) <= 160 else f"{text[:160]}.. ({len(text)})"
 
 
+def refusal_shim():
+    """The path of the library that refuses allocations, for LD_PRELOAD; tools/failalloc says by which variables."""
+    built = subprocess.run([os.path.join(TOP, "tools", "failalloc"), "library"], stdout=subprocess.PIPE, check=True)
+    return built.stdout.decode().strip()
+
+
 def as_other():
     """What makes a run one of a user who isn't root; nothing where this isn't root either."""
     return {"user": NOBODY} if os.geteuid() == 0 else {}
