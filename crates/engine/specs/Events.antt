@@ -34,9 +34,9 @@ parts_view clock failures parts = record {
 
 -- Over a disk of these states, this clock and these failures, the parts go on by an event with an answer. It is a step of the
 -- machine, with at most one call of the device. The parts stay sound, and on the disk as they say, where they were and the disk
--- is faithful. The files are of the same store. The device has failed where the answer says so, and at no other answer. What the journal spelled at the
--- opening stays; the journal changes in a step of it or of a trim alone, and a hive in a step of its flush. The disk stays where the
--- answer is told without it.
+-- is faithful. The files are of the same store. The device has failed where the answer says so, and at no other answer. What the
+-- journal spelled at the opening stays; the journal changes in a step of it or of a trim alone, and a hive in a step of its flush. The
+-- disk stays where the answer is told without it.
 pub record GoesOn {D : Type 0} (states : D → ℕ → ℕ → FileState) (clock failures : D → ℕ) (is_faithful : D → Type 0)
     (event : Event) (answer : Reply) (old new : Parts D) : Type 0 where
   pub step : Step old.store.machine event answer new.store.machine

@@ -5,9 +5,10 @@
 //! answers by the machine of `machine`, which knows no bytes, what a line asks of it by `specs/Scripts`, and the text by
 //! `specs/Plays` and `specs/Running`.
 //!
-//! What a run is made of is public, for runs of another kind: [`begin_on`] makes the store that a script's first line asks for, on a disk
-//! in memory that fails as a plan says, and [`open_store`] opens the one that is on a disk, or [`open_engine`] without a session; a [`Player`] answers one line after another; [`next_line`], [`end`] and [`wrong`] read a
-//! script's lines and tell how they end.
+//! What a run is made of is public, for runs of another kind: [`begin_on`] makes the store that a script's first line asks for,
+//! on a disk in memory that fails as a plan says; [`open_store`] opens the one that is on a disk, and [`open_engine`] does so
+//! without a session; a [`Player`] answers one line after another; [`next_line`], [`end`] and [`wrong`] read a script's lines and
+//! tell how they end.
 #![tactic(auto)]
 
 mod asking;
