@@ -8,12 +8,12 @@ use Rattle.std.proofs.lemmas.List.Sums.{sum_by-cons, sum_by-append}
 use Rattle.reg_tree.specs.declared.op.Op.{Op}
 use Rattle.reg_tree.specs.declared.element.Element.{Element}
 use Rattle.reg_tree.specs.Texts.{op_text_len, ops_text_len, element_text_len}
-use Rattle.prefix_law.specs.Changes as law
-use Rattle.prefix_law.specs.Promises.{Spelled, floor, floor_of, top}
-use Rattle.element_text.specs.Text.{element_text, Fits}
-use Rattle.element_text.proofs.Elements.{element_law}
-use Rattle.element_text.proofs.Lengths.{element_length}
-use Rattle.engine_words.specs.Changes.{TimedOp, timed, timed_element, timed_elements}
+use Rattle.crash_model.specs.Changes as law
+use Rattle.crash_model.specs.Promises.{Spelled, floor, floor_of, top}
+use Rattle.change_codec.specs.Text.{element_text, Fits}
+use Rattle.change_codec.proofs.Elements.{element_law}
+use Rattle.change_codec.proofs.Lengths.{element_length}
+use Rattle.change_codec.specs.ModelChanges.{TimedOp, timed, timed_element, timed_elements}
 use Rattle.commit_journal.specs.Text.{IsBody, body_text}
 use Rattle.commit_journal.specs.OnDisk.{longer}
 use Rattle.commit_journal.specs.Store.{Store, texts, timed_at, timed_len, room_of}

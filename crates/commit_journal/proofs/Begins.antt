@@ -5,16 +5,16 @@ use Rattle.std.specs.Prelude.{◌^◌, sum_by}
 use Rattle.std.specs.List.{flat_map, AllByRecursion}
 use Rattle.byteorder.specs.Endian.{little_bytes}
 use Rattle.byteorder.specs.Numbers.{length-bytes_low_first}
-use Rattle.element_text.specs.Text.{element_text}
+use Rattle.change_codec.specs.Text.{element_text}
 use Rattle.reg_tree.specs.Texts.{element_text_len}
 use Rattle.commit_journal.specs.Store.{Store, texts}
 use Rattle.commit_journal.specs.Handed.{OnHives, FitsIfThere, IsLongestFront, body_len}
 use Rattle.commit_journal.proofs.Batches.{texts_length, all_taken, all_fit, body_is}
 use Rattle.reg_tree.specs.declared.element.Element.{Element}
-use Rattle.prefix_law.specs.Changes as law
-use Rattle.prefix_law.specs.Promises.{Spelled, nothing, under_way, MayFollow, BeginsBatch}
+use Rattle.crash_model.specs.Changes as law
+use Rattle.crash_model.specs.Promises.{Spelled, nothing, under_way, MayFollow, BeginsBatch}
 use Rattle.disk_model.specs.FileState.{FileState, Writes, MayWrite}
-use Rattle.engine_words.specs.Changes.{TimedOp, timed_element, timed_elements}
+use Rattle.change_codec.specs.ModelChanges.{TimedOp, timed_element, timed_elements}
 use Rattle.commit_journal.specs.Text.{Texts, Body, IsBody, body_text}
 use Rattle.commit_journal.specs.OnDisk.{is_on, value_at, longer, MayBegin, Phase.BodyWritten, Phase.Broken}
 use Rattle.commit_journal.specs.Journals.{spelled_by, value_in, IsReady}

@@ -6,7 +6,7 @@ use Rattle.std.specs.List.{flat_map}
 use Rattle.std.proofs.lemmas.List.{drop_at, append-nil}
 use Rattle.byteorder.specs.Endian.{little_bytes, little_number}
 use Rattle.byteorder.specs.Numbers.{little_number-reads_back, length-bytes_low_first}
-use Rattle.prefix_law.specs.Changes.{Element}
+use Rattle.crash_model.specs.Changes.{Element}
 use Rattle.commit_journal.specs.Text.{Texts, read_elements, whole_body, body_of, IsBody, body_text}
 use Rattle.commit_journal.proofs.Opening.{body_read}
 

@@ -1,6 +1,6 @@
 -- Each call of the device, from one phase to the next.
 use Rattle.std.proofs.Common.{◌≡◌, ⊎_elim, ℕ, ◌+◌, ◌<◌, List, [], ◌∷◌, ◌++◌, length, refl, ap, subst, arith, Some}
-use Rattle.prefix_law.specs.Promises.{Spelled, nothing}
+use Rattle.crash_model.specs.Promises.{Spelled, nothing}
 use Rattle.disk_model.specs.FileState.{FileState, Writes, MayWrite, Syncs}
 use Rattle.commit_journal.specs.Text.{Texts, Body, Stands}
 use Rattle.commit_journal.specs.OnDisk.{is_on, in_phase, MayBegin, longer, value_at, next_at}

@@ -4,11 +4,11 @@ use Rattle.std.specs.Prelude.{codes}
 use Rattle.std.proofs.lemmas.List.{length-replicate, nil_from_length}
 use Rattle.byteorder.specs.Endian.{little_bytes}
 use Rattle.byteorder.specs.Numbers.{length-bytes_low_first}
-use Rattle.prefix_law.specs.Promises.{Spelled, nothing}
+use Rattle.crash_model.specs.Promises.{Spelled, nothing}
 use Rattle.disk_model.specs.FileState.{FileState, at_rest, put, resized, Cuts, Writes, Syncs}
 use Rattle.disk_model.proofs.Leaves.{put_end}
 use Rattle.disk_model.proofs.Put.{length-resized}
-use Rattle.engine_words.specs.Changes.{TimedOp}
+use Rattle.change_codec.specs.ModelChanges.{TimedOp}
 use Rattle.commit_journal.specs.Store.{Store, created_text, header_text, texts}
 use Rattle.commit_journal.specs.OnDisk.{is_on, value_at, Phase.Quiet}
 use Rattle.commit_journal.proofs.Opening.{created}

@@ -6,11 +6,11 @@ use Rattle.byteorder.specs.Endian.{little_number, little_bytes}
 use Rattle.byteorder.specs.Numbers.{little_from-take, little_number-reads_back}
 use Rattle.reg_tree.specs.declared.element.Element.{Element}
 use Rattle.reg_tree.specs.Texts.{element_text_len}
-use Rattle.prefix_law.specs.Changes as law
-use Rattle.element_text.specs.Text.{counted, op_text, element_text, Fits, element_at}
-use Rattle.element_text.proofs.Elements.{element_law}
-use Rattle.element_text.proofs.Lengths.{element_length}
-use Rattle.engine_words.specs.Changes.{TimedOp, timed_element}
+use Rattle.crash_model.specs.Changes as law
+use Rattle.change_codec.specs.Text.{counted, op_text, element_text, Fits, element_at}
+use Rattle.change_codec.proofs.Elements.{element_law}
+use Rattle.change_codec.proofs.Lengths.{element_length}
+use Rattle.change_codec.specs.ModelChanges.{TimedOp, timed_element}
 use Rattle.commit_journal.specs.Store.{timed_at}
 use Rattle.commit_journal.proofs.Opening.{map_back}
 use Rattle.commit_journal.proofs.Batches.{reads}

@@ -7,8 +7,8 @@ use Rattle.std.proofs.lemmas.List.{take_at, drop_at, drop-drop, take-take}
 use Rattle.std.proofs.lemmas.Option.{none-some}
 use Rattle.byteorder.specs.Endian.{little_number, little_bytes}
 use Rattle.byteorder.specs.Numbers.{little_from-take, little_number-reads_back}
-use Rattle.prefix_law.specs.Promises.{Spelled, nothing}
-use Rattle.engine_words.specs.Changes.{TimedOp}
+use Rattle.crash_model.specs.Promises.{Spelled, nothing}
+use Rattle.change_codec.specs.ModelChanges.{TimedOp}
 use Rattle.commit_journal.specs.Text.{read_gates, spelled_of, spelled}
 use Rattle.commit_journal.specs.Store.{Store, IsStore, header_text, texts, SpellsNothing}
 use Rattle.commit_journal.specs.Reading.{AtGate}

@@ -4,15 +4,15 @@ use Rattle.std.proofs.lemmas.Bool.{cases_lt}
 use Rattle.std.proofs.lemmas.List.{length-append, length-drop, length-map, map-append, take-append-le, drop-append-le, take_all}
 use Rattle.std.proofs.Math.ListN.{drop_of_length-le}
 use Rattle.reg_tree.specs.declared.element.Element.{Element}
-use Rattle.prefix_law.specs.Changes as law
-use Rattle.prefix_law.specs.Changes.{on_hive, ops_on}
-use Rattle.prefix_law.specs.Promises.{Spelled, floor, top}
+use Rattle.crash_model.specs.Changes as law
+use Rattle.crash_model.specs.Changes.{on_hive, ops_on}
+use Rattle.crash_model.specs.Promises.{Spelled, floor, top}
 use Rattle.std.proofs.lemmas.List.Sums.{sum_by-cons}
 use Rattle.refusals.specs.declared.limits.TheConstants.{GREATEST_NUMBER}
 use Rattle.reg_tree.specs.Texts.{element_text_len}
 use Rattle.std.specs.Prelude.{sum_by}
-use Rattle.prefix_law.proofs.Lists.{drop_nil}
-use Rattle.engine_words.specs.Changes.{TimedOp, timed_element, timed_elements}
+use Rattle.crash_model.proofs.Lists.{drop_nil}
+use Rattle.change_codec.specs.ModelChanges.{TimedOp, timed_element, timed_elements}
 use Rattle.commit_journal.specs.Lacking.{AreKept, IsKeeping, Lacks}
 use Rattle.commit_journal.specs.Naming.{AreLastIn, names}
 use Rattle.commit_journal.specs.Told.{changes_told, elements_told}

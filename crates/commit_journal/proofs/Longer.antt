@@ -1,9 +1,9 @@
 -- A whole batch in eight steps.
 use Rattle.std.proofs.Common.{◌≡◌, ◌⊎◌, ⊎_elim, ℕ, zero, suc, ◌+◌, ◌-◌, ◌<◌, ◌≤◌, List, length, take, ◌++◌, refl, sym, ◌∙◌, ap, arith, Some, None, length-append, length-take}
 use Rattle.std.proofs.lemmas.Option.{same_Some, none-some}
-use Rattle.prefix_law.specs.Changes as law
-use Rattle.prefix_law.specs.Promises.{Choice, Spelled, settled, floor, BeginsBatch, IsUnderway, JournalSays, Answer.More, Answer.Done}
-use Rattle.engine_words.specs.Changes.{TimedOp}
+use Rattle.crash_model.specs.Changes as law
+use Rattle.crash_model.specs.Promises.{Choice, Spelled, settled, floor, BeginsBatch, IsUnderway, JournalSays, Answer.More, Answer.Done}
+use Rattle.change_codec.specs.ModelChanges.{TimedOp}
 use Rattle.commit_journal.specs.Journals.{value_in, choice_of, steps_in, steps_left, NowStands, IsStep, StandsLonger}
 use Rattle.commit_journal.specs.declared.standing.Standing.{Standing}
 use Rattle.commit_journal.specs.declared.journal.Phase.{Phase}

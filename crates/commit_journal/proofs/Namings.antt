@@ -11,11 +11,11 @@ use Rattle.std.proofs.Math.ListN.{drop_of_length-le}
 use Rattle.reg_tree.specs.Operations.{hive_of}
 use Rattle.reg_tree.specs.declared.op.Op.{Op}
 use Rattle.reg_tree.specs.declared.element.Element.{Element}
-use Rattle.prefix_law.specs.Changes as law
-use Rattle.prefix_law.specs.Changes.{on_hive, ops_on}
-use Rattle.prefix_law.proofs.Replays.{ops_on-append}
-use Rattle.prefix_law.proofs.Lists.{drop_nil, first_nil}
-use Rattle.engine_words.specs.Changes.{TimedOp, timed, timed_element}
+use Rattle.crash_model.specs.Changes as law
+use Rattle.crash_model.specs.Changes.{on_hive, ops_on}
+use Rattle.crash_model.proofs.Replays.{ops_on-append}
+use Rattle.crash_model.proofs.Lists.{drop_nil, first_nil}
+use Rattle.change_codec.specs.ModelChanges.{TimedOp, timed, timed_element}
 use Rattle.commit_journal.specs.Naming.{names, IsLastIn, AreLastIn}
 
 -- An entry of a list

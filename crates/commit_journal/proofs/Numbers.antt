@@ -4,8 +4,8 @@ use Rattle.std.specs.Prelude.{if◌then◌else◌, ◌==◌, nat_le}
 use Rattle.std.proofs.lemmas.List.{append-nil}
 use Rattle.std.proofs.lemmas.Option.{same_Some, none-some}
 use Rattle.std.proofs.lemmas.Bool.{and_from, and_parts, eq-eqb, le-leb, leb-true}
-use Rattle.prefix_law.specs.Changes.{Element}
-use Rattle.prefix_law.specs.Promises.{Spelled, nothing, floor_of, floor, top}
+use Rattle.crash_model.specs.Changes.{Element}
+use Rattle.crash_model.specs.Promises.{Spelled, nothing, floor_of, floor, top}
 use Rattle.commit_journal.specs.Text.{Texts, Body, follow, elements_of, are_numbered, spelled_of, IsBody, AreGated, Stands}
 use Rattle.commit_journal.proofs.Reading.{gated_push}
 

@@ -8,7 +8,7 @@ use Rattle.std.proofs.lemmas.List.{take_at, drop_at}
 use Rattle.std.proofs.lemmas.Bool.{eqb-true, eqb-false, and_parts, and_from, le-leb, leb-true}
 use Rattle.byteorder.specs.Endian.{little_number}
 use Rattle.byteorder.specs.Numbers.{little_from-append, little_from-take}
-use Rattle.prefix_law.specs.Promises.{Spelled, nothing}
+use Rattle.crash_model.specs.Promises.{Spelled, nothing}
 use Rattle.disk_model.specs.FileState.{at_rest}
 use Rattle.commit_journal.specs.Text.{Texts, Body, body_of, is_body_length, read_body, read_gates, spelled_of, spelled, IsBody, AreGated, Stands}
 use Rattle.commit_journal.proofs.Reading.{begun_with}

@@ -8,8 +8,8 @@ use Rattle.std.proofs.lemmas.Option.{same_Some, none-some, option_and_then_some}
 use Rattle.std.proofs.lemmas.Bool.{and_parts, leb-true, eqb-true}
 use Rattle.byteorder.specs.Endian.{little_number}
 use Rattle.byteorder.specs.Numbers.{little_from-take}
-use Rattle.prefix_law.specs.Changes.{Element}
-use Rattle.prefix_law.specs.Promises.{Spelled, nothing, floor_of, top}
+use Rattle.crash_model.specs.Changes.{Element}
+use Rattle.crash_model.specs.Promises.{Spelled, nothing, floor_of, top}
 use Rattle.disk_model.specs.FileState.{at_rest}
 use Rattle.commit_journal.specs.Text.{Texts, Body, read_elements, whole_body, body_of, is_body_length, read_body, read_gates, follow, elements_of, are_numbered, spelled_of, spelled, AreGated, Stands}
 use Rattle.commit_journal.specs.OnDisk.{is_on, value_at, longer, Phase.Quiet}

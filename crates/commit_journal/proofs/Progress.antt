@@ -3,11 +3,11 @@ use Rattle.std.proofs.Common.{subst, None, [], ◌≡◌, ◌⊎◌, inr, ⊎_el
 use Rattle.std.specs.Prelude.{◌↔◌, Result, Ok, Err}
 use Rattle.refusals.specs.declared.refusal.Refusal.{Refusal}
 use Rattle.refusals.specs.declared.refusal.Refusal.TheVariants as refusal
-use Rattle.prefix_law.specs.Promises.{Choice, Spelled, JournalSays}
-use Rattle.engine_words.specs.declared.Progress.{Progress}
-use Rattle.engine_words.specs.declared.Progress.TheVariants as progress
-use Rattle.engine_words.specs.Changes.{TimedOp}
-use Rattle.engine_words.specs.Steps.{Says}
+use Rattle.crash_model.specs.Promises.{Choice, Spelled, JournalSays}
+use Rattle.disk_model.specs.declared.progress.Progress.{Progress}
+use Rattle.disk_model.specs.declared.progress.Progress.TheVariants as progress
+use Rattle.change_codec.specs.ModelChanges.{TimedOp}
+use Rattle.crash_model.specs.StepAnswers.{Says}
 use Rattle.commit_journal.specs.OnDisk as phase
 use Rattle.commit_journal.specs.Journals.{value_in, steps_in, steps_left, ComesNearer, StoodWithin}
 use Rattle.commit_journal.specs.declared.standing.Standing.{Standing}

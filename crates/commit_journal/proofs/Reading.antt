@@ -7,7 +7,7 @@ use Rattle.std.proofs.lemmas.Bool.Decides.{Decides-eqb}
 use Rattle.std.specs.Option.{option_and_then}
 use Rattle.std.proofs.lemmas.List.{drop_at, append-nil}
 use Rattle.std.proofs.lemmas.Bool.{ne_eqb}
-use Rattle.prefix_law.specs.Promises.{Spelled}
+use Rattle.crash_model.specs.Promises.{Spelled}
 use Rattle.commit_journal.specs.Text.{Texts, Body, read_gates, spelled_of, spelled, IsBody, AreGated, Stands}
 
 pub choose : {A : Type 0} (b : Bool) (x y : A) → b ≡ false → (if b then x else y) ≡ y

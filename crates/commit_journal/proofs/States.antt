@@ -2,9 +2,9 @@
 use Rattle.std.proofs.Common.{◌≡◌, ◌≢◌, inl, inr, ⊎_elim, ℕ, ◌+◌, List, [], ◌∷◌, ◌++◌, length, get_or, drop, refl, sym, ◌∙◌, ap, subst, arith, append_assoc, Some}
 use Rattle.std.proofs.lemmas.Option.{same_Some}
 use Rattle.std.proofs.lemmas.Bool.{cases_eq}
-use Rattle.prefix_law.specs.Promises.{Choice, Spelled, nothing, floor, top, settled, under_way, JournalOn}
-use Rattle.prefix_law.specs.Promises as law
-use Rattle.prefix_law.specs.Files.{SpellsBy}
+use Rattle.crash_model.specs.Promises.{Choice, Spelled, nothing, floor, top, settled, under_way, JournalOn}
+use Rattle.crash_model.specs.Promises as law
+use Rattle.crash_model.specs.Files.{SpellsBy}
 use Rattle.disk_model.specs.FileState.{FileState, at_rest, after_write, put, Leaves, Writes, MayWrite, Syncs}
 use Rattle.disk_model.proofs.Leaves.{left_at_rest, left_of_write}
 use Rattle.commit_journal.specs.Text.{Texts, Body, Stands, spelled}

@@ -12,10 +12,10 @@ use Rattle.byteorder.specs.Endian.{little_number}
 use Rattle.byteorder.specs.Numbers.{little_from-take, little_from-append}
 use Rattle.refusals.specs.declared.limits.TheConstants.{GREATEST_NUMBER}
 use Rattle.reg_tree.specs.declared.element.Element.{Element}
-use Rattle.prefix_law.specs.Changes as law
-use Rattle.prefix_law.specs.Promises.{Spelled, nothing, floor, top}
-use Rattle.element_text.specs.Text.{element_at, Fits}
-use Rattle.engine_words.specs.Changes.{TimedOp, timed_element, timed_elements}
+use Rattle.crash_model.specs.Changes as law
+use Rattle.crash_model.specs.Promises.{Spelled, nothing, floor, top}
+use Rattle.change_codec.specs.Text.{element_at, Fits}
+use Rattle.change_codec.specs.ModelChanges.{TimedOp, timed_element, timed_elements}
 use Rattle.commit_journal.specs.Text.{Texts, spelled}
 use Rattle.commit_journal.specs.Store.{texts, timed_at}
 use Rattle.commit_journal.specs.OnDisk.{longer}

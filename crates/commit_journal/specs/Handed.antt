@@ -5,9 +5,9 @@ use Rattle.refusals.specs.declared.limits.TheConstants.{GREATEST_NUMBER, MOST_EL
 use Rattle.reg_tree.specs.Operations.{hive_of}
 use Rattle.reg_tree.specs.Texts.{element_text_len}
 use Rattle.reg_tree.specs.declared.element.Element.{Element}
-use Rattle.prefix_law.specs.Promises.{Spelled, MayFollow}
-use Rattle.element_text.specs.Text.{Fits}
-use Rattle.engine_words.specs.Changes.{TimedOp, timed_elements}
+use Rattle.crash_model.specs.Promises.{Spelled, MayFollow}
+use Rattle.change_codec.specs.Text.{Fits}
+use Rattle.change_codec.specs.ModelChanges.{TimedOp, timed_elements}
 use Rattle.commit_journal.specs.declared.layout.TheConstants.{MOST_BODY_BYTES}
 
 -- each operation is on one of so many hives

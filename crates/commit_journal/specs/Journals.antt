@@ -1,9 +1,9 @@
 -- What contracts see of a journal.
 use Rattle.std.specs.Prelude.{◌≡◌, ◌⊎◌, ℕ, ◌+◌, ◌-◌, ◌<◌, List, [], ◌∷◌, ◌++◌, length, take, Some}
 use Rattle.reg_tree.specs.declared.element.Element.{Element}
-use Rattle.prefix_law.specs.Changes as law
-use Rattle.prefix_law.specs.Promises.{Choice, Spelled, nothing, Ends, JournalSays, Answer.More, Answer.Done}
-use Rattle.engine_words.specs.Changes.{TimedOp, timed_elements}
+use Rattle.crash_model.specs.Changes as law
+use Rattle.crash_model.specs.Promises.{Choice, Spelled, nothing, Ends, JournalSays, Answer.More, Answer.Done}
+use Rattle.change_codec.specs.ModelChanges.{TimedOp, timed_elements}
 use Rattle.commit_journal.specs.Text.{Texts, IsBody}
 use Rattle.commit_journal.specs.Store.{Store, texts}
 use Rattle.commit_journal.specs.OnDisk.{Value, value_at, longer}

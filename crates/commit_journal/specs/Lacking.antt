@@ -1,8 +1,8 @@
 -- Which of a journal's changes an opening keeps: those from the first one on that some hive lacks.
 use Rattle.std.specs.Prelude.{◌≡◌, ℕ, ◌+◌, ◌-◌, ◌<◌, ◌≤◌, get_or, List, [], ◌∷◌, length, take, drop}
 use Rattle.reg_tree.specs.declared.element.Element.{Element}
-use Rattle.prefix_law.specs.Changes.{on_hive, ops_on}
-use Rattle.engine_words.specs.Changes.{timed_element, timed_elements}
+use Rattle.crash_model.specs.Changes.{on_hive, ops_on}
+use Rattle.change_codec.specs.ModelChanges.{timed_element, timed_elements}
 use Rattle.commit_journal.specs.Naming.{AreLastIn}
 
 -- Some hive lacks the change of this number: the change has an operation on it, and the hive's own number is below. These are the

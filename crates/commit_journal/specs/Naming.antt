@@ -3,10 +3,10 @@ use Rattle.std.specs.Prelude.{◌≡◌, ◌⊎◌, ℕ, ◌+◌, ◌-◌, ◌�
 use Rattle.std.specs.List.{list_any}
 use Rattle.reg_tree.specs.Operations.{hive_of}
 use Rattle.reg_tree.specs.declared.op.Op.{Op}
-use Rattle.prefix_law.specs.Changes as law
-use Rattle.prefix_law.specs.Changes.{ops_on}
+use Rattle.crash_model.specs.Changes as law
+use Rattle.crash_model.specs.Changes.{ops_on}
 use Rattle.reg_tree.specs.declared.element.Element.{Element}
-use Rattle.engine_words.specs.Changes.{TimedOp, timed_elements}
+use Rattle.change_codec.specs.ModelChanges.{TimedOp, timed_elements}
 
 -- whether one of the operations is on hive i
 abbrev pub names : ℕ → List Op → Bool

@@ -1,8 +1,8 @@
 -- The journal's value, and what its phase says of its file.
 use Rattle.std.specs.Prelude.{◌≡◌, ◌≢◌, ℕ, ◌+◌, ◌≤◌, List, [], ◌∷◌, ◌++◌, length, drop, Option, Some, None}
-use Rattle.prefix_law.specs.Promises.{Choice, Spelled, nothing, floor, top, settled, under_way, JournalOn}
-use Rattle.prefix_law.specs.Changes.{Element}
-use Rattle.prefix_law.specs.Files.{SpellsBy}
+use Rattle.crash_model.specs.Promises.{Choice, Spelled, nothing, floor, top, settled, under_way, JournalOn}
+use Rattle.crash_model.specs.Changes.{Element}
+use Rattle.crash_model.specs.Files.{SpellsBy}
 use Rattle.disk_model.specs.FileState.{FileState, at_rest, after_write}
 use Rattle.disk_model.specs.FileState as file
 use Rattle.commit_journal.specs.declared.layout.TheConstants.{OPEN_GATE}

@@ -6,11 +6,11 @@ use Rattle.byteorder.specs.Endian.{little_number}
 use Rattle.refusals.specs.declared.limits.TheConstants.{GREATEST_NUMBER}
 use Rattle.reg_tree.specs.Texts.{element_text_len}
 use Rattle.reg_tree.specs.declared.element.Element.{Element}
-use Rattle.prefix_law.specs.Changes as law
-use Rattle.prefix_law.specs.Promises.{Spelled, nothing, top}
+use Rattle.crash_model.specs.Changes as law
+use Rattle.crash_model.specs.Promises.{Spelled, nothing, top}
 use Rattle.disk_model.specs.FileState.{at_rest}
-use Rattle.element_text.specs.Text.{Fits}
-use Rattle.engine_words.specs.Changes.{TimedOp, timed_elements}
+use Rattle.change_codec.specs.Text.{Fits}
+use Rattle.change_codec.specs.ModelChanges.{TimedOp, timed_elements}
 use Rattle.commit_journal.specs.declared.layout.TheConstants.{OPEN_GATE, MOST_BODY_BYTES}
 use Rattle.commit_journal.specs.Text.{Texts, Body, read_elements, read_body, Stands, spelled}
 use Rattle.commit_journal.specs.Store.{texts}

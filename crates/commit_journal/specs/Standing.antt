@@ -1,7 +1,7 @@
 -- What a journal keeps of what stands, or will stand.
 use Rattle.std.specs.Prelude.{◌≡◌, ℕ, ◌+◌, ◌≤◌}
-use Rattle.prefix_law.specs.Promises.{Spelled, top}
-use Rattle.engine_words.specs.Changes.{TimedOp}
+use Rattle.crash_model.specs.Promises.{Spelled, top}
+use Rattle.change_codec.specs.ModelChanges.{TimedOp}
 use Rattle.commit_journal.specs.Store.{room_of}
 
 -- The numbers are those of what is spelled: that of the last element (0 where there is none), and the used room, which is

@@ -3,9 +3,9 @@ use Rattle.std.specs.Prelude.{◌≡◌, ◌≤◌, ℕ, ◌+◌, List, [], ◌�
 use Rattle.byteorder.specs.Endian.{little_bytes}
 use Rattle.refusals.specs.declared.limits.TheConstants.{GREATEST_NUMBER, MOST_HIVES}
 use Rattle.reg_tree.specs.Texts.{op_text_len}
-use Rattle.prefix_law.specs.Changes as law
-use Rattle.element_text.specs.Text.{element_at}
-use Rattle.engine_words.specs.Changes.{TimedOp, timed_element}
+use Rattle.crash_model.specs.Changes as law
+use Rattle.change_codec.specs.Text.{element_at}
+use Rattle.change_codec.specs.ModelChanges.{TimedOp, timed_element}
 use Rattle.commit_journal.specs.Text.{Texts, spelled}
 
 -- what a store's header holds: the 16 bytes of its id, and its number of hives

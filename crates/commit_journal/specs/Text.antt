@@ -3,8 +3,8 @@ use Rattle.std.specs.Prelude.{◌≡◌, ℕ, zero, suc, ◌+◌, ◌-◌, List,
 use Rattle.std.specs.Option.{option_and_then}
 use Rattle.std.specs.List.{starts_with}
 use Rattle.byteorder.specs.Endian.{little_number, little_bytes}
-use Rattle.prefix_law.specs.Changes.{Element}
-use Rattle.prefix_law.specs.Promises.{Spelled, nothing}
+use Rattle.crash_model.specs.Changes.{Element}
+use Rattle.crash_model.specs.Promises.{Spelled, nothing}
 use Rattle.commit_journal.specs.declared.layout.TheConstants.{OPEN_GATE, MOST_BODY_BYTES}
 
 -- What the layout takes from outside: the header of this store, the element that bytes begin with together with the bytes

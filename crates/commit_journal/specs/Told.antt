@@ -1,9 +1,9 @@
 -- The elements that a journal was told.
 use Rattle.std.specs.Prelude.{ℕ, List, [], ◌∷◌, ◌++◌}
 use Rattle.reg_tree.specs.declared.element.Element.{Element}
-use Rattle.prefix_law.specs.Changes as law
-use Rattle.prefix_law.specs.Promises.{Spelled}
-use Rattle.engine_words.specs.Changes.{TimedOp, timed_element}
+use Rattle.crash_model.specs.Changes as law
+use Rattle.crash_model.specs.Promises.{Spelled}
+use Rattle.change_codec.specs.ModelChanges.{TimedOp, timed_element}
 use Rattle.commit_journal.specs.declared.told.Told.{Told, Nothing, Then', Same'}
 
 abbrev pub elements_told : Told → List (law.Element TimedOp)

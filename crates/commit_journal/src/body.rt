@@ -2,13 +2,13 @@
 ghost use Rattle.std.specs.Prelude.{◌≡◌, ◌+◌, ◌<◌, ◌≤◌, ◌^◌, ◌++◌, ℕ, length, take, sum_by, IfOk, OnOk};
 ghost use Rattle.std.specs.List.{AllByRecursion, flat_map};
 ghost use Rattle.reg_tree.specs.Texts.{element_text_len};
-ghost use Rattle.element_text.specs.Text.{element_text};
+ghost use Rattle.change_codec.specs.Text.{element_text};
 ghost use Rattle.commit_journal.specs.Text.{body_text};
 ghost use Rattle.commit_journal.specs.Handed.{IsShort, FitsIfThere, body_len, IsLongestFront};
 ghost use Rattle.commit_journal.specs.declared.layout.TheConstants.{MOST_BODY_BYTES};
 
 use crate::layout::MOST_BODY_BYTES;
-use element_text::{ChangeText, put_u32, put_u64};
+use change_codec::{ChangeText, put_u32, put_u64};
 use std::alloc::{AllocError, Global};
 
 /// So many of the first elements, and the bytes of the body that they make.

@@ -1,6 +1,6 @@
 //! Making a journal: its text in memory first, and then its writing.
 ghost use Rattle.std.specs.Prelude.{◌≡◌, ◌⊎◌, ◌<◌, ◌≤◌, ℕ, length, IfErr, IfOk};
-ghost use Rattle.prefix_law.specs.Promises.{nothing, settled};
+ghost use Rattle.crash_model.specs.Promises.{nothing, settled};
 ghost use Rattle.refusals.specs.declared.limits.TheConstants.{MOST_HIVES};
 ghost use Rattle.refusals.specs.declared.refusal.Refusal.TheVariants.{NoMemory, DiskFault};
 ghost use Rattle.disk_model.specs.Call.{CountsFailure, Extends};

@@ -5,7 +5,7 @@ ghost use Rattle.refusals.specs.declared.refusal.Refusal.TheVariants.{JournalDam
 ghost use Rattle.commit_journal.specs.Store.{Store, IsStore, header_text};
 
 use byteorder::{ByteOrder, LittleEndian};
-use element_text::put_u32;
+use change_codec::put_u32;
 use refusals::Refusal;
 use refusals::limits::MOST_HIVES;
 use std::alloc::{AllocError, Global};

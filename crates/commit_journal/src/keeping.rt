@@ -7,7 +7,7 @@ ghost use Rattle.commit_journal.specs.Told.{changes_told};
 
 use crate::naming::Naming;
 use crate::told::Told;
-use element_text::ChangeText;
+use change_codec::ChangeText;
 use std::alloc::{AllocError, Global};
 
 /// The changes that were read so far.

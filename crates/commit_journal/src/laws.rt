@@ -1,11 +1,11 @@
 //! What the definitions say, as contracts.
 ghost use Rattle.std.specs.Prelude.{◌≡◌, ◌≢◌, ◌⊎◌, ℕ, ◌+◌, ◌<◌, ◌≤◌, List, [], ◌∷◌, ◌++◌, length, Some};
-ghost use Rattle.prefix_law.specs.Promises.{Spelled, nothing, JournalOn, top, floor};
-ghost use Rattle.prefix_law.specs.Files.{SpellsBy};
+ghost use Rattle.crash_model.specs.Promises.{Spelled, nothing, JournalOn, top, floor};
+ghost use Rattle.crash_model.specs.Files.{SpellsBy};
 ghost use Rattle.disk_model.specs.FileState.{FileState, Writes, MayWrite, Syncs};
 ghost use Rattle.disk_model.specs.FileState as file;
 ghost use Rattle.commit_journal.specs.declared.layout.TheConstants.{OPEN_GATE};
-ghost use Rattle.engine_words.specs.Changes.{TimedOp};
+ghost use Rattle.change_codec.specs.ModelChanges.{TimedOp};
 ghost use Rattle.commit_journal.specs.Store.{Store, IsStore, texts};
 ghost use Rattle.commit_journal.specs.Text.{Texts, Body, IsBody, Stands, spelled};
 ghost use Rattle.commit_journal.specs.OnDisk.{Value, is_on, MayBegin, longer, value_at, next_at};

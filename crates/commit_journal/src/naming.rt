@@ -3,7 +3,7 @@ ghost use Rattle.std.specs.Prelude.{◌≡◌, ◌+◌, ◌<◌, ◌^◌, ℕ, i
 ghost use Rattle.std.specs.Option.{option_map};
 ghost use Rattle.commit_journal.specs.Naming.{HasCounted, names};
 
-use element_text::ChangeText;
+use change_codec::ChangeText;
 use std::alloc::{AllocError, Global};
 
 /// For each hive the number of the last change counted in that has an operation on it, or 0 where none has.

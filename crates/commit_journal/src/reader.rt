@@ -6,7 +6,7 @@ ghost use Rattle.std.specs.Prelude.{◌≡◌, ◌+◌, ◌-◌, ◌*◌, ◌<�
 ghost use Rattle.byteorder.specs.Endian.{little_number};
 ghost use Rattle.refusals.specs.Answers.{RefusedFor};
 ghost use Rattle.refusals.specs.declared.refusal.Refusal.TheVariants.{JournalDamaged};
-ghost use Rattle.prefix_law.specs.Promises.{nothing};
+ghost use Rattle.crash_model.specs.Promises.{nothing};
 ghost use Rattle.commit_journal.specs.Text.{spelled};
 ghost use Rattle.commit_journal.specs.Store.{texts};
 ghost use Rattle.commit_journal.specs.Told.{changes_told};
@@ -15,7 +15,7 @@ use crate::keeping::Keeping;
 use crate::layout::{MOST_BODY_BYTES, OPEN_GATE};
 use crate::standing::Standing;
 use byteorder::{ByteOrder, LittleEndian};
-use element_text::ChangeText;
+use change_codec::ChangeText;
 use refusals::Refusal;
 use refusals::limits::GREATEST_NUMBER;
 use std::alloc::Global;

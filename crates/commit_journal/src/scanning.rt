@@ -1,14 +1,14 @@
 //! The opening of a journal: what its file spells.
 ghost use Rattle.std.specs.Prelude.{◌≡◌, ◌+◌, ◌<◌, ◌≤◌, ℕ, List, length, take, None, Some, IfOk, IfErr, OnOk};
 ghost use Rattle.std.specs.List.{AllByRecursion};
-ghost use Rattle.prefix_law.specs.Promises.{Spelled, floor, settled, top};
+ghost use Rattle.crash_model.specs.Promises.{Spelled, floor, settled, top};
 ghost use Rattle.refusals.specs.declared.limits.TheConstants.{GREATEST_NUMBER};
 ghost use Rattle.disk_model.specs.FileState.{at_rest};
 ghost use Rattle.disk_model.specs.Call.{Extends};
 ghost use Rattle.disk_model.specs.StoreFiles.{IsJournal};
 ghost use Rattle.disk_model.specs.Unwritten.{OnlyReads, OnlySyncs};
-ghost use Rattle.element_text.specs.Text.{Fits};
-ghost use Rattle.engine_words.specs.Changes.{TimedOp, timed_elements};
+ghost use Rattle.change_codec.specs.Text.{Fits};
+ghost use Rattle.change_codec.specs.ModelChanges.{TimedOp, timed_elements};
 ghost use Rattle.commit_journal.specs.Text.{spelled};
 ghost use Rattle.commit_journal.specs.Store.{IsStore, SpellsNothing, Store, header_text, texts};
 ghost use Rattle.commit_journal.specs.Lacking.{AreKept};
@@ -25,8 +25,8 @@ use crate::naming::Naming;
 use crate::reader::Reader;
 use crate::window::Window;
 use crate::{device, header};
+use change_codec::ChangeText;
 use disk_model::Disk;
-use element_text::ChangeText;
 use refusals::Refusal;
 use std::alloc::Global;
 use uuid::Uuid;

@@ -1,13 +1,13 @@
 //! What a journal keeps of what stands in its file, or will.
 ghost use Rattle.std.specs.Prelude.{◌≡◌, ◌+◌, ◌-◌, ◌*◌, ◌<◌, ◌≤◌, ◌^◌, ℕ, List, length, take, drop, [], sum_by};
-ghost use Rattle.prefix_law.specs.Promises.{nothing, top, floor};
+ghost use Rattle.crash_model.specs.Promises.{nothing, top, floor};
 ghost use Rattle.reg_tree.specs.Texts.{element_text_len};
 ghost use Rattle.commit_journal.specs.Told.{changes_told, elements_told, spelled_told};
 ghost use Rattle.commit_journal.specs.Standing.{IsStanding};
 
 use crate::reader::Part;
 use crate::told::Told;
-use element_text::ChangeText;
+use change_codec::ChangeText;
 
 /// The place and the numbers of what stands, or of what will.
 #[derive(Drop)]
@@ -26,7 +26,7 @@ pub(crate) struct Standing {
 }
 
 impl Standing {
-    ghost use Rattle.engine_words.specs.Changes.{timed_elements};
+    ghost use Rattle.change_codec.specs.ModelChanges.{timed_elements};
     ghost use Rattle.commit_journal.specs.OnDisk.{longer};
     ghost use Rattle.commit_journal.specs.Journals.{spelled_by};
 

@@ -1,7 +1,7 @@
 //! The elements that a journal was told. Only contracts read them, and they take no memory.
 ghost use Rattle.std.specs.Prelude.{◌≡◌, ◌++◌, ◌∷◌, []};
 
-use element_text::ChangeText;
+use change_codec::ChangeText;
 use std::snapshot::Snapshot;
 
 /// The elements that a journal was told, the last one outermost.
@@ -17,7 +17,7 @@ pub(crate) enum Told {
 
 impl Told {
     ghost use Rattle.commit_journal.specs.Told.{changes_told, elements_told};
-    ghost use Rattle.engine_words.specs.Changes.{timed_element, timed_elements};
+    ghost use Rattle.change_codec.specs.ModelChanges.{timed_element, timed_elements};
 
     /// One more.
     pub fn then(&mut self, element: &ChangeText)

@@ -3,8 +3,8 @@ use Rattle.std.proofs.Common.{◌≡◌, inl, inr, ℕ, Bool, true, false, not, 
 use Rattle.std.specs.Prelude.{◌==◌, ◌≢◌, filter, Contains}
 use Rattle.std.specs.List.{list_any}
 use Rattle.std.proofs.lemmas.Bool.{eqb-true, eq-eqb}
-use Rattle.claims_law.specs.Skeleton.{Claim}
-use Rattle.claims_law.proofs.Tests.{never}
+use Rattle.conflicts.specs.Skeleton.{Claim}
+use Rattle.conflicts.proofs.Tests.{never}
 use Rattle.conflicts.specs.Claims.{meets, reaches}
 use Rattle.conflicts.specs.Holders.{Held, same_held, with_claim, without_owner, stands_against, each_once, holders_of, StandApart}
 use Rattle.conflicts.proofs.Members.{here, later, first_or_later, none_empty, same_has, has_snoc, dropped}

@@ -18,8 +18,8 @@ use Rattle.reg_tree.specs.declared.op.Legality.TheVariants.{Legal}
 use Rattle.reg_tree.proofs.Paths.{eq_is, split_begins, split_below, begins-append}
 use Rattle.reg_tree.proofs.TreesAfter.{row-tree_after}
 use Rattle.reg_tree.proofs.Depths.{levels_missing}
-use Rattle.claims_law.specs.Skeleton as law
-use Rattle.claims_law.proofs.Tests.{never, split, conflict_sym}
+use Rattle.conflicts.specs.Skeleton as law
+use Rattle.conflicts.proofs.Tests.{never, split, conflict_sym}
 use Rattle.conflicts.specs.Claims.{key_at, claim_of}
 use Rattle.conflicts.proofs.KeyDepths.{Deepest, deepest, depth_is, gone_past, there_up_to, home_is_there}
 use Rattle.conflicts.proofs.OnSkeletons.{key_of_there}

@@ -14,7 +14,7 @@ use Rattle.reg_tree.specs.Operations.{touched, depth_there, descriptor_of, row_a
 use Rattle.reg_tree.specs.declared.op.Op.{Op}
 use Rattle.reg_tree.specs.declared.op.Op.TheVariants.{CreateKey, DeleteKey, SetValue, DeleteValue}
 use Rattle.reg_tree.proofs.TreesAfter.{row-tree_after}
-use Rattle.claims_law.proofs.Tests.{never}
+use Rattle.conflicts.proofs.Tests.{never}
 
 -- a creation writes the last key that is there, or makes one of this name with this descriptor; a deletion of a key removes that, or writes its
 -- parent; whatever changes values edits their key

@@ -27,7 +27,7 @@ use Rattle.reg_tree.proofs.TreesStay.{changed_stays}
 use Rattle.reg_tree.proofs.Times.{applied_same, moments_alike, same_untimed}
 use Rattle.reg_tree.proofs.Paths.{eq_is, eq_self, told as by_bool}
 use Rattle.reg_tree.proofs.Stamps.{row-stamped}
-use Rattle.claims_law.proofs.Tests.{never}
+use Rattle.conflicts.proofs.Tests.{never}
 use Rattle.conflicts.specs.Skeletons.{judged_if, judged_in, AreCarriedOut, AreApart, MakesAlike, IsBeside}
 use Rattle.conflicts.proofs.KeyDepths.{levels, depth_is}
 use Rattle.conflicts.proofs.OnSkeletons.{Found, found, set_here}

@@ -16,14 +16,14 @@ use Rattle.std.specs.declared.cmp.Ordering.TheVariants.{Less, Equal, Greater}
 use Rattle.std.proofs.lemmas.Cmp.{nat_cmp_total}
 use Rattle.std.proofs.lemmas.Bool.{eqb-true, eq-eqb, cases_eq}
 use Rattle.reg_tree_parts.proofs.Keys.{names_apart}
-use Rattle.claims_law.proofs.Tests.{never}
+use Rattle.conflicts.proofs.Tests.{never}
 use Rattle.conflicts.specs.declared.table.Kept.{Kept}
 use Rattle.conflicts.specs.Holders.{without_owner}
 use Rattle.conflicts.specs.Filed.{Numbered, claims_of, IsFiled, AreFiled, TakesOwn, LeavesOthers}
 use Rattle.conflicts.specs.Spots.{Spot, spot_order, pair_order}
 use Rattle.conflicts.specs.Index.{IsListed, KeepsOthers}
 use Rattle.conflicts.specs.declared.spots.Index.{Index}
-use Rattle.claims_law.specs.Skeleton.{Claim}
+use Rattle.conflicts.specs.Skeleton.{Claim}
 use Rattle.conflicts.proofs.Members.{here, later, first_or_later, none_empty}
 
 -- Sets

@@ -4,9 +4,9 @@ use Rattle.std.specs.Ordering.{eq_by_cmp}
 use Rattle.reg_tree_parts.specs.Orders.{name_order, path_order}
 use Rattle.reg_tree_parts.specs.Nodes as nodes
 use Rattle.reg_tree.proofs.Paths.{same_name, eq_is, eq_self, name_self, begins-append, split_begins}
-use Rattle.claims_law.specs.Skeleton as law
-use Rattle.claims_law.proofs.Tests.{never, name_is, path_is, begins_is}
-use Rattle.claims_law.proofs.Closed.{name_same, path_same, path_begins}
+use Rattle.conflicts.specs.Skeleton as law
+use Rattle.conflicts.proofs.Tests.{never, name_is, path_is, begins_is}
+use Rattle.conflicts.proofs.Closed.{name_same, path_same, path_begins}
 
 -- two tests of one fact agree
 pub agree : {P : Type 0} (a b : Bool) → (a ≡ true → P) → (P → b ≡ true) → (b ≡ true → P) → (P → a ≡ true) → a ≡ b

@@ -25,8 +25,8 @@ use Rattle.reg_tree.specs.declared.op.Legality.{Legality}
 use Rattle.reg_tree.specs.declared.op.Legality.TheVariants.{Legal, Opened}
 use Rattle.reg_tree.proofs.Paths.{told, eq_self, split_below}
 use Rattle.reg_tree.proofs.Changes.{nothing_below}
-use Rattle.claims_law.specs.Legal as legal
-use Rattle.claims_law.proofs.Tests.{never}
+use Rattle.conflicts.specs.Legal as legal
+use Rattle.conflicts.proofs.Tests.{never}
 use Rattle.conflicts.specs.Claims.{key_at}
 use Rattle.conflicts.specs.Skeletons.{row_if, row_of, is_protected, has_value, skeleton, outline, judged_if, judged_in, FitsData}
 use Rattle.conflicts.proofs.KeyDepths.{home_is_there, past_home, few_missing}

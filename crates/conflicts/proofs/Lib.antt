@@ -18,3 +18,9 @@ pub mod TimesTold
 pub mod Homes
 pub mod Commutes
 pub mod EitherOrder
+pub mod Tests
+pub mod Past
+pub mod Machine
+pub mod Closed
+pub mod Levels
+pub mod Root

@@ -6,7 +6,7 @@ use Rattle.std.specs.Cmp.Lexicographic.{slice_cmp}
 use Rattle.std.specs.Set.{remove_key}
 use Rattle.std.specs.BTreeMap.{is_at}
 use Rattle.std.specs.BTreeSet.{insert_key}
-use Rattle.claims_law.specs.Skeleton.{Claim}
+use Rattle.conflicts.specs.Skeleton.{Claim}
 use Rattle.conflicts.specs.Spots.{Spot, spot_order, pair_order, spot_text, text_hash}
 use Rattle.conflicts.specs.Index.{IsListed, KeepsOthers}
 use Rattle.conflicts.specs.declared.spots.Index.{Index}

@@ -16,9 +16,9 @@ use Rattle.std.proofs.lemmas.Bool.{cases_lt}
 use Rattle.std.proofs.lemmas.Cmp.{nat_cmp_total}
 use Rattle.std.proofs.lemmas.List.{take_more}
 use Rattle.std.proofs.lemmas.List.Elements.{filter_map-append}
-use Rattle.claims_law.specs.Skeleton.{Claim}
+use Rattle.conflicts.specs.Skeleton.{Claim}
 use Rattle.conflicts.specs.declared.table.Kept.{Kept}
-use Rattle.claims_law.proofs.Tests.{never}
+use Rattle.conflicts.proofs.Tests.{never}
 use Rattle.conflicts.specs.Holders.{Held, same_held, is_some_that, stands_against, asks, with_holder, each_once, holders_of}
 use Rattle.conflicts.specs.Claims.{meets}
 use Rattle.conflicts.specs.Spots.{Spot, spot_order, spot_text}

@@ -2,9 +2,9 @@
 use Rattle.std.proofs.Common.{◌≡◌, ◌==◌, ◌⊎◌, inl, inr, ◌↔◌, ℕ, Bool, true, false, ◌||◌, ◌&&◌, IsTrue, List, [], ◌∷◌, ◌++◌, length, refl, sym, ◌∙◌, ap, arith, ◌+◌, length-append}
 use Rattle.std.proofs.lemmas.List.{append-nil}
 use Rattle.reg_names.specs.Names as names
-use Rattle.claims_law.specs.Skeleton.{Key, Same, Begins, ProperlyBegins, same_key, begins_key, Kind, Shape, Hold, Claim, Conflict}
-use Rattle.claims_law.proofs.Tests.{key_is, key_begins, same_begins, same_sym, begins_refl, proper_begins, split, never}
-use Rattle.claims_law.proofs.Closed.{same_is, begins_is_true}
+use Rattle.conflicts.specs.Skeleton.{Key, Same, Begins, ProperlyBegins, same_key, begins_key, Kind, Shape, Hold, Claim, Conflict}
+use Rattle.conflicts.proofs.Tests.{key_is, key_begins, same_begins, same_sym, begins_refl, proper_begins, split, never}
+use Rattle.conflicts.proofs.Closed.{same_is, begins_is_true}
 use Rattle.std.proofs.lemmas.Bool.{eqb-true, eq-eqb}
 use Rattle.conflicts.specs.Claims.{is_shape, reaches, meets}
 use Rattle.conflicts.proofs.KeyTests.{agree}

@@ -3,8 +3,8 @@ use Rattle.std.proofs.Common.{◌≡◌, ◌⊎◌, inl, inr, ◌↔◌, ℕ, ze
 use Rattle.std.specs.Prelude.{◌==◌, ◌≢◌, filter, Contains, nat_eq}
 use Rattle.std.specs.List.{list_any, AllByRecursion, IsDistinct}
 use Rattle.std.proofs.lemmas.Bool.{eqb-true, eq-eqb}
-use Rattle.claims_law.specs.Skeleton.{Same, Kind, Shape, Hold, Claim, same_key}
-use Rattle.claims_law.proofs.Tests.{never, key_is}
+use Rattle.conflicts.specs.Skeleton.{Same, Kind, Shape, Hold, Claim, same_key}
+use Rattle.conflicts.proofs.Tests.{never, key_is}
 use Rattle.conflicts.specs.Claims.{meets, same_kind, same_claim}
 use Rattle.conflicts.specs.Holders.{Held, same_held, holds_claim, with_claim, without_owner, asks, stands_against, each_once, holders_of, IsHolder}
 use Rattle.conflicts.proofs.Meets.{meets_conflict, conflict_meets}

@@ -21,7 +21,7 @@ use Rattle.reg_tree.specs.declared.op.Legality.{Legality}
 use Rattle.reg_tree.specs.declared.op.Legality.TheVariants.{Legal}
 use Rattle.reg_tree.proofs.TreesAfter.{row-tree_after}
 use Rattle.reg_tree.proofs.OthersStay.{hives_stay}
-use Rattle.claims_law.specs.Skeleton as law
+use Rattle.conflicts.specs.Skeleton as law
 use Rattle.conflicts.specs.Claims.{key_at}
 use Rattle.conflicts.specs.Skeletons.{row_if, row_of, is_protected, has_value, skeleton, outline, judged_if, judged_in}
 use Rattle.conflicts.proofs.KeyTests.{names_agree, paths_agree, begins_agree}

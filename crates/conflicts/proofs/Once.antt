@@ -6,8 +6,8 @@ use Rattle.std.proofs.lemmas.Bool.{eqb-true, eq-eqb}
 use Rattle.std.proofs.lemmas.List.{map-append, take_more}
 use Rattle.std.proofs.lemmas.List.Elements.{filter-append}
 use Rattle.std.proofs.lemmas.Map.Views.{any-filter_same}
-use Rattle.claims_law.proofs.Tests.{never}
-use Rattle.claims_law.specs.Skeleton.{Claim}
+use Rattle.conflicts.proofs.Tests.{never}
+use Rattle.conflicts.specs.Skeleton.{Claim}
 use Rattle.conflicts.specs.Holders.{Held, stands_against, each_once, with_number, holders_of}
 
 pub told : (b : Bool) → (b ≡ true) ⊎ (b ≡ false)

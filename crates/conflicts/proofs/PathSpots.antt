@@ -4,7 +4,7 @@ use Rattle.std.specs.Prelude.{Contains}
 use Rattle.std.proofs.lemmas.Bool.{cases_lt}
 use Rattle.std.proofs.lemmas.List.{map-append, take_more, length-map, take-map}
 use Rattle.reg_names.specs.Names.{folded, folded_path}
-use Rattle.claims_law.specs.Skeleton.{Same, Kind, Shape, Hold, Claim, Conflict}
+use Rattle.conflicts.specs.Skeleton.{Same, Kind, Shape, Hold, Claim, Conflict}
 use Rattle.conflicts.specs.Claims.{meets}
 use Rattle.conflicts.specs.Spots.{Spot, name_text, path_text, key_text, spot_text, text_hash, numbers_under, past_of, GoesOn}
 use Rattle.conflicts.specs.Index.{IsListed}

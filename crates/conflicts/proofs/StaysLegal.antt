@@ -14,8 +14,8 @@ use Rattle.reg_tree.specs.declared.op.Op.TheVariants.{CreateKey, DeleteKey, SetV
 use Rattle.reg_tree.specs.declared.op.Legality.{Legality}
 use Rattle.reg_tree.specs.declared.op.Legality.TheVariants.{Legal, Opened}
 use Rattle.reg_tree.proofs.OthersStay.{trees_stay_one}
-use Rattle.claims_law.specs.Skeleton as law
-use Rattle.claims_law.specs.Legal as legal
+use Rattle.conflicts.specs.Skeleton as law
+use Rattle.conflicts.specs.Legal as legal
 use Rattle.conflicts.specs.Claims.{claim_of}
 use Rattle.conflicts.specs.Skeletons.{skeleton, outline, judged_if, judged_in, FitsData, AreCarriedOut, AreApart}
 use Rattle.conflicts.proofs.OnSkeletons.{follows}

@@ -3,8 +3,8 @@ use Rattle.std.specs.Prelude.{ℕ, Bool, true, false, ◌||◌, ◌&&◌, List}
 use Rattle.reg_names.specs.Names.{folded_path}
 use Rattle.reg_tree.specs.declared.op.Op.{Op}
 use Rattle.reg_tree.specs.declared.op.Op.TheVariants.{CreateKey, DeleteKey, SetValue, DeleteValue}
-use Rattle.claims_law.specs.Skeleton as law
-use Rattle.claims_law.specs.Skeleton.{same_key, begins_key}
+use Rattle.conflicts.specs.Skeleton as law
+use Rattle.conflicts.specs.Skeleton.{same_key, begins_key}
 use Rattle.conflicts.specs.declared.claim.Kind.{Kind}
 use Rattle.conflicts.specs.declared.claim.Kind.TheVariants.{Shape, Hold}
 

@@ -1,7 +1,7 @@
 -- The claims that a table has, and who holds those that conflict with one more.
 use Rattle.std.specs.Prelude.{◌≡◌, ℕ, Bool, true, false, not, ◌&&◌, ◌==◌, if◌then◌else◌, List, [], ◌∷◌, ◌++◌, map, filter, Option, Some, None, Contains, ◌≢◌}
 use Rattle.std.specs.List.{list_any}
-use Rattle.claims_law.specs.Skeleton.{Claim, Conflict}
+use Rattle.conflicts.specs.Skeleton.{Claim, Conflict}
 use Rattle.conflicts.specs.Claims.{same_claim, meets}
 
 -- a claim, and the number of the transaction that holds it

@@ -1,6 +1,6 @@
 -- Where an index lists a claim's number: under the text of its spot, and under that text's hash.
 use Rattle.std.specs.Prelude.{◌≡◌, ℕ, ◌≢◌, Contains}
-use Rattle.claims_law.specs.Skeleton.{Claim}
+use Rattle.conflicts.specs.Skeleton.{Claim}
 use Rattle.conflicts.specs.Spots.{Spot, spot_text, text_hash}
 use Rattle.conflicts.specs.declared.spots.Index.{Index}
 

@@ -4,3 +4,8 @@ pub mod Skeletons
 pub mod Spots
 pub mod Index
 pub mod Filed
+pub mod Skeleton
+pub mod Legal
+pub mod Machine
+pub mod Closed
+pub mod Levels

@@ -16,7 +16,7 @@ use Rattle.reg_tree.specs.declared.op.Op.{Op}
 use Rattle.reg_tree.specs.declared.op.Op.TheVariants.{CreateKey, DeleteKey, SetValue, DeleteValue}
 use Rattle.reg_tree.specs.declared.op.Legality.{Legality}
 use Rattle.reg_tree.specs.declared.op.Legality.TheVariants.{Legal}
-use Rattle.claims_law.specs.Skeleton as law
+use Rattle.conflicts.specs.Skeleton as law
 use Rattle.conflicts.specs.Claims.{key_at, claim_of}
 
 -- the row of a key; a hive that is not there has none

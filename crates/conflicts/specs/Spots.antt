@@ -10,7 +10,7 @@ use Rattle.std.specs.List.{fold}
 use Rattle.std.specs.Hash as fed
 use Rattle.std.specs.Hash.DefaultHasher as sip
 use Rattle.std.specs.declared.hash.DefaultHasher.{DefaultHasher}
-use Rattle.claims_law.specs.Skeleton.{Key, Kind, Shape, Hold, Claim}
+use Rattle.conflicts.specs.Skeleton.{Key, Kind, Shape, Hold, Claim}
 
 -- a name's text: its folded units, each at most 65,534, and a backslash
 abbrev pub name_text : List ℕ → List ℕ

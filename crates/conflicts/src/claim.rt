@@ -1,6 +1,6 @@
 //! What an operation claims.
 ghost use Rattle.std.specs.Prelude.{◌≡◌, ◌==◌, IsTrue, ◌↔◌, length};
-ghost use Rattle.claims_law.specs.Skeleton.{Conflict, same_key, begins_key};
+ghost use Rattle.conflicts.specs.Skeleton.{Conflict, same_key, begins_key};
 ghost use Rattle.conflicts.specs.Claims.{claim_of, is_shape, meets, reaches, same_claim};
 
 use reg_names::Path;
@@ -25,7 +25,7 @@ pub struct Claim<'a> {
 }
 
 impl<'a> Model for Claim<'a> {
-    ghost use Rattle.claims_law.specs.Skeleton as law;
+    ghost use Rattle.conflicts.specs.Skeleton as law;
 
     ghost Value = { law.Claim };
 

@@ -15,10 +15,12 @@ ghost use Rattle.reg_tree.specs.Sequences.{AreTrees};
 ghost use Rattle.reg_tree.specs.Times.{SameButTimes};
 ghost use Rattle.reg_tree.specs.declared.op.Op.{Op};
 ghost use Rattle.reg_tree.specs.declared.op.Legality.TheVariants.{Legal};
-ghost use Rattle.claims_law.specs.Skeleton.{apply, Claim};
-ghost use Rattle.claims_law.specs.Legal as law;
+ghost use Rattle.conflicts.specs.Skeleton.{apply, Claim};
+ghost use Rattle.conflicts.specs.Legal as law;
 ghost use Rattle.conflicts.specs.Skeletons.{skeleton, outline, judged_in, FitsData, AreCarriedOut, AreApart, IsBeside};
 ghost use Rattle.conflicts.specs.Holders.{Held, with_claim, without_owner, holders_of, IsHolder};
+
+use crate::skeleton_laws;
 
 /// Operations that may be carried out one after another may be so after any others none of whose claims conflicts
 /// with theirs, at whatever moments. The others need not be legal.
@@ -27,7 +29,7 @@ pub fn stay_legal()
         AreApart first ops →
         AreCarriedOut trees ops m → AreCarriedOut (applied trees first n) ops k }
 {
-    claims_law::stays_legal();
+    skeleton_laws::stays_legal();
 }
 
 /// One operation more, which may be carried out on the trees after those before it; at whatever moments.
@@ -75,7 +77,7 @@ pub fn either_order()
         SameButTimes seen (applied trees ops m) →
         SameButTimes (applied_one seen change n) (applied (applied_one trees change k) ops l) }
 {
-    claims_law::stays_legal();
+    skeleton_laws::stays_legal();
 }
 
 /// Trees and operations are to the law of claims what their outlines are.

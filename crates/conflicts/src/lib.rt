@@ -8,6 +8,7 @@
 
 mod claim;
 pub mod laws;
+pub mod skeleton_laws;
 mod spots;
 mod table;
 

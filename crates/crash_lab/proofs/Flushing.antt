@@ -1,9 +1,9 @@
 -- A hive's flush, step by step.
 use Rattle.std.proofs.Common.{◌≡◌, ◌≢◌, ℕ, suc, ◌+◌, ◌-◌, ◌<◌, refl, sym, subst, inl, inr, arith}
-use Rattle.machine.specs.declared.event.Event.TheVariants as event
-use Rattle.reg_script.specs.declared.reply.ReplyLine.{ReplyLine}
-use Rattle.reg_script.specs.declared.reply.ReplyLine.TheVariants as reply
-use Rattle.regtx_parts.specs.Scripts.{Script, Asks}
+use Rattle.store_model.specs.declared.event.Event.TheVariants as event
+use Rattle.script_syntax.specs.declared.reply.ReplyLine.{ReplyLine}
+use Rattle.script_syntax.specs.declared.reply.ReplyLine.TheVariants as reply
+use Rattle.script_runner.specs.Scripts.{Script, Asks}
 use Rattle.crash_lab.specs.Experiments.{Flushes}
 
 -- one step fewer is left

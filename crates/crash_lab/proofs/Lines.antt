@@ -1,10 +1,10 @@
 -- The lines that a laboratory takes.
 use Rattle.std.proofs.Common.{◌≡◌, Option, Some, None, refl}
 use Rattle.std.specs.Prelude.{MatchOption}
-use Rattle.reg_script.specs.declared.line.Line.{Line}
-use Rattle.reg_script.specs.declared.line.Line.TheVariants.{Hives, At, Session, End, Plain, Begin, Inside, Commit, Rollback, Close, Outcome, Flush, Lab}
-use Rattle.reg_script.specs.declared.reply.ReplyLine.{ReplyLine}
-use Rattle.regtx_parts.specs.Scripts.{Answers as AnswersOf}
+use Rattle.script_syntax.specs.declared.line.Line.{Line}
+use Rattle.script_syntax.specs.declared.line.Line.TheVariants.{Hives, At, Session, End, Plain, Begin, Inside, Commit, Rollback, Close, Outcome, Flush, Lab}
+use Rattle.script_syntax.specs.declared.reply.ReplyLine.{ReplyLine}
+use Rattle.script_runner.specs.Scripts.{Answers as AnswersOf}
 use Rattle.crash_lab.specs.Benches.{Bench}
 use Rattle.crash_lab.specs.Experiments.{AnswersLine, bench_line}
 use Rattle.crash_lab.specs.declared.reply.LabReply.{LabReply}

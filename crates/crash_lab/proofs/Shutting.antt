@@ -5,7 +5,7 @@ use Rattle.disk_model.specs.declared.tear.Tear.{Tear}
 use Rattle.recovery.specs.Recovered.{IsNoStore, TellsOfFiles, seen_in}
 use Rattle.refusals.specs.declared.refusal.Refusal.{Refusal}
 use Rattle.refusals.specs.declared.refusal.Refusal.TheVariants.{DiskFault, NoMemory}
-use Rattle.regtx_parts.specs.Running.{MayNotOpen}
+use Rattle.script_runner.specs.Running.{MayNotOpen}
 use Rattle.crash_lab.specs.Crashes.{IsLeftBy, MayStayShut}
 
 -- no refusal that tells of the files is that of a device that fails

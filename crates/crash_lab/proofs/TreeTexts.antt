@@ -4,9 +4,9 @@ use Rattle.std.specs.Prelude.{slice_get, ◌≤◌}
 use Rattle.std.specs.Io.KnownBytes.{Appends}
 use Rattle.std.proofs.lemmas.List.{drop_more, drop_all}
 use Rattle.std.proofs.lemmas.Option.{slice_get_within, get_or_from_slice_get}
-use Rattle.reg_script.proofs.Written.{appends_more, appends_nothing}
+use Rattle.script_syntax.proofs.Written.{appends_more, appends_nothing}
 use Rattle.reg_tree.specs.Maps.{TreeMap}
-use Rattle.tree_text.specs.TreeTexts.{tree_text}
+use Rattle.tree_printer.specs.TreeTexts.{tree_text}
 use Rattle.crash_lab.specs.Experiments.{trees_text}
 
 -- the text from the tree of a hive on begins with that tree's

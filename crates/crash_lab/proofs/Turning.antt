@@ -1,19 +1,19 @@
 -- The run of a script in a laboratory, turn by turn.
 use Rattle.std.proofs.Common.{◌≡◌, ℕ, ◌+◌, Bool, List, [], ◌∷◌, ◌++◌, Option, Some, None, refl, ap, inl, inr}
 use Rattle.std.specs.Io.KnownBytes.{Appends}
-use Rattle.machine.specs.Machine.{trees_now}
-use Rattle.reg_script.specs.Replies.{reply_line}
-use Rattle.reg_script.proofs.Written.{appends_more}
-use Rattle.reg_script.specs.declared.reply.ReplyLine.TheVariants as reply
-use Rattle.reg_script.specs.declared.status.Status.{Status}
-use Rattle.reg_script.specs.declared.status.Status.TheVariants.{Wrong}
-use Rattle.reg_script.specs.Statuses.{with_refusal}
-use Rattle.regtx_parts.specs.Scripts.{hives_asked}
-use Rattle.regtx_parts.specs.Plays.{WereRead, wrong_text, Ends}
-use Rattle.regtx_parts.specs.Turns.{TakesLine}
-use Rattle.regtx_parts.specs.declared.ending.Ending.{Ending}
-use Rattle.regtx_parts.specs.declared.ending.Ending.TheVariants.{OutOfMemory}
-use Rattle.regtx_parts.proofs.Runs.{one_read, more_read, none_read, is_end}
+use Rattle.store_model.specs.Machine.{trees_now}
+use Rattle.script_syntax.specs.Replies.{reply_line}
+use Rattle.script_syntax.proofs.Written.{appends_more}
+use Rattle.script_syntax.specs.declared.reply.ReplyLine.TheVariants as reply
+use Rattle.script_syntax.specs.declared.status.Status.{Status}
+use Rattle.script_syntax.specs.declared.status.Status.TheVariants.{Wrong}
+use Rattle.script_syntax.specs.Statuses.{with_refusal}
+use Rattle.script_runner.specs.Scripts.{hives_asked}
+use Rattle.script_runner.specs.Plays.{WereRead, wrong_text, Ends}
+use Rattle.script_runner.specs.Turns.{TakesLine}
+use Rattle.script_runner.specs.declared.ending.Ending.{Ending}
+use Rattle.script_runner.specs.declared.ending.Ending.TheVariants.{OutOfMemory}
+use Rattle.script_runner.proofs.Runs.{one_read, more_read, none_read, is_end}
 use Rattle.crash_lab.specs.Benches.{Bench, IsNew}
 use Rattle.crash_lab.specs.Experiments.{line_asked, told_text}
 use Rattle.crash_lab.specs.Runs.{IsExperiment, IsExperimentOn, Turns}

@@ -5,8 +5,8 @@ use Rattle.disk_model.specs.MemDisk.{states, earlier}
 use Rattle.disk_model.specs.declared.mem_disk.MemDisk.{MemDisk}
 use Rattle.commit_journal.specs.Store.{Store}
 use Rattle.engine.specs.Lives.{IsSafe}
-use Rattle.regtx_parts.specs.Players.{engine_of, script_of}
-use Rattle.regtx_parts.specs.Scripts.{Script, fresh_script}
+use Rattle.script_runner.specs.Players.{engine_of, script_of}
+use Rattle.script_runner.specs.Scripts.{Script, fresh_script}
 use Rattle.crash_lab.specs.declared.bench.Laboratory.{Laboratory}
 use Rattle.crash_lab.specs.declared.device.Asked.{Asked}
 

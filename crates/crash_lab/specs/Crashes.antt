@@ -3,12 +3,12 @@ use Rattle.std.specs.Prelude.{◌≡◌, ◌⊎◌, ℕ, ⊤}
 use Rattle.disk_model.specs.FileState.{FileState}
 use Rattle.disk_model.specs.Tear.{IsCrashOf}
 use Rattle.disk_model.specs.declared.tear.Tear.{Tear}
-use Rattle.machine.specs.Machine.{Machine}
+use Rattle.store_model.specs.Machine.{Machine}
 use Rattle.recovery.specs.Recovered.{IsNoStore, seen_in}
 use Rattle.refusals.specs.declared.refusal.Refusal.{Refusal}
 use Rattle.refusals.specs.declared.refusal.Refusal.TheVariants.{NoMemory}
 use Rattle.commit_journal.specs.Store.{Store}
-use Rattle.regtx_parts.specs.Running.{IsOpenedOn, session_0}
+use Rattle.script_runner.specs.Running.{IsOpenedOn, session_0}
 
 -- each file is left as the tear says
 abbrev pub IsLeftBy : Tear → (ℕ → FileState) → (ℕ → FileState) → Type 0

@@ -2,23 +2,23 @@
 use Rattle.std.specs.Prelude.{◌≡◌, ◌≢◌, ◌⊎◌, ℕ, zero, suc, ◌-◌, ◌^◌, Bool, false, List, [], ◌∷◌, ◌++◌, ◌+◌, Option, Some, None}
 use Rattle.disk_model.specs.declared.tear.Tear.{Tear}
 use Rattle.disk_model.specs.declared.tear.Tear.TheVariants as tear
-use Rattle.machine.specs.declared.event.Event.TheVariants as event
+use Rattle.store_model.specs.declared.event.Event.TheVariants as event
 use Rattle.refusals.specs.declared.refusal.Refusal.{Refusal}
 use Rattle.reg_tree.specs.Maps.{TreeMap}
-use Rattle.reg_script.specs.Lines.{line_of}
-use Rattle.reg_script.specs.Replies.{reply_line}
-use Rattle.reg_script.specs.declared.lab_line.CrashTear.{CrashTear}
-use Rattle.reg_script.specs.declared.lab_line.CrashTear.TheVariants as crash
-use Rattle.reg_script.specs.declared.lab_line.LabLine.{LabLine}
-use Rattle.reg_script.specs.declared.lab_line.LabLine.TheVariants.{Accept, JournalStep, FlusherStep, TrimStep, FlushWhole, StopAt, FailAt, Crash}
-use Rattle.reg_script.specs.declared.line.Line.{Line}
-use Rattle.reg_script.specs.declared.line.Line.TheVariants.{Hives, Lab}
-use Rattle.reg_script.specs.declared.reply.ReplyLine.{ReplyLine}
-use Rattle.reg_script.specs.declared.reply.ReplyLine.TheVariants as reply
-use Rattle.regtx_parts.specs.Plays.{is_refusal}
-use Rattle.regtx_parts.specs.Running.{opened_text}
-use Rattle.regtx_parts.specs.Scripts.{Script, Answers, Asks, IsLabelled, script_at}
-use Rattle.tree_text.specs.TreeTexts.{tree_text}
+use Rattle.script_syntax.specs.Lines.{line_of}
+use Rattle.script_syntax.specs.Replies.{reply_line}
+use Rattle.script_syntax.specs.declared.lab_line.CrashTear.{CrashTear}
+use Rattle.script_syntax.specs.declared.lab_line.CrashTear.TheVariants as crash
+use Rattle.script_syntax.specs.declared.lab_line.LabLine.{LabLine}
+use Rattle.script_syntax.specs.declared.lab_line.LabLine.TheVariants.{Accept, JournalStep, FlusherStep, TrimStep, FlushWhole, StopAt, FailAt, Crash}
+use Rattle.script_syntax.specs.declared.line.Line.{Line}
+use Rattle.script_syntax.specs.declared.line.Line.TheVariants.{Hives, Lab}
+use Rattle.script_syntax.specs.declared.reply.ReplyLine.{ReplyLine}
+use Rattle.script_syntax.specs.declared.reply.ReplyLine.TheVariants as reply
+use Rattle.script_runner.specs.Plays.{is_refusal}
+use Rattle.script_runner.specs.Running.{opened_text}
+use Rattle.script_runner.specs.Scripts.{Script, Answers, Asks, IsLabelled, script_at}
+use Rattle.tree_printer.specs.TreeTexts.{tree_text}
 use Rattle.crash_lab.specs.Benches.{Bench, IsKept, nothing_asked}
 use Rattle.crash_lab.specs.Crashes.{MayStayShut, OpensBehind}
 use Rattle.crash_lab.specs.declared.reply.LabReply.{LabReply}

@@ -1,18 +1,18 @@
 -- What a script prints in a laboratory, and how its run ends.
 use Rattle.std.specs.Prelude.{◌≡◌, ℕ, ◌+◌, ◌⊎◌, List, [], ◌∷◌, ◌++◌, Option, Some, None}
 use Rattle.std.specs.Io.KnownBytes.{Appends}
-use Rattle.reg_script.specs.Replies.{reply_line}
-use Rattle.reg_script.specs.Statuses.{with_refusal}
-use Rattle.reg_script.specs.declared.line.Line.{Line}
-use Rattle.reg_script.specs.declared.reply.ReplyLine.TheVariants as reply
-use Rattle.reg_script.specs.declared.status.Status.{Status}
-use Rattle.reg_script.specs.declared.status.Status.TheVariants.{Wrong}
-use Rattle.machine.specs.Machine.{trees_now}
-use Rattle.regtx_parts.specs.Plays.{Ends, EndsAs, IsWrong, WereRead, wrong_text}
-use Rattle.regtx_parts.specs.Scripts.{hives_asked}
-use Rattle.regtx_parts.specs.Turns.{TakesLine}
-use Rattle.regtx_parts.specs.declared.ending.Ending.{Ending}
-use Rattle.regtx_parts.specs.declared.ending.Ending.TheVariants.{Ended, Broken, OutOfMemory}
+use Rattle.script_syntax.specs.Replies.{reply_line}
+use Rattle.script_syntax.specs.Statuses.{with_refusal}
+use Rattle.script_syntax.specs.declared.line.Line.{Line}
+use Rattle.script_syntax.specs.declared.reply.ReplyLine.TheVariants as reply
+use Rattle.script_syntax.specs.declared.status.Status.{Status}
+use Rattle.script_syntax.specs.declared.status.Status.TheVariants.{Wrong}
+use Rattle.store_model.specs.Machine.{trees_now}
+use Rattle.script_runner.specs.Plays.{Ends, EndsAs, IsWrong, WereRead, wrong_text}
+use Rattle.script_runner.specs.Scripts.{hives_asked}
+use Rattle.script_runner.specs.Turns.{TakesLine}
+use Rattle.script_runner.specs.declared.ending.Ending.{Ending}
+use Rattle.script_runner.specs.declared.ending.Ending.TheVariants.{Ended, Broken, OutOfMemory}
 use Rattle.crash_lab.specs.Benches.{Bench, IsNew}
 use Rattle.crash_lab.specs.Experiments.{Answered, is_refused, line_asked, told_text}
 use Rattle.crash_lab.specs.declared.reply.LabReply.{LabReply}

@@ -1,9 +1,9 @@
 //! A script in a laboratory, between two lines.
 ghost use Rattle.std.specs.Prelude.{◌≡◌, ◌↔◌, ℕ, true, Some, None, MatchOption, IfOk, IfSome, IfNone, OnErr};
-ghost use Rattle.reg_script.specs.declared.line.Line.{Line as AnyLine};
-ghost use Rattle.regtx_parts.specs.Scripts.{hives_asked};
-ghost use Rattle.regtx_parts.specs.Players.{script_of};
-ghost use Rattle.machine.specs.Machine.{trees_now};
+ghost use Rattle.script_syntax.specs.declared.line.Line.{Line as AnyLine};
+ghost use Rattle.script_runner.specs.Scripts.{hives_asked};
+ghost use Rattle.script_runner.specs.Players.{script_of};
+ghost use Rattle.store_model.specs.Machine.{trees_now};
 ghost use Rattle.crash_lab.specs.Benches.{bench_of, IsKept, IsNew};
 ghost use Rattle.crash_lab.specs.Experiments.{Answered, AnswersLine, Crashes, Experiments, IsFlushedWhole, bench_line, line_asked, tear_of};
 
@@ -11,11 +11,11 @@ use crate::crashing::{Reopened, open_behind};
 use crate::device::Device;
 use crate::reply::LabReply;
 use disk_model::{MemDisk, Tear};
-use machine::Event;
-use reg_script::{CrashTear, LabLine, Line, ReplyLine, Unread, read_line};
 use reg_tree::Trees;
-use regtx_parts::{Player, begin_on};
+use script_runner::{Player, begin_on};
+use script_syntax::{CrashTear, LabLine, Line, ReplyLine, Unread, read_line};
 use std::alloc::{AllocError, Global};
+use store_model::Event;
 
 /// A script over a disk in memory, and what was asked of that disk's device.
 pub(crate) struct Laboratory {

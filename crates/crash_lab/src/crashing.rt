@@ -8,7 +8,7 @@ use crate::device::Device;
 use disk_model::{MemDisk, Tear};
 use engine::Engine;
 use refusals::Refusal;
-use regtx_parts::{make_journal_room, open_store};
+use script_runner::{make_journal_room, open_store};
 use std::alloc::{AllocError, Global};
 
 /// A store that was opened behind a loss of power.

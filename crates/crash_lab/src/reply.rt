@@ -3,12 +3,12 @@ ghost use Rattle.std.specs.Prelude.{◌≡◌, OnOk, IfOk};
 ghost use Rattle.std.specs.Io.KnownBytes.{Appends};
 ghost use Rattle.crash_lab.specs.Experiments.{is_refused, told_text, trees_text};
 
-use reg_script::ReplyLine;
 use reg_tree::Trees;
-use regtx_parts::is_refusal;
+use script_runner::is_refusal;
+use script_syntax::ReplyLine;
 use std::io;
 use std::io::Write;
-use tree_text::write_tree;
+use tree_printer::write_tree;
 
 /// What a line of a laboratory is answered.
 #[derive(Drop)]

@@ -4,8 +4,8 @@ ghost use Rattle.crash_lab.specs.Benches.{bench_of};
 ghost use Rattle.crash_lab.specs.Runs.{IsExperiment, IsExperimentOn, Turns};
 
 use crate::bench::Laboratory;
-use reg_script::{ReplyLine, Status};
-use regtx_parts::{Ending, end, next_line, wrong};
+use script_runner::{Ending, end, next_line, wrong};
+use script_syntax::{ReplyLine, Status};
 use std::alloc::{AllocError, Global};
 use std::io;
 use std::io::{BufRead, Write};
@@ -27,7 +27,7 @@ enum Turn {
 /// Runs a script over a store in memory, whose power may go, and writes the replies to its lines, in order, each as soon as its line is
 /// read. No more of the script is held than one line.
 ///
-/// The lines are those of [`play`](regtx_parts::play), and those of a laboratory beside: a single step, a device that is to stop or
+/// The lines are those of [`play`](script_runner::play), and those of a laboratory beside: a single step, a device that is to stop or
 /// fail, a loss of power. Behind a loss of power what is left is opened, and its number and trees are written; where it can't be
 /// opened, why is told, and nothing has changed.
 ///

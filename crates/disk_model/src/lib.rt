@@ -19,10 +19,12 @@ mod mem_disk;
 mod mem_file;
 mod past;
 mod plan;
+mod progress;
 mod tear;
 mod written;
 
 pub use disk::{Disk, Failed};
 pub use mem_disk::{FILES, MemDisk};
 pub use plan::Plan;
+pub use progress::Progress;
 pub use tear::Tear;

@@ -5,21 +5,20 @@ use Rattle.std.proofs.lemmas.Option.{none-some, same_Some, slice_get-map}
 use Rattle.std.proofs.lemmas.Bool.{true≢false}
 use Rattle.refusals.specs.declared.refusal.Refusal.{Refusal}
 use Rattle.reg_tree.specs.declared.element.Element.{Element}
-use Rattle.prefix_law.specs.Changes as law
-use Rattle.prefix_law.specs.Promises.{Choice, Spelled, nothing, settled, top, under_way, Ends, BeginsTrim, JournalSays, TrimSays, HiveSays}
-use Rattle.prefix_law.specs.Memory.{IsOfMemory}
+use Rattle.crash_model.specs.Changes as law
+use Rattle.crash_model.specs.Promises.{Choice, Spelled, nothing, settled, top, under_way, Ends, BeginsTrim, JournalSays, TrimSays, HiveSays}
+use Rattle.crash_model.specs.Memory.{IsOfMemory}
 use Rattle.reg_tree.specs.Maps.{TreeMap}
-use Rattle.machine.specs.Machine.{Machine, last_number}
-use Rattle.machine.specs.Steps.{EndsTrim, is_calm}
-use Rattle.machine.specs.declared.event.Event.{Event}
-use Rattle.machine.specs.declared.event.Event.TheVariants as event
-use Rattle.machine.specs.declared.event.Progress.TheVariants as stepped
-use Rattle.machine.specs.declared.event.Reply.{Reply}
-use Rattle.machine.specs.declared.event.Reply.TheVariants as reply
-use Rattle.engine_words.specs.Changes.{TimedOp}
-use Rattle.engine_words.specs.Steps.{Says}
-use Rattle.engine_words.specs.declared.Progress.{Progress}
-use Rattle.engine_words.specs.declared.Progress.TheVariants as progress
+use Rattle.store_model.specs.Machine.{Machine, last_number}
+use Rattle.store_model.specs.Steps.{EndsTrim, is_calm}
+use Rattle.store_model.specs.declared.event.Event.{Event}
+use Rattle.store_model.specs.declared.event.Event.TheVariants as event
+use Rattle.store_model.specs.declared.event.Reply.{Reply}
+use Rattle.store_model.specs.declared.event.Reply.TheVariants as reply
+use Rattle.change_codec.specs.ModelChanges.{TimedOp}
+use Rattle.crash_model.specs.StepAnswers.{Says}
+use Rattle.disk_model.specs.declared.progress.Progress.{Progress}
+use Rattle.disk_model.specs.declared.progress.Progress.TheVariants as progress
 use Rattle.commit_journal.specs.Journals.{changes_of, choice_of, steps_in, steps_left, value_in}
 use Rattle.commit_journal.specs.Journals as journals
 use Rattle.commit_journal.specs.OnDisk as phase
@@ -27,12 +26,12 @@ use Rattle.commit_journal.specs.declared.standing.Standing.{Standing}
 use Rattle.commit_journal.specs.declared.journal.Phase.{Phase}
 use Rattle.commit_journal.specs.declared.journal.Phase.TheVariants.{Quiet, BodyWritten, BodySynced, GateWritten, TrimWritten, Broken}
 use Rattle.commit_journal.specs.declared.journal.Journal.{Journal}
-use Rattle.engine_law.specs.States.{HiveView, IsConsistent}
-use Rattle.engine_law.specs.Answers.{reply_to, after_step, MayTrim}
-use Rattle.engine_law.specs.Progress.{FlushView, FlushesOn, flush_of, HasPending, HasTrimmed, IsMade, IsTrimming, NearsDurable}
+use Rattle.engine_invariant.specs.States.{HiveView, IsConsistent}
+use Rattle.engine_invariant.specs.Answers.{reply_to, after_step, MayTrim}
+use Rattle.engine_invariant.specs.Progress.{FlushView, FlushesOn, flush_of, HasPending, HasTrimmed, IsMade, IsTrimming, NearsDurable}
 use Rattle.transactions.specs.Stores.{StoreView}
-use Rattle.engine_law.specs.Prefixes.{view_of}
-use Rattle.engine_law.specs.Idle.{IsTrimmed}
+use Rattle.engine_invariant.specs.Prefixes.{view_of}
+use Rattle.engine_invariant.specs.Idle.{IsTrimmed}
 use Rattle.hive_flush.specs.HiveStates.{dirty_pages, files_of, memory_of}
 use Rattle.hive_flush.specs.HiveStates as states
 use Rattle.hive_flush.specs.declared.hive.HiveFile.{HiveFile}
@@ -42,7 +41,7 @@ use Rattle.commit_journal.specs.declared.naming.Naming.{Naming}
 use Rattle.engine.specs.declared.parts.Parts.{Parts}
 use Rattle.engine.proofs.Idling.{told_some}
 use Rattle.engine.proofs.Sound.{same_hive}
-use Rattle.engine_law.proofs.HiveLists.{get_same, viewed}
+use Rattle.engine_invariant.proofs.HiveLists.{get_same, viewed}
 
 -- The laws that are used
 
@@ -50,7 +49,7 @@ abbrev pub Settles : Type 0
 Settles = (machine : Machine) (base : ℕ) (opened : List Element) (old new : Choice (Spelled TimedOp)) (hives : List HiveView) → IsConsistent machine base opened old hives → (IsTrimming old → ⊥) → Ends old new → machine.durable < top machine.durable new.now
 
 abbrev pub Frees : Type 0
-Frees = (machine : Machine) (base : ℕ) (opened : List Element) (old new : Choice (Spelled TimedOp)) (hives : List HiveView) → IsConsistent machine base opened old hives → IsTrimming old → Ends old new → EndsTrim machine stepped.Done (after_step machine old new (Ok progress.Done))
+Frees = (machine : Machine) (base : ℕ) (opened : List Element) (old new : Choice (Spelled TimedOp)) (hives : List HiveView) → IsConsistent machine base opened old hives → IsTrimming old → Ends old new → EndsTrim machine progress.Done (after_step machine old new (Ok progress.Done))
 
 -- Steps that aren't made
 
@@ -208,7 +207,7 @@ module _ {D : Type 0} (s : Parts D) (sound : IsSound s) (free : s.store.machine.
       rests : (IsTrimming (choice_of s.journal) → ⊥) → (choice_of s.journal).next ≡ None
       rests no_trim = elim (may) [ inl trims ↦ absurd (no_trim trims) | inr begins ↦ begins.0 ]
 
-      begins : (r : Result Progress Refusal) → Says TrimSays r (choice_of s.journal) (choice_of new) → IsMade (reply_to r) → (IsTrimming (choice_of s.journal) → ⊥) → (reply_to r ≡ reply.Stepped stepped.More) × BeginsTrim (choice_of s.journal) (choice_of new)
+      begins : (r : Result Progress Refusal) → Says TrimSays r (choice_of s.journal) (choice_of new) → IsMade (reply_to r) → (IsTrimming (choice_of s.journal) → ⊥) → (reply_to r ≡ reply.Stepped progress.More) × BeginsTrim (choice_of s.journal) (choice_of new)
       begins (Ok progress.Idle) none made no_trim = absurd none
       begins (Ok progress.More) began made no_trim = (refl, began)
       begins (Ok progress.Done) ended made no_trim = absurd (none-some ended.0 (sym (rests no_trim) ∙ ended.1))
@@ -239,7 +238,7 @@ abbrev pub StepsOn : ℕ → Reply → HiveFile → HiveFile → Type 0
 StepsOn number answer was then = FlushesOn number answer (view_of was) (view_of then) (flush_of was) (flush_of then)
 
 pub flush_comes_on : {D : Type 0} (hive : ℕ) (answer : Reply) (old new : Parts D)
-    → ((was then : HiveFile) → IsMade answer → (answer ≡ reply.Stepped stepped.Idle → ⊥) → slice_get old.hives.items hive ≡ Some was → slice_get new.hives.items hive ≡ Some then → StepsOn old.store.machine.durable answer was then)
+    → ((was then : HiveFile) → IsMade answer → (answer ≡ reply.Stepped progress.Idle → ⊥) → slice_get old.hives.items hive ≡ Some was → slice_get new.hives.items hive ≡ Some then → StepsOn old.store.machine.durable answer was then)
     → ComesOn (event.FlusherStep hive) answer old new
 flush_comes_on hive answer old new steps = record {
   nears = λ is _ _. absurd (not_journal is);

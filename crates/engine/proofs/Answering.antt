@@ -1,14 +1,14 @@
 -- An engine answers as its parts do.
 use Rattle.std.proofs.Common.{◌≡◌, ap, ℕ, false, map}
 use Rattle.disk_model.specs.FileState.{FileState}
-use Rattle.machine.specs.declared.event.Event.{Event}
-use Rattle.machine.specs.declared.event.Reply.{Reply}
+use Rattle.store_model.specs.declared.event.Event.{Event}
+use Rattle.store_model.specs.declared.event.Reply.{Reply}
 use Rattle.commit_journal.specs.Journals.{changes_of, choice_of, steps_left}
 use Rattle.commit_journal.specs.declared.journal.Journal.{Journal}
-use Rattle.engine_law.specs.Engines.{EngineAnswers}
-use Rattle.engine_law.specs.Idle.{IdlesExactly}
-use Rattle.engine_law.specs.Prefixes.{view_of}
-use Rattle.engine_law.specs.Progress.{flush_of}
+use Rattle.engine_invariant.specs.Engines.{EngineAnswers}
+use Rattle.engine_invariant.specs.Idle.{IdlesExactly}
+use Rattle.engine_invariant.specs.Prefixes.{view_of}
+use Rattle.engine_invariant.specs.Progress.{flush_of}
 use Rattle.engine.specs.Events.{ComesOn, GoesOn, parts_view}
 use Rattle.engine.specs.declared.parts.Parts.{Parts}
 use Rattle.engine.proofs.Advancing.{seen_same, steps_seen}

@@ -4,9 +4,9 @@ use Rattle.std.specs.Prelude.{IfNone}
 use Rattle.std.proofs.lemmas.Bool.{cases_lt}
 use Rattle.std.proofs.lemmas.List.{length-map}
 use Rattle.reg_tree.specs.declared.element.Element.{Element}
-use Rattle.machine.specs.Machine.{Machine}
-use Rattle.engine_law.specs.Idle.{IsFlushed}
-use Rattle.engine_law.specs.States.{HiveView}
+use Rattle.store_model.specs.Machine.{Machine}
+use Rattle.engine_invariant.specs.Idle.{IsFlushed}
+use Rattle.engine_invariant.specs.States.{HiveView}
 use Rattle.engine.specs.Work.{AreFlushed, IsNextAround}
 
 -- a list's rows are as many as what is seen of each

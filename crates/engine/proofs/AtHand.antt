@@ -5,27 +5,27 @@ use Rattle.std.proofs.lemmas.Option.{slice_get_within, slice_get-get_or}
 use Rattle.std.proofs.lemmas.List.{drop-drop, length-drop, length-map, take-append-le}
 use Rattle.std.proofs.Math.ListN.{drop_of_length-le}
 use Rattle.reg_tree.specs.declared.element.Element.{Element}
-use Rattle.prefix_law.specs.Changes as law
-use Rattle.prefix_law.specs.Changes.{ops_on}
-use Rattle.prefix_law.specs.Life.{ops_in, known_elements}
-use Rattle.prefix_law.proofs.Lists.{first_nil, le_or_le, seg_none}
-use Rattle.prefix_law.proofs.OnePrefix.{ops_split}
-use Rattle.prefix_law.proofs.ClausesSuffice.{last_naming}
+use Rattle.crash_model.specs.Changes as law
+use Rattle.crash_model.specs.Changes.{ops_on}
+use Rattle.crash_model.specs.Life.{ops_in, known_elements}
+use Rattle.crash_model.proofs.Lists.{first_nil, le_or_le, seg_none}
+use Rattle.crash_model.proofs.OnePrefix.{ops_split}
+use Rattle.crash_model.proofs.ClausesSuffice.{last_naming}
 use Rattle.reg_tree.specs.Maps.{TreeMap}
-use Rattle.machine.specs.Machine.{Machine, last_number}
-use Rattle.machine.specs.Kept.{Stays, Grows}
+use Rattle.store_model.specs.Machine.{Machine, last_number}
+use Rattle.store_model.specs.Kept.{Stays, Grows}
 use Rattle.transactions.specs.Stores.{StoreView}
-use Rattle.engine_words.specs.Changes.{TimedOp, timed_element, timed_elements}
+use Rattle.change_codec.specs.ModelChanges.{TimedOp, timed_element, timed_elements}
 use Rattle.hive_flush.specs.HiveStates.{memory_of}
 use Rattle.hive_flush.specs.declared.hive.HiveFile.{HiveFile}
-use Rattle.engine_law.specs.States.{life_of}
-use Rattle.engine_law.specs.Answers.{after_flush, refused_by}
-use Rattle.engine_words.specs.declared.Progress.{Progress}
+use Rattle.engine_invariant.specs.States.{life_of}
+use Rattle.engine_invariant.specs.Answers.{after_flush, refused_by}
+use Rattle.disk_model.specs.declared.progress.Progress.{Progress}
 use Rattle.refusals.specs.declared.refusal.Refusal.{Refusal}
 use Rattle.refusals.specs.declared.refusal.Refusal.TheVariants.{DiskFault}
 use Rattle.recovery.specs.Kept as opening
 use Rattle.engine.proofs.Sound.{flush_before, refused_accepted}
-use Rattle.engine_law.proofs.HiveLists.{each_hive}
+use Rattle.engine_invariant.proofs.HiveLists.{each_hive}
 use Rattle.engine.specs.AtHand.{AreAtHand, HaveUpTo}
 use Rattle.engine.specs.Naming.{AreLastNaming}
 use Rattle.engine.proofs.Namings.{known_stays}

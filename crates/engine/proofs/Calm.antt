@@ -1,19 +1,19 @@
 -- An engine's parts stay sound where the store in memory alone goes on.
 use Rattle.std.proofs.Common.{◌≡◌, ◌⊎◌, ℕ, true, List, map, refl, sym, ap, subst, arith}
 use Rattle.reg_tree.specs.declared.element.Element.{Element}
-use Rattle.prefix_law.specs.Promises.{Choice, Spelled}
-use Rattle.machine.specs.Machine.{Machine}
-use Rattle.machine.specs.Kept.{IsKept, Stays, Grows}
-use Rattle.machine.specs.Steps.{Step, is_calm}
-use Rattle.machine.specs.declared.event.Event.{Event}
-use Rattle.machine.specs.declared.event.Event.TheVariants as event
-use Rattle.machine.specs.declared.event.Reply.{Reply}
+use Rattle.crash_model.specs.Promises.{Choice, Spelled}
+use Rattle.store_model.specs.Machine.{Machine}
+use Rattle.store_model.specs.Kept.{IsKept, Stays, Grows}
+use Rattle.store_model.specs.Steps.{Step, is_calm}
+use Rattle.store_model.specs.declared.event.Event.{Event}
+use Rattle.store_model.specs.declared.event.Event.TheVariants as event
+use Rattle.store_model.specs.declared.event.Reply.{Reply}
 use Rattle.transactions.specs.Prepared.{may_accept}
 use Rattle.transactions.specs.Stores.{StoreView}
-use Rattle.engine_words.specs.Changes.{TimedOp}
+use Rattle.change_codec.specs.ModelChanges.{TimedOp}
 use Rattle.commit_journal.specs.Journals.{changes_of, choice_of}
-use Rattle.engine_law.specs.States.{HiveView, IsConsistent}
-use Rattle.engine_law.specs.Prefixes.{view_of}
+use Rattle.engine_invariant.specs.States.{HiveView, IsConsistent}
+use Rattle.engine_invariant.specs.Prefixes.{view_of}
 use Rattle.engine.specs.Naming.{AreLastNaming}
 use Rattle.engine.specs.Parts.{IsSound}
 use Rattle.engine.specs.declared.parts.Parts.{Parts}

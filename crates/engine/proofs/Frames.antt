@@ -6,22 +6,22 @@ use Rattle.std.specs.Prelude.{IfErr, true}
 use Rattle.refusals.specs.declared.refusal.Refusal.TheVariants.{DiskFault, Faulted, NoMemory}
 use Rattle.disk_model.specs.FileState.{FileState}
 use Rattle.disk_model.specs.Call.{OneCall, HasFailed}
-use Rattle.machine.specs.Machine.{Machine}
-use Rattle.prefix_law.specs.Promises.{Answer, Choice, Spelled, TrimSays}
-use Rattle.engine_words.specs.Changes.{TimedOp}
-use Rattle.machine.specs.Steps.{Step, is_step}
-use Rattle.machine.specs.declared.event.Event.{Event}
-use Rattle.machine.specs.declared.event.Event.TheVariants.{FlusherStep}
-use Rattle.machine.specs.declared.event.Reply.{Reply}
-use Rattle.machine.specs.declared.event.Reply.TheVariants.{Refused}
-use Rattle.engine_words.specs.Steps.{Says}
-use Rattle.engine_words.specs.declared.Progress.{Progress}
-use Rattle.engine_words.specs.declared.Progress.TheVariants as progress
+use Rattle.store_model.specs.Machine.{Machine}
+use Rattle.crash_model.specs.Promises.{Answer, Choice, Spelled, TrimSays}
+use Rattle.change_codec.specs.ModelChanges.{TimedOp}
+use Rattle.store_model.specs.Steps.{Step, is_step}
+use Rattle.store_model.specs.declared.event.Event.{Event}
+use Rattle.store_model.specs.declared.event.Event.TheVariants.{FlusherStep}
+use Rattle.store_model.specs.declared.event.Reply.{Reply}
+use Rattle.store_model.specs.declared.event.Reply.TheVariants.{Refused}
+use Rattle.crash_model.specs.StepAnswers.{Says}
+use Rattle.disk_model.specs.declared.progress.Progress.{Progress}
+use Rattle.disk_model.specs.declared.progress.Progress.TheVariants as progress
 use Rattle.commit_journal.specs.Journals.{changes_of, store_of}
 use Rattle.commit_journal.specs.declared.journal.Journal.{Journal}
-use Rattle.engine_law.specs.Answers.{reply_to}
-use Rattle.engine_law.specs.Prefixes.{AnyFile, AreOnDisk}
-use Rattle.engine_law.specs.Engines.{NeedsNoDevice}
+use Rattle.engine_invariant.specs.Answers.{reply_to}
+use Rattle.engine_invariant.specs.Prefixes.{AnyFile, AreOnDisk}
+use Rattle.engine_invariant.specs.Engines.{NeedsNoDevice}
 use Rattle.engine.specs.Parts.{IsSound}
 use Rattle.engine.specs.Events.{GoesOn}
 use Rattle.engine.specs.declared.parts.Parts.{Parts}

@@ -4,20 +4,19 @@ use Rattle.std.proofs.lemmas.Option.{none-some, same_Some}
 use Rattle.std.proofs.lemmas.List.{length-drop, length-map}
 use Rattle.refusals.specs.declared.refusal.Refusal.{Refusal}
 use Rattle.reg_tree.specs.declared.element.Element.{Element}
-use Rattle.prefix_law.specs.Promises.{Choice, Spelled, nothing, top, JournalSays, TrimSays}
-use Rattle.prefix_law.proofs.ClausesSuffice.{last_naming}
-use Rattle.machine.specs.Machine.{Machine}
-use Rattle.machine.specs.Steps.{is_calm}
-use Rattle.machine.specs.Kept.{IsKept}
-use Rattle.machine.specs.declared.event.Event.{Event}
-use Rattle.machine.specs.declared.event.Event.TheVariants as event
-use Rattle.machine.specs.declared.event.Progress.TheVariants as stepped
-use Rattle.machine.specs.declared.event.Reply.{Reply}
-use Rattle.machine.specs.declared.event.Reply.TheVariants.{Stepped}
-use Rattle.engine_words.specs.Changes.{TimedOp, timed_element, timed_elements}
-use Rattle.engine_words.specs.Steps.{Says}
-use Rattle.engine_words.specs.declared.Progress.{Progress}
-use Rattle.engine_words.specs.declared.Progress.TheVariants as progress
+use Rattle.crash_model.specs.Promises.{Choice, Spelled, nothing, top, JournalSays, TrimSays}
+use Rattle.crash_model.proofs.ClausesSuffice.{last_naming}
+use Rattle.store_model.specs.Machine.{Machine}
+use Rattle.store_model.specs.Steps.{is_calm}
+use Rattle.store_model.specs.Kept.{IsKept}
+use Rattle.store_model.specs.declared.event.Event.{Event}
+use Rattle.store_model.specs.declared.event.Event.TheVariants as event
+use Rattle.store_model.specs.declared.event.Reply.{Reply}
+use Rattle.store_model.specs.declared.event.Reply.TheVariants.{Stepped}
+use Rattle.change_codec.specs.ModelChanges.{TimedOp, timed_element, timed_elements}
+use Rattle.crash_model.specs.StepAnswers.{Says}
+use Rattle.disk_model.specs.declared.progress.Progress.{Progress}
+use Rattle.disk_model.specs.declared.progress.Progress.TheVariants as progress
 use Rattle.commit_journal.specs.Journals.{choice_of, value_in}
 use Rattle.commit_journal.specs.Journals as journals
 use Rattle.commit_journal.specs.OnDisk as phase
@@ -27,23 +26,23 @@ use Rattle.commit_journal.specs.declared.journal.Phase.TheVariants.{Quiet, BodyW
 use Rattle.commit_journal.specs.declared.journal.Journal.{Journal}
 use Rattle.hive_flush.specs.HiveStates.{files_of}
 use Rattle.hive_flush.specs.declared.hive.HiveFile.{HiveFile}
-use Rattle.engine_law.specs.States.{HiveView, life_of}
-use Rattle.engine_law.specs.Answers.{reply_to, MayTrim}
-use Rattle.engine_law.specs.Prefixes.{view_of}
-use Rattle.engine_law.specs.Idle.{HasAll, IdlesExactly, IsFlushed, IsSettled, IsTrimmed, SomeLacks}
+use Rattle.engine_invariant.specs.States.{HiveView, life_of}
+use Rattle.engine_invariant.specs.Answers.{reply_to, MayTrim}
+use Rattle.engine_invariant.specs.Prefixes.{view_of}
+use Rattle.engine_invariant.specs.Idle.{HasAll, IdlesExactly, IsFlushed, IsSettled, IsTrimmed, SomeLacks}
 use Rattle.engine.specs.Naming.{AreLastNaming}
 use Rattle.engine.proofs.Sound.{same_hive}
-use Rattle.engine_law.proofs.HiveLists.{view_at}
+use Rattle.engine_invariant.proofs.HiveLists.{view_at}
 
 -- Answers
 
-pub told_idle : (come : Result Progress Refusal) → (reply_to come ≡ Stepped stepped.Idle) ↔ (come ≡ Ok progress.Idle)
+pub told_idle : (come : Result Progress Refusal) → (reply_to come ≡ Stepped progress.Idle) ↔ (come ≡ Ok progress.Idle)
 told_idle (Ok progress.Idle) = (λ e. refl, λ e. refl)
 told_idle (Ok progress.More) = (λ e. absurd cc, λ e. absurd cc)
 told_idle (Ok progress.Done) = (λ e. absurd cc, λ e. absurd cc)
 told_idle (Err why) = (λ e. absurd cc, λ e. absurd cc)
 
-pub replied_idle : {X : Type 0} (come : Result Progress Refusal) (answer : Reply) → answer ≡ reply_to come → (come ≡ Ok progress.Idle) ↔ X → (answer ≡ Stepped stepped.Idle) ↔ X
+pub replied_idle : {X : Type 0} (come : Result Progress Refusal) (answer : Reply) → answer ≡ reply_to come → (come ≡ Ok progress.Idle) ↔ X → (answer ≡ Stepped progress.Idle) ↔ X
 replied_idle come answer is exact = (λ e. exact.0 ((told_idle come).0 (sym is ∙ e)), λ x. is ∙ (told_idle come).1 (exact.1 x))
 
 pub calm_idles : (e : Event) (answer : Reply) (m : Machine) (base : ℕ) (opened : List Element) (journal : Choice (Spelled TimedOp)) (hives : List HiveView) → is_calm e ≡ true → IdlesExactly e answer m base opened journal hives

@@ -8,18 +8,18 @@ use Rattle.disk_model.specs.FileState.{FileState}
 use Rattle.disk_model.specs.Call.{OneCall, HasFailed}
 use Rattle.disk_model.specs.StoreFiles.{IsJournal}
 use Rattle.reg_tree.specs.declared.element.Element.{Element}
-use Rattle.prefix_law.specs.Promises.{Choice, Spelled, top, JournalSays, TrimSays}
-use Rattle.machine.specs.Machine.{Machine, last_number, pending}
-use Rattle.machine.specs.Kept.{IsKept}
-use Rattle.machine.specs.Steps.{Step, Run}
-use Rattle.machine.specs.declared.event.Reply.{Reply}
-use Rattle.machine.specs.declared.event.Event.{Event}
-use Rattle.machine.specs.declared.event.Event.TheVariants as event
+use Rattle.crash_model.specs.Promises.{Choice, Spelled, top, JournalSays, TrimSays}
+use Rattle.store_model.specs.Machine.{Machine, last_number, pending}
+use Rattle.store_model.specs.Kept.{IsKept}
+use Rattle.store_model.specs.Steps.{Step, Run}
+use Rattle.store_model.specs.declared.event.Reply.{Reply}
+use Rattle.store_model.specs.declared.event.Event.{Event}
+use Rattle.store_model.specs.declared.event.Event.TheVariants as event
 use Rattle.transactions.specs.Stores.{StoreView}
-use Rattle.engine_words.specs.Changes.{TimedOp, timed_elements}
-use Rattle.engine_words.specs.Steps.{Says}
-use Rattle.engine_words.specs.declared.Progress.{Progress}
-use Rattle.engine_words.specs.declared.Progress.TheVariants as progress
+use Rattle.change_codec.specs.ModelChanges.{TimedOp, timed_elements}
+use Rattle.crash_model.specs.StepAnswers.{Says}
+use Rattle.disk_model.specs.declared.progress.Progress.{Progress}
+use Rattle.disk_model.specs.declared.progress.Progress.TheVariants as progress
 use Rattle.commit_journal.specs.Store.{room_of}
 use Rattle.commit_journal.specs.Handed.{IsHanded, IsShort}
 use Rattle.commit_journal.specs.OnDisk.{is_on}
@@ -28,14 +28,14 @@ use Rattle.commit_journal.specs.Journals as journals
 use Rattle.commit_journal.specs.declared.journal.Journal.{Journal}
 use Rattle.hive_flush.specs.HiveStates.{files_of}
 use Rattle.hive_flush.specs.declared.hive.HiveFile.{HiveFile}
-use Rattle.engine_law.specs.States.{HiveView, IsConsistent}
-use Rattle.engine_law.specs.Answers.{reply_to, after_step, MayTrim}
-use Rattle.engine_law.specs.Prefixes.{view_of}
-use Rattle.engine_law.specs.Runs.{IsHeld}
+use Rattle.engine_invariant.specs.States.{HiveView, IsConsistent}
+use Rattle.engine_invariant.specs.Answers.{reply_to, after_step, MayTrim}
+use Rattle.engine_invariant.specs.Prefixes.{view_of}
+use Rattle.engine_invariant.specs.Runs.{IsHeld}
 use Rattle.commit_journal.specs.Naming.{HasCounted}
 use Rattle.engine.specs.Naming.{AreLastNaming}
 use Rattle.commit_journal.specs.declared.naming.Naming.{Naming}
-use Rattle.engine_law.proofs.HiveLists.{viewed}
+use Rattle.engine_invariant.proofs.HiveLists.{viewed}
 use Rattle.engine.specs.Parts.{AreSound, IsSound, settled_by}
 use Rattle.engine.specs.Events.{GoesOn}
 use Rattle.engine.specs.declared.parts.Parts.{Parts}
@@ -44,8 +44,8 @@ use Rattle.engine.proofs.AtHand.{hand_steps}
 use Rattle.engine.proofs.Namings.{naming_settles}
 use Rattle.engine.proofs.OnDisk.{journal_writes}
 use Rattle.engine.proofs.Idling.{has_all}
-use Rattle.engine_law.specs.Engines.{NeedsNoDevice}
-use Rattle.engine_law.specs.Idle.{HasAll}
+use Rattle.engine_invariant.specs.Engines.{NeedsNoDevice}
+use Rattle.engine_invariant.specs.Idle.{HasAll}
 use Rattle.std.proofs.lemmas.Option.{slice_get_within, slice_get-get_or}
 use Rattle.engine.proofs.Frames.{any_call, has_failed, works_else}
 

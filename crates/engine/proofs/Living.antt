@@ -10,14 +10,14 @@ use Rattle.disk_model.proofs.Leaves.{left_at_rest}
 use Rattle.disk_model.proofs.Sectors.{honest_at_rest}
 use Rattle.disk_model.specs.Unwritten.{IsSyncedOrSame}
 use Rattle.commit_journal.specs.Store.{Store, IsStore}
-use Rattle.machine.specs.Machine.{Machine, bounds_of, last_number, opened_machine}
-use Rattle.machine.specs.Steps.{Run}
-use Rattle.machine.specs.declared.event.Event.{Event}
-use Rattle.machine.specs.declared.event.Reply.{Reply}
-use Rattle.engine_law.specs.Prefixes.{IsPrimaryOf, IsSafeAt, Recover, trees_after}
-use Rattle.engine_law.specs.Engines.{EngineView}
-use Rattle.engine_law.specs.Runs.{AnswersInTurn, IsBoundary, RunsSafely}
-use Rattle.engine_law.proofs.Bridge.{all_long}
+use Rattle.store_model.specs.Machine.{Machine, bounds_of, last_number, opened_machine}
+use Rattle.store_model.specs.Steps.{Run}
+use Rattle.store_model.specs.declared.event.Event.{Event}
+use Rattle.store_model.specs.declared.event.Reply.{Reply}
+use Rattle.engine_invariant.specs.Prefixes.{IsPrimaryOf, IsSafeAt, Recover, trees_after}
+use Rattle.engine_invariant.specs.Engines.{EngineView}
+use Rattle.engine_invariant.specs.Runs.{AnswersInTurn, IsBoundary, RunsSafely}
+use Rattle.engine_invariant.proofs.Bridge.{all_long}
 use Rattle.recovery.specs.Recovered.{IsRecovered, seen_in}
 use Rattle.engine.specs.Lives.{Life, Life.Unopened, Life.Opened, IsSafe, IsLife, IsNext, AreLives, OpensFrom, EachGoesOn, FirstOpensAt, ReadsSafely, end_of, faulted_in}
 use Rattle.engine.proofs.OpenedStays.{run_stays}

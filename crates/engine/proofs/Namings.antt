@@ -2,20 +2,20 @@
 use Rattle.std.proofs.Common.{◌≡◌, ◌⊎◌, inl, inr, ℕ, ◌+◌, ◌-◌, ◌≤◌, List, [], ◌∷◌, ◌++◌, length, take, drop, sym, ◌∙◌, ap, subst, arith, append_assoc, Result, Ok, Err}
 use Rattle.std.proofs.lemmas.List.{append-nil, drop-map, drop-take, length-append, length-map, length-take, map-append, take-append-le, take-map, take_all}
 use Rattle.reg_tree.specs.declared.element.Element.{Element}
-use Rattle.prefix_law.specs.Changes as law
-use Rattle.prefix_law.specs.Changes.{on_hive, ops_on}
-use Rattle.prefix_law.specs.Life.{Life, known_elements, elements_in, opened_number}
-use Rattle.prefix_law.proofs.Lists.{seg_split}
-use Rattle.prefix_law.proofs.OnePrefix.{part_accepted}
-use Rattle.machine.specs.Machine.{Machine, last_number, pending}
-use Rattle.machine.specs.Kept.{Stays, Grows}
+use Rattle.crash_model.specs.Changes as law
+use Rattle.crash_model.specs.Changes.{on_hive, ops_on}
+use Rattle.crash_model.specs.Life.{Life, known_elements, elements_in, opened_number}
+use Rattle.crash_model.proofs.Lists.{seg_split}
+use Rattle.crash_model.proofs.OnePrefix.{part_accepted}
+use Rattle.store_model.specs.Machine.{Machine, last_number, pending}
+use Rattle.store_model.specs.Kept.{Stays, Grows}
 use Rattle.reg_tree.specs.Maps.{TreeMap}
-use Rattle.engine_law.specs.States.{life_of}
-use Rattle.engine_law.specs.Answers.{after_flush}
-use Rattle.engine_words.specs.declared.Progress.{Progress}
+use Rattle.engine_invariant.specs.States.{life_of}
+use Rattle.engine_invariant.specs.Answers.{after_flush}
+use Rattle.disk_model.specs.declared.progress.Progress.{Progress}
 use Rattle.refusals.specs.declared.refusal.Refusal.{Refusal}
 use Rattle.refusals.specs.declared.refusal.Refusal.TheVariants.{DiskFault}
-use Rattle.engine_words.specs.Changes.{TimedOp, timed_element, timed_elements}
+use Rattle.change_codec.specs.ModelChanges.{TimedOp, timed_element, timed_elements}
 use Rattle.commit_journal.specs.Naming.{AreLastIn}
 use Rattle.engine.specs.Naming.{AreLastNaming}
 

@@ -9,8 +9,8 @@ use Rattle.commit_journal.specs.Journals.{texts_of, value_of, store_of}
 use Rattle.commit_journal.specs.declared.journal.Journal.{Journal}
 use Rattle.hive_flush.specs.HiveStates.{IsOn}
 use Rattle.hive_flush.specs.declared.hive.HiveFile.{HiveFile}
-use Rattle.engine_law.specs.Prefixes.{AreOnDisk}
-use Rattle.engine_law.proofs.HiveLists.{each_hive}
+use Rattle.engine_invariant.specs.Prefixes.{AreOnDisk}
+use Rattle.engine_invariant.proofs.HiveLists.{each_hive}
 
 -- a call on the journal's file
 pub journal_moves : (old new : Journal) (hives : List HiveFile) (a b : ℕ → FileState) → AreOnDisk old hives a → ((f : ℕ) → ¬ (IsJournal f) → b f ≡ a f) → is_on (texts_of new) (value_of new) (b journal_file) → AreOnDisk new hives b

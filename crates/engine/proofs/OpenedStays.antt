@@ -2,13 +2,13 @@
 use Rattle.std.proofs.Common.{◌≡◌, inl, inr, List, [], ◌∷◌, ◌++◌, ◌+◌, ◌∙◌, ap, refl, Option, ℕ, Bool, true, false, length}
 use Rattle.std.specs.Prelude.{if◌then◌else◌, ◌==◌}
 use Rattle.refusals.specs.declared.refusal.Refusal.{Refusal}
-use Rattle.machine.specs.Machine.{Machine, commit_change, is_open, room_of}
-use Rattle.machine.specs.Steps.{Step, StepFails, Run, with_session, after_commit}
-use Rattle.machine.specs.Transactions.{Transaction}
-use Rattle.machine.specs.declared.event.Event.{Event}
-use Rattle.machine.specs.declared.event.Event.TheVariants as event
-use Rattle.machine.specs.declared.event.Reply.{Reply}
-use Rattle.machine.proofs.Replies.{done_or, read_or, accepted_or, added_or, begun_or, awaits_or, stands_or, receipt_or, stepped_or}
+use Rattle.store_model.specs.Machine.{Machine, commit_change, is_open, room_of}
+use Rattle.store_model.specs.Steps.{Step, StepFails, Run, with_session, after_commit}
+use Rattle.store_model.specs.Transactions.{Transaction}
+use Rattle.store_model.specs.declared.event.Event.{Event}
+use Rattle.store_model.specs.declared.event.Event.TheVariants as event
+use Rattle.store_model.specs.declared.event.Reply.{Reply}
+use Rattle.store_model.proofs.Replies.{done_or, read_or, accepted_or, added_or, begun_or, awaits_or, stands_or, receipt_or, stepped_or}
 
 session_stays : (old : Machine) (session : ℕ) → length (with_session old session).opened ≡ length old.opened
 session_stays old session = by_test (is_open old session)

@@ -7,9 +7,9 @@ use Rattle.disk_model.specs.FileState.{FileState, IsSound, at_rest}
 use Rattle.disk_model.specs.Sector.{IsHonest}
 use Rattle.disk_model.specs.Crash.{LeavesHonest}
 use Rattle.disk_model.specs.StoreFiles.{primary_file, log_file}
-use Rattle.hive_phases.specs.Holding.{Standing}
-use Rattle.hive_phases.specs.Phases.{Work}
-use Rattle.hive_phases.specs.States.{is_on_in}
+use Rattle.hive_flush_model.specs.Holding.{Standing}
+use Rattle.hive_flush_model.specs.Phases.{Work}
+use Rattle.hive_flush_model.specs.States.{is_on_in}
 use Rattle.hive_writer.specs.declared.stage.Purpose.TheVariants as purpose
 use Rattle.hive_writer.specs.declared.stage.Stage.{Stage}
 use Rattle.hive_writer.specs.declared.stage.Stage.TheVariants as stage
@@ -17,8 +17,8 @@ use Rattle.hive_writer.specs.Writing.{IsFlushing, choice_at, phase_in}
 use Rattle.hive_flush.specs.HiveStates.{IsBroken, IsOn, IsWhole, files_of}
 use Rattle.hive_flush.specs.declared.hive.HiveFile.{HiveFile}
 use Rattle.commit_journal.specs.declared.journal.Journal.{Journal}
-use Rattle.engine_law.specs.Prefixes.{AreOnDisk, IsPrimaryOf}
-use Rattle.engine_law.proofs.Standing.{reads_left}
+use Rattle.engine_invariant.specs.Prefixes.{AreOnDisk, IsPrimaryOf}
+use Rattle.engine_invariant.proofs.Standing.{reads_left}
 
 -- A hive with no flush on its way, and no repair left, has its primary file at rest
 rests_in : (at : Stage) (T : Type 0) (stands : Standing T) (work : Work T) (total : ℕ) (now memory : TreeMap × ℕ) (primary log : FileState) → IsFlushing at → (choice_at at now memory).next ≡ None → is_on_in stands work (phase_in total at) primary log

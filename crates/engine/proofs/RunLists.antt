@@ -1,9 +1,9 @@
 -- A run of the machine goes on by one step.
 use Rattle.std.proofs.Common.{◌≡◌, suc, List, [], ◌∷◌, ◌++◌, length, refl, ap, subst}
-use Rattle.machine.specs.Machine.{Machine}
-use Rattle.machine.specs.Steps.{Step, Run}
-use Rattle.machine.specs.declared.event.Event.{Event}
-use Rattle.machine.specs.declared.event.Reply.{Reply}
+use Rattle.store_model.specs.Machine.{Machine}
+use Rattle.store_model.specs.Steps.{Step, Run}
+use Rattle.store_model.specs.declared.event.Event.{Event}
+use Rattle.store_model.specs.declared.event.Reply.{Reply}
 
 pub run_on : (old mid new : Machine) (es : List Event) (rs : List Reply) (e : Event) (r : Reply) → Run old es rs mid → Step mid e r new → Run old (es ++ e ∷ []) (rs ++ r ∷ []) new
 run_on old mid new [] [] e r run step = (new, subst (λ m. Step m e r new) run step, refl)

@@ -7,13 +7,13 @@ use Rattle.std.proofs.lemmas.Bool.{true≢false}
 use Rattle.refusals.specs.declared.refusal.Refusal.{Refusal}
 use Rattle.refusals.specs.declared.refusal.Refusal.TheVariants as refusal
 use Rattle.reg_tree.specs.declared.element.Element.{Element}
-use Rattle.prefix_law.specs.Promises.{Choice, Spelled, top}
-use Rattle.machine.specs.Machine.{Machine, last_number}
-use Rattle.machine.specs.Kept.{Stays, Grows}
+use Rattle.crash_model.specs.Promises.{Choice, Spelled, top}
+use Rattle.store_model.specs.Machine.{Machine, last_number}
+use Rattle.store_model.specs.Kept.{Stays, Grows}
 use Rattle.transactions.specs.Stores.{StoreView}
-use Rattle.engine_words.specs.Changes.{TimedOp}
-use Rattle.engine_words.specs.declared.Progress.{Progress}
-use Rattle.engine_words.specs.declared.Progress.TheVariants as progress
+use Rattle.change_codec.specs.ModelChanges.{TimedOp}
+use Rattle.disk_model.specs.declared.progress.Progress.{Progress}
+use Rattle.disk_model.specs.declared.progress.Progress.TheVariants as progress
 use Rattle.commit_journal.specs.Store.{Store, room_of}
 use Rattle.commit_journal.specs.Journals.{choice_of, store_of}
 use Rattle.commit_journal.specs.Journals as journals
@@ -21,10 +21,10 @@ use Rattle.commit_journal.specs.declared.journal.Journal.{Journal}
 use Rattle.hive_flush.specs.HiveStates.{IsWhole, IsBroken, place_of}
 use Rattle.hive_flush.specs.HiveStates as states
 use Rattle.hive_flush.specs.declared.hive.HiveFile.{HiveFile}
-use Rattle.engine_law.specs.States.{HiveView, IsConsistent}
-use Rattle.engine_law.specs.Answers.{after_step, after_flush, refused_by}
-use Rattle.engine_law.specs.Prefixes.{ArePlaced, view_of}
-use Rattle.engine_law.proofs.HiveLists.{each_hive}
+use Rattle.engine_invariant.specs.States.{HiveView, IsConsistent}
+use Rattle.engine_invariant.specs.Answers.{after_step, after_flush, refused_by}
+use Rattle.engine_invariant.specs.Prefixes.{ArePlaced, view_of}
+use Rattle.engine_invariant.proofs.HiveLists.{each_hive}
 use Rattle.engine.specs.Parts.{AreSound, settled_by}
 
 -- an event that makes no step

@@ -7,29 +7,29 @@ use Rattle.refusals.specs.declared.refusal.Refusal.{Refusal}
 use Rattle.refusals.specs.declared.refusal.Refusal.TheVariants.{Faulted, NoMemory}
 use Rattle.reg_tree.specs.Maps.{TreeMap}
 use Rattle.reg_tree.specs.declared.element.Element.{Element}
-use Rattle.prefix_law.specs.Changes.{AreLegal, applied, ops_on}
-use Rattle.prefix_law.specs.Promises.{Choice, Spelled, HiveSays}
-use Rattle.prefix_law.specs.Life.{ops_in}
-use Rattle.prefix_law.proofs.Lists.{le_or_le}
-use Rattle.prefix_law.proofs.OnePrefix.{ops_split}
-use Rattle.machine.specs.Machine.{Machine}
-use Rattle.machine.specs.Steps.{Step}
-use Rattle.machine.specs.declared.event.Event.TheVariants as event
+use Rattle.crash_model.specs.Changes.{AreLegal, applied, ops_on}
+use Rattle.crash_model.specs.Promises.{Choice, Spelled, HiveSays}
+use Rattle.crash_model.specs.Life.{ops_in}
+use Rattle.crash_model.proofs.Lists.{le_or_le}
+use Rattle.crash_model.proofs.OnePrefix.{ops_split}
+use Rattle.store_model.specs.Machine.{Machine}
+use Rattle.store_model.specs.Steps.{Step}
+use Rattle.store_model.specs.declared.event.Event.TheVariants as event
 use Rattle.transactions.specs.Stores.{StoreView}
-use Rattle.engine_words.specs.Changes.{TimedOp, tree_rules, timed_elements}
-use Rattle.engine_words.specs.Steps.{Says}
-use Rattle.engine_words.specs.declared.Progress.{Progress}
+use Rattle.change_codec.specs.ModelChanges.{TimedOp, tree_rules, timed_elements}
+use Rattle.crash_model.specs.StepAnswers.{Says}
+use Rattle.disk_model.specs.declared.progress.Progress.{Progress}
 use Rattle.commit_journal.specs.Journals.{choice_of}
 use Rattle.commit_journal.specs.declared.journal.Journal.{Journal}
 use Rattle.hive_flush.specs.HiveStates.{IsBroken, IsWhole, AreLegalOn, led_to, files_of, memory_of, place_of}
 use Rattle.hive_flush.specs.HiveStates as states
 use Rattle.hive_flush.specs.declared.hive.HiveFile.{HiveFile}
-use Rattle.engine_law.specs.States.{HiveView, IsConsistent, life_of}
-use Rattle.engine_law.specs.Answers.{reply_to, after_flush, opened_above, accepted_above, absorbed}
-use Rattle.engine_law.specs.Prefixes.{view_of}
+use Rattle.engine_invariant.specs.States.{HiveView, IsConsistent, life_of}
+use Rattle.engine_invariant.specs.Answers.{reply_to, after_flush, opened_above, accepted_above, absorbed}
+use Rattle.engine_invariant.specs.Prefixes.{view_of}
 use Rattle.engine.specs.AtHand.{AreAtHand}
 use Rattle.engine.specs.Parts.{AreSound}
-use Rattle.engine_law.proofs.HiveLists.{view_at}
+use Rattle.engine_invariant.proofs.HiveLists.{view_at}
 use Rattle.engine.proofs.Sound.{hive_sound}
 
 -- The laws that are used

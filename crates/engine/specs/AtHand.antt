@@ -1,11 +1,11 @@
 -- Which changes an engine has at hand.
 use Rattle.std.specs.Prelude.{◌≡◌, ◌⊎◌, ℕ, ◌-◌, ◌≤◌, max, List, [], drop, slice_get, Some}
 use Rattle.reg_tree.specs.declared.element.Element.{Element}
-use Rattle.prefix_law.specs.Life.{ops_in}
+use Rattle.crash_model.specs.Life.{ops_in}
 use Rattle.transactions.specs.Stores.{StoreView}
 use Rattle.hive_flush.specs.HiveStates.{memory_of}
 use Rattle.hive_flush.specs.declared.hive.HiveFile.{HiveFile}
-use Rattle.engine_law.specs.States.{life_of}
+use Rattle.engine_invariant.specs.States.{life_of}
 
 -- Up to some number, which is not above the durable one, changes were let go, since no hive lacks any of them in memory; at hand
 -- are all others, of those that the journal spelled at the opening and of those accepted since.

@@ -3,18 +3,18 @@ use Rattle.std.specs.Prelude.{◌≡◌, ◌⊎◌, ℕ, ◌<◌, map, slice_get
 use Rattle.refusals.specs.declared.refusal.Refusal.TheVariants.{DiskFault}
 use Rattle.disk_model.specs.Call.{OneCall}
 use Rattle.disk_model.specs.FileState.{FileState}
-use Rattle.machine.specs.Steps.{Step}
-use Rattle.machine.specs.declared.event.Event.{Event}
-use Rattle.machine.specs.declared.event.Event.TheVariants as events
-use Rattle.machine.specs.declared.event.Reply.{Reply}
-use Rattle.machine.specs.declared.event.Progress.TheVariants.{Idle, More}
-use Rattle.machine.specs.declared.event.Reply.TheVariants.{Refused, Stepped}
-use Rattle.prefix_law.specs.Promises.{BeginsTrim}
+use Rattle.store_model.specs.Steps.{Step}
+use Rattle.store_model.specs.declared.event.Event.{Event}
+use Rattle.store_model.specs.declared.event.Event.TheVariants as events
+use Rattle.store_model.specs.declared.event.Reply.{Reply}
+use Rattle.disk_model.specs.declared.progress.Progress.TheVariants.{Idle, More}
+use Rattle.store_model.specs.declared.event.Reply.TheVariants.{Refused, Stepped}
+use Rattle.crash_model.specs.Promises.{BeginsTrim}
 use Rattle.commit_journal.specs.Journals.{changes_of, choice_of, steps_left, store_of}
 use Rattle.hive_flush.specs.declared.hive.HiveFile.{HiveFile}
-use Rattle.engine_law.specs.Engines.{EngineView, NeedsNoDevice}
-use Rattle.engine_law.specs.Prefixes.{AnyFile, AreOnDisk, view_of}
-use Rattle.engine_law.specs.Progress.{FlushesOn, flush_of, HasPending, HasTrimmed, IsMade, IsTrimming, NearsDurable}
+use Rattle.engine_invariant.specs.Engines.{EngineView, NeedsNoDevice}
+use Rattle.engine_invariant.specs.Prefixes.{AnyFile, AreOnDisk, view_of}
+use Rattle.engine_invariant.specs.Progress.{FlushesOn, flush_of, HasPending, HasTrimmed, IsMade, IsTrimming, NearsDurable}
 use Rattle.engine.specs.Parts.{IsSound}
 use Rattle.engine.specs.declared.parts.Parts.{Parts}
 

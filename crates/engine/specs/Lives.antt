@@ -4,12 +4,12 @@ use Rattle.reg_tree.specs.Maps.{TreeMap}
 use Rattle.disk_model.specs.FileState.{FileState, at_rest}
 use Rattle.disk_model.specs.Crash.{LeavesHonest}
 use Rattle.disk_model.specs.Unwritten.{IsSyncedOrSame}
-use Rattle.machine.specs.Machine.{Machine, bounds_of, last_number, opened_machine}
-use Rattle.machine.specs.Steps.{Run}
-use Rattle.machine.specs.declared.event.Event.{Event}
-use Rattle.machine.specs.declared.event.Reply.{Reply}
+use Rattle.store_model.specs.Machine.{Machine, bounds_of, last_number, opened_machine}
+use Rattle.store_model.specs.Steps.{Run}
+use Rattle.store_model.specs.declared.event.Event.{Event}
+use Rattle.store_model.specs.declared.event.Reply.{Reply}
 use Rattle.commit_journal.specs.Store.{Store}
-use Rattle.engine_law.specs.Prefixes.{IsPrefix, IsPrimaryOf, trees_after}
+use Rattle.engine_invariant.specs.Prefixes.{IsPrefix, IsPrimaryOf, trees_after}
 use Rattle.recovery.specs.Recovered.{IsRecovered, seen_in}
 
 -- A life of a store, up to some moment at which the files are in this state: it hasn't opened, since an opening was refused or was on

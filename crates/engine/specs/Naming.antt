@@ -1,9 +1,9 @@
 -- The last durable change that names a hive.
 use Rattle.std.specs.Prelude.{◌≡◌, ℕ, List, slice_get, Some}
-use Rattle.prefix_law.specs.Life.{IsLastNaming}
+use Rattle.crash_model.specs.Life.{IsLastNaming}
 use Rattle.reg_tree.specs.declared.element.Element.{Element}
-use Rattle.machine.specs.Machine.{Machine}
-use Rattle.engine_law.specs.States.{life_of}
+use Rattle.store_model.specs.Machine.{Machine}
+use Rattle.engine_invariant.specs.States.{life_of}
 
 -- Of each hive, in their order, this is the number of the last durable change that names it, or 0 where none does.
 abbrev pub AreLastNaming : Machine → ℕ → List Element → List ℕ → Type 0

@@ -2,21 +2,21 @@
 use Rattle.std.specs.Prelude.{◌≡◌, ℕ, ◌+◌, ◌-◌, false, Result, Ok, Err, List, length, map, slice_get, Some}
 use Rattle.reg_tree.specs.declared.element.Element.{Element}
 use Rattle.refusals.specs.declared.refusal.Refusal.{Refusal}
-use Rattle.prefix_law.specs.Promises.{Spelled, top}
-use Rattle.engine_words.specs.Changes.{TimedOp}
-use Rattle.engine_words.specs.declared.Progress.{Progress}
-use Rattle.engine_words.specs.declared.Progress.TheVariants as progress
+use Rattle.crash_model.specs.Promises.{Spelled, top}
+use Rattle.change_codec.specs.ModelChanges.{TimedOp}
+use Rattle.disk_model.specs.declared.progress.Progress.{Progress}
+use Rattle.disk_model.specs.declared.progress.Progress.TheVariants as progress
 use Rattle.commit_journal.specs.Store.{room_of}
-use Rattle.engine_law.specs.Answers.{refused_by}
-use Rattle.machine.specs.Machine.{Machine}
+use Rattle.engine_invariant.specs.Answers.{refused_by}
+use Rattle.store_model.specs.Machine.{Machine}
 use Rattle.transactions.specs.Stores.{StoreView}
 use Rattle.commit_journal.specs.Journals.{changes_of, choice_of, store_of}
 use Rattle.commit_journal.specs.Journals as journals
 use Rattle.commit_journal.specs.declared.journal.Journal.{Journal}
 use Rattle.hive_flush.specs.HiveStates.{IsWhole, IsBroken}
 use Rattle.hive_flush.specs.declared.hive.HiveFile.{HiveFile}
-use Rattle.engine_law.specs.States.{IsConsistent}
-use Rattle.engine_law.specs.Prefixes.{ArePlaced, view_of}
+use Rattle.engine_invariant.specs.States.{IsConsistent}
+use Rattle.engine_invariant.specs.Prefixes.{ArePlaced, view_of}
 use Rattle.engine.specs.AtHand.{AreAtHand}
 use Rattle.engine.specs.Naming.{AreLastNaming}
 use Rattle.engine.specs.declared.parts.Parts.{Parts}

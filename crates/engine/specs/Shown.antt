@@ -7,19 +7,19 @@ use Rattle.reg_tree.specs.Maps.{TreeMap}
 use Rattle.reg_tree.specs.contracts.element.Element as element
 use Rattle.reg_tree.specs.contracts.op.Op as op
 use Rattle.reg_tree.specs.declared.element.Element.{Element}
-use Rattle.prefix_law.specs.Promises.{Choice, Spelled}
-use Rattle.engine_words.specs.Changes.{TimedOp}
-use Rattle.machine.specs.Machine.{Machine}
-use Rattle.machine.specs.Codes.{trees_code}
-use Rattle.machine.specs.contracts.event.Event as event
-use Rattle.machine.specs.declared.event.Event.{Event}
+use Rattle.crash_model.specs.Promises.{Choice, Spelled}
+use Rattle.change_codec.specs.ModelChanges.{TimedOp}
+use Rattle.store_model.specs.Machine.{Machine}
+use Rattle.store_model.specs.Codes.{trees_code}
+use Rattle.store_model.specs.contracts.event.Event as event
+use Rattle.store_model.specs.declared.event.Event.{Event}
 use Rattle.transactions.specs.Prepared.{will_show}
 use Rattle.transactions.specs.declared.prepared.Prepared.{Prepared}
 use Rattle.transactions.specs.Stores.{machine_code}
 use Rattle.commit_journal.specs.Store.{Store}
-use Rattle.engine_law.specs.Engines.{EngineView}
-use Rattle.engine_law.specs.States.{HiveView}
-use Rattle.engine_law.specs.Progress.{FlushView}
+use Rattle.engine_invariant.specs.Engines.{EngineView}
+use Rattle.engine_invariant.specs.States.{HiveView}
+use Rattle.engine_invariant.specs.Progress.{FlushView}
 
 -- an event that stands prepared; and the change that will be accepted, if one will, with the trees that will be those of now then
 pub record Awaiting : Type 0 where

@@ -1,9 +1,9 @@
 -- Which hives of an engine have something to flush.
 use Rattle.std.specs.Prelude.{◌≡◌, ◌⊎◌, ℕ, ◌<◌, ◌≤◌, false, List, length, slice_get, Some, None}
 use Rattle.reg_tree.specs.declared.element.Element.{Element}
-use Rattle.machine.specs.Machine.{Machine}
-use Rattle.engine_law.specs.Idle.{IsFlushed}
-use Rattle.engine_law.specs.States.{HiveView}
+use Rattle.store_model.specs.Machine.{Machine}
+use Rattle.engine_invariant.specs.Idle.{IsFlushed}
+use Rattle.engine_invariant.specs.States.{HiveView}
 
 -- no flush of a hive is on its way
 abbrev pub AreAtRest : List HiveView → Type 0

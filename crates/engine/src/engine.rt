@@ -3,19 +3,19 @@ ghost use Rattle.std.specs.Prelude.{◌≡◌, ◌⊎◌, ◌↔◌, ◌+◌, �
 ghost use Rattle.refusals.specs.declared.refusal.Refusal.TheVariants.{NoMemory};
 ghost use Rattle.disk_model.specs.Call.{OneCall};
 ghost use Rattle.disk_model.specs.Crash.{LeavesHonest};
-ghost use Rattle.machine.specs.Machine.{bounds_of, last_number, opened_machine, trees_now};
+ghost use Rattle.store_model.specs.Machine.{bounds_of, last_number, opened_machine, trees_now};
 ghost use Rattle.commit_journal.specs.Store.{room_of};
 ghost use Rattle.commit_journal.specs.Journals.{changes_of, choice_of};
 ghost use Rattle.commit_journal.specs.Journals as journals;
 ghost use Rattle.recovery.specs.Shown.{IsWhole, store_of};
-ghost use Rattle.engine_law.specs.Engines.{EngineAnswers, NeedsNoDevice};
-ghost use Rattle.engine_law.specs.Idle.{IsTrimmed};
-ghost use Rattle.engine_law.specs.Progress.{HasPending};
-ghost use Rattle.machine.specs.Steps.{Step, Run};
-ghost use Rattle.machine.specs.declared.event.Reply.TheVariants as reply;
-ghost use Rattle.engine_law.specs.Prefixes.{AnyFile, IsPrefix, IsPrimaryOf, IsSafeAt, Recover, view_of};
+ghost use Rattle.engine_invariant.specs.Engines.{EngineAnswers, NeedsNoDevice};
+ghost use Rattle.engine_invariant.specs.Idle.{IsTrimmed};
+ghost use Rattle.engine_invariant.specs.Progress.{HasPending};
+ghost use Rattle.store_model.specs.Steps.{Step, Run};
+ghost use Rattle.store_model.specs.declared.event.Reply.TheVariants as reply;
+ghost use Rattle.engine_invariant.specs.Prefixes.{AnyFile, IsPrefix, IsPrimaryOf, IsSafeAt, Recover, view_of};
 ghost use Rattle.recovery.specs.Recovered.{seen_in};
-ghost use Rattle.engine_law.specs.Runs.{AnswersInTurn, IsHeld, RunsSafely};
+ghost use Rattle.engine_invariant.specs.Runs.{AnswersInTurn, IsHeld, RunsSafely};
 ghost use Rattle.std.specs.List.{AllByRecursion};
 ghost use Rattle.commit_journal.specs.Naming.{HasCounted};
 ghost use Rattle.engine.specs.Shown.{engine_view};
@@ -25,17 +25,17 @@ ghost use Rattle.std.specs.Option.{option_map};
 
 use crate::parts::Parts;
 use disk_model::Disk;
-use engine_law::laws::{
+use engine_invariant::laws::{
     crashes_leave_prefixes, openings_begin, quiet_ends_recover, receipts_are_durable,
 };
 use hive_flush::laws::reads_are_honest;
-use machine::{Event, Reply};
 use recovery::{Found, Opened};
 use refusals::Refusal;
 use reg_tree::Trees;
 use std::alloc::{AllocError, Global};
 use std::marker::Model;
 use std::snapshot::Snapshot;
+use store_model::{Event, Reply};
 use transactions::{Next, Prepared, Store};
 
 /// An engine over a disk, seen by contracts as its machine, its disk, and the store that its files are of.
@@ -65,8 +65,8 @@ impl<D: Disk> Model for Engine<D> {
     ghost use Rattle.std.specs.Option.{option_map};
     ghost use Rattle.transactions.specs.Prepared.{IsPrepared};
     ghost use Rattle.commit_journal.specs.Journals.{changes_of, choice_of, steps_left, store_of};
-    ghost use Rattle.engine_law.specs.Prefixes.{AnyFile, AreOnDisk, view_of};
-    ghost use Rattle.engine_law.specs.Progress.{flush_of};
+    ghost use Rattle.engine_invariant.specs.Prefixes.{AnyFile, AreOnDisk, view_of};
+    ghost use Rattle.engine_invariant.specs.Progress.{flush_of};
     ghost use Rattle.engine.specs.Parts.{IsSound};
     ghost use Rattle.engine.specs.Shown.{Shown, awaiting_of, shown_code};
 

@@ -4,16 +4,16 @@ ghost use Rattle.reg_tree.specs.Maps.{TreeMap};
 ghost use Rattle.disk_model.specs.FileState.{FileState};
 ghost use Rattle.disk_model.specs.Crash.{LeavesHonest};
 ghost use Rattle.commit_journal.specs.Store.{Store, IsStore};
-ghost use Rattle.machine.specs.Machine.{Machine, bounds_of, opened_machine};
-ghost use Rattle.machine.specs.declared.event.Event.{Event};
-ghost use Rattle.machine.specs.declared.event.Reply.{Reply};
-ghost use Rattle.engine_law.specs.Engines.{EngineView};
-ghost use Rattle.engine_law.specs.Prefixes.{IsPrimaryOf, IsSafeAt};
-ghost use Rattle.engine_law.specs.Runs.{IsBoundary, RunsSafely};
+ghost use Rattle.store_model.specs.Machine.{Machine, bounds_of, opened_machine};
+ghost use Rattle.store_model.specs.declared.event.Event.{Event};
+ghost use Rattle.store_model.specs.declared.event.Reply.{Reply};
+ghost use Rattle.engine_invariant.specs.Engines.{EngineView};
+ghost use Rattle.engine_invariant.specs.Prefixes.{IsPrimaryOf, IsSafeAt};
+ghost use Rattle.engine_invariant.specs.Runs.{IsBoundary, RunsSafely};
 ghost use Rattle.recovery.specs.Recovered.{IsRecovered, seen_in};
 ghost use Rattle.engine.specs.Lives.{AreLives, EachGoesOn, FirstOpensAt, IsLife, IsSafe, Life, Life.Opened, Life.Unopened, ReadsSafely};
 
-use engine_law::laws::safe_runs_go_on;
+use engine_invariant::laws::safe_runs_go_on;
 use recovery::laws::one_is_recovered;
 
 /// Of all lives of a store, one after another, each that opens does so at a number and the trees after it of the last one before

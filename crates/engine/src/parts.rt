@@ -1,8 +1,8 @@
 //! The parts of an engine.
 ghost use Rattle.std.specs.Prelude.{◌≡◌};
 
+use change_codec::ChangeText;
 use commit_journal::{Journal, Naming};
-use element_text::ChangeText;
 use hive_flush::HiveFile;
 use std::alloc::Global;
 use std::snapshot::Snapshot;

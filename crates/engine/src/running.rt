@@ -1,17 +1,17 @@
 //! Whole runs of an engine.
 ghost use Rattle.std.specs.Prelude.{◌≡◌, IfOk, OnErr};
-ghost use Rattle.machine.specs.Steps.{Run};
+ghost use Rattle.store_model.specs.Steps.{Run};
 ghost use Rattle.commit_journal.specs.Journals.{store_of};
-ghost use Rattle.engine_law.specs.Prefixes.{AreOnDisk, IsSafeAt};
-ghost use Rattle.engine_law.specs.Runs.{AnswersInTurn, RunsSafely};
+ghost use Rattle.engine_invariant.specs.Prefixes.{AreOnDisk, IsSafeAt};
+ghost use Rattle.engine_invariant.specs.Runs.{AnswersInTurn, RunsSafely};
 ghost use Rattle.engine.specs.Events.{parts_view};
 ghost use Rattle.engine.specs.Parts.{IsSound};
 
 use crate::parts::Parts;
 use disk_model::Disk;
-use engine_law::laws::{crashes_leave_prefixes, safe_runs_go_on};
-use machine::{Event, Reply};
+use engine_invariant::laws::{crashes_leave_prefixes, safe_runs_go_on};
 use std::alloc::{AllocError, Global};
+use store_model::{Event, Reply};
 
 impl<D: Disk> Parts<D> {
     /// Events, one after another, with their replies.

@@ -1,33 +1,32 @@
 //! The steps of an engine: a batch of the journal, a trim, a flush of a hive.
 ghost use Rattle.std.specs.Prelude.{◌≡◌, ◌↔◌, ◌-◌, ◌<◌, ◌≤◌, ℕ, false, true, length, map, slice_get, take, IfErr, IfOk, Ok, OnOk, Some};
 ghost use Rattle.refusals.specs.declared.refusal.Refusal.TheVariants.{Faulted, NoMemory};
-ghost use Rattle.prefix_law.specs.Promises.{top};
-ghost use Rattle.machine.specs.Machine.{last_number, pending};
-ghost use Rattle.machine.specs.Steps.{Step, is_calm};
-ghost use Rattle.machine.specs.declared.event.Reply.TheVariants as reply;
+ghost use Rattle.crash_model.specs.Promises.{top};
+ghost use Rattle.store_model.specs.Machine.{last_number, pending};
+ghost use Rattle.store_model.specs.Steps.{Step, is_calm};
+ghost use Rattle.store_model.specs.declared.event.Reply.TheVariants as reply;
 ghost use Rattle.transactions.specs.Prepared.{Foretells, IsPrepared, Shows, may_accept, will_show};
 ghost use Rattle.commit_journal.specs.Journals.{changes_of, choice_of};
 ghost use Rattle.hive_flush.specs.HiveStates.{files_of};
-ghost use Rattle.engine_words.specs.declared.Progress.TheVariants as Progress;
+ghost use Rattle.disk_model.specs.declared.progress.Progress.TheVariants as Progress;
 ghost use Rattle.hive_flush.specs.declared.hive.HiveFile.{HiveFile};
-ghost use Rattle.engine_law.specs.Answers.{MayTrim, after_flush, reply_to};
-ghost use Rattle.engine_law.specs.Idle.{IdlesExactly, IsSettled, IsTrimmed};
-ghost use Rattle.engine_law.specs.Prefixes.{view_of};
+ghost use Rattle.engine_invariant.specs.Answers.{MayTrim, after_flush, reply_to};
+ghost use Rattle.engine_invariant.specs.Idle.{IdlesExactly, IsSettled, IsTrimmed};
+ghost use Rattle.engine_invariant.specs.Prefixes.{view_of};
 ghost use Rattle.engine.specs.Events.{ComesOn, GoesOn};
 ghost use Rattle.commit_journal.specs.Naming.{HasCounted};
 ghost use Rattle.engine.specs.Parts.{IsSound, settled_by};
 
 use crate::parts::Parts;
-use disk_model::Disk;
-use engine_law::laws::{
+use disk_model::{Disk, Progress};
+use engine_invariant::laws::{
     ended_steps_tell, events_keep, journal_steps_keep, pending_may_be_handed, receipts_are_durable,
 };
-use engine_words::Progress;
 use hive_flush::HiveFile;
-use machine::laws::{steps_alone_fail, steps_alone_settle};
-use machine::{Event, Reply};
 use refusals::Refusal;
 use std::alloc::AllocError;
+use store_model::laws::{steps_alone_fail, steps_alone_settle};
+use store_model::{Event, Reply};
 use transactions::Prepared;
 
 impl<D: Disk> Parts<D> {
@@ -244,11 +243,8 @@ fn all_have(hives: &[HiveFile], last: &[u64]) -> bool
 fn replied(come: Result<Progress, Refusal>) -> Reply
     ensures { result ≡ reply_to come }
 {
-    let progress = match come {
-        Ok(Progress::Idle) => machine::Progress::Idle,
-        Ok(Progress::More) => machine::Progress::More,
-        Ok(Progress::Done) => machine::Progress::Done,
-        Err(refusal) => return Reply::Refused { refusal },
-    };
-    Reply::Stepped { progress }
+    match come {
+        Ok(progress) => Reply::Stepped { progress },
+        Err(refusal) => Reply::Refused { refusal },
+    }
 }

@@ -1,9 +1,9 @@
 //! What an engine has to do: which of its steps aren't idle. No question takes memory.
 ghost use Rattle.std.specs.Prelude.{◌≡◌, ◌↔◌, ℕ, ◌<◌, ◌≤◌, false, true, length, map, IfNone, IfSome};
 ghost use Rattle.commit_journal.specs.Journals.{changes_of};
-ghost use Rattle.engine_law.specs.Idle.{IsFlushed};
-ghost use Rattle.engine_law.specs.Prefixes.{view_of};
-ghost use Rattle.engine_law.specs.Progress.{HasPending};
+ghost use Rattle.engine_invariant.specs.Idle.{IsFlushed};
+ghost use Rattle.engine_invariant.specs.Prefixes.{view_of};
+ghost use Rattle.engine_invariant.specs.Progress.{HasPending};
 ghost use Rattle.engine.specs.Parts.{IsSound};
 ghost use Rattle.engine.specs.Work.{AreFlushed, IsNextAround};
 

@@ -3,12 +3,12 @@ use Rattle.std.specs.Prelude.{◌≡◌, ℕ, List, [], ◌∷◌, ◌++◌, Opt
 use Rattle.std.specs.Io.KnownBytes.{Appends}
 use Rattle.refusals.specs.Refusals.{refusal_text}
 use Rattle.refusals.specs.declared.refusal.Refusal.{Refusal}
-use Rattle.reg_script.specs.declared.status.Status.{Status}
-use Rattle.reg_script.specs.declared.status.Status.TheVariants.{Clean, Refused}
+use Rattle.script_syntax.specs.declared.status.Status.{Status}
+use Rattle.script_syntax.specs.declared.status.Status.TheVariants.{Clean, Refused}
 use Rattle.reg_tree.specs.Maps.{TreeMap}
-use Rattle.tree_text.specs.TreeTexts.{tree_text}
-use Rattle.hive_reading.specs.Hives.{HoldsHive}
-use Rattle.hive_reading.specs.Readings.{IsRefusedAs}
+use Rattle.tree_printer.specs.TreeTexts.{tree_text}
+use Rattle.hive_file_reader.specs.Hives.{HoldsHive}
+use Rattle.hive_file_reader.specs.Readings.{IsRefusedAs}
 
 -- what is told of a file: the tree that it holds, or why it is refused as hive 0
 abbrev pub IsTold : List ℕ → Result TreeMap Refusal → Type 0

@@ -2,18 +2,18 @@
 ghost use Rattle.std.specs.Prelude.{◌≡◌, ◌++◌, ◌∷◌, [], IfOk, Err};
 ghost use Rattle.std.specs.Io.KnownBytes.{Appends, Keeps};
 ghost use Rattle.refusals.specs.Refusals.{refusal_text};
-ghost use Rattle.tree_text.specs.TreeTexts.{tree_text};
+ghost use Rattle.tree_printer.specs.TreeTexts.{tree_text};
 ghost use Rattle.hive_dump.specs.declared.dumping.DumpFault.TheVariants.{CannotWrite};
 ghost use Rattle.hive_dump.specs.Dumps.{IsDumped};
 
-use hive_reading::{Unread, read_hive};
+use hive_file_reader::{Unread, read_hive};
 use refusals::Refusal;
-use reg_script::Status;
 use reg_tree::Tree;
+use script_syntax::Status;
 use std::alloc::Global;
 use std::io;
 use std::io::{Read, Write};
-use tree_text::write_tree;
+use tree_printer::write_tree;
 
 /// The number as which the hive of a file is told.
 const HIVE: u8 = 0;

@@ -7,8 +7,8 @@ use Rattle.std.proofs.lemmas.Slice.Eq.{bytes_eq-Decides}
 use Rattle.std.proofs.lemmas.List.Sums.{sum_by-cons}
 use Rattle.reg_tree_parts.specs.Rows.{Row}
 use Rattle.reg_tree_parts.specs.Nodes.{Entries, below, all_below, entries_of, row_at, root_name, subkeys_of, HasSubkeys}
-use Rattle.hive_shape.specs.Lists.{IsIn}
-use Rattle.hive_key_writer.proofs.Sums.{sum_next}
+use Rattle.hive_tree_model.specs.Lists.{IsIn}
+use Rattle.hive_emit.proofs.Sums.{sum_next}
 use Rattle.hive_emit.specs.declared.security.Security.{Security}
 use Rattle.hive_emit.specs.Forms.{SecurityCell, has_descriptor, keys_with}
 use Rattle.hive_emit.specs.Securing.{Tallies, tallies, tally, one_with, AreApart, AreWithin, AreSome, Counts}

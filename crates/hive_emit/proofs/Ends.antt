@@ -7,10 +7,10 @@ use Rattle.reg_tree_parts.specs.Orders.{path_order}
 use Rattle.reg_tree_parts.specs.Nodes.{Entries, IsNode}
 use Rattle.reg_tree.specs.Maps.{TreeMap}
 use Rattle.hive_cells.specs.Bins.{Cells, Shows}
-use Rattle.hive_shape.specs.Lists.{Once}
+use Rattle.hive_tree_model.specs.Lists.{Once}
 use Rattle.hive_records.specs.Numbers.{nowhere}
-use Rattle.hive_key_writer.specs.Making.{Makes}
-use Rattle.hive_key_writer.proofs.Makings.{made_then}
+use Rattle.hive_emit.specs.Making.{Makes}
+use Rattle.hive_emit.proofs.Makings.{made_then}
 use Rattle.hive_emit.specs.declared.security.Security.{Security}
 use Rattle.hive_emit.specs.Forms.{SecurityCell, keys_with, IsNamed, IsFormed}
 use Rattle.hive_emit.specs.Emitting.{AreHeld, Holding, KeyAt, PutsKey, IsOffsetOf}

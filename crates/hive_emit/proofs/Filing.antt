@@ -11,8 +11,8 @@ use Rattle.std.specs.declared.cmp.Ordering.TheVariants.{Less, Equal, Greater}
 use Rattle.std.proofs.lemmas.Bool.{cases_eq}
 use Rattle.reg_tree_parts.proofs.Finds.{equal_of}
 use Rattle.reg_tree_parts.proofs.Keys.{names_total, names_apart}
-use Rattle.hive_shape.proofs.Basics.{some_same}
-use Rattle.hive_shape.specs.Lists.{IsIn}
+use Rattle.hive_tree_model.proofs.Basics.{some_same}
+use Rattle.hive_tree_model.specs.Lists.{IsIn}
 use Rattle.hive_emit.specs.declared.security.Security.{Security}
 use Rattle.hive_emit.specs.Emitting.{Has}
 use Rattle.hive_emit.specs.Securing.{place_of, AreFiled, HasAt, AreApart, tallies}

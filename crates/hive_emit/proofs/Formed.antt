@@ -10,19 +10,19 @@ use Rattle.reg_tree_parts.specs.Rows.{Row}
 use Rattle.reg_tree_parts.specs.Nodes.{Entries}
 use Rattle.reg_tree_parts.proofs.SortedLists.{front_of, back_of, less_of}
 use Rattle.hive_cells.specs.Bins.{Cells}
-use Rattle.hive_shape.specs.Lists.{IsIn}
-use Rattle.hive_shape.specs.Keys.{Parts, Keys, none, key, offsets, own_cells}
-use Rattle.hive_shape.specs.Stands.{Fits}
-use Rattle.hive_shape.specs.Cells.{Grows}
-use Rattle.hive_shape.specs.Loads.{with_last}
-use Rattle.hive_shape.proofs.Basics.{in_either, in_front, in_back}
+use Rattle.hive_tree_model.specs.Lists.{IsIn}
+use Rattle.hive_tree_model.specs.Keys.{Parts, Keys, none, key, offsets, own_cells}
+use Rattle.hive_tree_model.specs.Stands.{Fits}
+use Rattle.hive_tree_model.specs.Cells.{Grows}
+use Rattle.hive_tree_model.specs.Loads.{with_last}
+use Rattle.hive_tree_model.proofs.Basics.{in_either, in_front, in_back}
 use Rattle.hive_records.specs.KeyNodes.{keys_in}
 use Rattle.hive_records.specs.KeyTexts.{key_text}
 use Rattle.hive_records.specs.ListTexts.{Kid, places}
 use Rattle.hive_records.proofs.Keys.{keys_there}
-use Rattle.hive_keys.specs.Nodes.{AreListed}
-use Rattle.hive_key_writer.specs.KeyLists.{placed}
-use Rattle.hive_key_writer.proofs.Stays.{holds_stays, listed_stays, values_stay}
+use Rattle.hive_load_parts.specs.Nodes.{AreListed}
+use Rattle.hive_emit.specs.KeyLists.{placed}
+use Rattle.hive_emit.proofs.Stays.{holds_stays, listed_stays, values_stay}
 use Rattle.hive_emit.specs.Forms.{is_past_ascii, is_plain, Rises, AreRead, IsClass, KeyForm, IsKeyForm, LeadsUnder}
 use Rattle.hive_emit.specs.Emitting.{any_past_ascii, kids_of, AreFormed}
 

@@ -9,13 +9,13 @@ use Rattle.std.specs.declared.cmp.Ordering.TheVariants.{Less, Equal}
 use Rattle.reg_names.specs.Names.{folded}
 use Rattle.hive_cells.specs.Tiles.{Tiles, IsAllocatedCell, cell_data}
 use Rattle.hive_cells.specs.Bins.{Cells, Shows}
-use Rattle.hive_shape.specs.Lists.{IsIn, Once}
-use Rattle.hive_shape.specs.Keys.{Parts, Keys, none, key, names, lent_cells}
-use Rattle.hive_shape.specs.Cells.{Grows, SameBut}
-use Rattle.hive_shape.specs.Loads.{with_last}
-use Rattle.hive_shape.proofs.Basics.{in_either, in_front, in_back}
-use Rattle.hive_shape.proofs.Loading.{offsets_last}
-use Rattle.hive_shape.proofs.Writings.{writes_none, writes_on, writes_filled}
+use Rattle.hive_tree_model.specs.Lists.{IsIn, Once}
+use Rattle.hive_tree_model.specs.Keys.{Parts, Keys, none, key, names, lent_cells}
+use Rattle.hive_tree_model.specs.Cells.{Grows, SameBut}
+use Rattle.hive_tree_model.specs.Loads.{with_last}
+use Rattle.hive_tree_model.proofs.Basics.{in_either, in_front, in_back}
+use Rattle.hive_tree_model.proofs.Loading.{offsets_last}
+use Rattle.hive_tree_model.proofs.Writings.{writes_none, writes_on, writes_filled}
 use Rattle.reg_tree_parts.specs.Orders.{name_order}
 use Rattle.reg_tree_parts.specs.Rows.{Row}
 use Rattle.reg_tree_parts.specs.Nodes.{Entries, below, all_below, entries_of, row_at, root_name, subkeys_of, HasSubkeys, IsNode, AreNodes}
@@ -34,16 +34,16 @@ use Rattle.hive_records.proofs.Keys.{keys_local, keys_there, local_values, local
 use Rattle.hive_records.proofs.KeysAgain.{security_again, no_security}
 use Rattle.hive_records.proofs.NodesAgain.{key_again}
 use Rattle.hive_records.proofs.NodesOf.{node_of}
-use Rattle.hive_keys.specs.Nodes.{AreListed}
-use Rattle.hive_keys.proofs.Listed.{listed_rows, listed_more, listed_names}
-use Rattle.hive_key_writer.specs.Making.{Makes, Opens, Fills, IsLongCell}
-use Rattle.hive_key_writer.specs.Values.{AreListedValues}
-use Rattle.hive_key_writer.specs.KeyLists.{placed, IsListed}
-use Rattle.hive_key_writer.proofs.Leaves.{placed_long}
-use Rattle.hive_key_writer.proofs.Stays.{listed_stays, values_stay}
-use Rattle.hive_key_writer.proofs.Makings.{made_then, made_none, holds_grown, grows_on, all_push, all_as, some_not}
-use Rattle.hive_key_writer.proofs.ValueMaps.{take_next}
-use Rattle.hive_key_writer.proofs.NewCells.{data_long}
+use Rattle.hive_load_parts.specs.Nodes.{AreListed}
+use Rattle.hive_load_parts.proofs.Listed.{listed_rows, listed_more, listed_names}
+use Rattle.hive_emit.specs.Making.{Makes, Opens, Fills, IsLongCell}
+use Rattle.hive_emit.specs.Values.{AreListedValues}
+use Rattle.hive_emit.specs.KeyLists.{placed, IsListed}
+use Rattle.hive_emit.proofs.Leaves.{placed_long}
+use Rattle.hive_emit.proofs.Stays.{listed_stays, values_stay}
+use Rattle.hive_emit.proofs.Makings.{made_then, made_none, holds_grown, grows_on, all_push, all_as, some_not}
+use Rattle.hive_emit.proofs.ValueMaps.{take_next}
+use Rattle.hive_emit.proofs.NewCells.{data_long}
 use Rattle.hive_emit.specs.declared.security.Security.{Security}
 use Rattle.hive_emit.specs.Emitting.{IsHeld, AreHeld, security_cells, CanPutKey, CanPutKeys, IsCounted, AreCounted, KeyAt, PutsKey, KidsDone, PutsKids, OwnAt, NodePlaces, IsOffsetOf, kids_of}
 use Rattle.hive_emit.specs.Forms.{is_plain, Rises, IsClass}

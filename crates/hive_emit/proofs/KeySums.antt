@@ -10,13 +10,13 @@ use Rattle.reg_tree_parts.specs.Rows.{Row, row_weight}
 use Rattle.reg_tree_parts.specs.Nodes.{Entries, below, all_below, entries_weight, row_at, root_name, subkeys_of, HasSubkeys, IsNode, AreNodes}
 use Rattle.hive_records.specs.Spellings.{name_text}
 use Rattle.hive_records.proofs.Sizes.{name_most}
-use Rattle.hive_key_writer.specs.Making.{cell_cost, Uses}
-use Rattle.hive_key_writer.specs.Costs.{values_cost}
-use Rattle.hive_key_writer.proofs.Sums.{sum_next, sum_within, values_light}
+use Rattle.hive_emit.specs.Making.{cell_cost, Uses}
+use Rattle.hive_emit.specs.CellCosts.{values_cost}
+use Rattle.hive_emit.proofs.Sums.{sum_next, sum_within, values_light}
 use Rattle.hive_emit.specs.declared.security.Security.{Security}
-use Rattle.hive_emit.specs.Costs.{class_cost, row_cost, keys_cost, own_cost, below_cost, security_cost, securities_cost, row_security_cost, descriptors_cost}
-use Rattle.hive_key_writer.proofs.NewCells.{uses_more, both_used}
-use Rattle.hive_shape.proofs.Basics.{some_same}
+use Rattle.hive_emit.specs.KeyCosts.{class_cost, row_cost, keys_cost, own_cost, below_cost, security_cost, securities_cost, row_security_cost, descriptors_cost}
+use Rattle.hive_emit.proofs.NewCells.{uses_more, both_used}
+use Rattle.hive_tree_model.proofs.Basics.{some_same}
 use Rattle.hive_emit.proofs.KeyProofs.{found_kid}
 use Rattle.hive_emit.proofs.Securing.{take_set}
 

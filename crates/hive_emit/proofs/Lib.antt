@@ -10,3 +10,11 @@ pub mod Filing
 pub mod Counting
 pub mod Ringing
 pub mod Ends
+pub mod NewCells
+pub mod Makings
+pub mod Datas
+pub mod Valued
+pub mod ValueMaps
+pub mod Leaves
+pub mod Sums
+pub mod Stays

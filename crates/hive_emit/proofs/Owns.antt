@@ -2,9 +2,9 @@
 use Rattle.std.proofs.Common.{◌≡◌, inl, inr, ℕ, ◌*◌, ◌<◌, Bool, true, false, cond, List, [], ◌∷◌, ◌++◌, length, refl, sym, ◌∙◌, ap, subst, arith, Some}
 use Rattle.std.specs.FinMap as finite
 use Rattle.hive_cells.specs.Bins.{Cells}
-use Rattle.hive_shape.specs.Lists.{IsIn}
-use Rattle.hive_shape.specs.Cells.{Grows}
-use Rattle.hive_shape.proofs.Basics.{some_same}
+use Rattle.hive_tree_model.specs.Lists.{IsIn}
+use Rattle.hive_tree_model.specs.Cells.{Grows}
+use Rattle.hive_tree_model.proofs.Basics.{some_same}
 use Rattle.reg_tree_parts.specs.Rows.{Row}
 use Rattle.reg_tree_parts.specs.Nodes.{Entries, row_at, IsNode}
 use Rattle.hive_records.specs.Readers.{Reader}
@@ -18,12 +18,12 @@ use Rattle.hive_records.specs.Spellings.{is_latin, name_text, spelled}
 use Rattle.hive_records.proofs.Local.{Local}
 use Rattle.hive_records.proofs.Keys.{local_values, local_class}
 use Rattle.hive_records.proofs.KeysAgain.{class_again, no_class}
-use Rattle.hive_key_writer.specs.Making.{Makes, Adds, Puts}
-use Rattle.hive_key_writer.specs.Values.{ValuesAt}
-use Rattle.hive_key_writer.specs.KeyLists.{placed, IsListed, KidsAt}
-use Rattle.hive_key_writer.proofs.Makings.{made_then, made_as, made_none, adds_none, adds_then}
-use Rattle.hive_key_writer.proofs.Leaves.{kids_read, placed_places, placed_long}
-use Rattle.hive_key_writer.proofs.Stays.{values_stay}
+use Rattle.hive_emit.specs.Making.{Makes, Adds, Puts}
+use Rattle.hive_emit.specs.Values.{ValuesAt}
+use Rattle.hive_emit.specs.KeyLists.{placed, IsListed, KidsAt}
+use Rattle.hive_emit.proofs.Makings.{made_then, made_as, made_none, adds_none, adds_then}
+use Rattle.hive_emit.proofs.Leaves.{kids_read, placed_places, placed_long}
+use Rattle.hive_emit.proofs.Stays.{values_stay}
 use Rattle.hive_emit.specs.Emitting.{CanPutKey, CanPutKeys, ClassAt, OwnAt, any_past_ascii}
 use Rattle.hive_emit.proofs.Formed.{class_stays, plain_placed}
 

@@ -5,7 +5,7 @@ use Rattle.std.proofs.lemmas.Bool.Decides.{nat_tests}
 use Rattle.std.specs.List.{AllByRecursion}
 use Rattle.reg_names.specs.Names.{fold_unit, folded}
 use Rattle.reg_tree_parts.specs.Nodes.{Entries, root_name}
-use Rattle.hive_key_writer.proofs.ValueMaps.{take_next}
+use Rattle.hive_emit.proofs.ValueMaps.{take_next}
 use Rattle.hive_emit.specs.Forms.{is_past_ascii}
 use Rattle.hive_emit.specs.Emitting.{any_past_ascii}
 use Rattle.hive_emit.proofs.KeyProofs.{found_kid}

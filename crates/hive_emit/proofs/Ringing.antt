@@ -7,14 +7,14 @@ use Rattle.std.proofs.lemmas.List.{length-map}
 use Rattle.std.proofs.lemmas.List.Sums.{sum_by-cons}
 use Rattle.std.proofs.lemmas.Option.{slice_get_within}
 use Rattle.hive_cells.specs.Bins.{Cells}
-use Rattle.hive_shape.proofs.Basics.{some_same}
-use Rattle.hive_shape.specs.Lists.{IsIn}
+use Rattle.hive_tree_model.proofs.Basics.{some_same}
+use Rattle.hive_tree_model.specs.Lists.{IsIn}
 use Rattle.hive_records.specs.Fields.{Holds}
 use Rattle.hive_records.specs.KeyTexts.{security_text}
-use Rattle.hive_key_writer.specs.Making.{RoomyAt, Lands}
-use Rattle.hive_key_writer.proofs.Sums.{sum_next}
+use Rattle.hive_emit.specs.Making.{RoomyAt, Lands}
+use Rattle.hive_emit.proofs.Sums.{sum_next}
 use Rattle.hive_emit.specs.declared.security.Security.{Security}
-use Rattle.hive_emit.specs.Costs.{descriptor_cost, security_cost, securities_cost}
+use Rattle.hive_emit.specs.KeyCosts.{descriptor_cost, security_cost, securities_cost}
 use Rattle.hive_emit.specs.Forms.{SecurityCell, behind, IsRing, IsNamed}
 use Rattle.hive_emit.specs.Emitting.{AreHeld, IsOffsetOf}
 use Rattle.hive_emit.specs.Securing.{tallies, spot, ahead, IsPlanned, ArePlanned, Laid}

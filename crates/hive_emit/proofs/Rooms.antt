@@ -8,8 +8,8 @@ use Rattle.hive_cells.specs.Bins.{Bins}
 use Rattle.hive_cells.specs.Tiles.{DataRefused, BinStart, first_bin, next_bin, CellStart, first_cell, next_cell, IsFreeCell, IsAllocatedCell, HasFree, bin_size, cell_size, word_at}
 use Rattle.hive_cells.specs.Changes.{Allocates, Frees, HasNoPlace, PlaceRefused, FreeRefused, least_size, least_bin}
 use Rattle.hive_cells.proofs.Region.{words_same}
-use Rattle.hive_key_writer.specs.Making.{RoomyAt}
-use Rattle.hive_key_writer.proofs.NewCells.{end_within}
+use Rattle.hive_emit.specs.Making.{RoomyAt}
+use Rattle.hive_emit.proofs.NewCells.{end_within}
 
 -- in no data nothing begins
 no_bin : (at : ℕ) → BinStart [] at → ⊥

@@ -4,16 +4,16 @@ use Rattle.std.specs.Prelude.{slice_set}
 use Rattle.std.specs.List.{AllByRecursion}
 use Rattle.std.proofs.lemmas.Bool.{cases_eq}
 use Rattle.std.proofs.lemmas.Option.{slice_get_read}
-use Rattle.hive_shape.proofs.Basics.{some_same}
+use Rattle.hive_tree_model.proofs.Basics.{some_same}
 use Rattle.hive_emit.specs.declared.security.Security.{Security}
 use Rattle.reg_tree_parts.specs.Rows.{Row}
 use Rattle.reg_tree_parts.specs.Nodes.{Entries, below, all_below, row_at, root_name, subkeys_of, HasSubkeys}
 use Rattle.hive_records.specs.Numbers.{nowhere}
 use Rattle.hive_records.specs.Fields.{Holds}
 use Rattle.hive_records.specs.KeyTexts.{security_text}
-use Rattle.hive_key_writer.specs.Making.{Makes, Puts}
-use Rattle.hive_key_writer.proofs.Makings.{made_then, made_none, all_push}
-use Rattle.hive_key_writer.proofs.ValueMaps.{take_next, all_at}
+use Rattle.hive_emit.specs.Making.{Makes, Puts}
+use Rattle.hive_emit.proofs.Makings.{made_then, made_none, all_push}
+use Rattle.hive_emit.proofs.ValueMaps.{take_next, all_at}
 use Rattle.hive_emit.proofs.KeyProofs.{all_parts, found_kid, held_grown}
 use Rattle.hive_emit.specs.Emitting.{Has, IsOffsetOf, IsCounted, AreCounted, IsHeld, Holding}
 use Rattle.hive_emit.specs.Securing.{HasAt}

@@ -23,18 +23,18 @@ use Rattle.reg_tree_parts.proofs.Keys.{names_total, names_apart, paths_total, pa
 use Rattle.reg_tree_parts.proofs.SortedLists.{front_of, back_of, less_of}
 use Rattle.reg_tree.specs.Maps.{TreeMap, weight}
 use Rattle.reg_tree.specs.Spellable.{IsSpellable, IsSpellableAt, IsSpellableRow, IsSpellableValue, stored_len}
-use Rattle.hive_shape.proofs.Basics.{decided}
+use Rattle.hive_tree_model.proofs.Basics.{decided}
 use Rattle.hive_records.specs.Spellings.{is_latin, name_text}
-use Rattle.hive_key_writer.specs.Values.{CanPut, CanPutAll}
+use Rattle.hive_emit.specs.Values.{CanPut, CanPutAll}
 use Rattle.hive_cells.specs.Tiles.{Tiles}
 use Rattle.hive_cells.specs.Bins.{Cells, Shows}
-use Rattle.hive_shape.specs.Stands.{Stands}
+use Rattle.hive_tree_model.specs.Stands.{Stands}
 use Rattle.hive_records.specs.Numbers.{nowhere}
 use Rattle.hive_records.specs.Images.{splits, StandsFor}
 use Rattle.hive_records.specs.KeyNodes.{keys_in}
 use Rattle.hive_records.proofs.NodesOf.{tree_of_node}
-use Rattle.hive_key_writer.specs.Making.{Makes}
-use Rattle.hive_key_writer.proofs.Makings.{made_then, some_not}
+use Rattle.hive_emit.specs.Making.{Makes}
+use Rattle.hive_emit.proofs.Makings.{made_then, some_not}
 use Rattle.hive_emit.specs.declared.security.Security.{Security}
 use Rattle.hive_emit.specs.Emitting.{CanPutKey, CanPutKeys, AreHeld, Holding, KeyAt, PutsKey}
 use Rattle.hive_emit.proofs.Owns.{record_long}

@@ -8,9 +8,9 @@ use Rattle.refusals.specs.declared.refusal.Refusal.{Refusal}
 use Rattle.refusals.specs.declared.refusal.Refusal.TheVariants as refusal
 use Rattle.refusals.specs.declared.limits.TheConstants.{MOST_WEIGHT, MOST_BINS_BYTES}
 use Rattle.hive_cells.specs.Bins.{Cells}
-use Rattle.hive_shape.specs.Lists.{IsIn}
-use Rattle.hive_shape.specs.Keys.{Parts, Keys, none, key, offsets, lent_cells}
-use Rattle.hive_shape.specs.Cells.{Written, Writing}
+use Rattle.hive_tree_model.specs.Lists.{IsIn}
+use Rattle.hive_tree_model.specs.Keys.{Parts, Keys, none, key, offsets, lent_cells}
+use Rattle.hive_tree_model.specs.Cells.{Written, Writing}
 use Rattle.hive_records.specs.Numbers.{nowhere}
 use Rattle.hive_records.specs.Fields.{Gives, Holds}
 use Rattle.hive_records.specs.KeyNodes.{keys_in, class_at}
@@ -19,10 +19,10 @@ use Rattle.hive_records.specs.Lists.{kids_at}
 use Rattle.hive_records.specs.KeyTexts.{security_text, RowFits}
 use Rattle.hive_records.specs.ListTexts.{Kid, AreOffsets}
 use Rattle.hive_records.specs.Nodes.{IsNodeOf}
-use Rattle.hive_keys.specs.Nodes.{AreListed}
-use Rattle.hive_key_writer.specs.Making.{Adds}
-use Rattle.hive_key_writer.specs.Values.{CanPutAll, AreListedValues}
-use Rattle.hive_key_writer.specs.KeyLists.{placed, IsListed}
+use Rattle.hive_load_parts.specs.Nodes.{AreListed}
+use Rattle.hive_emit.specs.Making.{Adds}
+use Rattle.hive_emit.specs.Values.{CanPutAll, AreListedValues}
+use Rattle.hive_emit.specs.KeyLists.{placed, IsListed}
 use Rattle.hive_records.specs.declared.key_places.KeyPlaces.{KeyPlaces}
 use Rattle.hive_emit.specs.declared.security.Security.{Security}
 use Rattle.hive_emit.specs.Forms.{is_past_ascii, is_plain, IsClass, KeyForm}

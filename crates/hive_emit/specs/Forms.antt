@@ -11,16 +11,16 @@ use Rattle.reg_tree_parts.specs.Rows.{Row}
 use Rattle.reg_tree_parts.specs.Nodes.{Entries}
 use Rattle.reg_tree.specs.Maps.{TreeMap}
 use Rattle.hive_cells.specs.Bins.{Cells, Shows}
-use Rattle.hive_shape.specs.Lists.{IsIn, Once}
-use Rattle.hive_shape.specs.Keys.{Parts, Reads}
+use Rattle.hive_tree_model.specs.Lists.{IsIn, Once}
+use Rattle.hive_tree_model.specs.Keys.{Parts, Reads}
 use Rattle.hive_records.specs.Numbers.{nowhere}
 use Rattle.hive_records.specs.Fields.{Holds}
 use Rattle.hive_records.specs.KeyNodes.{keys_in}
 use Rattle.hive_records.specs.KeyTexts.{key_text, security_text}
 use Rattle.hive_records.specs.ListTexts.{Kid, places}
 use Rattle.hive_records.specs.declared.key_places.KeyPlaces.{KeyPlaces}
-use Rattle.hive_key_writer.specs.Values.{AreListedValues}
-use Rattle.hive_key_writer.specs.KeyLists.{IsListed}
+use Rattle.hive_emit.specs.Values.{AreListedValues}
+use Rattle.hive_emit.specs.KeyLists.{IsListed}
 
 -- ---- keys
 

@@ -7,10 +7,10 @@ use Rattle.std.specs.BTreeMap.{is_at}
 use Rattle.std.specs.Ordering.{nat_cmp}
 use Rattle.std.specs.Cmp.Lexicographic.{slice_cmp}
 use Rattle.std.specs.Str.{bytes_eq}
-use Rattle.hive_shape.specs.Lists.{Once}
-use Rattle.hive_key_writer.specs.Making.{RoomyAt}
+use Rattle.hive_tree_model.specs.Lists.{Once}
+use Rattle.hive_emit.specs.Making.{RoomyAt}
 use Rattle.hive_emit.specs.declared.security.Security.{Security}
-use Rattle.hive_emit.specs.Costs.{securities_cost}
+use Rattle.hive_emit.specs.KeyCosts.{securities_cost}
 use Rattle.hive_emit.specs.Forms.{behind}
 
 -- the place that a map has for a descriptor

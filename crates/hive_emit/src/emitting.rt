@@ -1,16 +1,16 @@
 //! Whole trees.
 ghost use Rattle.std.specs.Prelude.{◌≡◌, ℕ, ◌+◌, ◌<◌, ◌≤◌, length, IfOk, IfErr};
 ghost use Rattle.hive_records.specs.Images.{StandsFor};
-ghost use Rattle.hive_key_writer.specs.Making.{RoomyAt};
+ghost use Rattle.hive_emit.specs.Making.{RoomyAt};
 ghost use Rattle.reg_tree.specs.Maps.{weight};
 ghost use Rattle.hive_emit.specs.Emitting.{EmitRefused};
 ghost use Rattle.hive_emit.specs.Forms.{IsFormed};
 
-use crate::costs::keys_cost;
+use crate::cells::NOWHERE;
+use crate::key_costs::keys_cost;
 use crate::keys::put_key;
 use crate::security::Securities;
 use hive_cells::Image;
-use hive_key_writer::NOWHERE;
 use refusals::Refusal;
 use refusals::limits::{MOST_BINS_BYTES, MOST_WEIGHT};
 use reg_tree::Tree;

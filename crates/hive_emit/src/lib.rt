@@ -5,9 +5,15 @@
 #![tactic(auto)]
 
 mod bounds;
-mod costs;
+mod cell_costs;
+mod cells;
+mod data;
 mod emitting;
+mod key_costs;
 mod keys;
+mod lists;
 mod security;
+mod values;
 
 pub use emitting::{Emitted, emit};
+pub use lists::LEAF_MOST;

@@ -1,13 +1,14 @@
 //! Security cells: one for each distinct descriptor of a tree.
 ghost use Rattle.std.specs.Prelude.{◌≡◌, ◌⊎◌, ◌+◌, ◌-◌, ◌^◌, ◌<◌, ◌≤◌, ℕ, List, [], length, IsTrue, IfErr, OnOk, IfSome, IfNone};
-ghost use Rattle.hive_key_writer.specs.Making.{Makes, RoomyAt, Uses, Stops};
+ghost use Rattle.hive_emit.specs.Making.{Makes, RoomyAt, Uses, Stops};
 ghost use Rattle.hive_emit.specs.Emitting.{Has, IsOffsetOf, AreShort, IsCounted, AreCounted, CanPutKeys, Keeps, Holding};
 ghost use Rattle.hive_emit.specs.Forms.{has_descriptor, keys_with, behind};
 ghost use Rattle.hive_emit.specs.Securing.{HasAt, tallies, one_with, Counts, AreSome, AreApart, spot, ArePlanned};
-ghost use Rattle.hive_emit.specs.Costs.{descriptor_cost, row_security_cost, descriptors_cost, security_cost, securities_cost};
+ghost use Rattle.hive_emit.specs.KeyCosts.{descriptor_cost, row_security_cost, descriptors_cost, security_cost, securities_cost};
 
+use crate::cell_costs::cell_cost;
+use crate::cells::{NOWHERE, put_cell};
 use hive_cells::Image;
-use hive_key_writer::{NOWHERE, cell_cost, put_cell};
 use hive_records::put_security;
 use refusals::Refusal;
 use reg_tree_parts::{Descriptor, Key, Node};

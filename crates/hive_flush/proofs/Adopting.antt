@@ -5,10 +5,10 @@ use Rattle.dirty_vector.specs.Pages.{Pages}
 use Rattle.dirt_log.specs.WholeLog.{block_of}
 use Rattle.disk_model.specs.FileState.{FileState}
 use Rattle.hive_records.specs.Images.{StandsFor}
-use Rattle.hive_phases.proofs.Moving.{absorbed}
-use Rattle.hive_phases.specs.Holding.{Standing, tree_under}
-use Rattle.hive_phases.specs.Plans.{IsReady, Marks}
-use Rattle.hive_phases.specs.States.{IsQuiet, RestsIn, is_on_in}
+use Rattle.hive_flush_model.proofs.Moving.{absorbed}
+use Rattle.hive_flush_model.specs.Holding.{Standing, tree_under}
+use Rattle.hive_flush_model.specs.Plans.{IsReady, Marks}
+use Rattle.hive_flush_model.specs.States.{IsQuiet, RestsIn, is_on_in}
 use Rattle.hive_writer.specs.declared.writer.HiveWriter.{HiveWriter}
 use Rattle.hive_writer.specs.declared.stage.Stage.{Stage}
 use Rattle.hive_writer.specs.declared.stage.Stage.TheVariants as stage

@@ -1,7 +1,7 @@
 -- What is in memory is what is on its way, and isn't behind what stands.
 use Rattle.std.proofs.Common.{◌<◌, inl, inr, ℕ, refl, arith}
 use Rattle.reg_tree.specs.Maps.{TreeMap}
-use Rattle.prefix_law.specs.Memory.{IsOfMemory}
+use Rattle.crash_model.specs.Memory.{IsOfMemory}
 use Rattle.dirty_vector.specs.Pages.{Pages}
 use Rattle.hive_writer.specs.declared.stage.Stage.{Stage}
 use Rattle.hive_writer.specs.declared.stage.Stage.TheVariants as stage

@@ -1,23 +1,23 @@
 -- A step's files, from stage to stage.
 use Rattle.std.proofs.Common.{◌≡◌, false, ℕ, List, length, refl, sym, ap, subst, ◌∙◌, Some, None, Result, Ok, Err}
 use Rattle.refusals.specs.declared.refusal.Refusal.{Refusal}
-use Rattle.engine_words.specs.declared.Progress.{Progress}
-use Rattle.engine_words.specs.declared.Progress.TheVariants as progress
-use Rattle.prefix_law.specs.Promises.{Choice}
+use Rattle.disk_model.specs.declared.progress.Progress.{Progress}
+use Rattle.disk_model.specs.declared.progress.Progress.TheVariants as progress
+use Rattle.crash_model.specs.Promises.{Choice}
 use Rattle.reg_tree.specs.Maps.{TreeMap}
 use Rattle.base_block.specs.declared.block.BaseBlock.{BaseBlock}
 use Rattle.disk_model.specs.FileState.{FileState}
 use Rattle.disk_model.specs.StoreFiles.{primary_file, log_file}
 use Rattle.dirty_vector.specs.Pages.{Pages}
-use Rattle.hive_phases.specs.Holding.{Standing, tree_under}
-use Rattle.hive_phases.specs.Plans.{Plan, IsReady}
-use Rattle.hive_phases.specs.Phases.{choice_in}
+use Rattle.hive_flush_model.specs.Holding.{Standing, tree_under}
+use Rattle.hive_flush_model.specs.Plans.{Plan, IsReady}
+use Rattle.hive_flush_model.specs.Phases.{choice_in}
 use Rattle.hive_writer.specs.declared.writer.HiveWriter.{HiveWriter}
 use Rattle.hive_writer.specs.declared.stage.Stage.{Stage}
 use Rattle.hive_writer.specs.declared.stage.Stage.TheVariants as stage
 use Rattle.base_block.specs.Layout.{sector_of}
 use Rattle.hive_writer.specs.declared.stage.Purpose.TheVariants as purpose
-use Rattle.hive_phases.specs.States.{RestsIn}
+use Rattle.hive_flush_model.specs.States.{RestsIn}
 use Rattle.hive_writer.specs.Writing.{EndsWith, IsAt, IsFlushing, IsRewriting, KeepsBlocks, LeadsOn, RestsAt, base_after, choice_at, left_after, now_after, phase_in, plan_of, work_of}
 use Rattle.hive_flush.specs.Planned.{block_again}
 use Rattle.hive_flush.specs.HiveStates.{IsOnBy}

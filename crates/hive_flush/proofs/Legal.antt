@@ -12,9 +12,9 @@ use Rattle.reg_tree.specs.Judgement.{changed, legal_in}
 use Rattle.reg_tree.specs.declared.op.Op.{Op}
 use Rattle.reg_tree.specs.declared.op.Legality.{Legality}
 use Rattle.reg_tree.specs.declared.element.Element.{Element}
-use Rattle.prefix_law.specs.Changes.{applied, ops_on, replay}
-use Rattle.prefix_law.proofs.Replays.{applied-append, ops_on-append}
-use Rattle.engine_words.specs.Changes.{TimedOp, is_legal, tree_rules, timed_element, timed_elements}
+use Rattle.crash_model.specs.Changes.{applied, ops_on, replay}
+use Rattle.crash_model.proofs.Replays.{applied-append, ops_on-append}
+use Rattle.change_codec.specs.ModelChanges.{TimedOp, is_legal, tree_rules, timed_element, timed_elements}
 use Rattle.hive_flush.specs.HiveStates.{led_to}
 
 -- ---- two lists of changes as one

@@ -13,11 +13,11 @@ use Rattle.dirt_log.specs.WholeLog.{IsCovered, IsWhole, block_of, page_bytes_in,
 use Rattle.dirt_log.specs.Held.{IsInUse, is_clean_file}
 use Rattle.hive_files.specs.Finding.{HasHive, IsFound, IsFoundClean, IsFoundUnclean, as_primary}
 use Rattle.hive_files.specs.declared.found.Found.{Found}
-use Rattle.hive_phases.proofs.Holding.{same_parts}
-use Rattle.hive_phases.proofs.Moving.{repair_begins}
+use Rattle.hive_flush_model.proofs.Holding.{same_parts}
+use Rattle.hive_flush_model.proofs.Moving.{repair_begins}
 use Rattle.std.proofs.Math.Seq.{take-length}
-use Rattle.hive_phases.specs.Holding.{Standing, tree_under}
-use Rattle.hive_phases.specs.Plans.{IsBehind, IsReady}
+use Rattle.hive_flush_model.specs.Holding.{Standing, tree_under}
+use Rattle.hive_flush_model.specs.Plans.{IsBehind, IsReady}
 use Rattle.hive_writer.specs.declared.writer.HiveWriter.{HiveWriter}
 use Rattle.std.specs.Prelude.{if◌then◌else◌}
 use Rattle.hive_writer.specs.Writing.{IsFlushing, calls_left, dirty_from, plan_of, work_of}

@@ -4,7 +4,7 @@ use Rattle.base_block.specs.declared.block.BaseBlock.{BaseBlock}
 use Rattle.base_block.specs.declared.fields.SequenceNumber.{SequenceNumber}
 use Rattle.base_block.specs.Layout.{block_at, sector_of}
 use Rattle.base_block.specs.Numbers.{number_after}
-use Rattle.hive_phases.specs.Plans.{raised_block}
+use Rattle.hive_flush_model.specs.Plans.{raised_block}
 
 numbered : BaseBlock → ℕ → BaseBlock
 numbered b n = record b { primary = record { 0 = n }; sum_is_right = true }

@@ -3,14 +3,14 @@ use Rattle.std.proofs.Common.{◌≡◌, ◌≢◌, ◌||◌, ℕ, Bool, true, f
 use Rattle.std.specs.Prelude.{◌==◌, filter, if◌then◌else◌}
 use Rattle.std.specs.List.{list_any}
 use Rattle.std.proofs.lemmas.Bool.{eq-eqb, ne_eqb}
-use Rattle.prefix_law.specs.Changes.{applied, on_hive, ops_on}
-use Rattle.prefix_law.proofs.Replays.{applied-append}
+use Rattle.crash_model.specs.Changes.{applied, on_hive, ops_on}
+use Rattle.crash_model.proofs.Replays.{applied-append}
 use Rattle.reg_tree.specs.Maps.{TreeMap}
 use Rattle.reg_tree.specs.Operations.{hive_of}
 use Rattle.reg_tree.specs.Judgement.{changed}
 use Rattle.reg_tree.specs.declared.op.Op.{Op}
 use Rattle.reg_tree.specs.declared.element.Element.{Element}
-use Rattle.engine_words.specs.Changes.{TimedOp, tree_rules, timed, timed_element, timed_elements}
+use Rattle.change_codec.specs.ModelChanges.{TimedOp, tree_rules, timed, timed_element, timed_elements}
 
 -- an operation on the hive, and one on another
 pub op_here : (hive moment : ℕ) (op : Op) (rest : List Op) (tree made : TreeMap) → hive_of op ≡ hive → made ≡ changed tree op moment

@@ -6,7 +6,7 @@ use Rattle.std.proofs.lemmas.Bool.{cases_Bool, eqb-true, eq-eqb, and_from, and_p
 use Rattle.std.proofs.lemmas.Slice.Eq.{bytes_eq-Decides}
 use Rattle.std.proofs.lemmas.Option.{same_Some}
 use Rattle.reg_tree.specs.Maps.{TreeMap}
-use Rattle.hive_phases.specs.Holding.{Standing, Holds}
+use Rattle.hive_flush_model.specs.Holding.{Standing, Holds}
 use Rattle.hive_load.specs.Limits.{StandsWithin}
 use Rattle.hive_flush.specs.Standing.{HoldsUnder, IsRight, with_tree}
 

@@ -1,15 +1,15 @@
 -- What contracts see of a hive's files and memory.
 use Rattle.std.specs.Prelude.{◌≡◌, ℕ, ◌+◌, if◌then◌else◌, true, false, List, length}
-use Rattle.prefix_law.specs.Promises.{Choice}
-use Rattle.prefix_law.specs.Changes.{AreLegal, applied, ops_on}
-use Rattle.engine_words.specs.Changes.{tree_rules, timed_elements}
+use Rattle.crash_model.specs.Promises.{Choice}
+use Rattle.crash_model.specs.Changes.{AreLegal, applied, ops_on}
+use Rattle.change_codec.specs.ModelChanges.{tree_rules, timed_elements}
 use Rattle.reg_tree.specs.Maps.{TreeMap}
 use Rattle.reg_tree.specs.declared.element.Element.{Element}
 use Rattle.disk_model.specs.FileState.{FileState}
 use Rattle.disk_model.specs.StoreFiles.{primary_file, log_file}
-use Rattle.hive_phases.specs.Holding.{Standing}
-use Rattle.hive_phases.specs.Plans.{Plan, IsReady}
-use Rattle.hive_phases.specs.States.{RestsIn, is_on_in}
+use Rattle.hive_flush_model.specs.Holding.{Standing}
+use Rattle.hive_flush_model.specs.Plans.{Plan, IsReady}
+use Rattle.hive_flush_model.specs.States.{RestsIn, is_on_in}
 use Rattle.dirty_vector.specs.Pages.{Pages, clean_pages, dirty_count}
 use Rattle.dirt_log.specs.Held.{is_clean_file}
 use Rattle.dirt_log.specs.WholeLog.{pages_in}

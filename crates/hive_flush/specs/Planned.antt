@@ -3,7 +3,7 @@ use Rattle.std.specs.Prelude.{◌≡◌, ℕ, List, false}
 use Rattle.base_block.specs.Layout.{sector_of}
 use Rattle.dirt_log.specs.WholeLog.{block_of}
 use Rattle.hive_files.specs.Finding.{as_primary}
-use Rattle.hive_phases.specs.Plans.{Plan, raised_block}
+use Rattle.hive_flush_model.specs.Plans.{Plan, raised_block}
 use Rattle.hive_writer.specs.declared.stage.Purpose.TheVariants as purpose
 use Rattle.hive_writer.specs.declared.stage.Stage.TheVariants as stage
 use Rattle.reg_tree.specs.Maps.{TreeMap}

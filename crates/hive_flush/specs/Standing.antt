@@ -11,7 +11,7 @@ use Rattle.base_block.specs.Judgements.{IsPrimary}
 use Rattle.dirt_log.specs.Held.{is_clean_file, IsInUse}
 use Rattle.hive_files.specs.Finding.{HasHive, IsUnusable}
 use Rattle.hive_load.specs.Limits.{BinsRefused, StandsWithin}
-use Rattle.hive_phases.specs.Holding.{Standing}
+use Rattle.hive_flush_model.specs.Holding.{Standing}
 
 -- A primary file and its log hold a tree and a number, as a hive of this store: the block that is in use, that of a primary
 -- file where it is its own, is of the store and has the number, and the bins data that are in use stand for the tree. An

@@ -2,7 +2,7 @@
 use Rattle.std.specs.Prelude.{ℕ, ◌==◌, if◌then◌else◌, Bool, List, [], ◌∷◌}
 use Rattle.std.specs.List.{list_any}
 use Rattle.reg_tree.specs.declared.element.Element.{Element}
-use Rattle.element_text.specs.Changes.{hives_of}
+use Rattle.change_codec.specs.Changes.{hives_of}
 use Rattle.hive_flush.specs.declared.hive.HiveFile.{HiveFile}
 
 -- the last written time of the base block with which the next flush ends

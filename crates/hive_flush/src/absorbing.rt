@@ -15,7 +15,7 @@ use crate::hive::HiveFile;
 use crate::planning::plan_fits;
 use crate::replaying::{last_moment, replayed};
 use base_block::{AppliedNumber, BaseBlock};
-use element_text::ChangeText;
+use change_codec::ChangeText;
 use hive_emit::{Emitted, emit};
 use hive_files::mark_changes;
 use hive_records::one_tree;

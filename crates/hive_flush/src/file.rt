@@ -1,15 +1,15 @@
 //! The steps of a hive's flush and repair.
 ghost use Rattle.std.specs.Prelude.{◌≡◌, ◌↔◌, ◌⊎◌, ◌<◌, ◌≤◌, ◌+◌, ◌*◌, ℕ, length, true, false, Ok, Err, IfErr, IsTrue, OnOk, Some, None};
-ghost use Rattle.prefix_law.specs.Promises.{HiveSays};
-ghost use Rattle.engine_words.specs.Steps.{Says};
-ghost use Rattle.engine_words.specs.declared.Progress.TheVariants as Progress;
+ghost use Rattle.crash_model.specs.Promises.{HiveSays};
+ghost use Rattle.crash_model.specs.StepAnswers.{Says};
+ghost use Rattle.disk_model.specs.declared.progress.Progress.TheVariants as Progress;
 ghost use Rattle.reg_tree.specs.Maps.{TreeMap};
 ghost use Rattle.refusals.specs.declared.refusal.Refusal.TheVariants.{DiskFault, Faulted};
 ghost use Rattle.disk_model.specs.Call.{OneCall, HasFailed};
 ghost use Rattle.disk_model.specs.StoreFiles.{IsOfHive};
 ghost use Rattle.hive_files.specs.Pieces.{WritesPieces};
-ghost use Rattle.hive_phases.specs.Holding.{Standing, tree_under};
-ghost use Rattle.hive_phases.specs.Plans.{IsReady};
+ghost use Rattle.hive_flush_model.specs.Holding.{Standing, tree_under};
+ghost use Rattle.hive_flush_model.specs.Plans.{IsReady};
 ghost use Rattle.hive_writer.specs.Writing.{plan_of};
 ghost use Rattle.hive_writer.specs.declared.stage.Stage.TheVariants as stage;
 ghost use Rattle.hive_flush.specs.HiveStates.{GoesOn, IsBroken, IsWhole, Settled, dirty_pages, files_of, memory_of, place_of, repairs_left, steps_left, store_of};
@@ -17,8 +17,7 @@ ghost use Rattle.hive_flush.specs.Times.{time_of};
 
 use crate::hive::HiveFile;
 use crate::planning::{next_block, plan_fits};
-use disk_model::Disk;
-use engine_words::Progress;
+use disk_model::{Disk, Progress};
 use hive_writer::{Purpose, Stage};
 use refusals::Refusal;
 use reg_tree::Tree;

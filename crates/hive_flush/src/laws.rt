@@ -1,7 +1,7 @@
 //! What a hive's files hold, whatever a crash leaves of them, and what is in memory beside: laws.
 ghost use Rattle.std.specs.Prelude.{◌≡◌, ◌≤◌, List, ℕ};
-ghost use Rattle.prefix_law.specs.Memory.{IsOfMemory};
-ghost use Rattle.prefix_law.specs.Promises.{HiveOn};
+ghost use Rattle.crash_model.specs.Memory.{IsOfMemory};
+ghost use Rattle.crash_model.specs.Promises.{HiveOn};
 ghost use Rattle.reg_tree.specs.Maps.{TreeMap};
 ghost use Rattle.disk_model.specs.FileState.{FileState, IsSound, Leaves};
 ghost use Rattle.disk_model.specs.Sector.{IsHonest};
@@ -9,7 +9,7 @@ ghost use Rattle.hive_flush.specs.Standing.{HoldsUnder};
 ghost use Rattle.hive_flush.specs.HiveStates.{IsBroken, IsOn, files_of, memory_of, store_of};
 ghost use Rattle.hive_flush.specs.declared.hive.HiveFile.{HiveFile};
 
-use hive_phases::laws::on_leaves;
+use hive_flush_model::laws::on_leaves;
 use reg_tree::Tree;
 
 /// A law: where the two files are as a hive's stage says, whatever a crash may leave of both, with an honest first sector of
@@ -28,7 +28,7 @@ pub fn reads_are_honest()
     ensures { (file : HiveFile) (primary log : FileState) → IsSound primary → ¬ (IsBroken file) →
         IsOn file primary log → IsHonest primary primary.seen }
 {
-    hive_phases::laws::reads_are_honest::<Tree>();
+    hive_flush_model::laws::reads_are_honest::<Tree>();
 }
 
 /// A law: two files hold at most one tree and number as a hive of a store.

@@ -1,6 +1,6 @@
 //! Opening a hive: what its two files hold.
 ghost use Rattle.std.specs.Prelude.{◌≡◌, ◌⊎◌, ◌<◌, ◌≤◌, ◌+◌, false, true, ℕ, List, IfOk, IfErr};
-ghost use Rattle.prefix_law.specs.Promises.{settled};
+ghost use Rattle.crash_model.specs.Promises.{settled};
 ghost use Rattle.refusals.specs.declared.refusal.Refusal.TheVariants.{DiskFault, NoMemory};
 ghost use Rattle.disk_model.specs.Call.{Extends};
 ghost use Rattle.disk_model.specs.FileState.{FileState, at_rest};

@@ -1,10 +1,10 @@
 //! Changes, replayed on one hive's tree.
 ghost use Rattle.std.specs.Prelude.{◌≡◌, map, IfOk};
-ghost use Rattle.prefix_law.specs.Changes.{applied, on_hive, ops_on};
-ghost use Rattle.engine_words.specs.Changes.{tree_rules, timed, timed_element, timed_elements};
+ghost use Rattle.crash_model.specs.Changes.{applied, on_hive, ops_on};
+ghost use Rattle.change_codec.specs.ModelChanges.{tree_rules, timed, timed_element, timed_elements};
 ghost use Rattle.hive_flush.specs.Times.{time_after};
 
-use element_text::ChangeText;
+use change_codec::ChangeText;
 use reg_tree::{Op, Tree};
 use std::alloc::{AllocError, Global};
 

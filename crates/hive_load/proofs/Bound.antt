@@ -4,10 +4,10 @@ use Rattle.std.specs.List.{AllByRecursion, IsDistinct, list_any}
 use Rattle.std.proofs.lemmas.Bool.{eqb-true, eq-eqb}
 use Rattle.std.proofs.lemmas.Cmp.{nat_eq_equiv}
 use Rattle.std.proofs.lemmas.Map.Made.{length-le_from_is_member}
-use Rattle.hive_shape.specs.Lists.{IsIn}
-use Rattle.hive_shape.proofs.Basics.{decided, clash, yes_if}
+use Rattle.hive_tree_model.specs.Lists.{IsIn}
+use Rattle.hive_tree_model.proofs.Basics.{decided, clash, yes_if}
 use Rattle.hive_cells.specs.Tiles.{IsAllocatedCell}
-use Rattle.hive_keys.specs.Reading.{marks_of, set_flags, Spreads}
+use Rattle.hive_load_parts.specs.Reading.{marks_of, set_flags, Spreads}
 use Rattle.hive_load.specs.Limits.{AreAllCells}
 
 -- the offsets at which flags are set, from a place on

@@ -14,15 +14,15 @@ use Rattle.reg_tree.specs.Maps.{TreeMap, row, weight}
 use Rattle.reg_tree.specs.Spellable.{IsSpellable, IsSpellableAt, IsSpellableRow}
 use Rattle.hive_cells.specs.Tiles.{Tiles}
 use Rattle.hive_cells.specs.Bins.{Cells, Shows}
-use Rattle.hive_shape.specs.Lists.{IsIn}
-use Rattle.hive_shape.specs.Keys.{Parts, Keys, none, key, lent_cells}
-use Rattle.hive_shape.specs.Trees.{same, row_in, row_from}
-use Rattle.hive_shape.specs.Stands.{Fits, Named, Stands}
-use Rattle.hive_shape.specs.Faults.{Deeper}
-use Rattle.hive_shape.specs.Loads.{Marks, Loaded, Told}
-use Rattle.hive_shape.proofs.Basics.{decided, never, yes_if, no_if, some_same, some_none}
-use Rattle.hive_shape.proofs.Depths.{deep}
-use Rattle.hive_shape.proofs.Settled.{settled, lent_met}
+use Rattle.hive_tree_model.specs.Lists.{IsIn}
+use Rattle.hive_tree_model.specs.Keys.{Parts, Keys, none, key, lent_cells}
+use Rattle.hive_tree_model.specs.Trees.{same, row_in, row_from}
+use Rattle.hive_tree_model.specs.Stands.{Fits, Named, Stands}
+use Rattle.hive_tree_model.specs.Faults.{Deeper}
+use Rattle.hive_tree_model.specs.Loads.{Marks, Loaded, Told}
+use Rattle.hive_tree_model.proofs.Basics.{decided, never, yes_if, no_if, some_same, some_none}
+use Rattle.hive_tree_model.proofs.Depths.{deep}
+use Rattle.hive_tree_model.proofs.Settled.{settled, lent_met}
 use Rattle.hive_records.specs.Bytes.{AreBytes, HoldBytes}
 use Rattle.hive_records.specs.KeyNodes.{keys_in, trail_in, lends_in}
 use Rattle.hive_records.specs.Images.{splits, StandsFor, FaultIn}
@@ -30,7 +30,7 @@ use Rattle.hive_records.proofs.NodesOf.{tree_of_node}
 use Rattle.hive_records.proofs.Keys.{keys_trail, keys_lends, keys_named}
 use Rattle.hive_records.proofs.Spelled.{row_spelled, cells_bytes}
 use Rattle.hive_records.proofs.Images.{same_cells, one_image, image_fault}
-use Rattle.hive_keys.specs.Descriptors.{descriptor_in}
+use Rattle.hive_load_parts.specs.Descriptors.{descriptor_in}
 use Rattle.hive_load.specs.Answers.{IsShallow, LoadsKey, RefusesKey}
 use Rattle.hive_load.specs.Roots.{LoadsRoot, RefusesRoot}
 use Rattle.hive_load.specs.Limits.{IsWithin, LoadRefused}

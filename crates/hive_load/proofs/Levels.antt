@@ -5,25 +5,25 @@ use Rattle.refusals.specs.declared.refusal.Refusal.TheVariants as refusal
 use Rattle.refusals.specs.declared.refusal.Cause.TheVariants as cause
 use Rattle.reg_tree_parts.specs.Rows.{Row}
 use Rattle.reg_tree_parts.specs.Nodes.{Entries, entries_of, root_name, row_in}
-use Rattle.hive_shape.specs.Lists.{IsIn, Once}
-use Rattle.hive_shape.specs.Keys.{Parts, Keys, none, key, offsets, names, lent_cells}
-use Rattle.hive_shape.specs.Trees.{same}
-use Rattle.hive_shape.specs.Stands.{Fits}
-use Rattle.hive_shape.specs.Faults.{IsTrail}
-use Rattle.hive_shape.specs.Loads.{Marks, Marked, with_last}
-use Rattle.hive_shape.proofs.Basics.{decided, clash, same_is, same_of, in_front, in_back, in_either}
-use Rattle.hive_shape.proofs.Loading.{begins, goes_on, ends, offsets_last, told_up}
+use Rattle.hive_tree_model.specs.Lists.{IsIn, Once}
+use Rattle.hive_tree_model.specs.Keys.{Parts, Keys, none, key, offsets, names, lent_cells}
+use Rattle.hive_tree_model.specs.Trees.{same}
+use Rattle.hive_tree_model.specs.Stands.{Fits}
+use Rattle.hive_tree_model.specs.Faults.{IsTrail}
+use Rattle.hive_tree_model.specs.Loads.{Marks, Marked, with_last}
+use Rattle.hive_tree_model.proofs.Basics.{decided, clash, same_is, same_of, in_front, in_back, in_either}
+use Rattle.hive_tree_model.proofs.Loading.{begins, goes_on, ends, offsets_last, told_up}
 use Rattle.hive_cells.specs.Bins.{Cells}
 use Rattle.hive_records.specs.KeyNodes.{key_at, keys_in, trail_in, lends_in}
 use Rattle.hive_records.specs.Nodes.{AreNodesOf}
 use Rattle.hive_records.specs.Follows.{Follows}
 use Rattle.hive_records.proofs.NodesOf.{node_of}
-use Rattle.hive_keys.specs.Nodes.{AreListed}
-use Rattle.hive_keys.specs.Told.{parts_at}
-use Rattle.hive_keys.specs.Descriptors.{Keeps}
-use Rattle.hive_keys.proofs.KeyTold.{key_parts, key_told}
-use Rattle.hive_keys.proofs.Listed.{listed_rows, listed_more, listed_names}
-use Rattle.hive_keys.proofs.Lending.{keeps_none}
+use Rattle.hive_load_parts.specs.Nodes.{AreListed}
+use Rattle.hive_load_parts.specs.Told.{parts_at}
+use Rattle.hive_load_parts.specs.Descriptors.{Keeps}
+use Rattle.hive_load_parts.proofs.KeyTold.{key_parts, key_told}
+use Rattle.hive_load_parts.proofs.Listed.{listed_rows, listed_more, listed_names}
+use Rattle.hive_load_parts.proofs.Lending.{keeps_none}
 use Rattle.hive_load.specs.Nodes.{names_of, AreSiblings, NoSiblings}
 use Rattle.hive_load.specs.Answers.{IsShallow, LoadsKey, RefusesKey, LoadsKeys, RefusesKeys}
 use Rattle.hive_load.proofs.Shuffled.{shuffled_found}

@@ -11,9 +11,9 @@ use Rattle.std.specs.List.{Contains}
 use Rattle.std.proofs.lemmas.Map.Keys.{IsDistinct-IsPermutation}
 use Rattle.reg_tree_parts.specs.Orders.{name_order}
 use Rattle.reg_tree_parts.specs.Nodes.{Entries, IsNode, AreNodes}
-use Rattle.hive_shape.specs.Lists.{IsIn, Once}
-use Rattle.hive_shape.specs.Trees.{same}
-use Rattle.hive_shape.proofs.Basics.{decided, clash, never, same_is, same_of, same_not, same_itself, some_same, some_none}
+use Rattle.hive_tree_model.specs.Lists.{IsIn, Once}
+use Rattle.hive_tree_model.specs.Trees.{same}
+use Rattle.hive_tree_model.proofs.Basics.{decided, clash, never, same_is, same_of, same_not, same_itself, some_same, some_none}
 use Rattle.hive_load.specs.Nodes.{names_of}
 
 -- ---- names that are apart, by tests

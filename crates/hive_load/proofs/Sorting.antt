@@ -11,9 +11,9 @@ use Rattle.reg_names.specs.Names.{folded}
 use Rattle.reg_tree_parts.specs.Orders.{name_order}
 use Rattle.reg_tree_parts.specs.Nodes.{Entries, root_name, subkey_entry, subkey_entries, IsNode, AreNodes}
 use Rattle.reg_tree_parts.proofs.Keys.{names_total, names_apart}
-use Rattle.shared_map.proofs.SortedLists.{keys_rise}
-use Rattle.hive_shape.specs.Lists.{IsIn, Once}
-use Rattle.hive_shape.proofs.Basics.{decided, clash, never, cons_nil}
+use Rattle.persistent_map.proofs.SortedLists.{keys_rise}
+use Rattle.hive_tree_model.specs.Lists.{IsIn, Once}
+use Rattle.hive_tree_model.proofs.Basics.{decided, clash, never, cons_nil}
 use Rattle.hive_load.specs.Nodes.{names_of}
 
 abbrev pub Nodes : Type 0

@@ -5,15 +5,15 @@ use Rattle.refusals.specs.declared.refusal.Refusal.TheVariants as refusal
 use Rattle.refusals.specs.declared.refusal.Cause.TheVariants as cause
 use Rattle.reg_tree_parts.specs.Rows.{Row}
 use Rattle.reg_tree_parts.specs.Nodes.{Entries, root_name}
-use Rattle.hive_shape.specs.Keys.{Parts, Reads, Keys, none, key, offsets, lent_cells}
-use Rattle.hive_shape.specs.Chains.{Leads}
-use Rattle.hive_shape.specs.Loads.{Marks, Loaded, Loading, Told}
+use Rattle.hive_tree_model.specs.Keys.{Parts, Reads, Keys, none, key, offsets, lent_cells}
+use Rattle.hive_tree_model.specs.Chains.{Leads}
+use Rattle.hive_tree_model.specs.Loads.{Marks, Loaded, Loading, Told}
 use Rattle.hive_cells.specs.Bins.{Cells}
 use Rattle.hive_records.specs.KeyNodes.{keys_in, trail_in}
 use Rattle.hive_records.specs.Nodes.{IsNodeOf}
-use Rattle.hive_keys.specs.Reading.{set_flags}
-use Rattle.hive_keys.specs.Nodes.{AreListed}
-use Rattle.hive_keys.specs.Descriptors.{Keeps}
+use Rattle.hive_load_parts.specs.Reading.{set_flags}
+use Rattle.hive_load_parts.specs.Nodes.{AreListed}
+use Rattle.hive_load_parts.specs.Descriptors.{Keeps}
 
 -- keys that lie on at most so many levels
 abbrev pub IsShallow : ℕ → Keys Row → Type 0

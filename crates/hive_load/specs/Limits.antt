@@ -7,8 +7,8 @@ use Rattle.reg_tree_parts.specs.Rows.{Row}
 use Rattle.reg_tree.specs.Maps.{TreeMap, row, weight}
 use Rattle.hive_cells.specs.Tiles.{IsAllocatedCell, DataRefused}
 use Rattle.hive_cells.specs.Bins.{Cells, Shows}
-use Rattle.hive_shape.specs.Lists.{IsIn}
-use Rattle.hive_shape.specs.Faults.{Deeper}
+use Rattle.hive_tree_model.specs.Lists.{IsIn}
+use Rattle.hive_tree_model.specs.Faults.{Deeper}
 use Rattle.hive_records.specs.KeyNodes.{keys_in}
 use Rattle.hive_records.specs.Images.{splits, StandsFor, FaultFor}
 

@@ -7,7 +7,7 @@ use Rattle.refusals.specs.declared.refusal.Refusal.TheVariants as refusal
 use Rattle.refusals.specs.declared.refusal.Cause.TheVariants as cause
 use Rattle.reg_tree_parts.specs.Orders.{name_order}
 use Rattle.reg_tree_parts.specs.Nodes.{Entries}
-use Rattle.hive_shape.specs.Lists.{IsIn, Once}
+use Rattle.hive_tree_model.specs.Lists.{IsIn, Once}
 
 -- the folded names of nodes
 abbrev pub names_of : List (List ℕ × Entries) → List (List ℕ)

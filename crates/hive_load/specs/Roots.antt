@@ -6,9 +6,9 @@ use Rattle.refusals.specs.declared.limits.TheConstants.{MOST_PATH_NAMES}
 use Rattle.reg_tree_parts.specs.Rows.{Row}
 use Rattle.reg_tree_parts.specs.Nodes.{Entries}
 use Rattle.hive_cells.specs.Bins.{Cells}
-use Rattle.hive_shape.specs.Keys.{Parts, Keys}
-use Rattle.hive_shape.specs.Stands.{Whole, LentApart}
-use Rattle.hive_shape.specs.Faults.{Deeper}
+use Rattle.hive_tree_model.specs.Keys.{Parts, Keys}
+use Rattle.hive_tree_model.specs.Stands.{Whole, LentApart}
+use Rattle.hive_tree_model.specs.Faults.{Deeper}
 use Rattle.hive_records.specs.KeyNodes.{keys_in}
 use Rattle.hive_records.specs.Nodes.{IsNodeOf}
 use Rattle.hive_records.specs.Images.{FaultIn}

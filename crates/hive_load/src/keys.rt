@@ -2,13 +2,13 @@
 ghost use Rattle.std.specs.Prelude.{◌≡◌, ◌≤◌, ◌*◌, length, IfOk, MatchResult};
 ghost use Rattle.hive_cells.specs.Bins.{Cells, Shows};
 ghost use Rattle.reg_tree_parts.specs.Nodes.{subkey_entries, AreNodes, IsNode};
-ghost use Rattle.hive_keys.specs.Reading.{marks_of, Spreads};
-ghost use Rattle.hive_keys.specs.Descriptors.{AreDescriptors};
+ghost use Rattle.hive_load_parts.specs.Reading.{marks_of, Spreads};
+ghost use Rattle.hive_load_parts.specs.Descriptors.{AreDescriptors};
 ghost use Rattle.hive_load.specs.Answers.{LoadsKey, RefusesKey, LoadsKeys, RefusesKeys, LoadWorks};
 
 use crate::siblings::node_of;
 use hive_cells::{Image, Looks};
-use hive_keys::{Descriptors, Flags, key};
+use hive_load_parts::{Descriptors, Flags, key};
 use refusals::Refusal;
 use reg_tree_parts::Node;
 use std::alloc::Global;

@@ -5,7 +5,7 @@ ghost use Rattle.std.specs.List.Sorted.{IsPermutation};
 ghost use Rattle.std.specs.FinMap.Entries.{is_sorted};
 ghost use Rattle.reg_tree_parts.specs.Orders.{name_order};
 ghost use Rattle.reg_tree_parts.specs.Nodes.{Entries, entries_of, subkey_entries, AreNodes, IsNode, root_name};
-ghost use Rattle.hive_shape.specs.Lists.{IsIn, Once};
+ghost use Rattle.hive_tree_model.specs.Lists.{IsIn, Once};
 ghost use Rattle.hive_load.specs.Nodes.{names_of, AreSiblings, NoSiblings};
 
 use refusals::{Cause, Refusal};

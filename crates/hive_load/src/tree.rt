@@ -2,14 +2,14 @@
 ghost use Rattle.std.specs.Prelude.{◌≡◌, ◌≤◌, ◌+◌, ◌*◌, ◌/◌, false, ℕ, List, length, IfOk, IfErr, MatchResult};
 ghost use Rattle.hive_cells.specs.Bins.{Cells, Shows};
 ghost use Rattle.reg_tree_parts.specs.Nodes.{IsNode};
-ghost use Rattle.hive_keys.specs.Reading.{marks_of};
+ghost use Rattle.hive_load_parts.specs.Reading.{marks_of};
 ghost use Rattle.hive_records.specs.Images.{StandsFor};
 ghost use Rattle.hive_load.specs.Limits.{IsWithin, LoadRefused, AreAllCells};
 ghost use Rattle.hive_load.specs.Roots.{LoadsRoot, RefusesRoot};
 
 use crate::keys::load_key;
 use hive_cells::{Image, Looks};
-use hive_keys::{Descriptors, Flags};
+use hive_load_parts::{Descriptors, Flags};
 use refusals::limits::{MOST_PATH_NAMES, MOST_WEIGHT};
 use refusals::{Cause, Refusal};
 use reg_tree::Tree;

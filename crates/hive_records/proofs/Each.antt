@@ -1,8 +1,8 @@
 -- Readers joined in another order, and loops.
 use Rattle.std.proofs.Common.{◌≡◌, ℕ, List, [], ◌∷◌, ◌++◌, refl, ◌∙◌, ap, sym, subst, Ok, Err, Result, append_assoc, append-nil}
 use Rattle.refusals.specs.declared.refusal.Refusal.{Refusal}
-use Rattle.hive_shape.specs.Loads.{Marks}
-use Rattle.hive_shape.proofs.Loading.{none_marked}
+use Rattle.hive_tree_model.specs.Loads.{Marks}
+use Rattle.hive_tree_model.proofs.Loading.{none_marked}
 use Rattle.hive_records.specs.Readers.{Read, Reader, done, joined_if, each, ◌⟫◌}
 use Rattle.hive_cells.specs.Bins.{Cells}
 use Rattle.hive_records.specs.Follows.{Follows}

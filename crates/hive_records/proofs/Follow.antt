@@ -1,9 +1,9 @@
 -- Readers that follow one another.
 use Rattle.std.proofs.Common.{◌≡◌, inl, inr, ℕ, List, ◌++◌, ◌∙◌, ap, sym, subst, Ok, Err, Result, None}
 use Rattle.refusals.specs.declared.refusal.Refusal.{Refusal}
-use Rattle.hive_shape.proofs.Basics.{in_front, in_back, once_front, once_back, once_apart}
-use Rattle.hive_shape.specs.Loads.{Marks, Marked}
-use Rattle.hive_shape.proofs.Loading.{marked_joined}
+use Rattle.hive_tree_model.proofs.Basics.{in_front, in_back, once_front, once_back, once_apart}
+use Rattle.hive_tree_model.specs.Loads.{Marks, Marked}
+use Rattle.hive_tree_model.proofs.Loading.{marked_joined}
 use Rattle.hive_records.specs.Readers.{Read, Reader, joined_if, ◌⟫◌}
 use Rattle.hive_cells.specs.Bins.{Cells}
 use Rattle.hive_records.specs.Follows.{Meets, Follows}

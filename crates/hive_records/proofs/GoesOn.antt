@@ -10,7 +10,7 @@ use Rattle.refusals.specs.declared.refusal.Cause.{Cause}
 use Rattle.refusals.specs.declared.refusal.Cause.TheVariants as cause
 use Rattle.reg_tree_parts.specs.declared.value.Value.{Value}
 use Rattle.reg_tree_parts.specs.Rows.{Row}
-use Rattle.hive_shape.proofs.Basics.{never, some_same, some_none}
+use Rattle.hive_tree_model.proofs.Basics.{never, some_same, some_none}
 use Rattle.hive_cells.specs.Tiles.{word_at}
 use Rattle.hive_cells.specs.Bins.{Cells}
 use Rattle.hive_records.specs.Readers.{Read, Reader, done, refuse, joined_if, own_if, lent_if, look, look_lent, choice, rule, barred, each, ◌⟫◌}

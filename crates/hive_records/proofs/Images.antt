@@ -4,19 +4,19 @@ use Rattle.reg_names.specs.Names.{folded}
 use Rattle.refusals.specs.declared.refusal.Refusal.{Refusal}
 use Rattle.refusals.specs.declared.refusal.Refusal.TheVariants as refusal
 use Rattle.refusals.specs.declared.refusal.Cause.TheVariants as cause
-use Rattle.hive_shape.specs.Faults.{Lends}
-use Rattle.hive_shape.specs.Loads.{Told}
+use Rattle.hive_tree_model.specs.Faults.{Lends}
+use Rattle.hive_tree_model.specs.Loads.{Told}
 use Rattle.reg_tree_parts.specs.Rows.{Row}
 use Rattle.reg_tree.specs.Maps.{TreeMap, IsTree}
 use Rattle.hive_cells.specs.Tiles.{IsAllocatedCell, cell_data}
 use Rattle.hive_cells.specs.Changes.{StaysAt}
-use Rattle.hive_shape.specs.Lists.{IsIn}
-use Rattle.hive_shape.specs.Keys.{Parts, Keys, all_cells}
-use Rattle.hive_shape.specs.Stands.{Whole, Stands, IsKeyTree}
-use Rattle.hive_shape.proofs.Only.{one_tree}
-use Rattle.hive_shape.proofs.ChainsAre.{key_tree}
-use Rattle.hive_shape.proofs.NoFault.{not_told, not_lends}
-use Rattle.hive_shape.proofs.Frame.{whole_still}
+use Rattle.hive_tree_model.specs.Lists.{IsIn}
+use Rattle.hive_tree_model.specs.Keys.{Parts, Keys, all_cells}
+use Rattle.hive_tree_model.specs.Stands.{Whole, Stands, IsKeyTree}
+use Rattle.hive_tree_model.proofs.Only.{one_tree}
+use Rattle.hive_tree_model.proofs.ChainsAre.{key_tree}
+use Rattle.hive_tree_model.proofs.NoFault.{not_told, not_lends}
+use Rattle.hive_tree_model.proofs.Frame.{whole_still}
 use Rattle.hive_cells.specs.Bins.{Cells, Shows}
 use Rattle.hive_records.specs.KeyNodes.{keys_in, trail_in, lends_in}
 use Rattle.hive_records.specs.Images.{splits, StandsFor, FaultFor}

@@ -4,12 +4,12 @@ use Rattle.std.specs.Prelude.{nat_le, nat_lt, ◌==◌}
 use Rattle.reg_names.specs.Names.{folded}
 use Rattle.refusals.specs.declared.refusal.Refusal.{Refusal}
 use Rattle.reg_tree_parts.specs.Rows.{Row}
-use Rattle.hive_shape.specs.Lists.{IsIn}
-use Rattle.hive_shape.specs.Keys.{Parts}
-use Rattle.hive_shape.specs.Cells.{IsLocal, IsThere}
-use Rattle.hive_shape.specs.Stands.{NamesBy}
-use Rattle.hive_shape.specs.Faults.{IsTrail, IsLentTrail}
-use Rattle.hive_shape.proofs.Basics.{ok_same, in_front, in_back, in_either}
+use Rattle.hive_tree_model.specs.Lists.{IsIn}
+use Rattle.hive_tree_model.specs.Keys.{Parts}
+use Rattle.hive_tree_model.specs.Cells.{IsLocal, IsThere}
+use Rattle.hive_tree_model.specs.Stands.{NamesBy}
+use Rattle.hive_tree_model.specs.Faults.{IsTrail, IsLentTrail}
+use Rattle.hive_tree_model.proofs.Basics.{ok_same, in_front, in_back, in_either}
 use Rattle.hive_cells.specs.Tiles.{word_at}
 use Rattle.hive_records.specs.Readers.{Read}
 use Rattle.hive_cells.specs.Bins.{Cells}

@@ -1,7 +1,7 @@
 -- Security cells, classes and key nodes that are written read back.
 use Rattle.std.proofs.Common.{◌≡◌, ◌<◌, ◌+◌, ◌-◌, ◌/◌, ◌%◌, ◌^◌, ℕ, Bool, true, false, if◌then◌else◌, List, [], ◌∷◌, ◌++◌, length, take, refl, sym, arith, eqb, leb, eq-eqb, ne_eqb, le-leb, Some, length-append}
 use Rattle.hive_cells.specs.Tiles.{word_at}
-use Rattle.hive_shape.proofs.Basics.{clash}
+use Rattle.hive_tree_model.proofs.Basics.{clash}
 use Rattle.hive_cells.specs.Bins.{Cells}
 use Rattle.hive_records.specs.Numbers.{half_at, begins_with, nowhere}
 use Rattle.hive_records.specs.Names.{has_flag}

@@ -5,7 +5,7 @@ use Rattle.std.proofs.lemmas.Bool.{eqb-true, ne_eqb}
 use Rattle.std.proofs.lemmas.List.{get_or-take, get_or-drop}
 use Rattle.refusals.specs.declared.refusal.Refusal.{Refusal}
 use Rattle.refusals.specs.declared.refusal.Cause.TheVariants as cause
-use Rattle.hive_shape.proofs.Basics.{never}
+use Rattle.hive_tree_model.proofs.Basics.{never}
 use Rattle.hive_cells.specs.Tiles.{word_at}
 use Rattle.hive_cells.specs.Bins.{Cells}
 use Rattle.hive_records.specs.Readers.{Reader, done, refuse, look, choice, rule, each, ◌⟫◌}

@@ -3,8 +3,8 @@ use Rattle.std.proofs.Common.{◌≡◌, inl, inr, ℕ, List, [], ◌∷◌, ◌
 use Rattle.refusals.specs.declared.refusal.Refusal.{Refusal}
 use Rattle.refusals.specs.declared.refusal.Refusal.TheVariants as refusal
 use Rattle.refusals.specs.declared.refusal.Cause.{Cause}
-use Rattle.hive_shape.specs.Lists.{IsIn}
-use Rattle.hive_shape.proofs.Basics.{ok_err, in_front, in_back, in_either}
+use Rattle.hive_tree_model.specs.Lists.{IsIn}
+use Rattle.hive_tree_model.proofs.Basics.{ok_err, in_front, in_back, in_either}
 use Rattle.hive_records.specs.Readers.{Read, Reader, done, refuse, joined_if, ◌⟫◌, own_if, look, lent_if, look_lent, choice, rule, barred, each}
 use Rattle.hive_cells.specs.Bins.{Cells}
 

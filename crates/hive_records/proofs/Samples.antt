@@ -6,10 +6,10 @@ use Rattle.refusals.specs.declared.refusal.Cause.{Cause}
 use Rattle.refusals.specs.declared.refusal.Cause.TheVariants as cause
 use Rattle.reg_tree_parts.specs.Rows.{Row}
 use Rattle.hive_cells.specs.Tiles.{word_at}
-use Rattle.hive_shape.specs.Lists.{Once}
-use Rattle.hive_shape.specs.Keys.{Parts, none, key}
-use Rattle.hive_shape.specs.Stands.{Stands}
-use Rattle.hive_shape.proofs.Basics.{cons_nil, same_head, same_tail}
+use Rattle.hive_tree_model.specs.Lists.{Once}
+use Rattle.hive_tree_model.specs.Keys.{Parts, none, key}
+use Rattle.hive_tree_model.specs.Stands.{Stands}
+use Rattle.hive_tree_model.proofs.Basics.{cons_nil, same_head, same_tail}
 use Rattle.hive_records.specs.Readers.{done, refuse, look, look_lent, choice, rule, barred, each, ◌⟫◌}
 use Rattle.hive_records.specs.Numbers.{half_at, long_at}
 use Rattle.hive_records.specs.Values.{value_at}

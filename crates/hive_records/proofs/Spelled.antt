@@ -18,11 +18,11 @@ use Rattle.reg_tree.specs.Maps.{TreeMap}
 use Rattle.reg_tree.specs.Spellable.{stored_len, IsSpellableName, IsSpellableValue, IsSpellableRow}
 use Rattle.hive_cells.specs.Tiles.{word_at, cell_data, cell_size, IsAllocatedCell}
 use Rattle.hive_cells.specs.Bins.{Cells, Shows}
-use Rattle.hive_shape.specs.Keys.{Parts}
-use Rattle.hive_shape.specs.Chains.{Spells}
-use Rattle.hive_shape.specs.Trees.{same}
-use Rattle.hive_shape.proofs.Basics.{ok_same, never, clash, decided, yes_if, no_if, some_same, some_none, same_is, names_total}
-use Rattle.hive_shape.proofs.ChainsAre.{chains}
+use Rattle.hive_tree_model.specs.Keys.{Parts}
+use Rattle.hive_tree_model.specs.Chains.{Spells}
+use Rattle.hive_tree_model.specs.Trees.{same}
+use Rattle.hive_tree_model.proofs.Basics.{ok_same, never, clash, decided, yes_if, no_if, some_same, some_none, same_is, names_total}
+use Rattle.hive_tree_model.proofs.ChainsAre.{chains}
 use Rattle.hive_records.specs.Bytes.{AreBytes, HoldBytes}
 use Rattle.hive_records.specs.Readers.{Read, Reader, done, refuse, joined_if, own_if, look, choice, rule, barred, each, ◌⟫◌}
 use Rattle.hive_records.specs.Numbers.{half_at}

@@ -2,7 +2,7 @@
 use Rattle.std.proofs.Common.{◌≡◌, ℕ, Bool, true, false, ◌&&◌, List, [], ◌∷◌, ◌++◌, refl, ◌∙◌, ap, sym, Ok, Some, append-nil}
 use Rattle.refusals.specs.declared.refusal.Refusal.{Refusal}
 use Rattle.refusals.specs.declared.refusal.Cause.{Cause}
-use Rattle.hive_shape.proofs.Basics.{never}
+use Rattle.hive_tree_model.proofs.Basics.{never}
 use Rattle.hive_records.specs.Readers.{Read, Reader, done, joined_if, own_if, lent_if, look, look_lent, choice, rule, barred, ◌⟫◌}
 use Rattle.hive_cells.specs.Bins.{Cells}
 use Rattle.hive_records.specs.Fields.{Gives}

@@ -4,8 +4,8 @@ use Rattle.std.specs.Prelude.{◌≡◌, ◌⊎◌, ℕ, true, List, Result, Ok,
 use Rattle.refusals.specs.declared.refusal.Refusal.{Refusal}
 use Rattle.refusals.specs.declared.refusal.Refusal.TheVariants as refusal
 use Rattle.refusals.specs.declared.refusal.Cause.TheVariants as cause
-use Rattle.hive_shape.specs.Lists.{IsIn, Once}
-use Rattle.hive_shape.specs.Loads.{Marks, Marked}
+use Rattle.hive_tree_model.specs.Lists.{IsIn, Once}
+use Rattle.hive_tree_model.specs.Loads.{Marks, Marked}
 use Rattle.hive_records.specs.Readers.{Reader}
 use Rattle.hive_cells.specs.Bins.{Cells}
 

@@ -6,9 +6,9 @@ use Rattle.refusals.specs.declared.refusal.Cause.TheVariants as cause
 use Rattle.reg_tree.specs.Maps.{TreeMap}
 use Rattle.hive_cells.specs.Tiles.{Tiles}
 use Rattle.hive_cells.specs.Bins.{Cells, Shows}
-use Rattle.hive_shape.specs.Stands.{Stands}
-use Rattle.hive_shape.specs.Faults.{Lends}
-use Rattle.hive_shape.specs.Loads.{Told}
+use Rattle.hive_tree_model.specs.Stands.{Stands}
+use Rattle.hive_tree_model.specs.Faults.{Lends}
+use Rattle.hive_tree_model.specs.Loads.{Told}
 use Rattle.hive_records.specs.KeyNodes.{keys_in, trail_in, lends_in}
 
 -- from minor version 4 on, big data lie in segments

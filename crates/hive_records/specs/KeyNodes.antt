@@ -8,7 +8,7 @@ use Rattle.refusals.specs.declared.refusal.Refusal.TheVariants as refusal
 use Rattle.refusals.specs.declared.refusal.Cause.TheVariants as cause
 use Rattle.reg_tree_parts.specs.Rows.{Row}
 use Rattle.hive_cells.specs.Tiles.{word_at}
-use Rattle.hive_shape.specs.Keys.{Parts, Reads}
+use Rattle.hive_tree_model.specs.Keys.{Parts, Reads}
 use Rattle.hive_records.specs.Readers.{Read, Reader, done, barred, rule, choice, look, look_lent, ◌⟫◌}
 use Rattle.hive_cells.specs.Bins.{Cells}
 use Rattle.hive_records.specs.Numbers.{nowhere, half_at, long_at, begins_with}

@@ -1,8 +1,8 @@
 //! Images that were spelled byte by byte, so that no definition is empty.
 
 ghost use Rattle.std.specs.Prelude.{◌≡◌, ◌∷◌, [], true, Ok, Some};
-ghost use Rattle.hive_shape.specs.Keys.{none};
-ghost use Rattle.hive_shape.specs.Stands.{Stands};
+ghost use Rattle.hive_tree_model.specs.Keys.{none};
+ghost use Rattle.hive_tree_model.specs.Stands.{Stands};
 ghost use Rattle.hive_records.specs.Example.{one_cell, one_key, full_cells, two_keys, full_root, child_record, full_row, child_row, full_value};
 ghost use Rattle.hive_records.specs.KeyNodes.{keys_in};
 ghost use Rattle.refusals.specs.declared.refusal.Refusal.TheVariants as refusal;

@@ -2,7 +2,7 @@
 
 ghost use Rattle.std.specs.Prelude.{◌++◌, ◌∷◌, [], List, Result, Ok, Err};
 ghost use Rattle.refusals.specs.declared.refusal.Refusal.{Refusal};
-ghost use Rattle.hive_shape.specs.Loads.{Marks};
+ghost use Rattle.hive_tree_model.specs.Loads.{Marks};
 ghost use Rattle.hive_records.specs.Readers.{Reader, each, ◌⟫◌};
 ghost use Rattle.hive_records.specs.Follows.{Follows};
 ghost use Rattle.hive_cells.specs.Bins.{Cells};

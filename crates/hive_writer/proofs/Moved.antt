@@ -11,12 +11,12 @@ use Rattle.base_block.specs.Numbers.{number_after}
 use Rattle.dirty_vector.specs.Marks.{marked_count}
 use Rattle.dirty_vector.specs.Pages.{Pages, is_dirty, NoneFrom, IsFirstRun}
 use Rattle.dirt_log.proofs.Replaced.{count_rises, dirty_counts}
-use Rattle.hive_phases.specs.Holding.{Standing}
-use Rattle.hive_phases.specs.Plans.{AreClean, AreDirty}
-use Rattle.hive_phases.specs.Phases.{Phase, Work}
-use Rattle.hive_phases.specs.States.{IsLogging, IsLogged, IsPaging, IsPaged, is_on_in}
-use Rattle.hive_phases.proofs.Moving.{log_written, log_failed, log_synced, page_written, page_failed, pages_synced}
-use Rattle.hive_phases.specs.Plans.{raised_block}
+use Rattle.hive_flush_model.specs.Holding.{Standing}
+use Rattle.hive_flush_model.specs.Plans.{AreClean, AreDirty}
+use Rattle.hive_flush_model.specs.Phases.{Phase, Work}
+use Rattle.hive_flush_model.specs.States.{IsLogging, IsLogged, IsPaging, IsPaged, is_on_in}
+use Rattle.hive_flush_model.proofs.Moving.{log_written, log_failed, log_synced, page_written, page_failed, pages_synced}
+use Rattle.hive_flush_model.specs.Plans.{raised_block}
 use Rattle.hive_writer.specs.Writing.{dirty_from}
 
 -- the other file is as it was

@@ -4,19 +4,19 @@ use Rattle.std.specs.Prelude.{min, IfOk}
 use Rattle.std.proofs.lemmas.Bool.{true≢false}
 use Rattle.refusals.specs.declared.refusal.Refusal.{Refusal}
 use Rattle.refusals.specs.declared.refusal.Refusal.TheVariants.{DiskFault}
-use Rattle.engine_words.specs.declared.Progress.{Progress}
-use Rattle.engine_words.specs.declared.Progress.TheVariants as progress
-use Rattle.engine_words.specs.Steps.{Says}
-use Rattle.prefix_law.specs.Promises.{Choice, settled, under_way, HiveSays}
+use Rattle.disk_model.specs.declared.progress.Progress.{Progress}
+use Rattle.disk_model.specs.declared.progress.Progress.TheVariants as progress
+use Rattle.crash_model.specs.StepAnswers.{Says}
+use Rattle.crash_model.specs.Promises.{Choice, settled, under_way, HiveSays}
 use Rattle.disk_model.specs.FileState.{FileState}
 use Rattle.disk_model.specs.StoreFiles.{primary_file, log_file}
 use Rattle.disk_model.specs.declared.disk.Failed.{Failed}
 use Rattle.dirty_vector.specs.Pages.{Pages}
-use Rattle.hive_phases.specs.Holding.{Standing}
-use Rattle.hive_phases.specs.Plans.{Plan, IsReady}
-use Rattle.hive_phases.specs.Phases.{Work}
-use Rattle.hive_phases.specs.States.{IsLogging}
-use Rattle.hive_phases.proofs.Moving.{begins}
+use Rattle.hive_flush_model.specs.Holding.{Standing}
+use Rattle.hive_flush_model.specs.Plans.{Plan, IsReady}
+use Rattle.hive_flush_model.specs.Phases.{Work}
+use Rattle.hive_flush_model.specs.States.{IsLogging}
+use Rattle.hive_flush_model.proofs.Moving.{begins}
 use Rattle.hive_writer.specs.declared.writer.HiveWriter.{HiveWriter}
 use Rattle.hive_writer.specs.declared.stage.Stage.{Stage}
 use Rattle.hive_writer.specs.declared.stage.Stage.TheVariants as stage

@@ -2,9 +2,9 @@
 use Rattle.std.specs.Prelude.{◌≡◌, ◌⊎◌, ⊤, ℕ, ◌+◌, ◌-◌, ◌*◌, ◌/◌, ◌<◌, min, true, false, List, length, Result, Ok, Err, MatchResult}
 use Rattle.refusals.specs.declared.refusal.Refusal.{Refusal}
 use Rattle.refusals.specs.declared.refusal.Refusal.TheVariants.{DiskFault}
-use Rattle.engine_words.specs.declared.Progress.{Progress}
-use Rattle.engine_words.specs.declared.Progress.TheVariants as progress
-use Rattle.prefix_law.specs.Promises.{Choice}
+use Rattle.disk_model.specs.declared.progress.Progress.{Progress}
+use Rattle.disk_model.specs.declared.progress.Progress.TheVariants as progress
+use Rattle.crash_model.specs.Promises.{Choice}
 use Rattle.disk_model.specs.FileState.{FileState}
 use Rattle.disk_model.specs.StoreFiles.{primary_file, log_file}
 use Rattle.disk_model.specs.declared.disk.Failed.{Failed}
@@ -14,11 +14,11 @@ use Rattle.dirt_log.specs.LogText.{log_text}
 use Rattle.dirt_log.specs.declared.steps.TheConstants.{PIECE_BYTES}
 use Rattle.dirty_vector.specs.Marks.{marked_count}
 use Rattle.dirty_vector.specs.Pages.{Pages, is_dirty, dirty_count}
-use Rattle.hive_phases.specs.Holding.{Standing}
-use Rattle.hive_phases.specs.Plans.{Plan, IsReady, raised_block}
-use Rattle.hive_phases.specs.Phases.{Phase, Phase.Quiet, Phase.Logging, Phase.Logged, Phase.Raised, Phase.Paging, Phase.Paged, Phase.Finished, Work, Purpose.Flush, Purpose.Repair, choice_in}
-use Rattle.hive_phases.specs.Phases as phases
-use Rattle.hive_phases.specs.States.{RestsIn, is_on_in}
+use Rattle.hive_flush_model.specs.Holding.{Standing}
+use Rattle.hive_flush_model.specs.Plans.{Plan, IsReady, raised_block}
+use Rattle.hive_flush_model.specs.Phases.{Phase, Phase.Quiet, Phase.Logging, Phase.Logged, Phase.Raised, Phase.Paging, Phase.Paged, Phase.Finished, Work, Purpose.Flush, Purpose.Repair, choice_in}
+use Rattle.hive_flush_model.specs.Phases as phases
+use Rattle.hive_flush_model.specs.States.{RestsIn, is_on_in}
 use Rattle.hive_writer.specs.declared.writer.HiveWriter.{HiveWriter}
 use Rattle.hive_writer.specs.declared.stage.Stage.{Stage}
 use Rattle.hive_writer.specs.declared.stage.Stage.TheVariants as stage

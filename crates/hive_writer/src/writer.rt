@@ -2,22 +2,21 @@
 ghost use Rattle.std.specs.Prelude.{◌≡◌, ◌↔◌, ◌⊎◌, ◌^◌, ◌<◌, ℕ, false, length, Ok, Err, IfOk, IfErr, IsTrue};
 ghost use Rattle.disk_model.specs.Call.{OneCall, HasFailed, CountsFailure};
 ghost use Rattle.disk_model.specs.StoreFiles.{IsOfHive};
-ghost use Rattle.engine_words.specs.Steps.{Says};
+ghost use Rattle.crash_model.specs.StepAnswers.{Says};
 ghost use Rattle.hive_files.specs.Pieces.{WritesPieces};
-ghost use Rattle.hive_phases.specs.Holding.{Standing};
-ghost use Rattle.hive_phases.specs.Plans.{Plan};
+ghost use Rattle.hive_flush_model.specs.Holding.{Standing};
+ghost use Rattle.hive_flush_model.specs.Plans.{Plan};
 ghost use Rattle.hive_writer.specs.Writing.{BeginsAt, EndsWith, Falls, IsFlushing, IsNext, IsRewriting, KeepsBlocks, Leads, LeadsOn, Settles, calls_left, choice_at, now_after, plan_of};
 ghost use Rattle.hive_writer.specs.declared.stage.Stage.TheVariants as stage;
 ghost use Rattle.hive_writer.specs.declared.stage.Purpose.TheVariants as purpose;
-ghost use Rattle.prefix_law.specs.Promises.{HiveSays};
-ghost use Rattle.engine_words.specs.declared.Progress.TheVariants as Progress;
+ghost use Rattle.crash_model.specs.Promises.{HiveSays};
+ghost use Rattle.disk_model.specs.declared.progress.Progress.TheVariants as Progress;
 ghost use Rattle.refusals.specs.declared.refusal.Refusal.TheVariants.{DiskFault, Faulted};
 
 use crate::stage::{Purpose, Stage};
 use base_block::BaseBlock;
 use dirty_vector::DirtyVector;
-use disk_model::{Disk, Failed};
-use engine_words::Progress;
+use disk_model::{Disk, Failed, Progress};
 use refusals::Refusal;
 
 /// Where a flush or a repair of one hive is, and what it writes beside pages. Plain data: whoever owns it changes it through

@@ -4,12 +4,12 @@ use Rattle.std.proofs.lemmas.Bool.{cases_lt}
 use Rattle.std.proofs.lemmas.List.{drop-append-le, drop-drop, drop-map, length-map, length-take, take-append-drop}
 use Rattle.reg_tree.specs.Maps.{TreeMap}
 use Rattle.reg_tree.specs.declared.element.Element.{Element}
-use Rattle.prefix_law.specs.Changes as law
-use Rattle.prefix_law.specs.Changes.{ops_on, replay}
-use Rattle.prefix_law.specs.Promises.{floor, top}
-use Rattle.prefix_law.proofs.Replays.{ops_on-append}
-use Rattle.prefix_law.proofs.Lists.{drop_nil}
-use Rattle.engine_words.specs.Changes.{TimedOp, tree_rules, timed_element, timed_elements}
+use Rattle.crash_model.specs.Changes as law
+use Rattle.crash_model.specs.Changes.{ops_on, replay}
+use Rattle.crash_model.specs.Promises.{floor, top}
+use Rattle.crash_model.proofs.Replays.{ops_on-append}
+use Rattle.crash_model.proofs.Lists.{drop_nil}
+use Rattle.change_codec.specs.ModelChanges.{TimedOp, tree_rules, timed_element, timed_elements}
 use Rattle.commit_journal.specs.Naming.{AreLastIn}
 use Rattle.hive_flush.specs.HiveStates.{memory_of}
 use Rattle.hive_flush.specs.declared.hive.HiveFile.{HiveFile}

@@ -6,7 +6,7 @@ use Rattle.disk_model.specs.Crash.{HonestSince, LeavesHonest}
 use Rattle.disk_model.specs.Unwritten.{IsSyncedOrSame, OnlySyncs}
 use Rattle.disk_model.proofs.Crashes.{shown_left}
 use Rattle.disk_model.proofs.Unwritten.{left_again, left_at_first, shown_after, synced_still}
-use Rattle.engine_law.specs.Prefixes.{IsPrimaryOf}
+use Rattle.engine_invariant.specs.Prefixes.{IsPrimaryOf}
 use Rattle.recovery.specs.Beginnings.{AllCameToNothing, CameToNothing, MayBegin, after_crash, none_yet, one_more}
 use Rattle.recovery.specs.Recovered.{seen_in}
 

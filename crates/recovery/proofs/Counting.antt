@@ -7,7 +7,7 @@ use Rattle.disk_model.specs.FileState.{FileState}
 use Rattle.disk_model.specs.StoreFiles.{IsJournal, primary_file, log_file}
 use Rattle.hive_flush.specs.HiveStates as hive
 use Rattle.hive_flush.specs.declared.hive.HiveFile.{HiveFile}
-use Rattle.engine_law.proofs.HiveLists.{at_slot}
+use Rattle.engine_invariant.proofs.HiveLists.{at_slot}
 use Rattle.recovery.specs.Kept.{AreWhole}
 use Rattle.recovery.specs.Recovered.{seen_in}
 use Rattle.recovery.specs.Repairs.{most_repairs, repairs_left}

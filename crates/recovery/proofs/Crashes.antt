@@ -4,20 +4,20 @@ use Rattle.std.proofs.lemmas.List.{length-map}
 use Rattle.reg_tree.specs.Maps.{TreeMap}
 use Rattle.reg_tree.specs.Sequences.{after_elements}
 use Rattle.reg_tree.specs.declared.element.Element.{Element}
-use Rattle.prefix_law.specs.Promises.{Choice, Spelled}
-use Rattle.prefix_law.proofs.Lists.{take_nil}
+use Rattle.crash_model.specs.Promises.{Choice, Spelled}
+use Rattle.crash_model.proofs.Lists.{take_nil}
 use Rattle.disk_model.specs.FileState.{FileState}
 use Rattle.disk_model.specs.Crash.{LeavesHonest}
-use Rattle.machine.specs.Machine.{Machine, bounds_of, opened_machine}
-use Rattle.machine.specs.declared.bounds.Bounds.{Bounds}
-use Rattle.engine_words.specs.Changes.{TimedOp}
+use Rattle.store_model.specs.Machine.{Machine, bounds_of, opened_machine}
+use Rattle.store_model.specs.declared.bounds.Bounds.{Bounds}
+use Rattle.change_codec.specs.ModelChanges.{TimedOp}
 use Rattle.commit_journal.specs.Store.{Store, room_of}
 use Rattle.commit_journal.specs.Journals.{changes_of, choice_of, store_of}
 use Rattle.commit_journal.specs.declared.journal.Journal.{Journal}
 use Rattle.hive_flush.specs.declared.hive.HiveFile.{HiveFile}
-use Rattle.engine_law.specs.States.{HiveView, IsConsistent}
-use Rattle.engine_law.specs.Openings.{IsFound}
-use Rattle.engine_law.specs.Prefixes.{AreOnDisk, ArePlaced, IsPrimaryOf, IsSafeAt, Recover, view_of}
+use Rattle.engine_invariant.specs.States.{HiveView, IsConsistent}
+use Rattle.engine_invariant.specs.Openings.{IsFound}
+use Rattle.engine_invariant.specs.Prefixes.{AreOnDisk, ArePlaced, IsPrimaryOf, IsSafeAt, Recover, view_of}
 use Rattle.recovery.specs.Kept.{IsKept}
 use Rattle.recovery.specs.Recovered.{IsRecovered}
 use Rattle.recovery.specs.Shown.{Shown}

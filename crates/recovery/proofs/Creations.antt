@@ -6,17 +6,17 @@ use Rattle.std.specs.Prelude.{min}
 use Rattle.refusals.specs.declared.limits.TheConstants.{GREATEST_NUMBER, MOST_WEIGHT}
 use Rattle.reg_tree.specs.Fresh.{fresh_tree}
 use Rattle.reg_tree.specs.Maps.{TreeMap, weight}
-use Rattle.prefix_law.specs.Files.{SpellsBy}
-use Rattle.prefix_law.specs.Promises.{Choice, JournalOn, Spelled, nothing, settled}
-use Rattle.prefix_law.specs.Promises as promises
-use Rattle.prefix_law.specs.Recovery.{Recovers}
-use Rattle.prefix_law.proofs.OfFiles.{files_recover}
+use Rattle.crash_model.specs.Files.{SpellsBy}
+use Rattle.crash_model.specs.Promises.{Choice, JournalOn, Spelled, nothing, settled}
+use Rattle.crash_model.specs.Promises as promises
+use Rattle.crash_model.specs.Recovery.{Recovers}
+use Rattle.crash_model.proofs.OfFiles.{files_recover}
 use Rattle.disk_model.specs.FileState.{FileState, Leaves}
 use Rattle.disk_model.specs.Call.{Extends}
 use Rattle.disk_model.specs.Sector.{IsHonest}
 use Rattle.disk_model.specs.StoreFiles.{IsJournal, IsOfHive, primary_file, log_file, journal_file}
 use Rattle.disk_model.proofs.Leaves.{left_at_rest}
-use Rattle.engine_words.specs.Changes.{TimedOp, tree_rules}
+use Rattle.change_codec.specs.ModelChanges.{TimedOp, tree_rules}
 use Rattle.commit_journal.specs.Text.{spelled}
 use Rattle.commit_journal.specs.Store.{IsStore, Store, texts}
 use Rattle.commit_journal.specs.OnDisk.{Value, is_on}
@@ -27,9 +27,9 @@ use Rattle.hive_files.proofs.Frames.{extends_on}
 use Rattle.hive_flush.specs.Created.{AreCreated, IsImageOf}
 use Rattle.hive_flush.specs.Standing.{HoldsUnder}
 use Rattle.hive_flush.specs.declared.image.HiveImage.{HiveImage}
-use Rattle.engine_law.specs.Prefixes.{Holds, Spells}
-use Rattle.engine_law.specs.States.{tree_of}
-use Rattle.engine_law.proofs.HiveLists.{at_slot, each_pushed}
+use Rattle.engine_invariant.specs.Prefixes.{Holds, Spells}
+use Rattle.engine_invariant.specs.States.{tree_of}
+use Rattle.engine_invariant.proofs.HiveLists.{at_slot, each_pushed}
 use Rattle.recovery.specs.Created.{AreImagesOf, AreWritten, HivesAreMade, IsOfHives, IsOfStore, IsWritten, new_store}
 use Rattle.recovery.specs.Recovered.{IsRecovered}
 

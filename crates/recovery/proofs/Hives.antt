@@ -2,7 +2,7 @@
 use Rattle.std.proofs.Common.{◌≡◌, inl, inr, ℕ, ◌<◌, List, [], ◌∷◌, ◌++◌, length, refl, sym, ◌∙◌, subst, arith, Some, slice_get}
 use Rattle.std.proofs.lemmas.Option.{slice_get_within}
 use Rattle.refusals.specs.declared.refusal.Refusal.{Refusal}
-use Rattle.prefix_law.specs.Promises.{settled}
+use Rattle.crash_model.specs.Promises.{settled}
 use Rattle.disk_model.specs.FileState.{FileState}
 use Rattle.disk_model.specs.StoreFiles.{IsOfHive, primary_file, log_file, journal_file}
 use Rattle.disk_model.specs.Unwritten.{IsSyncedOrSame}
@@ -12,7 +12,7 @@ use Rattle.hive_flush.specs.Standing.{HoldsUnder, IsNoneHeld, NothingHeld}
 use Rattle.hive_flush.specs.HiveStates.{IsBroken, IsOn, files_of, memory_of, place_of}
 use Rattle.hive_flush.specs.HiveStates as states
 use Rattle.hive_flush.specs.declared.hive.HiveFile.{HiveFile}
-use Rattle.engine_law.proofs.HiveLists.{each_pushed}
+use Rattle.engine_invariant.proofs.HiveLists.{each_pushed}
 use Rattle.recovery.specs.Reading.{AreOpened, IsNoHive, IsOpened}
 
 module _ (before after : Type 0) (back : after → before) (store : List ℕ) (then mid now : ℕ → FileState) (hives : List HiveFile) (a : AreOpened before store then mid hives)

@@ -6,15 +6,15 @@ use Rattle.refusals.specs.declared.refusal.Refusal.{Refusal}
 use Rattle.refusals.specs.declared.refusal.Refusal.TheVariants as refusal
 use Rattle.reg_tree.specs.Maps.{TreeMap}
 use Rattle.reg_tree.specs.declared.element.Element.{Element}
-use Rattle.prefix_law.specs.Changes as law
-use Rattle.prefix_law.specs.Changes.{ops_on}
-use Rattle.prefix_law.specs.Promises.{Choice, Spelled, floor}
+use Rattle.crash_model.specs.Changes as law
+use Rattle.crash_model.specs.Changes.{ops_on}
+use Rattle.crash_model.specs.Promises.{Choice, Spelled, floor}
 use Rattle.disk_model.specs.FileState.{FileState}
 use Rattle.disk_model.specs.StoreFiles.{IsJournal, primary_file, log_file, journal_file}
 use Rattle.disk_model.specs.Unwritten.{IsSyncedOrSame}
 use Rattle.disk_model.proofs.Unwritten.{seen_same}
-use Rattle.engine_words.specs.Changes.{TimedOp, timed_elements}
-use Rattle.element_text.specs.Text.{Fits}
+use Rattle.change_codec.specs.ModelChanges.{TimedOp, timed_elements}
+use Rattle.change_codec.specs.Text.{Fits}
 use Rattle.commit_journal.specs.Text.{spelled}
 use Rattle.commit_journal.specs.Naming.{AreLastIn}
 use Rattle.commit_journal.specs.Store.{Store, IsStore, SpellsNothing, texts}
@@ -25,7 +25,7 @@ use Rattle.hive_files.specs.Frames.{FailsBy}
 use Rattle.hive_flush.specs.Standing.{HoldsUnder, IsOfHive}
 use Rattle.hive_flush.specs.HiveStates.{IsOn, files_of, memory_of}
 use Rattle.hive_flush.specs.declared.hive.HiveFile.{HiveFile}
-use Rattle.engine_law.specs.Prefixes.{AreOnDisk}
+use Rattle.engine_invariant.specs.Prefixes.{AreOnDisk}
 use Rattle.recovery.specs.Kept.{AreAtHand}
 use Rattle.recovery.specs.Reading.{AreAtRest, AreOf, AreOpened, IsNoHive, IsOpened, IsRead}
 use Rattle.recovery.specs.Recovered.{IsNoStore, TellsOfFiles, seen_in}

@@ -6,15 +6,15 @@ use Rattle.refusals.specs.declared.refusal.Cause.{Cause}
 use Rattle.refusals.specs.declared.refusal.Refusal.{Refusal}
 use Rattle.refusals.specs.declared.refusal.Refusal.TheVariants as refusal
 use Rattle.reg_tree.specs.Maps.{TreeMap}
-use Rattle.prefix_law.specs.Changes as law
-use Rattle.prefix_law.specs.Promises.{Spelled, top}
-use Rattle.prefix_law.specs.Files.{IsLastNumberOf}
+use Rattle.crash_model.specs.Changes as law
+use Rattle.crash_model.specs.Promises.{Spelled, top}
+use Rattle.crash_model.specs.Files.{IsLastNumberOf}
 use Rattle.disk_model.specs.StoreFiles.{primary_file, log_file, journal_file}
-use Rattle.engine_words.specs.Changes.{TimedOp}
+use Rattle.change_codec.specs.ModelChanges.{TimedOp}
 use Rattle.commit_journal.specs.Text.{spelled}
 use Rattle.commit_journal.specs.Store.{Store, SpellsNothing, texts}
 use Rattle.hive_flush.specs.Standing.{HoldsUnder, IsNoneHeld}
-use Rattle.engine_law.specs.States.{tree_of}
+use Rattle.engine_invariant.specs.States.{tree_of}
 use Rattle.recovery.specs.Reading.{replayed_on}
 use Rattle.recovery.specs.Recovered.{IsRecovered, NothingRecovered}
 use Rattle.recovery.specs.Refused.{AreAlike, HoldsIn, HoldsNothing, IsAhead, IsInStore, IsWrong, LeadsNowhere}

@@ -8,19 +8,19 @@ use Rattle.std.proofs.Math.Seq.{map-set_same}
 use Rattle.refusals.specs.declared.refusal.Refusal.{Refusal}
 use Rattle.refusals.specs.declared.refusal.Refusal.TheVariants as refusal
 use Rattle.reg_tree.specs.Maps.{TreeMap}
-use Rattle.prefix_law.specs.Changes.{ops_on}
-use Rattle.prefix_law.specs.Promises.{Choice}
+use Rattle.crash_model.specs.Changes.{ops_on}
+use Rattle.crash_model.specs.Promises.{Choice}
 use Rattle.commit_journal.specs.Lacking.{Lacks}
-use Rattle.engine_words.specs.Changes.{TimedOp, timed_elements}
-use Rattle.engine_words.specs.declared.Progress.{Progress}
+use Rattle.change_codec.specs.ModelChanges.{TimedOp, timed_elements}
+use Rattle.disk_model.specs.declared.progress.Progress.{Progress}
 use Rattle.commit_journal.specs.Journals.{changes_of, choice_of, store_of}
 use Rattle.hive_flush.specs.HiveStates.{IsBroken, files_of, memory_of, place_of}
 use Rattle.hive_flush.specs.HiveStates as states
 use Rattle.hive_flush.specs.declared.hive.HiveFile.{HiveFile}
-use Rattle.engine_law.specs.States.{HiveView}
-use Rattle.engine_law.specs.Openings.{IsFound}
-use Rattle.engine_law.specs.Prefixes.{ArePlaced, view_of}
-use Rattle.engine_law.proofs.HiveLists.{each_hive}
+use Rattle.engine_invariant.specs.States.{HiveView}
+use Rattle.engine_invariant.specs.Openings.{IsFound}
+use Rattle.engine_invariant.specs.Prefixes.{ArePlaced, view_of}
+use Rattle.engine_invariant.proofs.HiveLists.{each_hive}
 use Rattle.recovery.specs.Kept.{AllWork, IsKept, own_numbers}
 use Rattle.recovery.specs.declared.found.Found.{Found}
 

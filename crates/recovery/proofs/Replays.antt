@@ -4,13 +4,13 @@ use Rattle.std.specs.Prelude.{min}
 use Rattle.std.proofs.lemmas.Bool.{cases_lt}
 use Rattle.std.proofs.lemmas.List.{take_all, length-drop, drop-map}
 use Rattle.std.proofs.Math.ListN.{drop_of_length-le}
-use Rattle.prefix_law.specs.Changes as law
-use Rattle.prefix_law.specs.Promises.{Spelled}
+use Rattle.crash_model.specs.Changes as law
+use Rattle.crash_model.specs.Promises.{Spelled}
 use Rattle.recovery.specs.Reading.{replayed_on}
 use Rattle.std.specs.Prelude.{if◌then◌else◌}
 use Rattle.std.proofs.lemmas.Bool.{eq-eqb, ne_eqb}
-use Rattle.prefix_law.specs.Changes.{Rules, on_hive, ops_on, replay}
-use Rattle.prefix_law.proofs.Replays.{replay_on}
+use Rattle.crash_model.specs.Changes.{Rules, on_hive, ops_on, replay}
+use Rattle.crash_model.proofs.Replays.{replay_on}
 use Rattle.reg_tree.specs.Maps.{TreeMap}
 use Rattle.reg_tree.specs.Operations.{hive_of}
 use Rattle.reg_tree.specs.declared.op.Op.{Op}
@@ -18,7 +18,7 @@ use Rattle.reg_tree.specs.declared.element.Element.{Element}
 use Rattle.reg_tree.specs.Judgement.{changed, legal_in}
 use Rattle.reg_tree.specs.declared.op.Legality.TheVariants.{Legal, Opened}
 use Rattle.refusals.specs.declared.refusal.Refusal.{Refusal}
-use Rattle.engine_words.specs.Changes.{TimedOp, is_legal, tree_rules, timed, timed_element, timed_elements}
+use Rattle.change_codec.specs.ModelChanges.{TimedOp, is_legal, tree_rules, timed, timed_element, timed_elements}
 
 -- an operation that is written is legal, and leads where the tree_rules say; one that opens a key, or is refused, isn't
 pub legal_is : (tree : TreeMap) (op : Op) (moment : ℕ) (made : TreeMap) → (legal_in tree op ≡ Ok Legal) × (made ≡ changed tree op moment) → (tree_rules.legal (moment, op) tree ≡ true) × (made ≡ tree_rules.apply (moment, op) tree)

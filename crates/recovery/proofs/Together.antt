@@ -12,14 +12,14 @@ use Rattle.reg_tree.specs.Sequences.{AreTrees}
 use Rattle.reg_tree.specs.Operations.{hive_of}
 use Rattle.reg_tree.specs.declared.op.Op.{Op}
 use Rattle.reg_tree.specs.declared.element.Element.{Element}
-use Rattle.prefix_law.specs.Changes as law
-use Rattle.prefix_law.specs.Promises.{Choice, Spelled, settled, floor, top}
-use Rattle.prefix_law.specs.Recovery.{Recovers, IsLastNumber}
-use Rattle.prefix_law.specs.Life.{NamesHive}
-use Rattle.prefix_law.proofs.OfFiles.{files_once, files_recover}
+use Rattle.crash_model.specs.Changes as law
+use Rattle.crash_model.specs.Promises.{Choice, Spelled, settled, floor, top}
+use Rattle.crash_model.specs.Recovery.{Recovers, IsLastNumber}
+use Rattle.crash_model.specs.Life.{NamesHive}
+use Rattle.crash_model.proofs.OfFiles.{files_once, files_recover}
 use Rattle.disk_model.specs.StoreFiles.{primary_file, log_file, journal_file}
-use Rattle.engine_words.specs.Changes.{TimedOp, tree_rules, timed, timed_element, timed_elements}
-use Rattle.element_text.specs.Text.{Fits, OpFits}
+use Rattle.change_codec.specs.ModelChanges.{TimedOp, tree_rules, timed, timed_element, timed_elements}
+use Rattle.change_codec.specs.Text.{Fits, OpFits}
 use Rattle.commit_journal.specs.Text.{spelled}
 use Rattle.commit_journal.specs.Store.{Store, IsStore, texts}
 use Rattle.commit_journal.specs.Journals.{IsBroken, changes_of, choice_of, store_of, value_in}
@@ -30,11 +30,11 @@ use Rattle.commit_journal.specs.declared.journal.Journal.{Journal}
 use Rattle.hive_flush.specs.Standing.{HoldsUnder}
 use Rattle.hive_flush.specs.HiveStates.{files_of, memory_of}
 use Rattle.hive_flush.specs.declared.hive.HiveFile.{HiveFile}
-use Rattle.engine_law.specs.States.{HiveView, tree_of}
-use Rattle.engine_law.specs.Openings.{held_if, held_by, IsFound}
-use Rattle.engine_law.specs.Prefixes.{Holds, Recover, Spells, view_of}
-use Rattle.engine_law.proofs.HiveLists.{at_slot, each_pushed, view_at, viewed}
-use Rattle.engine_law.proofs.Bridge.{all_allowed}
+use Rattle.engine_invariant.specs.States.{HiveView, tree_of}
+use Rattle.engine_invariant.specs.Openings.{held_if, held_by, IsFound}
+use Rattle.engine_invariant.specs.Prefixes.{Holds, Recover, Spells, view_of}
+use Rattle.engine_invariant.proofs.HiveLists.{at_slot, each_pushed, view_at, viewed}
+use Rattle.engine_invariant.proofs.Bridge.{all_allowed}
 use Rattle.recovery.specs.Reading.{AreAtRest, AreOf, IsNumber, LeadTo, SomeLeadsNowhere, greatest, replayed_on}
 use Rattle.commit_journal.specs.Naming.{AreLastIn}
 use Rattle.recovery.specs.Kept.{AreAtHand, IsKept}

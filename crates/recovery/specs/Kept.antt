@@ -4,14 +4,14 @@ use Rattle.commit_journal.specs.Store.{IsStore}
 use Rattle.commit_journal.specs.Journals.{changes_of, choice_of, store_of}
 use Rattle.commit_journal.specs.Journals as journals
 use Rattle.reg_tree.specs.declared.element.Element.{Element}
-use Rattle.prefix_law.specs.Changes.{ops_on}
-use Rattle.engine_words.specs.Changes.{timed_elements}
+use Rattle.crash_model.specs.Changes.{ops_on}
+use Rattle.change_codec.specs.ModelChanges.{timed_elements}
 use Rattle.commit_journal.specs.Lacking.{Lacks}
 use Rattle.commit_journal.specs.Naming.{AreLastIn}
 use Rattle.hive_flush.specs.HiveStates.{IsWhole, IsBroken, files_of, memory_of}
 use Rattle.hive_flush.specs.declared.hive.HiveFile.{HiveFile}
-use Rattle.engine_law.specs.Openings.{IsFound}
-use Rattle.engine_law.specs.Prefixes.{ArePlaced, view_of}
+use Rattle.engine_invariant.specs.Openings.{IsFound}
+use Rattle.engine_invariant.specs.Prefixes.{ArePlaced, view_of}
 use Rattle.recovery.specs.declared.found.Found.{Found}
 
 -- the hives' own numbers, in their order: those of what their files hold

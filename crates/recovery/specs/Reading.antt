@@ -5,13 +5,13 @@ use Rattle.refusals.specs.declared.refusal.Refusal.{Refusal}
 use Rattle.refusals.specs.declared.limits.TheConstants.{GREATEST_NUMBER}
 use Rattle.reg_tree.specs.Maps.{TreeMap}
 use Rattle.reg_tree.specs.declared.element.Element.{Element}
-use Rattle.prefix_law.specs.Changes.{ops_on, replay}
-use Rattle.prefix_law.specs.Promises.{Spelled, floor, settled, top}
-use Rattle.prefix_law.specs.Recovery.{above}
+use Rattle.crash_model.specs.Changes.{ops_on, replay}
+use Rattle.crash_model.specs.Promises.{Spelled, floor, settled, top}
+use Rattle.crash_model.specs.Recovery.{above}
 use Rattle.disk_model.specs.FileState.{FileState}
 use Rattle.disk_model.specs.StoreFiles.{primary_file, log_file, journal_file}
-use Rattle.engine_words.specs.Changes.{TimedOp, tree_rules, timed_elements}
-use Rattle.element_text.specs.Text.{Fits}
+use Rattle.change_codec.specs.ModelChanges.{TimedOp, tree_rules, timed_elements}
+use Rattle.change_codec.specs.Text.{Fits}
 use Rattle.commit_journal.specs.Text.{spelled}
 use Rattle.commit_journal.specs.Store.{Store, IsStore, texts}
 use Rattle.commit_journal.specs.Lacking.{AreKept}

@@ -5,7 +5,7 @@ use Rattle.refusals.specs.declared.refusal.Refusal.TheVariants as refusal
 use Rattle.reg_tree.specs.Maps.{TreeMap}
 use Rattle.disk_model.specs.FileState.{FileState}
 use Rattle.commit_journal.specs.Store.{Store, IsStore}
-use Rattle.engine_law.specs.Prefixes.{Recover}
+use Rattle.engine_invariant.specs.Prefixes.{Recover}
 use Rattle.recovery.specs.Refused.{IsWrong}
 
 -- Files are those of a store, and recover a number and trees: the journal's header tells the store, with its number of hives, and

@@ -5,12 +5,12 @@ use Rattle.refusals.specs.declared.refusal.Cause.TheVariants.{BadStore}
 use Rattle.refusals.specs.declared.refusal.Refusal.{Refusal}
 use Rattle.refusals.specs.declared.refusal.Refusal.TheVariants as refusal
 use Rattle.reg_tree.specs.Maps.{TreeMap}
-use Rattle.prefix_law.specs.Promises.{Spelled, top}
+use Rattle.crash_model.specs.Promises.{Spelled, top}
 use Rattle.disk_model.specs.StoreFiles.{primary_file, log_file, journal_file}
-use Rattle.engine_words.specs.Changes.{TimedOp}
+use Rattle.change_codec.specs.ModelChanges.{TimedOp}
 use Rattle.commit_journal.specs.Store.{Store, IsStore, SpellsNothing}
 use Rattle.hive_flush.specs.Standing.{IsNoneHeld}
-use Rattle.engine_law.specs.Prefixes.{Holds, Spells}
+use Rattle.engine_invariant.specs.Prefixes.{Holds, Spells}
 use Rattle.recovery.specs.Reading.{replayed_on}
 
 -- The journal is that of a store, which has this hive, and spells changes.

@@ -5,7 +5,7 @@ ghost use Rattle.refusals.specs.declared.refusal.Refusal.TheVariants.{DiskFault,
 ghost use Rattle.reg_tree.specs.Sequences.{AreWithin};
 ghost use Rattle.disk_model.specs.Call.{CountsFailure};
 ghost use Rattle.disk_model.specs.Crash.{LeavesHonest};
-ghost use Rattle.engine_law.specs.Prefixes.{IsPrimaryOf};
+ghost use Rattle.engine_invariant.specs.Prefixes.{IsPrimaryOf};
 ghost use Rattle.hive_files.specs.Frames.{StaysOff};
 ghost use Rattle.recovery.specs.Created.{AreImagesOf, AreWritten, IsMade, IsOfHives, IsOfStore, IsRefusedFor, SomeIsHeavy, new_store};
 ghost use Rattle.recovery.specs.Recovered.{IsRecovered, seen_in};

@@ -1,7 +1,7 @@
 //! What an opening found of a store.
 
+use change_codec::ChangeText;
 use commit_journal::{Journal, Naming};
-use element_text::ChangeText;
 use hive_flush::HiveFile;
 use reg_tree::Trees;
 

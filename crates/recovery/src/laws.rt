@@ -7,7 +7,7 @@ ghost use Rattle.reg_tree.specs.Maps.{TreeMap};
 ghost use Rattle.disk_model.specs.Crash.{LeavesHonest};
 ghost use Rattle.disk_model.specs.FileState.{FileState};
 ghost use Rattle.commit_journal.specs.Store.{Store};
-ghost use Rattle.engine_law.specs.Prefixes.{IsPrimaryOf};
+ghost use Rattle.engine_invariant.specs.Prefixes.{IsPrimaryOf};
 ghost use Rattle.recovery.specs.Beginnings.{AllCameToNothing, MayBegin, after_crash};
 ghost use Rattle.recovery.specs.Recovered.{IsRecovered, NothingRecovered, seen_in};
 ghost use Rattle.recovery.specs.Refused.{AreAlike, IsWrong};

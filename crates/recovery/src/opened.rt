@@ -1,14 +1,14 @@
 //! A store that was opened, as its callers see it, and its repair: what it keeps is in its type.
 ghost use Rattle.std.specs.Prelude.{◌≡◌, ◌⊎◌, ◌↔◌, ℕ, ◌+◌, ◌<◌, ◌≤◌, List, length, IsTrue, Ok, Err, IfErr, IfOk, OnOk, false, true};
 ghost use Rattle.refusals.specs.declared.refusal.Refusal.TheVariants.{DiskFault, Faulted};
-ghost use Rattle.engine_words.specs.declared.Progress.TheVariants as Progress;
+ghost use Rattle.disk_model.specs.declared.progress.Progress.TheVariants as Progress;
 ghost use Rattle.disk_model.specs.Call.{Extends, OneCall, HasFailed};
 ghost use Rattle.disk_model.specs.Crash.{LeavesHonest};
 ghost use Rattle.disk_model.specs.StoreFiles.{journal_file};
 ghost use Rattle.disk_model.specs.Unwritten.{OnlySyncs};
 ghost use Rattle.hive_files.specs.Frames.{FailsBy};
 ghost use Rattle.commit_journal.specs.Journals.{choice_of};
-ghost use Rattle.engine_law.specs.Prefixes.{AnyFile, AreOnDisk, IsPrimaryOf, Spells};
+ghost use Rattle.engine_invariant.specs.Prefixes.{AnyFile, AreOnDisk, IsPrimaryOf, Spells};
 ghost use Rattle.recovery.specs.Kept.{AllWork, IsKept};
 ghost use Rattle.recovery.specs.Recovered.{IsNoStore, IsRecovered, seen_in};
 ghost use Rattle.recovery.specs.Repairs.{most_repairs, repairs_left};
@@ -16,9 +16,8 @@ ghost use Rattle.recovery.specs.Shown.{IsWhole, store_of};
 
 use crate::found::Found;
 use crate::opening::find;
-use disk_model::Disk;
-use engine_law::laws::{crashes_leave_prefixes, openings_begin};
-use engine_words::Progress;
+use disk_model::{Disk, Progress};
+use engine_invariant::laws::{crashes_leave_prefixes, openings_begin};
 use hive_flush::laws::reads_are_honest;
 use refusals::Refusal;
 use reg_tree::Trees;
@@ -49,7 +48,7 @@ impl<D: Disk + Drop> Drop for Opened<D> {
 
 impl<D: Disk> Model for Opened<D> {
     ghost use Rattle.std.specs.Prelude.{◌≡◌, false};
-    ghost use Rattle.engine_law.specs.Prefixes.{AreOnDisk};
+    ghost use Rattle.engine_invariant.specs.Prefixes.{AreOnDisk};
     ghost use Rattle.recovery.specs.Kept.{AllWork, IsKept};
     ghost use Rattle.recovery.specs.Shown.{Shown, shown_code};
 

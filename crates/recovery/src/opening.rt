@@ -10,7 +10,7 @@ ghost use Rattle.commit_journal.specs.Windows as journals;
 ghost use Rattle.hive_flush.specs.HiveStates.{files_of};
 ghost use Rattle.hive_flush.specs.Standing.{IsOfHive};
 ghost use Rattle.hive_flush.specs.declared.hive.HiveFile.{HiveFile};
-ghost use Rattle.engine_law.specs.Prefixes.{AreOnDisk, Spells};
+ghost use Rattle.engine_invariant.specs.Prefixes.{AreOnDisk, Spells};
 ghost use Rattle.hive_files.specs.Frames.{FailsBy};
 ghost use Rattle.recovery.specs.Kept.{AllWork, IsKept};
 ghost use Rattle.recovery.specs.Reading.{IsOnlyStore, IsOpened, IsRead};

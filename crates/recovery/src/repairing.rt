@@ -1,17 +1,16 @@
 //! The repair of a store's hives, a device call a step.
 ghost use Rattle.std.specs.Prelude.{◌≡◌, ◌⊎◌, ◌<◌, ℕ, Ok, Err, IfErr, None, OnOk, Some, length, map, slice_get};
 ghost use Rattle.refusals.specs.declared.refusal.Refusal.TheVariants.{DiskFault, Faulted};
-ghost use Rattle.engine_words.specs.declared.Progress.TheVariants as Progress;
+ghost use Rattle.disk_model.specs.declared.progress.Progress.TheVariants as Progress;
 ghost use Rattle.disk_model.specs.Call.{OneCall, HasFailed};
 ghost use Rattle.hive_flush.specs.HiveStates.{IsWhole};
 ghost use Rattle.hive_flush.specs.declared.hive.HiveFile.{HiveFile};
-ghost use Rattle.engine_law.specs.Prefixes.{AnyFile, AreOnDisk, view_of};
+ghost use Rattle.engine_invariant.specs.Prefixes.{AnyFile, AreOnDisk, view_of};
 ghost use Rattle.recovery.specs.Kept.{AllWork, AreWhole, IsKept};
 ghost use Rattle.recovery.specs.Repairs.{repairs_left};
 
 use crate::found::Found;
-use disk_model::Disk;
-use engine_words::Progress;
+use disk_model::{Disk, Progress};
 use refusals::Refusal;
 
 impl Found {

@@ -2,10 +2,10 @@
 ghost use Rattle.std.specs.Prelude.{◌≡◌, ◌⊎◌, map, true, false, Some, None, IfOk, IfErr};
 ghost use Rattle.refusals.specs.Answers.{RefusedFor};
 ghost use Rattle.refusals.specs.declared.refusal.Refusal.TheVariants.{JournalDamaged, NoMemory};
-ghost use Rattle.prefix_law.specs.Changes.{on_hive, ops_on, replay};
-ghost use Rattle.engine_words.specs.Changes.{tree_rules, timed, timed_element, timed_elements};
+ghost use Rattle.crash_model.specs.Changes.{on_hive, ops_on, replay};
+ghost use Rattle.change_codec.specs.ModelChanges.{tree_rules, timed, timed_element, timed_elements};
 
-use element_text::ChangeText;
+use change_codec::ChangeText;
 use refusals::Refusal;
 use reg_tree::{Op, Tree};
 use std::alloc::Global;

@@ -10,7 +10,7 @@ use Rattle.std.proofs.lemmas.List.Sums.{sum_by-append, sum_by-cons}
 use Rattle.reg_tree_parts.specs.Orders.{name_order}
 use Rattle.reg_tree_parts.specs.Rows.{Row, row_weight}
 use Rattle.reg_tree_parts.specs.Nodes.{Entries, root_name, below, all_below, entries_of, entries_weight, row_at, row_in, names_below, spelled_root, IsNode, AreNodes}
-use Rattle.shared_map.specs.Writes.{laid, written}
+use Rattle.persistent_map.specs.Writes.{laid, written}
 use Rattle.reg_tree_parts.proofs.Keys.{names_total}
 use Rattle.std.proofs.lemmas.Option.{slice_get-map}
 use Rattle.std.specs.Option.{option_map}

@@ -4,7 +4,7 @@ use Rattle.std.specs.Ordering.{eq_by_cmp}
 use Rattle.std.specs.FinMap.Entries.{find, is_sorted}
 use mathlib.Core.Bool.{false≢true}
 use Rattle.reg_names.specs.Names.{folded}
-use Rattle.shared_map.specs.Keyed.{AreKeyed}
+use Rattle.persistent_map.specs.Keyed.{AreKeyed}
 use Rattle.reg_tree_parts.specs.Orders.{name_order}
 use Rattle.reg_tree_parts.specs.Rows.{Row}
 use Rattle.reg_tree_parts.specs.Nodes.{Entries, root_name, entries_of, row_at, row_in, IsNode, AreNodes}

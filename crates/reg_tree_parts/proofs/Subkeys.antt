@@ -6,9 +6,9 @@ use Rattle.std.specs.Ordering.{eq_by_cmp, is_lt}
 use Rattle.std.specs.Cmp.{tied_itself}
 use Rattle.std.specs.FinMap.Entries.{is_sorted, below_all}
 use Rattle.std.specs.declared.cmp.Ordering.TheVariants.{Less, Equal, Greater}
-use Rattle.shared_map.specs.declared.map.Held.{Held}
-use Rattle.shared_map.specs.Listings.{held_entries}
-use Rattle.shared_map.specs.Keyed.{AreKeyed, entries_keyed}
+use Rattle.persistent_map.specs.declared.map.Held.{Held}
+use Rattle.persistent_map.specs.Listings.{held_entries}
+use Rattle.persistent_map.specs.Keyed.{AreKeyed, entries_keyed}
 use Rattle.reg_tree_parts.specs.Orders.{name_order}
 use Rattle.reg_tree_parts.specs.Rows.{Row}
 use Rattle.reg_tree_parts.specs.Nodes.{Entries, below, all_below, entries_of, root_name, with_entry, subkeys_of, HasSubkeys, IsNode, AreNodes}

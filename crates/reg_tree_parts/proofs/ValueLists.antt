@@ -12,7 +12,7 @@ use Rattle.reg_tree_parts.proofs.Keys.{names_total, names_apart}
 use Rattle.reg_tree_parts.specs.declared.value.Value.{Value}
 use Rattle.reg_tree_parts.specs.Orders.{name_order}
 use Rattle.reg_tree_parts.specs.Weights.{value_weight}
-use Rattle.shared_map.specs.Writes.{laid, written}
+use Rattle.persistent_map.specs.Writes.{laid, written}
 use Rattle.std.proofs.lemmas.List.Sums.{sum_by-cons}
 
 turned : {A : Type 0} (b : Bool) (x y : A) → cond (not b) x y ≡ cond b y x

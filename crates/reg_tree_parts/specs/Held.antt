@@ -2,9 +2,9 @@
 use Rattle.std.specs.Prelude.{ℕ, List, T}
 use Rattle.std.specs.FinMap.Entries.{is_sorted}
 use Rattle.reg_names.specs.Names.{folded}
-use Rattle.shared_map.specs.declared.map.SharedMap.{SharedMap}
-use Rattle.shared_map.specs.Listings.{entries}
-use Rattle.shared_map.specs.Pieces.{FitsMap}
+use Rattle.persistent_map.specs.declared.map.SharedMap.{SharedMap}
+use Rattle.persistent_map.specs.Listings.{entries}
+use Rattle.persistent_map.specs.Pieces.{FitsMap}
 use Rattle.reg_tree_parts.specs.declared.value.Value.{Value}
 use Rattle.reg_tree_parts.specs.Orders.{name_order}
 use Rattle.reg_tree_parts.specs.Weights.{value_weight}

@@ -5,11 +5,11 @@ use denote.Param.Weighed.{most}
 use Rattle.std.specs.declared.sync.Arc.{Arc}
 use Rattle.std.specs.declared.alloc.Global.{Global}
 use Rattle.std.specs.Arc.{arc_value}
-use Rattle.shared_map.specs.declared.group.Group.{Group}
-use Rattle.shared_map.specs.declared.map.Held.{Held}
-use Rattle.shared_map.specs.declared.map.Held.TheVariants.{Empty, Few, Many}
-use Rattle.shared_map.specs.Listings.{held_entries, entry_list, group_entries}
-use Rattle.shared_map.specs.ListingFalls.{capped, capped_group, most_pieces}
+use Rattle.persistent_map.specs.declared.group.Group.{Group}
+use Rattle.persistent_map.specs.declared.map.Held.{Held}
+use Rattle.persistent_map.specs.declared.map.Held.TheVariants.{Empty, Few, Many}
+use Rattle.persistent_map.specs.Listings.{held_entries, entry_list, group_entries}
+use Rattle.persistent_map.specs.ListingFalls.{capped, capped_group, most_pieces}
 use Rattle.reg_tree_parts.specs.Rows.{Row}
 use Rattle.reg_tree_parts.specs.Nodes.{Entries, below, all_below, root_name}
 use Rattle.reg_tree_parts.specs.declared.node.Node.TheDeep.{deep-Node}

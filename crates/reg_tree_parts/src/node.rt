@@ -6,14 +6,14 @@ ghost use Rattle.std.specs.Option.{option_copied};
 ghost use Rattle.reg_names.specs.Names.{folded, folded_path};
 ghost use Rattle.reg_tree_parts.specs.Orders.{name_order};
 ghost use Rattle.reg_tree_parts.specs.Rows.{Row};
-ghost use Rattle.shared_map.specs.Listings.{entries};
-ghost use Rattle.shared_map.specs.Pieces.{FitsMap};
+ghost use Rattle.persistent_map.specs.Listings.{entries};
+ghost use Rattle.persistent_map.specs.Pieces.{FitsMap};
 ghost use Rattle.reg_tree_parts.specs.Nodes.{Entries, entries_of, entries_weight, subkey_entries, root_name, row_at, names_below, spelled_root, begins_path, branch_row, subkeys_of, HasSubkeys, IsNode, AreNodes};
 
 use crate::descriptor::Descriptor;
 use crate::key::Key;
+use persistent_map::{Listed, SharedMap};
 use reg_names::Name;
-use shared_map::{Listed, SharedMap};
 use std::alloc::{AllocError, Global};
 use std::marker::Model;
 use std::sync::Arc;
@@ -41,7 +41,7 @@ impl Drop for Node {
 impl Model for Node {
     ghost use Rattle.std.specs.Prelude.{length};
     ghost use Rattle.std.specs.Coded.{coded×, coded_ℕ, coded_list};
-    ghost use Rattle.shared_map.specs.Listings.{entries};
+    ghost use Rattle.persistent_map.specs.Listings.{entries};
     ghost use Rattle.reg_tree_parts.specs.Rows.{row_code};
     ghost use Rattle.reg_tree_parts.specs.Nodes.{Entries, entries_of, root_name, NodeFits};
 

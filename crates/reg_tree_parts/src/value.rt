@@ -5,8 +5,8 @@ ghost use Rattle.reg_tree_parts.specs.Weights.{value_weight};
 ghost use Rattle.reg_tree_parts.specs.ValueEdits.{spelled_as};
 
 use crate::data::Data;
+use persistent_map::Listed;
 use reg_names::Name;
-use shared_map::Listed;
 use std::alloc::{AllocError, Global};
 use std::sync::Arc;
 

@@ -8,8 +8,8 @@ ghost use Rattle.reg_tree_parts.specs.ValueEdits.{values_with, values_without};
 
 use crate::data::Data;
 use crate::value::Value;
+use persistent_map::SharedMap;
 use reg_names::Name;
-use shared_map::SharedMap;
 use std::alloc::{AllocError, Global};
 use std::marker::Model;
 use std::sync::Arc;

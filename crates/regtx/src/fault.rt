@@ -1,7 +1,7 @@
 //! What the program says where it can't begin its work.
 use crate::hint::Hint;
 use refusals::Refusal;
-use reg_script::Status;
+use script_syntax::Status;
 use std::alloc::{AllocError, AllocFailed};
 use std::io;
 use thiserror::Error;

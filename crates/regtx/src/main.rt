@@ -1,5 +1,5 @@
-//! The program `regtx`: reads the words of its command line, and leaves the work to `regtx_parts`, `crash_lab`, `power_sweep`,
-//! `hive_dump` and `store_making`.
+//! The program `regtx`: reads the words of its command line, and leaves the work to `script_runner`, `crash_lab`, `crash_sweep`,
+//! `hive_dump` and `store_create`.
 //!
 //! Everything is printed to standard output, each reply at once where a script comes from a pipe or a keyboard. If standard error is a
 //! terminal a person is told there why something can't be done; and how far a long script is read, if standard output is none. The
@@ -24,7 +24,7 @@ use crate::running::{InMemory, play_script, run_script};
 use crate::terminal::Telling;
 use crate::words::{Task, task_asked};
 use hive_dump::{DumpFault, dump};
-use reg_script::Status;
+use script_syntax::Status;
 use std::alloc::Global;
 use std::fs::File;
 use std::io::{BufWriter, Eprint};

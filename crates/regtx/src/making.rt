@@ -1,6 +1,6 @@
 //! What the words `new` and `import` do with files: the folder of a store that is to be made, and the files of an import.
 //!
-//! What is made and told is left to `store_making`, over the folder as a disk. Of real files it is trusted that they are what they
+//! What is made and told is left to `store_create`, over the folder as a disk. Of real files it is trusted that they are what they
 //! answer, and that the system keeps what it has synced, a folder's entries too; nothing is supposed of what they first hold, for
 //! all of a store's files are made anew.
 ghost use Rattle.std.specs.Prelude.{◌≤◌, IfOk};
@@ -14,14 +14,14 @@ use disk_model::Disk;
 use file_disk::{Denial, FileDisk, Unknown};
 use progress_line::{Moved, ProgressLine, Stage, Watched, WatchedDisk, Work};
 use refusals::Refusal;
-use reg_script::Status;
+use script_syntax::Status;
 use std::alloc::Global;
 use std::fs::{self, File};
 use std::io::{self, BufWriter, Eprint, ErrorKind, Write};
 use std::path::Path;
 use std::rt::Files;
 use std::time::Clock;
-use store_making::{Import, Unreadable, make_new};
+use store_create::{Import, Unreadable, make_new};
 use uuid::Uuid;
 
 /// Makes a store of so many empty hives in a folder, and prints whether it is made.

@@ -1,19 +1,19 @@
 //! What the words `play`, `lab`, `sweep` and `run` do with files: the script, and the folder of the store that `run` works on.
 //!
-//! What is run and told is left to `regtx_parts`, `crash_lab` and `power_sweep`. Of the files of a store it is trusted that they are
+//! What is run and told is left to `script_runner`, `crash_lab` and `crash_sweep`. Of the files of a store it is trusted that they are
 //! what they answer, and that the system keeps what it has synced: then what is proved of runs over any disk holds of them.
 use crate::fault::Fault;
 use crate::files::{Source, Trouble};
 use crate::hint::Hint;
 use crate::terminal::{Telling, end, length_of, reading};
 use crash_lab::lab;
+use crash_sweep::sweep;
 use disk_model::Disk;
 use file_disk::{FileDisk, Unknown};
-use power_sweep::sweep;
 use progress_line::{Moved, ProgressLine, Stage, Watched, WatchedDisk, Work};
 use refusals::Refusal;
-use reg_script::Status;
-use regtx_parts::{play, refuse_script, run, run_unread};
+use script_runner::{play, refuse_script, run, run_unread};
+use script_syntax::Status;
 use std::alloc::Global;
 use std::fs::File;
 use std::io::{self, BufReader, BufWriter, Eprint, LineWriter, Read, Write};

@@ -2,7 +2,7 @@
 use crate::hint::Hint;
 use crate::words::{USAGES, Usage};
 use progress_line::{ProgressLine, Stage, Work};
-use reg_script::Status;
+use script_syntax::Status;
 use std::fs;
 use std::io::{self, Eprint, IsTerminal};
 use std::rt::Files;

@@ -6,11 +6,11 @@ use Rattle.std.proofs.lemmas.List.{map-append}
 use Rattle.std.proofs.lemmas.List.Elements.{Contains-append_left, Contains-append_right, Contains-append_cases}
 use Rattle.std.proofs.lemmas.Bool.{true≢false}
 use Rattle.reg_tree.specs.declared.op.Op.{Op}
-use Rattle.claims_law.specs.Skeleton.{Claim}
+use Rattle.conflicts.specs.Skeleton.{Claim}
 use Rattle.conflicts.specs.Claims.{claim_of}
 use Rattle.conflicts.specs.Holders.{Held, with_claim, without_owner}
 use Rattle.conflicts.proofs.Members.{added, dropped, here, first_or_later, none_empty}
-use Rattle.machine.specs.Transactions.{Transaction, Places, Puts, at, is_active, with_op}
+use Rattle.store_model.specs.Transactions.{Transaction, Places, Puts, at, is_active, with_op}
 use Rattle.transactions.specs.Entries.{Claims}
 use Rattle.transactions.proofs.Slots.{same_or_other}
 

@@ -11,15 +11,15 @@ use Rattle.reg_tree.specs.declared.element.Element.{Element}
 use Rattle.reg_tree.specs.declared.op.Op.{Op}
 use Rattle.reg_tree.specs.declared.op.Legality.{Legality}
 use Rattle.reg_tree.specs.declared.op.Legality.TheVariants.{Legal, Opened}
-use Rattle.machine.specs.Transactions.{Transaction, own}
-use Rattle.machine.specs.Machine.{Machine, change, commit_change, commit_refusal_if, fault, first_of, refusal_by, refused_if, room_of, room_refusal, trees_now}
-use Rattle.machine.specs.Steps.{Step}
-use Rattle.machine.specs.declared.event.Event.{Event}
-use Rattle.machine.specs.declared.event.Event.TheVariants as event
-use Rattle.machine.specs.declared.event.Reply.{Reply}
-use Rattle.machine.specs.declared.event.Reply.TheVariants as reply
-use Rattle.machine.specs.declared.handle.Tx.{Tx}
-use Rattle.machine.proofs.Replies.{accepted_or, awaits_or}
+use Rattle.store_model.specs.Transactions.{Transaction, own}
+use Rattle.store_model.specs.Machine.{Machine, change, commit_change, commit_refusal_if, fault, first_of, refusal_by, refused_if, room_of, room_refusal, trees_now}
+use Rattle.store_model.specs.Steps.{Step}
+use Rattle.store_model.specs.declared.event.Event.{Event}
+use Rattle.store_model.specs.declared.event.Event.TheVariants as event
+use Rattle.store_model.specs.declared.event.Reply.{Reply}
+use Rattle.store_model.specs.declared.event.Reply.TheVariants as reply
+use Rattle.store_model.specs.declared.handle.Tx.{Tx}
+use Rattle.store_model.proofs.Replies.{accepted_or, awaits_or}
 use Rattle.transactions.specs.Tables.{IsPending}
 use Rattle.transactions.specs.Prepared.{EventAccepts, Foretells, IsReady, IsReadyCommit, IsReadyNothing, IsReadyWrite, shown_by}
 use Rattle.transactions.specs.declared.prepared.ReadyWrite.{ReadyWrite}

@@ -8,12 +8,12 @@ use Rattle.std.proofs.lemmas.Option.{none-some}
 use Rattle.std.proofs.lemmas.Bool.{true≢false, eqb-true, eq-eqb, ne_eqb, false_from_ne_true}
 use Rattle.slab.specs.Slab.{Slab}
 use Rattle.slab.proofs.SlabLemmas.{Contains-entries}
-use Rattle.claims_law.specs.Skeleton.{Claim, Conflict}
+use Rattle.conflicts.specs.Skeleton.{Claim, Conflict}
 use Rattle.conflicts.specs.Claims.{claim_of, meets}
 use Rattle.conflicts.specs.Holders.{Held, IsHolder, StandApart, holders_of}
 use Rattle.conflicts.proofs.Meets.{meets_conflict, conflict_meets}
 use Rattle.conflicts.proofs.Members.{here, later, first_or_later, none_empty, who}
-use Rattle.machine.specs.Transactions.{Transaction, Places, at, own_if, held, inactive_refusal, is_active, holds, is_claimed}
+use Rattle.store_model.specs.Transactions.{Transaction, Places, at, own_if, held, inactive_refusal, is_active, holds, is_claimed}
 use Rattle.transactions.specs.Entries.{Claims}
 use Rattle.transactions.specs.Tables.{IsPending, MeetNone, holds_if, is_listed}
 use Rattle.transactions.proofs.Claimed.{AreClaimed, some_same}

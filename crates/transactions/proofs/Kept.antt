@@ -6,7 +6,7 @@ use Rattle.std.proofs.lemmas.Bool.{ltb-false}
 use Rattle.std.proofs.lemmas.List.Sums.{sum_by-append}
 use Rattle.refusals.specs.declared.limits.TheConstants.{MOST_ELEMENT_BYTES}
 use Rattle.reg_tree.specs.Texts.{op_text_len, ops_text_len}
-use Rattle.machine.specs.Machine.{too_long}
+use Rattle.store_model.specs.Machine.{too_long}
 use Rattle.std.proofs.Math.Seq.{map-set_same}
 use Rattle.std.specs.Option.{option_map}
 use Rattle.std.proofs.lemmas.Option.{none-some}
@@ -16,7 +16,7 @@ use Rattle.reg_tree.specs.declared.op.Op.{Op}
 use Rattle.conflicts.specs.Claims.{claim_of}
 use Rattle.conflicts.specs.Holders.{Held, with_claim, without_owner}
 use Rattle.conflicts.proofs.Members.{none_empty}
-use Rattle.machine.specs.Transactions.{Transaction, Puts, at, is_active, with_op}
+use Rattle.store_model.specs.Transactions.{Transaction, Puts, at, is_active, with_op}
 use Rattle.transactions.specs.Entries.{transaction_of, places_of, IsEntry, IsSameEntry, HasTwoSpare, IsViewed, IsViewNow, AreKept}
 use Rattle.transactions.specs.declared.entry.Entry.{Entry}
 use Rattle.transactions.specs.declared.view.View.{View}

@@ -6,8 +6,8 @@ use Rattle.std.specs.Option.{option_and_then}
 use Rattle.std.proofs.lemmas.Bool.{ltb-true, ltb-false, eq-eqb, ne_eqb}
 use Rattle.std.proofs.lemmas.List.{take_more, map-append}
 use Rattle.conflicts.specs.declared.table.Owner.{Owner}
-use Rattle.machine.specs.Transactions.{Transaction, Places, Puts, Becomes, at, gone_with, is_active, ended}
-use Rattle.machine.specs.declared.handle.Outcome.TheVariants.{RolledBack}
+use Rattle.store_model.specs.Transactions.{Transaction, Places, Puts, Becomes, at, gone_with, is_active, ended}
+use Rattle.store_model.specs.declared.handle.Outcome.TheVariants.{RolledBack}
 use Rattle.transactions.specs.Tables.{Table, is_of, is_listed, rolled_back, rolled_back_if}
 use Rattle.transactions.proofs.Slots.{same_or_other}
 

@@ -17,7 +17,7 @@ use Rattle.reg_tree.specs.Judgement.{legal, legal_if, legal_after, judged_there,
 use Rattle.reg_tree.specs.declared.op.Op.{Op}
 use Rattle.reg_tree.specs.declared.op.Op.TheVariants.{CreateKey, DeleteKey, SetValue, DeleteValue}
 use Rattle.reg_tree.specs.declared.op.Legality.TheVariants.{Legal}
-use Rattle.machine.specs.Machine.{change}
+use Rattle.store_model.specs.Machine.{change}
 use Rattle.transactions.specs.Histories.{IsShort}
 
 both : (a b : Bool) → (a && b) ≡ true → (a ≡ true) × (b ≡ true)

@@ -5,7 +5,7 @@ use Rattle.std.specs.Option.{option_map}
 use Rattle.std.proofs.lemmas.Bool.{eqb-true, eqb-false}
 use Rattle.slab.specs.Slab.{Slab, Updates}
 use Rattle.reg_tree.specs.Maps.{TreeMap}
-use Rattle.machine.specs.Transactions.{Puts, at}
+use Rattle.store_model.specs.Transactions.{Puts, at}
 use Rattle.transactions.specs.Entries.{transaction_of, places_of, IsViewed, IsEntry}
 use Rattle.transactions.specs.declared.entry.Entry.{Entry}
 use Rattle.transactions.specs.declared.view.View.{View}

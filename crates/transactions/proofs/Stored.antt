@@ -20,20 +20,20 @@ use Rattle.reg_tree.specs.Sequences.{after_elements}
 use Rattle.reg_tree.specs.declared.element.Element.{Element}
 use Rattle.reg_tree.specs.declared.op.Op.{Op}
 use Rattle.reg_tree.specs.declared.op.Legality.TheVariants.{Legal}
-use Rattle.claims_law.specs.Skeleton.{Claim}
+use Rattle.conflicts.specs.Skeleton.{Claim}
 use Rattle.conflicts.specs.Claims.{claim_of, meets}
-use Rattle.machine.specs.Machine.{Machine, trees_now, last_number, is_open, found_in, change, committed, commit_change, first_of, refused_if, fault, closed_refusal, unnamed_refusal, call_refusal, tx_call_refusal, commit_refusal, looked_up, read_refusal, refusal_by, room_of, room_refusal, write_refusal, commit_refusal_if}
-use Rattle.machine.specs.Steps.{Step, Accepts, Commits, Flushes, Journals, Trims, StepFails, no_hive}
-use Rattle.machine.specs.declared.event.Progress.TheVariants.{Done, Idle}
-use Rattle.machine.specs.Transactions.{Transaction, Puts, at, own, is_active, ended, rolled_back_by, missing_refusal, inactive_refusal}
-use Rattle.machine.specs.declared.bounds.Bounds.{Bounds}
-use Rattle.machine.specs.declared.handle.Tx.{Tx}
-use Rattle.machine.specs.declared.handle.Outcome.TheVariants.{Committed, RolledBack}
-use Rattle.machine.specs.declared.event.Event.{Event}
-use Rattle.machine.specs.declared.event.Event.TheVariants as event
-use Rattle.machine.specs.declared.event.Question.{Question}
-use Rattle.machine.specs.declared.event.Reply.{Reply}
-use Rattle.machine.specs.declared.event.Reply.TheVariants as reply
+use Rattle.store_model.specs.Machine.{Machine, trees_now, last_number, is_open, found_in, change, committed, commit_change, first_of, refused_if, fault, closed_refusal, unnamed_refusal, call_refusal, tx_call_refusal, commit_refusal, looked_up, read_refusal, refusal_by, room_of, room_refusal, write_refusal, commit_refusal_if}
+use Rattle.store_model.specs.Steps.{Step, Accepts, Commits, Flushes, Journals, Trims, StepFails, no_hive}
+use Rattle.disk_model.specs.declared.progress.Progress.TheVariants.{Done, Idle}
+use Rattle.store_model.specs.Transactions.{Transaction, Puts, at, own, is_active, ended, rolled_back_by, missing_refusal, inactive_refusal}
+use Rattle.store_model.specs.declared.bounds.Bounds.{Bounds}
+use Rattle.store_model.specs.declared.handle.Tx.{Tx}
+use Rattle.store_model.specs.declared.handle.Outcome.TheVariants.{Committed, RolledBack}
+use Rattle.store_model.specs.declared.event.Event.{Event}
+use Rattle.store_model.specs.declared.event.Event.TheVariants as event
+use Rattle.store_model.specs.declared.event.Question.{Question}
+use Rattle.store_model.specs.declared.event.Reply.{Reply}
+use Rattle.store_model.specs.declared.event.Reply.TheVariants as reply
 use Rattle.transactions.specs.Tables.{Table, EndsWith, IsPending, IsPendingOf, holds_if, is_listed, rolled_back_if}
 use Rattle.transactions.specs.Histories.{IsShort}
 use Rattle.transactions.specs.Stores.{Answers, IsTied, store_of}

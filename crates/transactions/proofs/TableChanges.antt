@@ -16,12 +16,12 @@ use Rattle.reg_tree.specs.declared.op.Legality.{Legality}
 use Rattle.reg_tree.specs.declared.op.Legality.TheVariants.{Legal, Opened}
 use Rattle.conflicts.specs.Claims.{claim_of}
 use Rattle.reg_tree.specs.declared.op.Op.{Op}
-use Rattle.machine.specs.Transactions.{Transaction, Places, Puts, view, is_claimed, at, own, own_if, ended, is_active, inactive_refusal, fresh_transaction, count_held}
-use Rattle.machine.specs.Acts.{Adds}
-use Rattle.machine.specs.Machine.{seat_refusal, refused_if, first_of, refusal_by, too_long, added_refusal, added_refusal_if}
-use Rattle.machine.specs.declared.handle.Tx.{Tx}
-use Rattle.machine.specs.declared.handle.Outcome.{Outcome}
-use Rattle.machine.specs.declared.handle.Outcome.TheVariants.{RolledBack}
+use Rattle.store_model.specs.Transactions.{Transaction, Places, Puts, view, is_claimed, at, own, own_if, ended, is_active, inactive_refusal, fresh_transaction, count_held}
+use Rattle.store_model.specs.Acts.{Adds}
+use Rattle.store_model.specs.Machine.{seat_refusal, refused_if, first_of, refusal_by, too_long, added_refusal, added_refusal_if}
+use Rattle.store_model.specs.declared.handle.Tx.{Tx}
+use Rattle.store_model.specs.declared.handle.Outcome.{Outcome}
+use Rattle.store_model.specs.declared.handle.Outcome.TheVariants.{RolledBack}
 use Rattle.transactions.specs.Tables.{Table, EndsWith, Begins, Writes, rolled_back_if}
 use Rattle.transactions.specs.Entries.{transaction_of, places_of, IsEntry, IsViewed, IsJudged, IsJudgedBy, IsJudgedOf, MayAdd, AddsTo, with_op_if, judge_refusal, illegal}
 use Rattle.transactions.specs.declared.entry.Entry.{Entry}

@@ -25,14 +25,14 @@ use Rattle.reg_tree.specs.declared.op.Legality.{Legality}
 use Rattle.reg_tree.specs.declared.op.Legality.TheVariants.{Legal, Opened}
 use Rattle.reg_tree.proofs.Times.{moments_alike, weight_any_moment, legal_alike, levels_alike, value_names_alike, applied_same}
 use Rattle.reg_tree.proofs.OthersStay.{one_by_one, trees_stay_one}
-use Rattle.claims_law.specs.Skeleton as law
-use Rattle.claims_law.proofs.Tests.{conflict_sym}
+use Rattle.conflicts.specs.Skeleton as law
+use Rattle.conflicts.proofs.Tests.{conflict_sym}
 use Rattle.conflicts.specs.Claims.{claim_of, meets}
 use Rattle.conflicts.specs.Skeletons.{judged_in, judged_if, AreCarriedOut, AreApart, MakesAlike, IsBeside}
 use Rattle.conflicts.proofs.StaysLegal.{more, one_more, any_moment}
 use Rattle.conflicts.proofs.Meets.{conflict_meets}
-use Rattle.machine.specs.Machine.{too_long}
-use Rattle.machine.specs.Transactions.{Transaction, Places, at, is_active, holds, view}
+use Rattle.store_model.specs.Machine.{too_long}
+use Rattle.store_model.specs.Transactions.{Transaction, Places, at, is_active, holds, view}
 use Rattle.transactions.specs.Entries.{IsMade, AreCarried, AreAfter, AreLight, AreKnown, IsViewNow, IsViewed, WritesView, MovesView, IsTimed, KeepsTimes, StaysView, IsLegalIn, IsMovedTo, AreMoved, moment_of}
 use Rattle.transactions.specs.Tables.{MeetNone}
 use Rattle.transactions.specs.declared.view.Judged.{Judged}

@@ -2,8 +2,8 @@
 use Rattle.std.specs.Prelude.{ℕ, List, refl}
 use Rattle.std.specs.Coded.{Coded, code_by, coded×, coded_ℕ}
 use Rattle.reg_tree.specs.Maps.{TreeMap}
-use Rattle.machine.specs.Codes.{trees_code, places_code}
-use Rattle.machine.specs.Transactions.{Places}
+use Rattle.store_model.specs.Codes.{trees_code, places_code}
+use Rattle.store_model.specs.Transactions.{Places}
 use Rattle.transactions.specs.Tables.{Table}
 
 abbrev pub table_code : Coded Table

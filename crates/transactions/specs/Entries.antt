@@ -16,12 +16,12 @@ use Rattle.reg_tree.specs.TreeLists.{levels_made, info_in}
 use Rattle.reg_tree.specs.declared.tree.Info.{Info}
 use Rattle.reg_tree.specs.declared.op.Op.{Op}
 use Rattle.reg_tree.specs.declared.op.Legality.TheVariants.{Legal, Opened}
-use Rattle.claims_law.specs.Skeleton.{Claim}
+use Rattle.conflicts.specs.Skeleton.{Claim}
 use Rattle.conflicts.specs.Claims.{claim_of}
 use Rattle.conflicts.specs.Holders.{Held}
-use Rattle.machine.specs.Transactions.{Transaction, Places, Puts, at, own, with_op, is_active, is_claimed, inactive_refusal, view}
-use Rattle.machine.specs.Machine.{refusal_by, refused_if, first_of, too_long}
-use Rattle.machine.specs.declared.handle.Tx.{Tx}
+use Rattle.store_model.specs.Transactions.{Transaction, Places, Puts, at, own, with_op, is_active, is_claimed, inactive_refusal, view}
+use Rattle.store_model.specs.Machine.{refusal_by, refused_if, first_of, too_long}
+use Rattle.store_model.specs.declared.handle.Tx.{Tx}
 use Rattle.transactions.specs.Tables.{Table}
 use Rattle.transactions.specs.declared.table.Written.{Written}
 use Rattle.transactions.specs.declared.table.Written.TheVariants.{Added}

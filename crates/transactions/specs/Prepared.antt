@@ -11,13 +11,13 @@ use Rattle.reg_tree.specs.declared.element.Element.{Element}
 use Rattle.reg_tree.specs.declared.op.Op.{Op}
 use Rattle.reg_tree.specs.declared.op.Legality.TheVariants.{Legal}
 use Rattle.conflicts.specs.Claims.{claim_of}
-use Rattle.machine.specs.Transactions.{Transaction, at, own, inactive_refusal}
-use Rattle.machine.specs.Machine.{Machine, change, committed, commit_change, commit_refusal_if, fault, first_of, found_in, is_open, unnamed_refusal, room_of, room_refusal, trees_now, last_number, write_refusal}
-use Rattle.machine.specs.Steps.{Step}
-use Rattle.machine.specs.declared.event.Event.{Event}
-use Rattle.machine.specs.declared.event.Event.TheVariants as event
-use Rattle.machine.specs.declared.event.Reply.TheVariants as reply
-use Rattle.machine.specs.declared.handle.Tx.{Tx}
+use Rattle.store_model.specs.Transactions.{Transaction, at, own, inactive_refusal}
+use Rattle.store_model.specs.Machine.{Machine, change, committed, commit_change, commit_refusal_if, fault, first_of, found_in, is_open, unnamed_refusal, room_of, room_refusal, trees_now, last_number, write_refusal}
+use Rattle.store_model.specs.Steps.{Step}
+use Rattle.store_model.specs.declared.event.Event.{Event}
+use Rattle.store_model.specs.declared.event.Event.TheVariants as event
+use Rattle.store_model.specs.declared.event.Reply.TheVariants as reply
+use Rattle.store_model.specs.declared.handle.Tx.{Tx}
 use Rattle.transactions.specs.Tables.{IsPending, holds_if, is_listed}
 use Rattle.transactions.specs.Entries.{AreMoved}
 use Rattle.transactions.specs.Histories.{IsShort}

@@ -5,16 +5,16 @@ use Rattle.refusals.specs.declared.refusal.Refusal.{Refusal}
 use Rattle.reg_tree.specs.Maps.{TreeMap}
 use Rattle.reg_tree.specs.contracts.element.Element as element
 use Rattle.reg_tree.specs.declared.element.Element.{Element}
-use Rattle.machine.specs.Codes.{trees_code, places_code}
-use Rattle.machine.specs.Machine.{Machine, trees_now, last_number}
-use Rattle.machine.specs.Steps.{Step}
-use Rattle.machine.specs.Transactions.{Places}
-use Rattle.machine.specs.declared.bounds.Bounds.{Bounds}
-use Rattle.machine.specs.contracts.bounds.Bounds as bounds
-use Rattle.machine.specs.declared.event.Event.{Event}
-use Rattle.machine.specs.declared.event.Event.TheVariants as event
-use Rattle.machine.specs.declared.event.Reply.{Reply}
-use Rattle.machine.specs.declared.event.Reply.TheVariants as reply
+use Rattle.store_model.specs.Codes.{trees_code, places_code}
+use Rattle.store_model.specs.Machine.{Machine, trees_now, last_number}
+use Rattle.store_model.specs.Steps.{Step}
+use Rattle.store_model.specs.Transactions.{Places}
+use Rattle.store_model.specs.declared.bounds.Bounds.{Bounds}
+use Rattle.store_model.specs.contracts.bounds.Bounds as bounds
+use Rattle.store_model.specs.declared.event.Event.{Event}
+use Rattle.store_model.specs.declared.event.Event.TheVariants as event
+use Rattle.store_model.specs.declared.event.Reply.{Reply}
+use Rattle.store_model.specs.declared.event.Reply.TheVariants as reply
 use Rattle.transactions.specs.Tables.{Table}
 
 -- one call of the device has failed where the store is faulted, and else none

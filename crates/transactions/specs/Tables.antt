@@ -6,16 +6,16 @@ use Rattle.refusals.specs.declared.refusal.Refusal.TheVariants.{NoMemory}
 use Rattle.reg_tree.specs.Maps.{TreeMap}
 use Rattle.reg_tree.specs.Texts.{element_text_len}
 use Rattle.reg_tree.specs.declared.op.Op.{Op}
-use Rattle.claims_law.specs.Skeleton.{Claim}
+use Rattle.conflicts.specs.Skeleton.{Claim}
 use Rattle.conflicts.specs.Claims.{claim_of}
-use Rattle.machine.specs.Ends.{refusal_of}
-use Rattle.machine.specs.Machine.{seat_refusal}
-use Rattle.machine.specs.Acts.{Starts, Adds, Opens, Finishes}
-use Rattle.machine.specs.Transactions.{Transaction, Places, own, is_active, ended, holds, inactive_refusal}
-use Rattle.machine.specs.declared.handle.Tx.{Tx}
-use Rattle.machine.specs.declared.handle.NotEnded.{NotEnded}
-use Rattle.machine.specs.declared.handle.Outcome.{Outcome}
-use Rattle.machine.specs.declared.handle.Outcome.TheVariants.{RolledBack}
+use Rattle.store_model.specs.Ends.{refusal_of}
+use Rattle.store_model.specs.Machine.{seat_refusal}
+use Rattle.store_model.specs.Acts.{Starts, Adds, Opens, Finishes}
+use Rattle.store_model.specs.Transactions.{Transaction, Places, own, is_active, ended, holds, inactive_refusal}
+use Rattle.store_model.specs.declared.handle.Tx.{Tx}
+use Rattle.store_model.specs.declared.handle.NotEnded.{NotEnded}
+use Rattle.store_model.specs.declared.handle.Outcome.{Outcome}
+use Rattle.store_model.specs.declared.handle.Outcome.TheVariants.{RolledBack}
 use Rattle.transactions.specs.declared.table.Written.{Written}
 use Rattle.transactions.specs.declared.table.Written.TheVariants.{Added, Opened}
 

@@ -9,17 +9,17 @@ ghost use Rattle.conflicts.specs.Skeletons.{AreCarriedOut, AreApart};
 ghost use Rattle.reg_tree.specs.Reads.{IsMissingOrNoMemory};
 ghost use Rattle.reg_tree.specs.TreeLists.{info_in};
 ghost use Rattle.transactions.specs.Entries.{transaction_of, IsCommitted, IsViewed, HasView, HasViewAt, IsJudged, illegal, IsSameEntry, HasRoom, HasTwoSpare};
-ghost use Rattle.machine.specs.Machine.{looked_up, read_refusal, too_long};
-ghost use Rattle.machine.specs.Transactions.{view, with_op, ended, is_active, fresh_transaction};
+ghost use Rattle.store_model.specs.Machine.{looked_up, read_refusal, too_long};
+ghost use Rattle.store_model.specs.Transactions.{view, with_op, ended, is_active, fresh_transaction};
 
 use crate::view::{Judged, View, carry_out};
-use machine::{Found, Outcome, Question, look_up};
 use refusals::Refusal;
 use refusals::limits::MOST_ELEMENT_BYTES;
 use reg_names::Path;
 use reg_tree::{CHANGE_BYTES, Info, Op, Trees};
 use std::alloc::{AllocError, Global};
 use std::mem;
+use store_model::{Found, Outcome, Question, look_up};
 use uuid::Uuid;
 
 /// Operations that whoever takes those of a commit may add without memory.

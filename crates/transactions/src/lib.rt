@@ -1,6 +1,6 @@
 //! The transactions of a store: what each keeps, what it sees, and where it stands.
 //!
-//! [`TxTable`] keeps them by the machine (`machine`): a transaction's writes are private, it is read and judged by its
+//! [`TxTable`] keeps them by the machine (`store_model`): a transaction's writes are private, it is read and judged by its
 //! own view, and its claims keep others off what it changes. [`Store`] answers by it each event that makes no step.
 #![tactic(auto)]
 

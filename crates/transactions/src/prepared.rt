@@ -5,11 +5,11 @@ ghost use Rattle.transactions.specs.Prepared.{told_by, will_show};
 
 use crate::table::Holders;
 use crate::view::View;
-use element_text::ChangeText;
-use machine::{Event, Reply, Tx};
+use change_codec::ChangeText;
 use reg_tree::Trees;
 use std::alloc::{AllocError, Global};
 use std::snapshot::Snapshot;
+use store_model::{Event, Reply, Tx};
 
 /// An event that may accept a change, with all that it grows: from here on it takes no memory.
 #[derive(Drop)]

@@ -4,7 +4,7 @@ ghost use Rattle.reg_tree.specs.Maps.{TreeMap};
 ghost use Rattle.std.specs.Prelude.{◌≡◌, Ok};
 ghost use Rattle.reg_tree.specs.Judgement.{legal};
 ghost use Rattle.reg_tree.specs.declared.op.Legality.TheVariants.{Legal};
-ghost use Rattle.machine.specs.Machine.{change};
+ghost use Rattle.store_model.specs.Machine.{change};
 ghost use Rattle.transactions.specs.Histories.{IsShort};
 
 use reg_tree::Op;

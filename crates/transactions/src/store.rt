@@ -2,10 +2,10 @@
 ghost use Rattle.std.specs.Prelude.{◌≡◌, ◌<◌, ◌≤◌, ◌+◌, ◌-◌, ◌==◌, ◌++◌, ◌∷◌, ℕ, [], drop, max, true, false, nat_le, Some, None, IfOk, IfErr, OnOk, OnSome};
 ghost use Rattle.std.specs.List.{AllByRecursion, list_any};
 ghost use Rattle.refusals.specs.declared.refusal.Refusal.TheVariants.{NoMemory, NoSuchHandle};
-ghost use Rattle.machine.specs.declared.event.Reply.TheVariants as reply;
-ghost use Rattle.machine.specs.Steps.{Step, is_calm};
-ghost use Rattle.machine.specs.Machine.{bounds_of, opened_machine, last_number, fault, trees_now, is_open, room_refusal, unnamed_refusal, tx_call_refusal};
-ghost use Rattle.machine.specs.Transactions.{own, inactive_refusal};
+ghost use Rattle.store_model.specs.declared.event.Reply.TheVariants as reply;
+ghost use Rattle.store_model.specs.Steps.{Step, is_calm};
+ghost use Rattle.store_model.specs.Machine.{bounds_of, opened_machine, last_number, fault, trees_now, is_open, room_refusal, unnamed_refusal, tx_call_refusal};
+ghost use Rattle.store_model.specs.Transactions.{own, inactive_refusal};
 ghost use Rattle.transactions.specs.Histories.{IsShort};
 ghost use Rattle.transactions.specs.Stores.{Answers, needs_device};
 ghost use Rattle.transactions.specs.Prepared.{Foretells, IsPrepared, IsReady, IsReadyCommit, IsReadyNothing, IsReadyWrite, JudgesWrite, Readies, ReadiesWrite, Shows, may_accept, shown_by, will_show};
@@ -14,9 +14,7 @@ use crate::history::History;
 use crate::prepared::{JudgedWrite, Prepared, Ready, ReadyCommit, ReadyWrite};
 use crate::short::change_is_short;
 use crate::table::{TxTable, Written};
-use element_text::ChangeText;
-use machine::room::CHANGE_START;
-use machine::{Bounds, Event, Question, Reply, Sessions, Tx, look_up};
+use change_codec::ChangeText;
 use refusals::Refusal;
 use refusals::limits::{GREATEST_NUMBER, MOST_JOURNAL_BYTES};
 use reg_names::Path;
@@ -24,6 +22,8 @@ use reg_tree::{CHANGE_BYTES, Element, Op, Ops, Trees};
 use std::alloc::{AllocError, Global};
 use std::marker::Model;
 use std::snapshot::Snapshot;
+use store_model::room::CHANGE_START;
+use store_model::{Bounds, Event, Question, Reply, Sessions, Tx, look_up};
 use uuid::Uuid;
 
 /// A store in memory, seen by contracts as the state of the machine, the number above which its changes are at hand, and for how

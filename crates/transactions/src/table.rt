@@ -8,17 +8,16 @@ ghost use Rattle.reg_tree.specs.Judgement.{legal, applied, any_outweighs};
 ghost use Rattle.conflicts.specs.Claims.{claim_of};
 ghost use Rattle.conflicts.specs.Holders.{AsksFor};
 ghost use Rattle.conflicts.specs.Skeletons.{AreCarriedOut};
-ghost use Rattle.machine.specs.Ends.{refusal_of};
+ghost use Rattle.store_model.specs.Ends.{refusal_of};
 ghost use Rattle.transactions.specs.Entries.{transaction_of, IsViewed, IsCommitted, IsSameEntry, HasRoom, MayAdd, AddsTo, IsNotAdded, IsJudgedOf, judge_refusal, IsMovedTo, AreMoved};
-ghost use Rattle.machine.specs.Acts.{Finishes, Closes};
-ghost use Rattle.machine.specs.Machine.{first_of, read_refusal, seen, seat_refusal, added_refusal_if};
+ghost use Rattle.store_model.specs.Acts.{Finishes, Closes};
+ghost use Rattle.store_model.specs.Machine.{first_of, read_refusal, seen, seat_refusal, added_refusal_if};
 ghost use Rattle.transactions.specs.Tables.{Denies, Begins, ChangesPlaces, Writes, EndsWith, IsNotEnded, IsPending, is_of, holds_if, is_listed, MeetNone, rolled_back_if};
-ghost use Rattle.machine.specs.Transactions.{at, own, is_active_outcome, Becomes, Puts, gone_with, inactive_refusal};
+ghost use Rattle.store_model.specs.Transactions.{at, own, is_active_outcome, Becomes, Puts, gone_with, inactive_refusal};
 
 use crate::entry::{Committed, Entry};
 use crate::view::{Judged, View};
 use conflicts::{ClaimTable, Owner, claims};
-use machine::{Found, NoSuchTransaction, NotEnded, Outcome, Question, Tx};
 use refusals::Refusal;
 use refusals::limits::MOST_TRANSACTIONS;
 use reg_names::Path;
@@ -26,6 +25,7 @@ use reg_tree::{Op, Trees};
 use slab::Slab;
 use std::alloc::{AllocError, Global};
 use std::marker::Model;
+use store_model::{Found, NoSuchTransaction, NotEnded, Outcome, Question, Tx};
 use uuid::Uuid;
 
 /// The transactions of a store, and the trees of now, which they see their own operations on.

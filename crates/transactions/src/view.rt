@@ -11,11 +11,11 @@ ghost use Rattle.conflicts.specs.Skeletons.{AreCarriedOut};
 ghost use Rattle.transactions.specs.declared.view.Known.TheVariants.{Light};
 ghost use Rattle.transactions.specs.Entries.{AreAfter, StaysView, IsFresh, Tells, TellsInfo, WritesView, MovesView, IsTimed};
 
-use machine::levels_made;
 use refusals::Refusal;
 use reg_names::{Name, Path};
 use reg_tree::{Info, Op, Trees};
 use std::alloc::{AllocError, Global};
+use store_model::levels_made;
 
 /// What is known of the operations of a view.
 #[derive(Clone, Copy)]

@@ -1,7 +1,7 @@
 use Rattle.std.proofs.Common.{◌≡◌, ◌∙◌, ◌+◌, ◌++◌, List, ℕ, length, ap, arith}
 use Rattle.std.specs.List.{flat_map}
 use Rattle.byteorder.specs.Endian.{little_bytes}
-use Rattle.element_text.specs.Text.{element_text}
+use Rattle.change_codec.specs.Text.{element_text}
 use Rattle.commit_journal.proofs.Batches.{as_many, texts_length}
 use Rattle.commit_journal.proofs.body.encode.Goals as goal
 

@@ -2,8 +2,8 @@ use Rattle.std.proofs.Common.{◌∙◌, ◌++◌, ◌∷◌, [], List, ℕ, tak
 use Rattle.std.specs.List.{flat_map}
 use Rattle.std.proofs.lemmas.List.{flat_map_more, take_more}
 use Rattle.reg_tree.specs.declared.element.Element.{Element}
-use Rattle.element_text.specs.Text.{element_text}
-use Rattle.element_text.proofs.Taken.{all_more}
+use Rattle.change_codec.specs.Text.{element_text}
+use Rattle.change_codec.proofs.Taken.{all_more}
 use Rattle.commit_journal.specs.Handed.{FitsIfThere}
 use Rattle.commit_journal.proofs.body.write_all.Goals as goal
 

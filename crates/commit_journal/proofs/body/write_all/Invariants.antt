@@ -1,6 +1,6 @@
 use Rattle.std.proofs.Common.{◌≡◌, ◌++◌, take}
 use Rattle.std.specs.List.{flat_map, AllByRecursion}
-use Rattle.element_text.specs.Text.{element_text}
+use Rattle.change_codec.specs.Text.{element_text}
 use Rattle.commit_journal.specs.Handed.{FitsIfThere}
 use Rattle.commit_journal.proofs.body.write_all.Given as goal
 

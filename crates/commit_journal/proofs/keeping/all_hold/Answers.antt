@@ -1,5 +1,5 @@
 use Rattle.std.proofs.Common.{subst, arith}
-use Rattle.element_text.specs.Changes.{hives_of}
+use Rattle.change_codec.specs.Changes.{hives_of}
 use Rattle.commit_journal.proofs.Namings.{HaveHeld, next_held, all_held, next_is_named}
 use Rattle.commit_journal.proofs.keeping.all_hold.Goals as goal
 

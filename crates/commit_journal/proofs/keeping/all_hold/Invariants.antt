@@ -1,5 +1,5 @@
 use Rattle.std.proofs.Common.{length}
-use Rattle.element_text.specs.Changes.{hives_of}
+use Rattle.change_codec.specs.Changes.{hives_of}
 use Rattle.commit_journal.proofs.Namings.{HaveHeld}
 use Rattle.commit_journal.proofs.keeping.all_hold.Given as goal
 

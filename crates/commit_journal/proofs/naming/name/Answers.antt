@@ -1,5 +1,5 @@
 use Rattle.std.proofs.Common.{◌∷◌, ℕ, sym, subst}
-use Rattle.element_text.specs.Changes.{hives_of}
+use Rattle.change_codec.specs.Changes.{hives_of}
 use Rattle.commit_journal.proofs.Namings.{HasNamed, next_named, next_past, all_named}
 use Rattle.commit_journal.proofs.naming.name.Goals as goal
 

@@ -1,5 +1,5 @@
 use Rattle.std.proofs.Common.{length}
-use Rattle.element_text.specs.Changes.{hives_of}
+use Rattle.change_codec.specs.Changes.{hives_of}
 use Rattle.commit_journal.proofs.Namings.{HasNamed}
 use Rattle.commit_journal.proofs.naming.name.Given as goal
 

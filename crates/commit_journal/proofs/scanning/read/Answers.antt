@@ -1,6 +1,6 @@
 use Rattle.std.proofs.Common.{◌≡◌, ◌∙◌, ◌<◌, ◌-◌, List, ℕ, length, take, sym, ap, subst, arith, Some, None}
-use Rattle.prefix_law.specs.Promises.{floor, nothing}
-use Rattle.prefix_law.specs.Changes as law
+use Rattle.crash_model.specs.Promises.{floor, nothing}
+use Rattle.crash_model.specs.Changes as law
 use Rattle.reg_tree.specs.declared.element.Element.{Element}
 use Rattle.commit_journal.specs.Lacking.{AreKept}
 use Rattle.commit_journal.specs.Naming.{AreLastIn}
@@ -8,7 +8,7 @@ use Rattle.commit_journal.specs.declared.keeping.Keeping.{Keeping}
 use Rattle.commit_journal.proofs.Keepings.{base_is}
 use Rattle.disk_model.proofs.Unwritten.{still}
 use Rattle.disk_model.specs.FileState.{FileState, at_rest}
-use Rattle.engine_words.specs.Changes.{TimedOp}
+use Rattle.change_codec.specs.ModelChanges.{TimedOp}
 use Rattle.commit_journal.specs.Text.{Texts, spelled}
 use Rattle.commit_journal.specs.Store.{Store, texts}
 use Rattle.commit_journal.specs.OnDisk.{Value, is_on}

@@ -1,5 +1,5 @@
 use Rattle.std.proofs.Common.{◌≡◌, ◌==◌, ◌||◌, ◌&&◌, length, sym, ◌∙◌, ap}
-use Rattle.claims_law.specs.Skeleton.{begins_key}
+use Rattle.conflicts.specs.Skeleton.{begins_key}
 use Rattle.conflicts.specs.Claims.{is_shape}
 use Rattle.conflicts.proofs.Meets.{reaches_by_depth}
 use Rattle.conflicts.proofs.claim.reaches.Goals.{then-is_shape, else-is_shape}

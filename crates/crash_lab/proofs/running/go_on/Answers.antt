@@ -1,7 +1,7 @@
 use Rattle.std.proofs.Common.{sym, subst}
-use Rattle.reg_script.specs.Statuses.{with_refusal}
-use Rattle.regtx_parts.specs.declared.ending.Ending.TheVariants.{Broken}
-use Rattle.regtx_parts.proofs.Runs.{none_read, broken_is_no_end, refusals_join}
+use Rattle.script_syntax.specs.Statuses.{with_refusal}
+use Rattle.script_runner.specs.declared.ending.Ending.TheVariants.{Broken}
+use Rattle.script_runner.proofs.Runs.{none_read, broken_is_no_end, refusals_join}
 use Rattle.crash_lab.specs.Benches.{bench_of}
 use Rattle.crash_lab.specs.Runs.{IsExperimentOn, Turns}
 use Rattle.crash_lab.proofs.Turning.{goes_on, ends_here}

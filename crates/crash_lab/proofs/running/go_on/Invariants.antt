@@ -1,6 +1,6 @@
 use Rattle.std.proofs.Common.{ℕ, List, Option}
-use Rattle.reg_script.specs.Statuses.{with_refusal}
-use Rattle.reg_script.specs.declared.status.Status.{Status}
+use Rattle.script_syntax.specs.Statuses.{with_refusal}
+use Rattle.script_syntax.specs.declared.status.Status.{Status}
 use Rattle.crash_lab.specs.Benches.{bench_of}
 use Rattle.crash_lab.specs.Runs.{IsExperimentOn}
 use Rattle.crash_lab.proofs.running.go_on.Given as goal

@@ -1,11 +1,11 @@
 use Rattle.std.proofs.Common.{◌∙◌, ◌≡◌, ℕ, List, Some, None, ap, sym, subst}
 use Rattle.std.specs.Prelude.{IfSome, IfNone}
 use Rattle.std.specs.Io.KnownBytes.{Appends}
-use Rattle.regtx_parts.specs.Scripts.{hives_asked}
-use Rattle.regtx_parts.specs.Plays.{Ends, wrong_text}
-use Rattle.regtx_parts.specs.declared.ending.Ending.TheVariants.{OutOfMemory}
-use Rattle.reg_script.specs.declared.status.Status.TheVariants.{Wrong}
-use Rattle.regtx_parts.proofs.Runs.{if_ok}
+use Rattle.script_runner.specs.Scripts.{hives_asked}
+use Rattle.script_runner.specs.Plays.{Ends, wrong_text}
+use Rattle.script_runner.specs.declared.ending.Ending.TheVariants.{OutOfMemory}
+use Rattle.script_syntax.specs.declared.status.Status.TheVariants.{Wrong}
+use Rattle.script_runner.proofs.Runs.{if_ok}
 use Rattle.crash_lab.specs.Benches.{bench_of, IsNew}
 use Rattle.crash_lab.specs.Runs.{IsExperiment, IsExperimentOn}
 use Rattle.crash_lab.proofs.Turning.{begins, begins_wrong, begins_without_memory}

@@ -1,7 +1,7 @@
 use Rattle.std.proofs.Common.{◌≡◌, ◌∙◌, None, ap, sym, subst}
 use Rattle.std.specs.Prelude.{IfNone}
-use Rattle.regtx_parts.proofs.Runs.{none_read, is_end}
-use Rattle.regtx_parts.specs.declared.ending.Ending.TheVariants.{OutOfMemory}
+use Rattle.script_runner.proofs.Runs.{none_read, is_end}
+use Rattle.script_runner.specs.declared.ending.Ending.TheVariants.{OutOfMemory}
 use Rattle.crash_lab.specs.Benches.{bench_of}
 use Rattle.crash_lab.specs.Experiments.{line_asked}
 use Rattle.crash_lab.proofs.Turning.{stops_wrong, ends_here}

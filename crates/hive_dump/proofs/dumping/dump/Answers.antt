@@ -1,5 +1,5 @@
 use Rattle.std.proofs.Common.{Ok, Err, subst}
-use Rattle.hive_reading.specs.Readings.{TellsWhyAs}
+use Rattle.hive_file_reader.specs.Readings.{TellsWhyAs}
 use Rattle.hive_dump.proofs.dumping.dump.Goals as goal
 
 pub returns-in_ok-tell_tree-in-Ok-clause-dumped : goal.returns-in_ok-tell_tree-in-Ok-clause-dumped

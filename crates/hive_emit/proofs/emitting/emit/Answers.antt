@@ -2,12 +2,12 @@ use Rattle.std.proofs.Common.{◌≡◌, ◌+◌, ◌≤◌, List, [], length, a
 use Rattle.std.specs.FinMap as finite
 use Rattle.reg_tree_parts.specs.Nodes.{Entries, IsNode}
 use Rattle.reg_tree.specs.Maps.{TreeMap, weight}
-use Rattle.hive_key_writer.specs.Making.{RoomyAt, Roomy}
+use Rattle.hive_emit.specs.Making.{RoomyAt, Roomy}
 use Rattle.hive_emit.specs.declared.security.Security.{Security}
 use Rattle.hive_emit.specs.Forms.{keys_with}
 use Rattle.hive_emit.specs.Securing.{tallies, Counts, AreSome}
 use Rattle.hive_emit.specs.Emitting.{AreShort}
-use Rattle.hive_emit.specs.Costs.{keys_cost, securities_cost, descriptors_cost}
+use Rattle.hive_emit.specs.KeyCosts.{keys_cost, securities_cost, descriptors_cost}
 use Rattle.hive_emit.proofs.KeySums.{tree_light}
 use Rattle.hive_emit.proofs.Securing.{counted_kept}
 use Rattle.hive_emit.proofs.Wholes.{root_weight, tree_can, tree_few, stands_at_end}

@@ -4,13 +4,13 @@ use Rattle.reg_tree_parts.specs.Nodes.{Entries, row_at, subkeys_of, HasSubkeys}
 use Rattle.reg_tree_parts.specs.Rows.{Row}
 use Rattle.hive_records.specs.Spellings.{name_text}
 use Rattle.hive_records.specs.ListTexts.{AreOffsets}
-use Rattle.hive_key_writer.specs.Making.{Makes, IsLongCell, Uses, cell_cost}
-use Rattle.hive_key_writer.proofs.Makings.{all_push}
+use Rattle.hive_emit.specs.Making.{Makes, IsLongCell, Uses, cell_cost}
+use Rattle.hive_emit.proofs.Makings.{all_push}
 use Rattle.hive_emit.specs.Emitting.{PutsKids, IsOffsetOf, OwnAt}
 use Rattle.hive_emit.proofs.Owns.{row_same, own_can}
 use Rattle.hive_emit.proofs.KeyProofs.{no_kids_done, kids_next, kids_can, can_kid, counted_kid, counted_parts, key_made, long_stays, kid_there, kids_few, both_made}
-use Rattle.hive_key_writer.proofs.NewCells.{none_used, uses_more, both_used, lands_used, stops_more, stops_later}
-use Rattle.hive_emit.specs.Costs.{keys_cost, own_cost, below_cost}
+use Rattle.hive_emit.proofs.NewCells.{none_used, uses_more, both_used, lands_used, stops_more, stops_later}
+use Rattle.hive_emit.specs.KeyCosts.{keys_cost, own_cost, below_cost}
 use Rattle.hive_emit.proofs.KeySums.{keys_sum, row_sum, row_parts, own_least, below_next, below_within}
 use Rattle.hive_emit.proofs.keys.+puts.Goals as goal
 

@@ -1,9 +1,9 @@
 use Rattle.std.proofs.Common.{◌≡◌, ◌+◌, ◌*◌, length, take, sum_by}
 use Rattle.reg_tree_parts.specs.Nodes.{subkeys_of}
 use Rattle.hive_records.specs.ListTexts.{AreOffsets}
-use Rattle.hive_key_writer.specs.Making.{Makes, Uses}
+use Rattle.hive_emit.specs.Making.{Makes, Uses}
 use Rattle.hive_emit.specs.Emitting.{PutsKids}
-use Rattle.hive_emit.specs.Costs.{keys_cost}
+use Rattle.hive_emit.specs.KeyCosts.{keys_cost}
 use Rattle.hive_emit.proofs.keys.+puts.Given as goal
 
 abbrev pub invariant-put_subkeys-loop-index : goal.invariant-put_subkeys-loop-index

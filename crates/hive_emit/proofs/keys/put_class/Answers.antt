@@ -1,9 +1,9 @@
 use Rattle.std.proofs.Common.{length, ◌<◌, arith}
-use Rattle.hive_key_writer.proofs.Leaves.{is_zero, not_zero}
+use Rattle.hive_emit.proofs.Leaves.{is_zero, not_zero}
 use Rattle.hive_emit.proofs.Owns.{class_none, class_put}
-use Rattle.hive_key_writer.specs.Making.{cell_cost}
-use Rattle.hive_key_writer.proofs.NewCells.{none_used, uses_more, lands_used, stops_more}
-use Rattle.hive_emit.specs.Costs.{class_cost}
+use Rattle.hive_emit.specs.Making.{cell_cost}
+use Rattle.hive_emit.proofs.NewCells.{none_used, uses_more, lands_used, stops_more}
+use Rattle.hive_emit.specs.KeyCosts.{class_cost}
 use Rattle.hive_emit.proofs.keys.put_class.Goals as goal
 
 pub returns-then-is_empty-clause-made : goal.returns-then-is_empty-clause-made

@@ -1,13 +1,13 @@
 use Rattle.std.proofs.Common.{◌≡◌, ◌+◌, length, sym, ap, subst, arith}
 use Rattle.reg_tree_parts.specs.Nodes.{subkeys_of}
 use Rattle.reg_tree_parts.specs.Rows.{Row}
-use Rattle.hive_key_writer.specs.Making.{Makes}
-use Rattle.hive_key_writer.specs.Values.{CanPutAll, ValuesAt}
+use Rattle.hive_emit.specs.Making.{Makes}
+use Rattle.hive_emit.specs.Values.{CanPutAll, ValuesAt}
 use Rattle.hive_emit.specs.Emitting.{ClassAt, OwnAt}
 use Rattle.hive_emit.proofs.Owns.{own_made, own_can, row_same}
-use Rattle.hive_key_writer.specs.Costs.{values_cost, kids_cost}
-use Rattle.hive_key_writer.proofs.NewCells.{uses_more, both_used, stops_more, stops_later}
-use Rattle.hive_emit.specs.Costs.{class_cost, own_cost}
+use Rattle.hive_emit.specs.CellCosts.{values_cost, kids_cost}
+use Rattle.hive_emit.proofs.NewCells.{uses_more, both_used, stops_more, stops_later}
+use Rattle.hive_emit.specs.KeyCosts.{class_cost, own_cost}
 use Rattle.hive_emit.proofs.keys.put_own.Goals as goal
 
 pub put_values-requires : goal.put_values-requires

@@ -4,7 +4,7 @@ use Rattle.dirty_vector.specs.Pages.{Pages}
 use Rattle.dirt_log.specs.WholeLog.{IsCovered, repaired}
 use Rattle.hive_files.specs.Finding.{as_primary}
 use Rattle.hive_files.proofs.Founding.{repaired_by_log}
-use Rattle.hive_phases.proofs.Planning.{repaired_long}
+use Rattle.hive_flush_model.proofs.Planning.{repaired_long}
 use Rattle.hive_files.proofs.finding.repaired.Goals as goal
 
 pub returns-in-Err-clause-fails : goal.returns-in-Err-clause-fails

@@ -1,7 +1,7 @@
 use Rattle.std.proofs.Common.{◌≡◌, ◌*◌, ◌/◌, ◌%◌, inl, inr, ⊎_elim, arith, refl, length}
 use Rattle.std.proofs.lemmas.Bool.{cases_lt, false_from_ne_true, eqb-true, and_parts}
 use Rattle.dirty_vector.specs.Pages.{is_dirty}
-use Rattle.hive_phases.proofs.Holding.{true_false}
+use Rattle.hive_flush_model.proofs.Holding.{true_false}
 use Rattle.hive_files.proofs.marking.mark_changes.Goals as goal
 
 pub mark_differing-requires-clause-whole : goal.mark_differing-requires-clause-whole

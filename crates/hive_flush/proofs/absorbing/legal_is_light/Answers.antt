@@ -1,6 +1,6 @@
 use Rattle.hive_flush.specs.HiveStates.{led_to}
-use Rattle.prefix_law.specs.Changes.{ops_on}
-use Rattle.engine_words.specs.Changes.{timed_elements}
+use Rattle.crash_model.specs.Changes.{ops_on}
+use Rattle.change_codec.specs.ModelChanges.{timed_elements}
 use Rattle.hive_flush.proofs.Legal.{legal_within}
 use Rattle.hive_flush.proofs.absorbing.legal_is_light.Goals as goal
 

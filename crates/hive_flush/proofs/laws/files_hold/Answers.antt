@@ -1,7 +1,7 @@
 use Rattle.std.proofs.Common.{ℕ, length, subst}
-use Rattle.prefix_law.specs.Promises.{Choice, Leaves}
+use Rattle.crash_model.specs.Promises.{Choice, Leaves}
 use Rattle.reg_tree.specs.Maps.{TreeMap}
-use Rattle.hive_phases.specs.Phases.{Hive}
+use Rattle.hive_flush_model.specs.Phases.{Hive}
 use Rattle.hive_writer.specs.Writing.{phase_in, work_of}
 use Rattle.hive_flush.specs.HiveStates.{memory_of, now_of, store_of}
 use Rattle.hive_flush.proofs.Going.{choice_is}

@@ -2,7 +2,7 @@ use Rattle.std.proofs.Common.{◌≡◌, ℕ, List, sym, ap, subst, ◌∙◌}
 use Rattle.reg_tree.specs.Maps.{TreeMap}
 use Rattle.base_block.specs.declared.block.BaseBlock.{BaseBlock}
 use Rattle.hive_records.specs.Images.{StandsFor}
-use Rattle.hive_phases.proofs.Holding.{same_parts}
+use Rattle.hive_flush_model.proofs.Holding.{same_parts}
 use Rattle.hive_flush.proofs.laws.one_is_held.Goals as goal
 
 made : TreeMap → ℕ → TreeMap × ℕ

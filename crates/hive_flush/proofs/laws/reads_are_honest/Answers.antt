@@ -1,6 +1,6 @@
 use Rattle.std.proofs.Common.{◌≡◌, ℕ, Bool, true, false, length, refl}
 use Rattle.disk_model.specs.FileState.{FileState}
-use Rattle.hive_phases.specs.States.{RestsIn}
+use Rattle.hive_flush_model.specs.States.{RestsIn}
 use Rattle.hive_writer.specs.Writing.{phase_in, work_of}
 use Rattle.hive_writer.specs.declared.stage.Stage.{Stage}
 use Rattle.hive_writer.specs.declared.stage.Stage.TheVariants as stage

@@ -5,7 +5,7 @@ use Rattle.base_block.specs.Numbers.{number_after}
 use Rattle.dirt_log.specs.LogText.{log_block, pages_from}
 use Rattle.dirt_log.specs.WholeLog.{IsLoggable, ReadsAs, block_as_read}
 use Rattle.dirt_log.proofs.PageBytes.{length_log, few_dirty}
-use Rattle.hive_phases.specs.Plans.{raised_block}
+use Rattle.hive_flush_model.specs.Plans.{raised_block}
 use Rattle.hive_writer.proofs.Moved.{raised_is}
 use Rattle.hive_writer.specs.Writing.{plan_of}
 use Rattle.hive_flush.proofs.Readying.{raised_reads}

@@ -2,7 +2,7 @@ use Rattle.std.proofs.Common.{◌≡◌, ℕ, List, length, sym, ap, subst, ◌�
 use Rattle.base_block.specs.declared.fields.SequenceNumber.{SequenceNumber}
 use Rattle.base_block.specs.Layout.{block_at, sector_of}
 use Rattle.base_block.specs.Numbers.{number_after}
-use Rattle.hive_phases.specs.Plans.{raised_block}
+use Rattle.hive_flush_model.specs.Plans.{raised_block}
 use Rattle.hive_writer.proofs.Moved.{raised_is}
 use Rattle.hive_flush.proofs.Readying.{raised_reads, right_sum}
 use Rattle.hive_flush.proofs.planning.repair_fits.Goals as goal

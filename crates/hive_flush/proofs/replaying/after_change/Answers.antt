@@ -1,8 +1,8 @@
 use Rattle.std.proofs.Common.{◌≡◌, List, sym, ap, subst, ◌∙◌}
 use Rattle.std.specs.Prelude.{IfOk}
-use Rattle.prefix_law.specs.Changes.{applied}
+use Rattle.crash_model.specs.Changes.{applied}
 use Rattle.reg_tree.specs.Maps.{TreeMap}
-use Rattle.engine_words.specs.Changes.{TimedOp, tree_rules}
+use Rattle.change_codec.specs.ModelChanges.{TimedOp, tree_rules}
 use Rattle.hive_flush.proofs.Replayed.{none_here, found_here}
 use Rattle.hive_flush.proofs.replaying.after_change.Goals as goal
 

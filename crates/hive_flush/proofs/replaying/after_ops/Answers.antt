@@ -1,8 +1,8 @@
 use Rattle.std.proofs.Common.{◌≡◌, ◌+◌, List, ◌∷◌, drop, map, sym, ap, ◌∙◌}
 use Rattle.std.proofs.lemmas.List.{drop_more}
-use Rattle.prefix_law.specs.Changes.{applied, on_hive}
+use Rattle.crash_model.specs.Changes.{applied, on_hive}
 use Rattle.reg_tree.specs.declared.op.Op.{Op}
-use Rattle.engine_words.specs.Changes.{tree_rules, timed}
+use Rattle.change_codec.specs.ModelChanges.{tree_rules, timed}
 use Rattle.hive_flush.proofs.Replayed.{op_here, op_elsewhere}
 use Rattle.hive_flush.proofs.replaying.after_ops.Goals.{then-hive+in_ok-made, else-hive}
 use Rattle.hive_flush.proofs.replaying.after_ops.Goals as goal

@@ -1,8 +1,8 @@
 use Rattle.std.proofs.Common.{◌≡◌, ◌+◌, List, ◌∷◌, drop, sym, ap, ◌∙◌}
 use Rattle.std.proofs.lemmas.List.{drop_more}
-use Rattle.prefix_law.specs.Changes.{applied, ops_on}
+use Rattle.crash_model.specs.Changes.{applied, ops_on}
 use Rattle.reg_tree.specs.declared.element.Element.{Element}
-use Rattle.engine_words.specs.Changes.{tree_rules, timed_elements}
+use Rattle.change_codec.specs.ModelChanges.{tree_rules, timed_elements}
 use Rattle.hive_flush.proofs.Replayed.{change_here}
 use Rattle.hive_flush.proofs.replaying.replayed.Goals as goal
 

@@ -1,11 +1,11 @@
 use Rattle.std.proofs.Common.{◌≡◌, ◌-◌, inl, inr, ℕ, List, suc, [], ◌∷◌, ◌++◌, get_or, take, drop, refl, ◌∙◌, sym, subst, ap, arith}
 use Rattle.std.proofs.lemmas.List.{take_more, take_all}
-use Rattle.hive_keys.proofs.Loops.{split_here}
-use Rattle.hive_keys.proofs.Spread.{spreads_none, spreads_on}
+use Rattle.hive_load_parts.proofs.Loops.{split_here}
+use Rattle.hive_load_parts.proofs.Spread.{spreads_none, spreads_on}
 use Rattle.hive_load.proofs.Sorting.{Nodes, one_more, nodes_more}
 use Rattle.refusals.specs.declared.refusal.Refusal.TheVariants.{TooLarge}
 use Rattle.reg_tree_parts.specs.Nodes.{Entries, root_name, subkey_entries, AreNodes}
-use Rattle.hive_keys.specs.Reading.{marks_of}
+use Rattle.hive_load_parts.specs.Reading.{marks_of}
 use Rattle.hive_records.proofs.Keys.{keys_trail}
 use Rattle.std.proofs.lemmas.Bool.{cases_lt}
 use Rattle.hive_load.specs.Answers.{RefusesKey, LoadsKeys, RefusesKeys}

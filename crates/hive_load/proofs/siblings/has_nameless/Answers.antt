@@ -1,7 +1,7 @@
 use Rattle.std.proofs.Common.{◌≡◌, ◌≢◌, ◌⊎◌, ◌<◌, ◌≤◌, ◌+◌, ℕ, [], List, ◌∷◌, length, ◌∙◌, ap, sym, subst, arith, Global, inl, inr}
 use Rattle.std.specs.declared.sync.Arc.{Arc}
 use Rattle.std.proofs.lemmas.Bool.{cases_lt}
-use Rattle.hive_shape.specs.Lists.{IsIn}
+use Rattle.hive_tree_model.specs.Lists.{IsIn}
 use Rattle.reg_tree_parts.specs.Nodes.{Entries, subkey_entries}
 use Rattle.hive_load.specs.Nodes.{names_of}
 use Rattle.hive_load.proofs.Sorting.{Nodes, name_at, name_there, name_in, name_from, no_name, some_name}

@@ -1,6 +1,6 @@
 use Rattle.std.proofs.Common.{[], refl, subst}
 use Rattle.std.proofs.lemmas.List.Sorted.{IsPermutation-map}
-use Rattle.hive_shape.specs.Lists.{IsIn}
+use Rattle.hive_tree_model.specs.Lists.{IsIn}
 use Rattle.hive_load.specs.Nodes.{names_of}
 use Rattle.hive_load.proofs.Sorting.{Nodes}
 use Rattle.reg_tree_parts.specs.Nodes.{subkey_entry, subkey_entries}

@@ -5,7 +5,7 @@ use Rattle.hive_flush.specs.declared.image.HiveImage.{HiveImage}
 use Rattle.reg_tree.specs.Maps.{TreeMap}
 use Rattle.disk_model.specs.Sector.{IsHonest}
 use Rattle.disk_model.specs.StoreFiles.{IsJournal, log_file, primary_file}
-use Rattle.engine_law.proofs.HiveLists.{at_slot}
+use Rattle.engine_invariant.proofs.HiveLists.{at_slot}
 use Rattle.hive_files.specs.Frames.{StaysOff}
 use Rattle.recovery.specs.Created.{AreImagesOf, AreWritten, HivesAreMade, IsOfHives, new_store}
 use Rattle.recovery.specs.Recovered.{seen_in}

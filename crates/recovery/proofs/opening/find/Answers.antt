@@ -8,7 +8,7 @@ use Rattle.commit_journal.specs.Text.{spelled}
 use Rattle.commit_journal.specs.Journals.{changes_of, choice_of, store_of, texts_of}
 use Rattle.commit_journal.specs.declared.journal.Journal.{Journal}
 use Rattle.hive_flush.specs.declared.hive.HiveFile.{HiveFile}
-use Rattle.engine_law.specs.Prefixes.{AreOnDisk}
+use Rattle.engine_invariant.specs.Prefixes.{AreOnDisk}
 use Rattle.recovery.specs.Kept.{AllWork}
 use Rattle.recovery.specs.Reading.{AreOf}
 use Rattle.recovery.specs.Recovered.{seen_in}

@@ -1,16 +1,16 @@
 use Rattle.std.proofs.Common.{◌≡◌, inl, inr, ◌∙◌, ◌<◌, ap, sym, refl, subst, arith, length, slice_get, map, Some, List}
 use Rattle.std.proofs.lemmas.Result.{err_from_is_err_and}
-use Rattle.prefix_law.specs.Promises.{Choice, Spelled, floor, top}
-use Rattle.engine_words.specs.Changes.{TimedOp, timed_elements}
+use Rattle.crash_model.specs.Promises.{Choice, Spelled, floor, top}
+use Rattle.change_codec.specs.ModelChanges.{TimedOp, timed_elements}
 use Rattle.commit_journal.specs.Naming.{AreLastIn}
 use Rattle.recovery.specs.Kept.{AreAtHand}
 use Rattle.recovery.proofs.AtHand.{base_found, hand_found, lead_all, names_found, nowhere_all}
 use Rattle.reg_tree.specs.Maps.{TreeMap}
 use Rattle.reg_tree.specs.declared.element.Element.{Element}
 use Rattle.commit_journal.specs.Journals.{changes_of, choice_of}
-use Rattle.engine_law.specs.Openings.{IsFound}
-use Rattle.engine_law.specs.Prefixes.{view_of}
-use Rattle.engine_law.proofs.HiveLists.{at_slot}
+use Rattle.engine_invariant.specs.Openings.{IsFound}
+use Rattle.engine_invariant.specs.Prefixes.{view_of}
+use Rattle.engine_invariant.proofs.HiveLists.{at_slot}
 use Rattle.hive_flush.specs.declared.hive.HiveFile.{HiveFile}
 use Rattle.recovery.specs.Reading.{IsNumber, LeadTo, SomeLeadsNowhere}
 use Rattle.recovery.proofs.Together.{ahead_is, is_found, kept_is, nowhere_from, number_is, spelled_as}

@@ -1,9 +1,9 @@
 use Rattle.std.proofs.Common.{◌≡◌, ◌-◌, sym, ap, ◌∙◌, inl, inr, ⊎_elim, refl, arith, length, take, drop}
 use Rattle.std.specs.Prelude.{min}
 use Rattle.std.proofs.lemmas.Result.{err_from_is_err_and}
-use Rattle.prefix_law.specs.Changes.{ops_on, replay}
+use Rattle.crash_model.specs.Changes.{ops_on, replay}
 use Rattle.reg_tree.specs.Maps.{TreeMap}
-use Rattle.engine_words.specs.Changes.{tree_rules, timed_elements}
+use Rattle.change_codec.specs.ModelChanges.{tree_rules, timed_elements}
 use Rattle.hive_flush.specs.HiveStates.{memory_of}
 use Rattle.recovery.proofs.Replays.{replayed_is}
 use Rattle.recovery.proofs.recovering.tree_after.Goals as goal

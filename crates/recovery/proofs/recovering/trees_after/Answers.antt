@@ -3,8 +3,8 @@ use Rattle.std.proofs.lemmas.Option.{slice_get_read}
 use Rattle.std.proofs.lemmas.Result.{err_from_is_err_and}
 use Rattle.reg_tree.specs.Maps.{TreeMap}
 use Rattle.reg_tree.specs.Sequences.{AreTrees}
-use Rattle.prefix_law.specs.Promises.{Spelled}
-use Rattle.engine_words.specs.Changes.{TimedOp, timed_elements}
+use Rattle.crash_model.specs.Promises.{Spelled}
+use Rattle.change_codec.specs.ModelChanges.{TimedOp, timed_elements}
 use Rattle.recovery.specs.Reading.{LeadTo}
 use Rattle.recovery.proofs.Together.{lead_pushed, trees_pushed}
 use Rattle.recovery.proofs.recovering.trees_after.Goals as goal

@@ -1,7 +1,7 @@
 use Rattle.std.proofs.Common.{◌≡◌, ◌≤◌, length}
 use Rattle.std.specs.Prelude.{vec_capacity}
 use Rattle.reg_tree.specs.Sequences.{AreTrees}
-use Rattle.engine_words.specs.Changes.{timed_elements}
+use Rattle.change_codec.specs.ModelChanges.{timed_elements}
 use Rattle.recovery.specs.Reading.{LeadTo}
 use Rattle.recovery.proofs.recovering.trees_after.Given as goal
 

@@ -2,9 +2,9 @@ use Rattle.std.proofs.Common.{◌≡◌, List, Option, Some, None, sym, ap, subs
 use Rattle.std.specs.Prelude.{IfOk, IfErr}
 use Rattle.refusals.specs.Answers.{RefusedFor}
 use Rattle.refusals.specs.declared.refusal.Refusal.TheVariants.{JournalDamaged}
-use Rattle.prefix_law.specs.Changes.{replay}
+use Rattle.crash_model.specs.Changes.{replay}
 use Rattle.reg_tree.specs.Maps.{TreeMap}
-use Rattle.engine_words.specs.Changes.{TimedOp, tree_rules}
+use Rattle.change_codec.specs.ModelChanges.{TimedOp, tree_rules}
 use Rattle.hive_flush.proofs.Replayed.{none_here, found_here}
 use Rattle.recovery.proofs.replaying.after_change.Goals as goal
 

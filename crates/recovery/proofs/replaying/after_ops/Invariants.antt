@@ -1,6 +1,6 @@
 use Rattle.std.proofs.Common.{◌≡◌, drop, map}
-use Rattle.prefix_law.specs.Changes.{replay, on_hive}
-use Rattle.engine_words.specs.Changes.{tree_rules, timed}
+use Rattle.crash_model.specs.Changes.{replay, on_hive}
+use Rattle.change_codec.specs.ModelChanges.{tree_rules, timed}
 use Rattle.recovery.proofs.replaying.after_ops.Given as goal
 
 abbrev pub invariant-loop-op : goal.invariant-loop-op

@@ -1,9 +1,9 @@
 use Rattle.std.proofs.Common.{◌≡◌, ◌+◌, List, ◌∷◌, drop, sym, ap, ◌∙◌, inl, inr, ⊎_elim}
 use Rattle.std.proofs.lemmas.List.{drop_more}
 use Rattle.std.proofs.lemmas.Result.{err_from_is_err_and}
-use Rattle.prefix_law.specs.Changes.{ops_on, replay}
+use Rattle.crash_model.specs.Changes.{ops_on, replay}
 use Rattle.reg_tree.specs.declared.element.Element.{Element}
-use Rattle.engine_words.specs.Changes.{tree_rules, timed_elements}
+use Rattle.change_codec.specs.ModelChanges.{tree_rules, timed_elements}
 use Rattle.recovery.proofs.Replays.{change_on, change_nowhere}
 use Rattle.recovery.proofs.replaying.replayed.Goals as goal
 

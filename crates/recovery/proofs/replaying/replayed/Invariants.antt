@@ -1,6 +1,6 @@
 use Rattle.std.proofs.Common.{◌≡◌, drop}
-use Rattle.prefix_law.specs.Changes.{replay, ops_on}
-use Rattle.engine_words.specs.Changes.{tree_rules, timed_elements}
+use Rattle.crash_model.specs.Changes.{replay, ops_on}
+use Rattle.change_codec.specs.ModelChanges.{tree_rules, timed_elements}
 use Rattle.recovery.proofs.replaying.replayed.Given as goal
 
 abbrev pub invariant-loop-change : goal.invariant-loop-change

@@ -1,5 +1,5 @@
 use Rattle.std.proofs.Common.{ap}
-use Rattle.machine.specs.declared.event.Reply.TheVariants as reply
+use Rattle.store_model.specs.declared.event.Reply.TheVariants as reply
 use Rattle.transactions.proofs.store.accepted.Goals as goal
 
 pub returns : goal.returns

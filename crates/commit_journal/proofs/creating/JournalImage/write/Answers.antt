@@ -1,6 +1,6 @@
 use Rattle.std.proofs.Common.{◌∙◌, sym, ap, subst}
 use Rattle.disk_model.specs.FileState.{at_rest}
-use Rattle.engine_words.specs.Changes.{TimedOp}
+use Rattle.change_codec.specs.ModelChanges.{TimedOp}
 use Rattle.commit_journal.specs.OnDisk.{Value, is_on}
 use Rattle.commit_journal.specs.Journals.{value_of}
 use Rattle.commit_journal.specs.Store.{Store, created_text, texts}

@@ -1,7 +1,7 @@
 use Rattle.std.proofs.Common.{◌+◌, List, ℕ, inl, sym, subst}
-use Rattle.prefix_law.specs.Promises.{under_way, BeginsBatch}
+use Rattle.crash_model.specs.Promises.{under_way, BeginsBatch}
 use Rattle.disk_model.specs.FileState.{Writes, MayWrite}
-use Rattle.engine_words.specs.Changes.{timed_elements}
+use Rattle.change_codec.specs.ModelChanges.{timed_elements}
 use Rattle.commit_journal.specs.Journals.{spelled_by, choice_of, texts_of}
 use Rattle.commit_journal.specs.declared.standing.Standing.{Standing}
 use Rattle.commit_journal.proofs.Begins.{begins, body_ok, body_failed}

@@ -1,6 +1,6 @@
 use Rattle.std.proofs.Common.{ℕ, sym, subst}
-use Rattle.prefix_law.specs.Promises.{Spelled, nothing}
-use Rattle.engine_words.specs.Changes.{TimedOp}
+use Rattle.crash_model.specs.Promises.{Spelled, nothing}
+use Rattle.change_codec.specs.ModelChanges.{TimedOp}
 use Rattle.commit_journal.specs.OnDisk.{is_on, value_at}
 use Rattle.commit_journal.specs.OnDisk as disk
 use Rattle.commit_journal.specs.Journals.{spelled_by, value_in, texts_of}

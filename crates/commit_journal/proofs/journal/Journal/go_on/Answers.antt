@@ -1,6 +1,6 @@
 use Rattle.std.proofs.Common.{◌∙◌, refl, inl, inr, sym, arith, ap, subst}
-use Rattle.prefix_law.specs.Promises.{JournalSays}
-use Rattle.engine_words.specs.Steps.{Says}
+use Rattle.crash_model.specs.Promises.{JournalSays}
+use Rattle.crash_model.specs.StepAnswers.{Says}
 use Rattle.commit_journal.specs.Journals.{value_in, choice_of, steps_in}
 use Rattle.commit_journal.specs.declared.journal.Phase.{Phase}
 use Rattle.commit_journal.proofs.Transitions.{ok_on}

@@ -1,5 +1,5 @@
 use Rattle.std.proofs.Common.{⊎_elim, []}
-use Rattle.engine_words.specs.Changes.{timed_elements}
+use Rattle.change_codec.specs.ModelChanges.{timed_elements}
 use Rattle.commit_journal.proofs.Progress.{goes_on}
 use Rattle.commit_journal.proofs.journal.Journal.step.Goals as goal
 

@@ -1,5 +1,5 @@
 use Rattle.std.proofs.Common.{refl, sym, subst}
-use Rattle.prefix_law.specs.Promises.{nothing}
+use Rattle.crash_model.specs.Promises.{nothing}
 use Rattle.commit_journal.specs.OnDisk.{is_on, value_at, Phase.GateWritten, Phase.Broken}
 use Rattle.commit_journal.specs.Journals.{spelled_by, texts_of}
 use Rattle.commit_journal.specs.declared.standing.Standing.{Standing}

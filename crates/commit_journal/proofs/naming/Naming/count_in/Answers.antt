@@ -1,8 +1,8 @@
 use Rattle.std.proofs.Common.{◌≡◌, ◌∙◌, ◌+◌, ◌++◌, ◌∷◌, [], ℕ, suc, List, append_assoc, cond, length, take, drop, sym, ap, subst, arith, option_map, slice_get}
 use Rattle.std.proofs.lemmas.List.{length-append, length-map, length-take, map-append, take_all}
 use Rattle.reg_tree.specs.declared.element.Element.{Element}
-use Rattle.prefix_law.specs.Changes as law
-use Rattle.engine_words.specs.Changes.{TimedOp, timed_element, timed_elements}
+use Rattle.crash_model.specs.Changes as law
+use Rattle.change_codec.specs.ModelChanges.{TimedOp, timed_element, timed_elements}
 use Rattle.commit_journal.specs.Naming.{names, AreLastIn}
 use Rattle.commit_journal.proofs.Namings.{at_place}
 use Rattle.commit_journal.proofs.Namings.{one_counted, take_more, written_back}

@@ -1,6 +1,6 @@
 use Rattle.std.proofs.Common.{◌≡◌, ◌+◌, ◌++◌, ℕ, List, length, take}
-use Rattle.prefix_law.specs.Changes as law
-use Rattle.engine_words.specs.Changes.{TimedOp, timed_elements}
+use Rattle.crash_model.specs.Changes as law
+use Rattle.change_codec.specs.ModelChanges.{TimedOp, timed_elements}
 use Rattle.commit_journal.specs.Naming.{AreLastIn}
 use Rattle.commit_journal.proofs.naming.Naming.count_in.Given as goal
 

@@ -3,7 +3,7 @@ use Rattle.std.proofs.lemmas.List.{take_all}
 use Rattle.byteorder.specs.Endian.{little_number}
 use Rattle.commit_journal.specs.Reading.{read_by}
 use Rattle.std.proofs.lemmas.List.{length-map}
-use Rattle.engine_words.specs.Changes.{timed_element}
+use Rattle.change_codec.specs.ModelChanges.{timed_element}
 use Rattle.commit_journal.specs.Told.{changes_told}
 use Rattle.commit_journal.proofs.Keepings.{follows_on, head_keeps, head_part}
 use Rattle.commit_journal.proofs.Transitions.{head_on, head_none, ok_on, refused_on}

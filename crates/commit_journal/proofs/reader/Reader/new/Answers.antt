@@ -1,7 +1,7 @@
 use Rattle.std.proofs.Common.{List, sym, ap, subst, arith}
 use Rattle.reg_tree.specs.declared.element.Element.{Element}
-use Rattle.prefix_law.specs.Promises.{Spelled, top}
-use Rattle.engine_words.specs.Changes.{TimedOp}
+use Rattle.crash_model.specs.Promises.{Spelled, top}
+use Rattle.change_codec.specs.ModelChanges.{TimedOp}
 use Rattle.commit_journal.specs.Reading.{KeepsElements}
 use Rattle.commit_journal.proofs.Keepings.{none_told}
 use Rattle.commit_journal.proofs.reader.Reader.new.Goals as goal

@@ -1,8 +1,8 @@
 use Rattle.std.proofs.Common.{◌≡◌, ◌∙◌, ◌+◌, ◌-◌, ◌*◌, ◌++◌, List, length, take, drop, take-append-drop, ap, sym, subst, arith}
 use Rattle.std.proofs.lemmas.List.{map-append}
-use Rattle.prefix_law.specs.Changes as law
-use Rattle.prefix_law.specs.Promises.{Spelled, floor}
-use Rattle.engine_words.specs.Changes.{TimedOp, timed_element, timed_elements}
+use Rattle.crash_model.specs.Changes as law
+use Rattle.crash_model.specs.Promises.{Spelled, floor}
+use Rattle.change_codec.specs.ModelChanges.{TimedOp, timed_element, timed_elements}
 use Rattle.commit_journal.specs.OnDisk.{longer}
 use Rattle.commit_journal.specs.Told.{changes_told, elements_told, spelled_told}
 use Rattle.commit_journal.specs.Standing.{IsStanding}

@@ -1,6 +1,6 @@
 use Rattle.std.proofs.Common.{◌≡◌, ◌++◌, take}
 use Rattle.commit_journal.specs.Told.{elements_told}
-use Rattle.engine_words.specs.Changes.{timed_elements}
+use Rattle.change_codec.specs.ModelChanges.{timed_elements}
 use Rattle.commit_journal.proofs.told.Told.then_all.Given as goal
 
 abbrev pub invariant-loop-element : goal.invariant-loop-element

@@ -1,6 +1,6 @@
 use Rattle.std.proofs.Common.{subst}
 use Rattle.engine.specs.Lives.{IsSafe}
-use Rattle.regtx_parts.specs.Players.{engine_of}
+use Rattle.script_runner.specs.Players.{engine_of}
 use Rattle.crash_lab.specs.Benches.{files_of}
 use Rattle.crash_lab.proofs.Lines.{also_kept}
 use Rattle.crash_lab.proofs.bench.Laboratory.answer.Goals as goal

@@ -1,8 +1,8 @@
 use Rattle.std.proofs.Common.{◌≡◌, ◌∙◌, ℕ, Some, IfSome, ap, sym, subst}
-use Rattle.machine.specs.Machine.{bounds_for, fresh_machine}
-use Rattle.machine.specs.Steps.{with_session}
+use Rattle.store_model.specs.Machine.{bounds_for, fresh_machine}
+use Rattle.store_model.specs.Steps.{with_session}
 use Rattle.engine.specs.Lives.{IsSafe}
-use Rattle.regtx_parts.specs.Scripts.{hives_asked, script_at}
+use Rattle.script_runner.specs.Scripts.{hives_asked, script_at}
 use Rattle.crash_lab.specs.Benches.{files_of}
 use Rattle.crash_lab.proofs.bench.Laboratory.begin.Goals as goal
 

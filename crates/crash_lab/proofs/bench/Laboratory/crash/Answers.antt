@@ -1,6 +1,6 @@
 use Rattle.std.proofs.Common.{◌≡◌, ◌∙◌, ap, refl, sym, subst}
-use Rattle.regtx_parts.specs.Players.{engine_of, script_of}
-use Rattle.regtx_parts.specs.Scripts.{script_at}
+use Rattle.script_runner.specs.Players.{engine_of, script_of}
+use Rattle.script_runner.specs.Scripts.{script_at}
 use Rattle.crash_lab.specs.Benches.{bench_of, files_of}
 use Rattle.crash_lab.specs.Crashes.{MayStayShut, OpensBehind}
 use Rattle.crash_lab.specs.Experiments.{Crashes}

@@ -1,8 +1,8 @@
 use Rattle.std.proofs.Common.{◌≡◌, ◌∙◌, ◌<◌, true≢false, refl, sym, subst, arith}
-use Rattle.machine.specs.declared.event.Event.TheVariants as event
-use Rattle.reg_script.specs.declared.reply.ReplyLine.TheVariants as reply
-use Rattle.regtx_parts.specs.Players.{script_of}
-use Rattle.regtx_parts.specs.Scripts.{Asks}
+use Rattle.store_model.specs.declared.event.Event.TheVariants as event
+use Rattle.script_syntax.specs.declared.reply.ReplyLine.TheVariants as reply
+use Rattle.script_runner.specs.Players.{script_of}
+use Rattle.script_runner.specs.Scripts.{Asks}
 use Rattle.crash_lab.specs.Experiments.{most_steps}
 use Rattle.crash_lab.proofs.Flushing.{last_step, step_before, none_left}
 use Rattle.crash_lab.proofs.bench.Laboratory.flush_whole.Goals as goal

@@ -1,7 +1,7 @@
 use Rattle.std.proofs.Common.{◌≡◌, ◌-◌, ℕ}
-use Rattle.reg_script.specs.declared.reply.ReplyLine.{ReplyLine}
-use Rattle.regtx_parts.specs.Players.{script_of}
-use Rattle.regtx_parts.specs.Scripts.{Script}
+use Rattle.script_syntax.specs.declared.reply.ReplyLine.{ReplyLine}
+use Rattle.script_runner.specs.Players.{script_of}
+use Rattle.script_runner.specs.Scripts.{Script}
 use Rattle.crash_lab.specs.Experiments.{Flushes, IsFlushedWhole, most_steps}
 use Rattle.crash_lab.proofs.bench.Laboratory.flush_whole.Given as goal
 

@@ -1,9 +1,9 @@
 use Rattle.std.proofs.Common.{◌≡◌, refl, subst, arith}
 use Rattle.commit_journal.specs.Store.{Store}
 use Rattle.commit_journal.specs.Journals.{changes_of, store_of}
-use Rattle.engine_law.specs.Engines.{EngineAnswers, NeedsNoDevice}
-use Rattle.engine_law.specs.Prefixes.{IsSafeAt}
-use Rattle.machine.specs.Steps.{Step}
+use Rattle.engine_invariant.specs.Engines.{EngineAnswers, NeedsNoDevice}
+use Rattle.engine_invariant.specs.Prefixes.{IsSafeAt}
+use Rattle.store_model.specs.Steps.{Step}
 use Rattle.engine.specs.Events.{parts_view}
 use Rattle.engine.specs.Shown.{Shown, engine_view}
 use Rattle.engine.proofs.Answering.{answered}

@@ -1,7 +1,7 @@
 use Rattle.std.proofs.Common.{ap, refl, subst, sym}
 use Rattle.commit_journal.specs.Store.{Store}
 use Rattle.commit_journal.specs.Journals.{changes_of, store_of}
-use Rattle.engine_law.specs.Prefixes.{AreOnDisk, IsSafeAt}
+use Rattle.engine_invariant.specs.Prefixes.{AreOnDisk, IsSafeAt}
 use Rattle.engine.specs.Shown.{Shown}
 use Rattle.engine.specs.declared.parts.Parts.{Parts}
 use Rattle.engine.proofs.engine.Engine.finish.Goals as goal

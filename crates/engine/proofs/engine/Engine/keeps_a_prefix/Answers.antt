@@ -1,6 +1,6 @@
 use Rattle.std.proofs.Common.{refl, subst}
 use Rattle.commit_journal.specs.Journals.{changes_of, store_of}
-use Rattle.engine_law.specs.Prefixes.{IsSafeAt}
+use Rattle.engine_invariant.specs.Prefixes.{IsSafeAt}
 use Rattle.engine.specs.Shown.{Shown}
 use Rattle.engine.proofs.engine.Engine.keeps_a_prefix.Goals as goal
 

@@ -1,9 +1,9 @@
 use Rattle.std.proofs.Common.{◌≡◌, ◌∙◌, sym, ap, subst, map, arith, List}
 use Rattle.reg_tree.specs.declared.element.Element.{Element}
 use Rattle.commit_journal.specs.Journals.{changes_of, choice_of}
-use Rattle.machine.specs.Machine.{Machine, bounds_of}
-use Rattle.engine_law.specs.States.{IsConsistent}
-use Rattle.engine_law.specs.Prefixes.{view_of}
+use Rattle.store_model.specs.Machine.{Machine, bounds_of}
+use Rattle.engine_invariant.specs.States.{IsConsistent}
+use Rattle.engine_invariant.specs.Prefixes.{view_of}
 use Rattle.recovery.specs.Kept.{AreWhole}
 use Rattle.recovery.specs.declared.found.Found.{Found}
 use Rattle.engine.specs.AtHand.{AreAtHand}

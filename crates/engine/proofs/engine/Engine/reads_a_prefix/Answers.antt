@@ -2,10 +2,10 @@ use Rattle.std.proofs.Common.{◌∙◌, inl, inr, arith, length, refl, subst, s
 use Rattle.std.proofs.lemmas.List.{length-map}
 use Rattle.disk_model.specs.Crash.{LeavesHonest}
 use Rattle.commit_journal.specs.Journals.{changes_of, store_of}
-use Rattle.engine_law.specs.Prefixes.{IsPrefix, IsPrimaryOf, Recover, view_of}
-use Rattle.engine_law.specs.Progress.{HasPending}
-use Rattle.engine_law.proofs.HiveLists.{view_at}
-use Rattle.machine.specs.Machine.{last_number, trees_now}
+use Rattle.engine_invariant.specs.Prefixes.{IsPrefix, IsPrimaryOf, Recover, view_of}
+use Rattle.engine_invariant.specs.Progress.{HasPending}
+use Rattle.engine_invariant.proofs.HiveLists.{view_at}
+use Rattle.store_model.specs.Machine.{last_number, trees_now}
 use Rattle.recovery.specs.Recovered.{seen_in}
 use Rattle.engine.specs.Shown.{Shown}
 use Rattle.engine.specs.Work.{IsReadable}

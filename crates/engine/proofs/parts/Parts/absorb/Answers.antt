@@ -1,7 +1,7 @@
 use Rattle.std.proofs.Common.{◌∙◌, ◌-◌, ◌++◌, sym, ap, arith, length, take, drop}
 use Rattle.std.proofs.lemmas.List.{length-drop, length-set}
 use Rattle.hive_flush.specs.HiveStates.{led_to, memory_of, place_of}
-use Rattle.engine_law.proofs.HiveLists.{get_other}
+use Rattle.engine_invariant.proofs.HiveLists.{get_other}
 use Rattle.commit_journal.specs.Journals.{changes_of}
 use Rattle.engine.proofs.Advancing.{takes_at}
 use Rattle.engine.proofs.Sound.{at_place, same_hive}

@@ -1,9 +1,9 @@
 use Rattle.std.proofs.Common.{ap, arith, refl, sym, Ok}
 use Rattle.std.proofs.lemmas.Result.{err_from_is_err_and}
-use Rattle.machine.specs.declared.event.Event.TheVariants as event
-use Rattle.engine_words.specs.declared.Progress.TheVariants as progress
-use Rattle.engine_law.specs.Answers.{reply_to}
-use Rattle.engine_law.proofs.HiveLists.{at_slot}
+use Rattle.store_model.specs.declared.event.Event.TheVariants as event
+use Rattle.disk_model.specs.declared.progress.Progress.TheVariants as progress
+use Rattle.engine_invariant.specs.Answers.{reply_to}
+use Rattle.engine_invariant.proofs.HiveLists.{at_slot}
 use Rattle.commit_journal.specs.Journals.{changes_of}
 use Rattle.engine.proofs.Advancing.{flush_comes_on, from_rest, refused_comes_on}
 use Rattle.engine.proofs.Sound.{at_place}

@@ -1,8 +1,8 @@
 use Rattle.std.proofs.Common.{map, ◌∙◌, ap, not, sym, subst, refl, arith}
 use Rattle.std.proofs.lemmas.Bool.{true≢false}
-use Rattle.machine.specs.Steps.{Step}
+use Rattle.store_model.specs.Steps.{Step}
 use Rattle.commit_journal.specs.Journals.{changes_of, choice_of}
-use Rattle.engine_law.specs.Prefixes.{view_of}
+use Rattle.engine_invariant.specs.Prefixes.{view_of}
 use Rattle.engine.proofs.Calm.{calm_keeps}
 use Rattle.engine.proofs.Idling.{calm_idles}
 use Rattle.engine.proofs.Advancing.{calm_comes_on}

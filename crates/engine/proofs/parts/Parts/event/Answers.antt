@@ -1,8 +1,8 @@
 use Rattle.std.proofs.Common.{sym, subst, map}
-use Rattle.machine.specs.declared.event.Event.{Event}
+use Rattle.store_model.specs.declared.event.Event.{Event}
 use Rattle.commit_journal.specs.Journals.{changes_of, choice_of}
-use Rattle.engine_law.specs.Idle.{IdlesExactly}
-use Rattle.engine_law.specs.Prefixes.{view_of}
+use Rattle.engine_invariant.specs.Idle.{IdlesExactly}
+use Rattle.engine_invariant.specs.Prefixes.{view_of}
 use Rattle.engine.proofs.Idling.{replied_idle}
 use Rattle.engine.proofs.parts.Parts.event.Goals as goal
 

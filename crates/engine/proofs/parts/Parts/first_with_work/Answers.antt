@@ -1,7 +1,7 @@
 use Rattle.std.proofs.Common.{◌∙◌, inl, inr, sym, subst, arith, refl, map}
 use Rattle.std.proofs.lemmas.Bool.{cases_eq}
-use Rattle.engine_law.specs.Idle.{IsFlushed}
-use Rattle.engine_law.specs.Prefixes.{view_of}
+use Rattle.engine_invariant.specs.Idle.{IsFlushed}
+use Rattle.engine_invariant.specs.Prefixes.{view_of}
 use Rattle.commit_journal.specs.Journals.{changes_of}
 use Rattle.engine.proofs.parts.Parts.first_with_work.Goals as goal
 

@@ -1,5 +1,5 @@
 use Rattle.std.proofs.Common.{map}
-use Rattle.engine_law.specs.Prefixes.{view_of}
+use Rattle.engine_invariant.specs.Prefixes.{view_of}
 use Rattle.commit_journal.specs.Journals.{changes_of}
 use Rattle.engine.specs.Work.{AreFlushed}
 use Rattle.engine.proofs.parts.Parts.first_with_work.Given as goal

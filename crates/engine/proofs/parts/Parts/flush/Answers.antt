@@ -1,10 +1,10 @@
 use Rattle.std.proofs.Common.{◌≡◌, Ok, Some, subst}
 use Rattle.std.specs.Prelude.{slice_get}
-use Rattle.engine_words.specs.declared.Progress.{Progress}
+use Rattle.disk_model.specs.declared.progress.Progress.{Progress}
 use Rattle.hive_flush.specs.HiveStates.{memory_of}
-use Rattle.engine_law.specs.Answers.{reply_to}
-use Rattle.engine_law.specs.Prefixes.{view_of}
-use Rattle.engine_law.specs.Progress.{FlushesOn, IsMade, flush_of}
+use Rattle.engine_invariant.specs.Answers.{reply_to}
+use Rattle.engine_invariant.specs.Prefixes.{view_of}
+use Rattle.engine_invariant.specs.Progress.{FlushesOn, IsMade, flush_of}
 use Rattle.engine.specs.declared.parts.Parts.{Parts}
 use Rattle.engine.proofs.parts.Parts.flush.Goals as goal
 

@@ -1,11 +1,11 @@
 use Rattle.std.proofs.Common.{◌≡◌, ◌↔◌, ◌∙◌, ap, sym, map, subst, arith, refl, slice_get, Some, Ok, Err}
 use Rattle.std.proofs.lemmas.Result.{err_from_is_err_and}
 use Rattle.std.proofs.lemmas.Bool.{true≢false}
-use Rattle.engine_words.specs.declared.Progress.TheVariants as progress
-use Rattle.engine_law.specs.Idle.{IsFlushed}
-use Rattle.engine_law.specs.Prefixes.{view_of}
-use Rattle.engine_law.specs.Answers.{reply_to}
-use Rattle.machine.specs.declared.event.Event.TheVariants as event
+use Rattle.disk_model.specs.declared.progress.Progress.TheVariants as progress
+use Rattle.engine_invariant.specs.Idle.{IsFlushed}
+use Rattle.engine_invariant.specs.Prefixes.{view_of}
+use Rattle.engine_invariant.specs.Answers.{reply_to}
+use Rattle.store_model.specs.declared.event.Event.TheVariants as event
 use Rattle.refusals.specs.declared.refusal.Refusal.TheVariants.{NotFound}
 use Rattle.hive_flush.specs.HiveStates.{files_of, memory_of}
 use Rattle.hive_flush.specs.declared.hive.HiveFile.{HiveFile}

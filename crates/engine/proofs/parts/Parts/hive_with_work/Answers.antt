@@ -1,6 +1,6 @@
 use Rattle.std.proofs.Common.{map}
 use Rattle.std.proofs.lemmas.Option.{IfSome_then}
-use Rattle.engine_law.specs.Prefixes.{view_of}
+use Rattle.engine_invariant.specs.Prefixes.{view_of}
 use Rattle.commit_journal.specs.Journals.{changes_of}
 use Rattle.engine.proofs.Around.{as_many, found_behind, found_around, none_around, none_then}
 use Rattle.engine.proofs.parts.Parts.hive_with_work.Goals as goal

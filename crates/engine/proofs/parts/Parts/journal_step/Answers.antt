@@ -1,10 +1,10 @@
 use Rattle.std.proofs.Common.{◌+◌, ◌-◌, ◌∙◌, inl, inr, ap, arith, length, refl, sym, subst}
 use Rattle.std.proofs.lemmas.List.{length-drop}
 use Rattle.std.proofs.lemmas.Result.{err_from_is_err_and}
-use Rattle.prefix_law.specs.Promises.{JournalSays}
-use Rattle.engine_words.specs.Changes.{timed_elements}
-use Rattle.machine.specs.declared.event.Event.TheVariants as event
-use Rattle.engine_law.specs.Answers.{reply_to, after_step}
+use Rattle.crash_model.specs.Promises.{JournalSays}
+use Rattle.change_codec.specs.ModelChanges.{timed_elements}
+use Rattle.store_model.specs.declared.event.Event.TheVariants as event
+use Rattle.engine_invariant.specs.Answers.{reply_to, after_step}
 use Rattle.engine.specs.Events.{ComesOn, GoesOn}
 use Rattle.engine.proofs.Advancing.{journal_comes_on, nearer_where, refused_comes_on}
 use Rattle.engine.proofs.Frames.{quiet_by, refused_still}

@@ -1,6 +1,6 @@
 use Rattle.std.proofs.Common.{◌≡◌, ◌∙◌, ◌-◌, ℕ, List, length, drop, min, sym, ap, subst, arith, slice_get}
 use Rattle.hive_flush.specs.declared.hive.HiveFile.{HiveFile}
-use Rattle.machine.specs.Machine.{Machine}
+use Rattle.store_model.specs.Machine.{Machine}
 use Rattle.commit_journal.specs.Journals.{changes_of}
 use Rattle.engine.specs.Naming.{AreLastNaming}
 use Rattle.engine.proofs.Sound.{told_sound}

@@ -1,11 +1,11 @@
 use Rattle.std.proofs.Common.{◌∙◌, ap, sym, subst, length, List, [], ◌∷◌, ◌++◌, arith, refl, append_assoc, length-append}
-use Rattle.machine.specs.Steps.{Run}
-use Rattle.machine.specs.declared.event.Event.{Event}
-use Rattle.machine.specs.declared.event.Reply.{Reply}
+use Rattle.store_model.specs.Steps.{Run}
+use Rattle.store_model.specs.declared.event.Event.{Event}
+use Rattle.store_model.specs.declared.event.Reply.{Reply}
 use Rattle.commit_journal.specs.Store.{Store}
 use Rattle.commit_journal.specs.Journals.{changes_of, store_of}
-use Rattle.engine_law.specs.Prefixes.{IsSafeAt}
-use Rattle.engine_law.specs.Runs.{AnswersInTurn, RunsSafely}
+use Rattle.engine_invariant.specs.Prefixes.{IsSafeAt}
+use Rattle.engine_invariant.specs.Runs.{AnswersInTurn, RunsSafely}
 use Rattle.engine.specs.Events.{parts_view}
 use Rattle.engine.proofs.Answering.{answered}
 use Rattle.engine.proofs.RunLists.{run_on, run_long}

@@ -1,9 +1,9 @@
 use Rattle.std.proofs.Common.{◌≡◌, ◌≤◌, ◌++◌, length}
 use Rattle.std.specs.Prelude.{vec_capacity}
-use Rattle.machine.specs.Steps.{Run}
+use Rattle.store_model.specs.Steps.{Run}
 use Rattle.commit_journal.specs.Journals.{store_of}
-use Rattle.engine_law.specs.Prefixes.{AreOnDisk, IsSafeAt}
-use Rattle.engine_law.specs.Runs.{AnswersInTurn, RunsSafely}
+use Rattle.engine_invariant.specs.Prefixes.{AreOnDisk, IsSafeAt}
+use Rattle.engine_invariant.specs.Runs.{AnswersInTurn, RunsSafely}
 use Rattle.engine.specs.Events.{parts_view}
 use Rattle.engine.specs.Parts.{IsSound}
 use Rattle.engine.proofs.parts.Parts.run.Given as goal

@@ -1,9 +1,9 @@
 use Rattle.std.proofs.Common.{◌∙◌, ◌-◌, arith, ap, length, Ok, List}
 use Rattle.std.proofs.lemmas.List.{length-drop, length-take}
 use Rattle.reg_tree.specs.declared.element.Element.{Element}
-use Rattle.machine.specs.Machine.{Machine}
+use Rattle.store_model.specs.Machine.{Machine}
 use Rattle.commit_journal.specs.Journals.{choice_of}
-use Rattle.engine_words.specs.declared.Progress.{Progress}
+use Rattle.disk_model.specs.declared.progress.Progress.{Progress}
 use Rattle.engine.proofs.Journaling.{top_same}
 use Rattle.engine.proofs.parts.Parts.settle.Goals as goal
 

@@ -1,16 +1,16 @@
 use Rattle.std.proofs.Common.{◌∙◌, inr, refl, sym, subst, map}
-use Rattle.prefix_law.specs.Promises.{TrimSays}
-use Rattle.engine_words.specs.Steps.{Says}
+use Rattle.crash_model.specs.Promises.{TrimSays}
+use Rattle.crash_model.specs.StepAnswers.{Says}
 use Rattle.std.proofs.lemmas.Result.{err_from_is_err_and}
-use Rattle.machine.specs.declared.event.Event.TheVariants as event
-use Rattle.engine_law.specs.Answers.{reply_to}
+use Rattle.store_model.specs.declared.event.Event.TheVariants as event
+use Rattle.engine_invariant.specs.Answers.{reply_to}
 use Rattle.engine.specs.Events.{ComesOn, GoesOn}
 use Rattle.engine.proofs.Advancing.{idle_comes_on, refused_comes_on, trim_comes_on}
 use Rattle.engine.proofs.Frames.{quiet_by, refused_still, trim_still}
 use Rattle.engine.proofs.Sound.{settled_is}
 use Rattle.engine.proofs.Journaling.{trim_goes, journal_goes_on, rises_by}
 use Rattle.commit_journal.specs.Journals.{changes_of, choice_of}
-use Rattle.engine_law.specs.Prefixes.{view_of}
+use Rattle.engine_invariant.specs.Prefixes.{view_of}
 use Rattle.engine.proofs.Idling.{trim_idles}
 use Rattle.engine.proofs.parts.Parts.trim_step.Goals as goal
 

@@ -1,10 +1,10 @@
 use Rattle.std.proofs.Common.{◌≡◌, ◌∙◌, ap, sym, subst, ℕ, refl, slice_get}
-use Rattle.machine.specs.Steps.{Step}
-use Rattle.machine.specs.Machine.{Machine}
-use Rattle.machine.specs.declared.event.Event.TheVariants as event
-use Rattle.engine_law.specs.Answers.{reply_to}
-use Rattle.engine_words.specs.Steps.{Says}
-use Rattle.prefix_law.specs.Promises.{HiveSays}
+use Rattle.store_model.specs.Steps.{Step}
+use Rattle.store_model.specs.Machine.{Machine}
+use Rattle.store_model.specs.declared.event.Event.TheVariants as event
+use Rattle.engine_invariant.specs.Answers.{reply_to}
+use Rattle.crash_model.specs.StepAnswers.{Says}
+use Rattle.crash_model.specs.Promises.{HiveSays}
 use Rattle.hive_flush.specs.HiveStates.{IsOn, files_of, memory_of, place_of}
 use Rattle.disk_model.specs.FileState.{FileState}
 use Rattle.disk_model.specs.StoreFiles.{IsOfHive, primary_file, log_file}
@@ -12,8 +12,8 @@ use Rattle.commit_journal.specs.Journals.{changes_of}
 use Rattle.engine.specs.Events.{GoesOn}
 use Rattle.engine.proofs.Sound.{at_place, flush_sound}
 use Rattle.engine.proofs.Frames.{any_call, has_failed, works_else, quiet_by, flush_still}
-use Rattle.engine_law.proofs.HiveLists.{get_other, hive_writes, view_at}
-use Rattle.engine_law.specs.Prefixes.{view_of}
+use Rattle.engine_invariant.proofs.HiveLists.{get_other, hive_writes, view_at}
+use Rattle.engine_invariant.specs.Prefixes.{view_of}
 use Rattle.engine.specs.declared.parts.Parts.{Parts}
 use Rattle.engine.proofs.Advancing.{writes_at, writes_on}
 use Rattle.std.proofs.lemmas.List.{length-set}

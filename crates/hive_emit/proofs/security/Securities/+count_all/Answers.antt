@@ -6,7 +6,7 @@ use Rattle.hive_emit.specs.Emitting.{IsCounted, AreCounted}
 use Rattle.hive_emit.proofs.Owns.{row_same, own_can}
 use Rattle.hive_emit.proofs.KeyProofs.{can_kid, kids_can, kid_there}
 use Rattle.hive_emit.proofs.Securing.{counted_kept, row_kept, counted_next, counted_whole}
-use Rattle.hive_emit.specs.Costs.{row_security_cost, descriptors_cost}
+use Rattle.hive_emit.specs.KeyCosts.{row_security_cost, descriptors_cost}
 use Rattle.hive_emit.specs.Forms.{has_descriptor, keys_with}
 use Rattle.hive_emit.specs.Securing.{tallies, Counts}
 use Rattle.hive_emit.proofs.Counting.{counts_as, counts_then, kid_next, node_long, node_with}

@@ -4,7 +4,7 @@ use Rattle.reg_tree_parts.specs.Nodes.{all_below, row_at, subkeys_of}
 use Rattle.hive_emit.specs.Emitting.{IsCounted, AreCounted, Keeps, AreShort}
 use Rattle.hive_emit.specs.Forms.{has_descriptor, keys_with}
 use Rattle.hive_emit.specs.Securing.{tallies, Counts, AreSome}
-use Rattle.hive_emit.specs.Costs.{securities_cost, row_security_cost, descriptors_cost}
+use Rattle.hive_emit.specs.KeyCosts.{securities_cost, row_security_cost, descriptors_cost}
 use Rattle.hive_emit.proofs.security.Securities.+count_all.Given as goal
 
 abbrev pub invariant-loop-index : goal.invariant-loop-index

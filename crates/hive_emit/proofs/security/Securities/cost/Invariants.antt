@@ -1,5 +1,5 @@
 use Rattle.std.proofs.Common.{◌≡◌, take}
-use Rattle.hive_emit.specs.Costs.{securities_cost}
+use Rattle.hive_emit.specs.KeyCosts.{securities_cost}
 use Rattle.hive_emit.proofs.security.Securities.cost.Given as goal
 
 abbrev pub invariant-loop-security : goal.invariant-loop-security

@@ -1,5 +1,5 @@
 use Rattle.std.proofs.Common.{List, ℕ, length, sym, ◌∙◌, subst}
-use Rattle.hive_key_writer.proofs.Leaves.{is_zero}
+use Rattle.hive_emit.proofs.Leaves.{is_zero}
 use Rattle.hive_emit.specs.Securing.{tallies, one_with, Counts}
 use Rattle.hive_emit.proofs.Counting.{counts_none}
 use Rattle.hive_emit.proofs.Owns.{nothing}

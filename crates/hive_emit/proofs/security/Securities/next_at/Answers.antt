@@ -1,5 +1,5 @@
 use Rattle.std.proofs.Common.{◌≡◌, ◌<◌, length, ap, ◌∙◌, arith}
-use Rattle.hive_emit.specs.Costs.{securities_cost}
+use Rattle.hive_emit.specs.KeyCosts.{securities_cost}
 use Rattle.hive_emit.proofs.KeySums.{one_within}
 use Rattle.hive_emit.proofs.security.Securities.next_at.Goals as goal
 

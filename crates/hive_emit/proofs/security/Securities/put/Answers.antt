@@ -1,13 +1,13 @@
 use Rattle.std.proofs.Common.{◌≡◌, ◌<◌, ◌+◌, ◌^◌, ◌++◌, ℕ, List, length, length-append, take, sym, ap, ◌∙◌, subst, arith, refl}
 use Rattle.hive_records.specs.KeyTexts.{security_text}
-use Rattle.hive_key_writer.specs.Making.{Makes, Puts, Uses, cell_cost}
+use Rattle.hive_emit.specs.Making.{Makes, Puts, Uses, cell_cost}
 use Rattle.hive_emit.specs.declared.security.Security.{Security}
 use Rattle.hive_emit.specs.Emitting.{Holding, Has, AreShort}
 use Rattle.hive_emit.proofs.Securing.{none_held, one_held, set_keeps, same_read, short_at, short_set, long_set, there_is, linked}
 use Rattle.std.proofs.lemmas.List.{take_all}
 use Rattle.hive_records.proofs.Sizes.{long_security}
-use Rattle.hive_key_writer.proofs.NewCells.{none_used, lands_used, stops_later}
-use Rattle.hive_emit.specs.Costs.{security_cost, securities_cost}
+use Rattle.hive_emit.proofs.NewCells.{none_used, lands_used, stops_later}
+use Rattle.hive_emit.specs.KeyCosts.{security_cost, securities_cost}
 use Rattle.hive_emit.specs.Forms.{behind}
 use Rattle.hive_emit.specs.Securing.{tallies, AreApart, spot, Laid}
 use Rattle.hive_emit.proofs.Counting.{tallies_set}

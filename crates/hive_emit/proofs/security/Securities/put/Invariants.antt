@@ -1,8 +1,8 @@
 use Rattle.std.proofs.Common.{◌≡◌, ◌+◌, ◌<◌, ℕ, length, take}
-use Rattle.hive_key_writer.specs.Making.{Makes, RoomyAt, Uses}
+use Rattle.hive_emit.specs.Making.{Makes, RoomyAt, Uses}
 use Rattle.hive_emit.specs.Emitting.{Holding, Keeps, AreShort}
 use Rattle.hive_emit.specs.Securing.{tallies, spot, Laid}
-use Rattle.hive_emit.specs.Costs.{securities_cost}
+use Rattle.hive_emit.specs.KeyCosts.{securities_cost}
 use Rattle.hive_emit.proofs.security.Securities.put.Given as goal
 
 abbrev pub invariant-loop-index : goal.invariant-loop-index

@@ -1,5 +1,5 @@
 use Rattle.std.proofs.Common.{◌≡◌, ℕ, List, refl, sym, ap, subst, ◌∙◌}
-use Rattle.hive_phases.specs.Plans.{Marks}
+use Rattle.hive_flush_model.specs.Plans.{Marks}
 use Rattle.hive_writer.specs.declared.writer.HiveWriter.{HiveWriter}
 use Rattle.hive_flush.specs.HiveStates.{IsOnBy, memory_of, now_of}
 use Rattle.hive_flush.specs.Planned.{block_for}

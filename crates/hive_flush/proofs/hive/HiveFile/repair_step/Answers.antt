@@ -1,10 +1,10 @@
 use Rattle.std.proofs.Common.{◌≡◌, ℕ, sym, ap, subst, Some, Ok, Err}
-use Rattle.engine_words.specs.declared.Progress.{Progress}
-use Rattle.engine_words.specs.declared.Progress.TheVariants as progress
+use Rattle.disk_model.specs.declared.progress.Progress.{Progress}
+use Rattle.disk_model.specs.declared.progress.Progress.TheVariants as progress
 use Rattle.reg_tree.specs.Maps.{TreeMap}
 use Rattle.disk_model.specs.FileState.{FileState}
-use Rattle.hive_phases.specs.Holding.{Standing, tree_under}
-use Rattle.hive_phases.specs.Plans.{IsReady}
+use Rattle.hive_flush_model.specs.Holding.{Standing, tree_under}
+use Rattle.hive_flush_model.specs.Plans.{IsReady}
 use Rattle.dirty_vector.specs.Pages.{clean_pages}
 use Rattle.hive_flush.specs.Planned.{block_again}
 use Rattle.hive_writer.specs.declared.writer.HiveWriter.{HiveWriter}

@@ -1,6 +1,6 @@
 use Rattle.std.proofs.Common.{◌≡◌, ℕ, List, subst, sym, Some}
-use Rattle.hive_phases.specs.Plans.{IsReady}
-use Rattle.hive_phases.specs.Holding.{tree_under}
+use Rattle.hive_flush_model.specs.Plans.{IsReady}
+use Rattle.hive_flush_model.specs.Holding.{tree_under}
 use Rattle.hive_writer.specs.Writing.{plan_of}
 use Rattle.hive_flush.proofs.hive.HiveFile.settle.Goals as goal
 

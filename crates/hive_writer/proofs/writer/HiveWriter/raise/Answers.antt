@@ -1,8 +1,8 @@
 use Rattle.std.proofs.Common.{ℕ, List, subst, arith}
 use Rattle.disk_model.specs.FileState.{Writes, MayWrite}
 use Rattle.disk_model.specs.StoreFiles.{primary_file, log_file}
-use Rattle.hive_phases.specs.Phases.{Phase.Logged, Phase.Raised}
-use Rattle.hive_phases.proofs.Moving.{raised_written, raised_failed}
+use Rattle.hive_flush_model.specs.Phases.{Phase.Logged, Phase.Raised}
+use Rattle.hive_flush_model.proofs.Moving.{raised_written, raised_failed}
 use Rattle.hive_writer.specs.Writing.{plan_of, work_of}
 use Rattle.hive_writer.proofs.Moved.{log_same, raised_is}
 use Rattle.hive_writer.proofs.writer.HiveWriter.raise.Goals as goal

@@ -1,6 +1,6 @@
 use Rattle.std.proofs.Common.{ℕ, refl, subst}
 use Rattle.disk_model.specs.FileState.{FileState}
-use Rattle.hive_phases.specs.Plans.{Plan}
+use Rattle.hive_flush_model.specs.Plans.{Plan}
 use Rattle.hive_writer.specs.Writing.{plan_of, work_of, Leads}
 use Rattle.hive_writer.proofs.Stepped.{settled_on, settled_keeps, begun_on, begun_keeps, begun_plan, begun_says}
 use Rattle.hive_writer.proofs.writer.HiveWriter.step.Goals as goal

@@ -1,7 +1,7 @@
 use Rattle.std.proofs.Common.{◌≡◌, ◌*◌, length, min, sym, subst}
 use Rattle.disk_model.specs.FileState.{at_rest}
 use Rattle.disk_model.specs.StoreFiles.{primary_file, log_file}
-use Rattle.hive_phases.specs.Phases.{Phase.Logging, Phase.Logged}
+use Rattle.hive_flush_model.specs.Phases.{Phase.Logging, Phase.Logged}
 use Rattle.hive_writer.specs.Writing.{plan_of, work_of}
 use Rattle.hive_writer.proofs.Moved.{log_same, primary_same, all_synced}
 use Rattle.hive_writer.proofs.writer.HiveWriter.sync_log.Goals as goal

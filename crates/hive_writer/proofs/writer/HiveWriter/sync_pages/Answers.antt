@@ -1,7 +1,7 @@
 use Rattle.std.proofs.Common.{◌*◌, ◌∙◌, ap, sym, arith}
 use Rattle.disk_model.specs.FileState.{FileState, at_rest}
 use Rattle.disk_model.specs.StoreFiles.{primary_file, log_file}
-use Rattle.hive_phases.specs.Phases.{Phase.Paging, Phase.Paged}
+use Rattle.hive_flush_model.specs.Phases.{Phase.Paging, Phase.Paged}
 use Rattle.hive_writer.specs.Writing.{work_of, purpose_in}
 use Rattle.hive_writer.proofs.Moved.{log_same, primary_same, none_left}
 use Rattle.hive_writer.proofs.writer.HiveWriter.sync_pages.Goals as goal

@@ -1,7 +1,7 @@
 use Rattle.std.proofs.Common.{arith}
 use Rattle.disk_model.specs.StoreFiles.{primary_file, log_file}
-use Rattle.hive_phases.specs.Phases.{Phase.Raised, Phase.Paging, Purpose.Flush}
-use Rattle.hive_phases.proofs.Moving.{raised_synced}
+use Rattle.hive_flush_model.specs.Phases.{Phase.Raised, Phase.Paging, Purpose.Flush}
+use Rattle.hive_flush_model.proofs.Moving.{raised_synced}
 use Rattle.hive_writer.specs.Writing.{plan_of, work_of}
 use Rattle.hive_writer.proofs.Moved.{log_same, primary_same}
 use Rattle.hive_writer.proofs.writer.HiveWriter.sync_raised.Goals as goal

@@ -1,8 +1,8 @@
 use Rattle.std.proofs.Common.{ℕ, List, sym, ◌∙◌, subst, arith}
 use Rattle.disk_model.specs.FileState.{Writes, MayWrite}
 use Rattle.disk_model.specs.StoreFiles.{primary_file, log_file}
-use Rattle.hive_phases.specs.Phases.{Phase.Paged, Phase.Finished}
-use Rattle.hive_phases.proofs.Moving.{final_written, final_failed}
+use Rattle.hive_flush_model.specs.Phases.{Phase.Paged, Phase.Finished}
+use Rattle.hive_flush_model.proofs.Moving.{final_written, final_failed}
 use Rattle.hive_writer.specs.Writing.{work_of, purpose_in}
 use Rattle.hive_writer.proofs.Moved.{log_same}
 use Rattle.hive_writer.proofs.writer.HiveWriter.write_last.Goals as goal

@@ -2,7 +2,7 @@ use Rattle.std.proofs.Common.{ℕ, ◌+◌, ◌*◌, List, length, drop, min, ap
 use Rattle.std.proofs.lemmas.List.{length-take}
 use Rattle.disk_model.specs.FileState.{Writes, MayWrite}
 use Rattle.disk_model.specs.StoreFiles.{primary_file, log_file}
-use Rattle.hive_phases.specs.Phases.{Phase.Logging}
+use Rattle.hive_flush_model.specs.Phases.{Phase.Logging}
 use Rattle.hive_writer.specs.Writing.{plan_of, work_of}
 use Rattle.hive_writer.proofs.Moved.{primary_same, piece_written, piece_failed}
 use Rattle.hive_writer.proofs.writer.HiveWriter.write_log_piece.Goals as goal

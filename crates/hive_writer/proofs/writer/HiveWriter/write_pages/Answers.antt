@@ -1,6 +1,6 @@
 use Rattle.std.proofs.Common.{inr, ◌<◌, ◌+◌, ◌*◌, ◌-◌, ◌≤◌, take, drop, refl, arith}
 use Rattle.disk_model.specs.StoreFiles.{primary_file, log_file}
-use Rattle.hive_phases.specs.Phases.{Phase.Paging}
+use Rattle.hive_flush_model.specs.Phases.{Phase.Paging}
 use Rattle.hive_writer.specs.Writing.{work_of, purpose_in}
 use Rattle.hive_writer.proofs.Moved.{log_same, run_written, run_failed, run_falls}
 use Rattle.hive_writer.proofs.writer.HiveWriter.write_pages.Goals as goal

@@ -6,7 +6,7 @@ use Rattle.disk_model.specs.FileState.{FileState}
 use Rattle.disk_model.specs.StoreFiles.{IsOfHive, primary_file, log_file}
 use Rattle.hive_flush.specs.HiveStates.{IsOn, IsWhole, place_of}
 use Rattle.hive_flush.specs.declared.hive.HiveFile.{HiveFile}
-use Rattle.engine_law.proofs.HiveLists.{hive_writes}
+use Rattle.engine_invariant.proofs.HiveLists.{hive_writes}
 use Rattle.recovery.proofs.Counting.{fewer_left}
 use Rattle.recovery.proofs.Repairs.{kept_on, works_on, views_on, only_fault}
 use Rattle.recovery.proofs.found.Found.repair.Goals as goal

@@ -1,7 +1,7 @@
 use Rattle.std.proofs.Common.{refl, subst, sym}
 use Rattle.recovery.specs.Kept.{AreWhole}
 use Rattle.recovery.specs.Shown.{Shown}
-use Rattle.engine_law.proofs.HiveLists.{at_slot}
+use Rattle.engine_invariant.proofs.HiveLists.{at_slot}
 use Rattle.recovery.proofs.Counting.{fewer_shown, some_left, told}
 use Rattle.recovery.proofs.Crashes.{after_call, before_call, no_call}
 use Rattle.recovery.proofs.opened.Opened.repair_step.Goals as goal

@@ -1,5 +1,5 @@
-use Rattle.shared_map.specs.Listings.{entries}
-use Rattle.shared_map.specs.Keyed.{entries_keyed}
+use Rattle.persistent_map.specs.Listings.{entries}
+use Rattle.persistent_map.specs.Keyed.{entries_keyed}
 use Rattle.reg_tree_parts.specs.Nodes.{root_name}
 use Rattle.reg_tree_parts.proofs.NodeLists.{weighs_whole}
 use Rattle.reg_tree_parts.proofs.Parents.{is_node}

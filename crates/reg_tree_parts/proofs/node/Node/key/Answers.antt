@@ -1,6 +1,6 @@
 use Rattle.std.proofs.Common.{subst}
-use Rattle.shared_map.specs.Listings.{entries}
-use Rattle.shared_map.specs.Keyed.{entries_keyed}
+use Rattle.persistent_map.specs.Listings.{entries}
+use Rattle.persistent_map.specs.Keyed.{entries_keyed}
 use Rattle.reg_tree_parts.specs.Nodes.{IsNode, root_name}
 use Rattle.reg_tree_parts.proofs.Parents.{is_node}
 use Rattle.reg_tree_parts.proofs.node.Node.key.Goals as goal

@@ -1,6 +1,6 @@
 use Rattle.std.proofs.Common.{Some, sym, ◌∙◌, ap}
 use Rattle.std.specs.Option.{option_map}
-use Rattle.shared_map.specs.Listings.{entries}
+use Rattle.persistent_map.specs.Listings.{entries}
 use Rattle.reg_tree_parts.specs.Nodes.{root_name, spelled_root}
 use Rattle.reg_tree_parts.proofs.NodeLists.{names_at}
 use Rattle.reg_tree_parts.proofs.node.Node.subkey.Goals as goal

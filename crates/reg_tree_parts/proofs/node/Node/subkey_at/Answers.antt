@@ -1,5 +1,5 @@
 use Rattle.std.proofs.Common.{refl}
-use Rattle.shared_map.specs.Listings.{entries}
+use Rattle.persistent_map.specs.Listings.{entries}
 use Rattle.reg_tree_parts.specs.Nodes.{root_name}
 use Rattle.reg_tree_parts.proofs.Subkeys.{subkeys_again, smaller_if, has_subkeys}
 use Rattle.reg_tree_parts.proofs.node.Node.subkey_at.Goals as goal

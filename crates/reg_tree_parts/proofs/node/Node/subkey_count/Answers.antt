@@ -1,5 +1,5 @@
 use Rattle.std.proofs.Common.{◌∙◌, refl, ap, sym, length}
-use Rattle.shared_map.specs.Listings.{entries}
+use Rattle.persistent_map.specs.Listings.{entries}
 use Rattle.reg_tree_parts.specs.Nodes.{root_name}
 use Rattle.reg_tree_parts.proofs.NodeLists.{length-names}
 use Rattle.reg_tree_parts.proofs.Subkeys.{subkeys_again, has_subkeys}

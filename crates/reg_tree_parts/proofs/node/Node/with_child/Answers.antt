@@ -1,4 +1,4 @@
-use Rattle.shared_map.specs.Listings.{entries}
+use Rattle.persistent_map.specs.Listings.{entries}
 use Rattle.reg_tree_parts.specs.Nodes.{root_name}
 use Rattle.reg_tree_parts.proofs.NodeLists.{put_written, nodes_put, rows_put_same, rows_put_other}
 use Rattle.reg_tree_parts.proofs.node.Node.with_child.Goals as goal

@@ -1,4 +1,4 @@
-use Rattle.shared_map.specs.Listings.{entries}
+use Rattle.persistent_map.specs.Listings.{entries}
 use Rattle.reg_tree_parts.specs.Nodes.{root_name}
 use Rattle.reg_names.specs.Names.{folded}
 use Rattle.reg_tree_parts.proofs.NodeLists.{nodes_where, rows_where_gone, rows_where_other}

@@ -1,6 +1,6 @@
 use Rattle.std.proofs.Common.{inl, inr, Some, sym, ◌∙◌, ap, subst}
 use Rattle.refusals.specs.declared.refusal.Refusal.TheVariants.{TooLarge}
-use Rattle.machine.specs.Machine.{refusal_by, refused_if, too_long}
+use Rattle.store_model.specs.Machine.{refusal_by, refused_if, too_long}
 use Rattle.transactions.specs.Entries.{transaction_of, HasView, WritesView}
 use Rattle.transactions.proofs.Kept.{if_err}
 use Rattle.transactions.proofs.Views.{judged_seen, legal_seen}

@@ -2,8 +2,8 @@ use Rattle.std.proofs.Common.{◌≡◌, ◌⊎◌, Some, IfOk, IfErr, subst}
 use Rattle.refusals.specs.declared.refusal.Refusal.TheVariants.{NoMemory}
 use Rattle.reg_tree.specs.Judgement.{applied}
 use Rattle.transactions.proofs.Views.{seen_at}
-use Rattle.machine.specs.Machine.{looked_up, read_refusal}
-use Rattle.machine.specs.Transactions.{view}
+use Rattle.store_model.specs.Machine.{looked_up, read_refusal}
+use Rattle.store_model.specs.Transactions.{view}
 use Rattle.transactions.specs.Entries.{transaction_of, HasView}
 use Rattle.transactions.proofs.Looks.{looked_alike}
 use Rattle.transactions.proofs.entry.Entry.look_up.Goals as goal

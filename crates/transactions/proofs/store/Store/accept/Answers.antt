@@ -1,6 +1,6 @@
 use Rattle.std.proofs.Common.{sym, subst}
-use Rattle.machine.specs.Steps.{Step}
-use Rattle.machine.specs.declared.event.Event.{Event}
+use Rattle.store_model.specs.Steps.{Step}
+use Rattle.store_model.specs.declared.event.Event.{Event}
 use Rattle.transactions.specs.Prepared.{IsReady}
 use Rattle.transactions.specs.declared.prepared.Ready.{Ready}
 use Rattle.transactions.proofs.store.Store.accept.Goals as goal

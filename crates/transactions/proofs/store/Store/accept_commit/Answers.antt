@@ -3,9 +3,9 @@ use Rattle.reg_tree.specs.Judgement.{applied, any_outweighs}
 use Rattle.reg_tree.specs.Texts.{element_text_len}
 use Rattle.reg_tree.specs.declared.element.Element.{Element}
 use Rattle.reg_tree.specs.declared.op.Op.{Op}
-use Rattle.machine.specs.declared.handle.Outcome.TheVariants.{Committed}
-use Rattle.machine.specs.Machine.{Machine, commit_change}
-use Rattle.machine.specs.Steps.{Commits}
+use Rattle.store_model.specs.declared.handle.Outcome.TheVariants.{Committed}
+use Rattle.store_model.specs.Machine.{Machine, commit_change}
+use Rattle.store_model.specs.Steps.{Commits}
 use Rattle.transactions.specs.Prepared.{IsReadyCommit}
 use Rattle.transactions.specs.Stores.{IsTied, StoreView, store_of}
 use Rattle.transactions.specs.Entries.{AreMoved}

@@ -4,10 +4,10 @@ use Rattle.reg_tree.specs.TreeLists.{levels_made}
 use Rattle.reg_tree.specs.declared.element.Element.{Element}
 use Rattle.reg_tree.specs.declared.op.Op.{Op}
 use Rattle.reg_tree.specs.Texts.{element_text_len}
-use Rattle.machine.specs.Machine.{Machine, change}
-use Rattle.machine.specs.Steps.{Accepts, Step}
-use Rattle.machine.specs.declared.event.Event.TheVariants as event
-use Rattle.machine.specs.declared.event.Reply.{Reply}
+use Rattle.store_model.specs.Machine.{Machine, change}
+use Rattle.store_model.specs.Steps.{Accepts, Step}
+use Rattle.store_model.specs.declared.event.Event.TheVariants as event
+use Rattle.store_model.specs.declared.event.Reply.{Reply}
 use Rattle.transactions.specs.Entries.{AreMoved}
 use Rattle.transactions.specs.Prepared.{IsReadyWrite}
 use Rattle.transactions.specs.Stores.{IsTied, StoreView, store_of}

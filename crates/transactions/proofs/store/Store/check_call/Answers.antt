@@ -1,7 +1,7 @@
 use Rattle.std.proofs.Common.{◌≡◌, Some, sym, ◌∙◌, ap}
-use Rattle.machine.specs.Ends.{refusal_of}
-use Rattle.machine.specs.Machine.{is_open, unnamed_refusal}
-use Rattle.machine.specs.Transactions.{own, inactive_refusal}
+use Rattle.store_model.specs.Ends.{refusal_of}
+use Rattle.store_model.specs.Machine.{is_open, unnamed_refusal}
+use Rattle.store_model.specs.Transactions.{own, inactive_refusal}
 use Rattle.transactions.specs.Stores.{StoreView}
 use Rattle.transactions.proofs.Kept.{if_err, if_err_then}
 use Rattle.transactions.proofs.Stored.{closed_call, inactive_call, unnamed_call}

@@ -1,7 +1,7 @@
 use Rattle.std.proofs.Common.{sym, subst}
-use Rattle.machine.specs.Machine.{Machine}
-use Rattle.machine.specs.Steps.{Step}
-use Rattle.machine.specs.declared.event.Event.TheVariants as event
+use Rattle.store_model.specs.Machine.{Machine}
+use Rattle.store_model.specs.Steps.{Step}
+use Rattle.store_model.specs.declared.event.Event.TheVariants as event
 use Rattle.transactions.specs.Prepared.{IsReady}
 use Rattle.transactions.proofs.store.Store.commit_accept.Goals as goal
 

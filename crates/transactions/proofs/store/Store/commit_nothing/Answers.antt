@@ -1,5 +1,5 @@
 use Rattle.std.proofs.Common.{sym, subst}
-use Rattle.machine.specs.Steps.{Commits}
+use Rattle.store_model.specs.Steps.{Commits}
 use Rattle.transactions.specs.Prepared.{IsReadyNothing}
 use Rattle.transactions.specs.Stores.{StoreView, store_of}
 use Rattle.transactions.proofs.Stored.{commits_nothing}

@@ -3,11 +3,11 @@ use Rattle.reg_tree.specs.Maps.{TreeMap}
 use Rattle.reg_tree.specs.Texts.{element_text_len}
 use Rattle.reg_tree.specs.declared.op.Legality.TheVariants.{Legal}
 use Rattle.conflicts.specs.Claims.{claim_of}
-use Rattle.machine.specs.Transactions.{at}
+use Rattle.store_model.specs.Transactions.{at}
 use Rattle.transactions.specs.Tables.{holds_if}
 use Rattle.reg_tree.specs.Judgement.{legal, applied_one, IsWritten}
 use Rattle.reg_tree.specs.TreeLists.{levels_made}
-use Rattle.machine.specs.Machine.{change, is_open, room_refusal, unnamed_refusal, trees_now}
+use Rattle.store_model.specs.Machine.{change, is_open, room_refusal, unnamed_refusal, trees_now}
 use Rattle.transactions.specs.Stores.{StoreView}
 use Rattle.transactions.proofs.Stored.{closed_write, illegal_write, crowded_write, cut_change, uncut, unjudged_write, unnamed_write}
 use Rattle.transactions.proofs.store.Store.judge_write.Goals as goal

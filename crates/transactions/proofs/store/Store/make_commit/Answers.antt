@@ -3,10 +3,10 @@ use Rattle.std.specs.Global.{Vec}
 use Rattle.refusals.specs.declared.refusal.Refusal.TheVariants.{NoMemory, TooLarge}
 use Rattle.reg_tree.specs.Judgement.{any_outweighs, applied}
 use Rattle.reg_tree.specs.Maps.{TreeMap}
-use Rattle.machine.specs.Ends.{refusal_of}
-use Rattle.machine.specs.Machine.{is_open, trees_now, last_number}
-use Rattle.machine.specs.Transactions.{at, own, inactive_refusal}
-use Rattle.machine.specs.declared.event.Event.TheVariants as event
+use Rattle.store_model.specs.Ends.{refusal_of}
+use Rattle.store_model.specs.Machine.{is_open, trees_now, last_number}
+use Rattle.store_model.specs.Transactions.{at, own, inactive_refusal}
+use Rattle.store_model.specs.declared.event.Event.TheVariants as event
 use Rattle.transactions.specs.Entries.{IsCommitted, AreMoved}
 use Rattle.transactions.specs.Tables.{IsPending}
 use Rattle.transactions.specs.Stores.{IsTied, StoreView, store_of}

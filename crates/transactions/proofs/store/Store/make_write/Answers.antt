@@ -6,8 +6,8 @@ use Rattle.transactions.specs.Histories.{IsShort}
 use Rattle.reg_tree.specs.Judgement.{applied, applied_one, legal}
 use Rattle.conflicts.specs.Claims.{claim_of}
 use Rattle.conflicts.specs.Skeletons.{AreCarriedOut}
-use Rattle.machine.specs.Transactions.{at}
-use Rattle.machine.specs.Machine.{change, trees_now, last_number}
+use Rattle.store_model.specs.Transactions.{at}
+use Rattle.store_model.specs.Machine.{change, trees_now, last_number}
 use Rattle.transactions.specs.Entries.{AreMoved}
 use Rattle.transactions.specs.Prepared.{IsJudgedWrite, JudgesWrite}
 use Rattle.transactions.specs.Stores.{IsTied, StoreView, store_of}

@@ -1,8 +1,8 @@
 use Rattle.std.proofs.Common.{sym, ◌∙◌, ap}
-use Rattle.machine.specs.Machine.{is_open}
+use Rattle.store_model.specs.Machine.{is_open}
 use Rattle.transactions.specs.Stores.{StoreView}
 use Rattle.transactions.proofs.Stored.{closed_read}
-use Rattle.machine.specs.Machine.{trees_now}
+use Rattle.store_model.specs.Machine.{trees_now}
 use Rattle.transactions.proofs.Stored.{missed, unnamed_read}
 use Rattle.transactions.proofs.store.Store.read.Goals as goal
 

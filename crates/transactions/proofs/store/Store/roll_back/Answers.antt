@@ -1,5 +1,5 @@
 use Rattle.std.proofs.Common.{sym, ◌∙◌, ap}
-use Rattle.machine.specs.Machine.{is_open}
+use Rattle.store_model.specs.Machine.{is_open}
 use Rattle.transactions.specs.Stores.{StoreView}
 use Rattle.transactions.proofs.Stored.{closed_roll_back}
 use Rattle.transactions.proofs.store.Store.roll_back.Goals as goal

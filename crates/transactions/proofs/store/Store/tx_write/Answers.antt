@@ -1,5 +1,5 @@
 use Rattle.std.proofs.Common.{◌≡◌, Some, subst}
-use Rattle.machine.specs.Machine.{tx_call_refusal}
+use Rattle.store_model.specs.Machine.{tx_call_refusal}
 use Rattle.transactions.proofs.Stored.{uncalled_tx_write}
 use Rattle.transactions.proofs.store.Store.tx_write.Goals as goal
 

@@ -4,8 +4,8 @@ use Rattle.std.specs.Prelude.{IsSome}
 use Rattle.slab.specs.Slab.{with_value}
 use Rattle.slab.proofs.SlabLemmas.{Updates-with_value}
 use Rattle.conflicts.specs.Claims.{claim_of}
-use Rattle.machine.specs.Transactions.{Transaction, Puts, at, is_active, is_claimed, with_op}
-use Rattle.machine.specs.Machine.{too_long}
+use Rattle.store_model.specs.Transactions.{Transaction, Puts, at, is_active, is_claimed, with_op}
+use Rattle.store_model.specs.Machine.{too_long}
 use Rattle.transactions.specs.Entries.{transaction_of, places_of, IsEntry, IsViewNow, AreKept, with_op_if}
 use Rattle.transactions.specs.Tables.{Table}
 use Rattle.transactions.specs.declared.entry.Entry.{Entry}

@@ -2,11 +2,11 @@ use Rattle.std.proofs.Common.{◌≡◌, ◌+◌, ◌<◌, ◌^◌, Some, None}
 use Rattle.refusals.specs.declared.refusal.Refusal.TheVariants.{NoSeat}
 use Rattle.transactions.specs.Entries.{transaction_of}
 use Rattle.transactions.specs.Tables.{Begins}
-use Rattle.machine.specs.Machine.{seat_refusal}
-use Rattle.machine.specs.Transactions.{fresh_transaction}
+use Rattle.store_model.specs.Machine.{seat_refusal}
+use Rattle.store_model.specs.Transactions.{fresh_transaction}
 use Rattle.std.proofs.Common.{inl, refl, sym, ◌∙◌, ap, subst}
 use Rattle.slab.specs.Slab.{Updates}
-use Rattle.machine.specs.Transactions.{Transaction}
+use Rattle.store_model.specs.Transactions.{Transaction}
 use Rattle.transactions.specs.Entries.{AreKept}
 use Rattle.transactions.specs.Tables.{Table}
 use Rattle.transactions.proofs.Kept.{kept_begun}

@@ -5,7 +5,7 @@ use Rattle.std.proofs.Common.{◌+◌, ◌<◌, ◌≤◌, length, refl, sym, �
 use Rattle.std.specs.Prelude.{IsSome, vec_capacity}
 use Rattle.std.specs.Global.{Vec}
 use Rattle.reg_tree.specs.declared.op.Op.{Op}
-use Rattle.machine.specs.Transactions.{own, is_active, inactive_refusal}
+use Rattle.store_model.specs.Transactions.{own, is_active, inactive_refusal}
 use Rattle.slab.specs.Slab.{Updates, with_value}
 use Rattle.slab.proofs.SlabLemmas.{Updates-with_value}
 use Rattle.transactions.specs.Tables.{Table, EndsWith}

@@ -1,7 +1,7 @@
 use Rattle.std.proofs.Common.{◌≡◌, None, ◌∙◌, subst, ap, map}
 use Rattle.conflicts.specs.Claims.{claim_of}
 use Rattle.conflicts.specs.Holders.{holders_of}
-use Rattle.machine.specs.Transactions.{at}
+use Rattle.store_model.specs.Transactions.{at}
 use Rattle.transactions.specs.Entries.{places_of}
 use Rattle.transactions.specs.Tables.{Table, holds_if, is_listed}
 use Rattle.transactions.proofs.Holding.{all_holders}

@@ -3,7 +3,7 @@ use Rattle.std.specs.Prelude.{IsSome, IfOk, IfErr, true, None}
 use Rattle.refusals.specs.declared.refusal.Refusal.TheVariants.{NoMemory}
 use Rattle.slab.specs.Slab.{with_value}
 use Rattle.slab.proofs.SlabLemmas.{Updates-with_value}
-use Rattle.machine.specs.Transactions.{Transaction, at, own, is_active, inactive_refusal}
+use Rattle.store_model.specs.Transactions.{Transaction, at, own, is_active, inactive_refusal}
 use Rattle.transactions.specs.Entries.{transaction_of, places_of, IsJudged, IsJudgedOf, judge_refusal, illegal}
 use Rattle.transactions.specs.Tables.{Table}
 use Rattle.transactions.proofs.Kept.{kept_seen, seen_entry, same_places}

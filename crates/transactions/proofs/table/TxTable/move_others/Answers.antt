@@ -2,7 +2,7 @@ use Rattle.std.proofs.Common.{◌≡◌, List, [], ◌∷◌, ◌++◌, ◌||◌
 use Rattle.std.proofs.lemmas.Bool.{true≢false, eq-eqb}
 use Rattle.conflicts.specs.declared.table.Owner.{Owner}
 use Rattle.transactions.specs.Entries.{places_of}
-use Rattle.machine.specs.Transactions.{at}
+use Rattle.store_model.specs.Transactions.{at}
 use Rattle.transactions.specs.Tables.{IsPending, MeetNone, Table, is_listed}
 use Rattle.transactions.proofs.Holding.{pending_meet_none}
 use Rattle.transactions.proofs.table.TxTable.move_others.Goals as goal

@@ -1,6 +1,6 @@
 use Rattle.std.proofs.Common.{◌≡◌, ◌+◌, IfOk, Some, sym, ◌∙◌, ap, subst}
 use Rattle.reg_tree.specs.Judgement.{applied}
-use Rattle.machine.specs.Transactions.{at}
+use Rattle.store_model.specs.Transactions.{at}
 use Rattle.transactions.specs.Entries.{transaction_of, IsMovedTo}
 use Rattle.transactions.specs.Tables.{Table, MeetNone}
 use Rattle.transactions.proofs.Kept.{at_slot}

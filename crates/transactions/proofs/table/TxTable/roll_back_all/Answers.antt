@@ -1,5 +1,5 @@
 use Rattle.transactions.specs.Tables.{is_listed, rolled_back_if}
-use Rattle.machine.specs.Transactions.{at}
+use Rattle.store_model.specs.Transactions.{at}
 use Rattle.std.proofs.Common.{refl, ◌∙◌, ap}
 use Rattle.std.proofs.lemmas.List.{take_all}
 use Rattle.transactions.proofs.PlacesInTurn.{rolled_start, rolled_more, rest_more, numbers}

@@ -1,8 +1,8 @@
 use Rattle.std.proofs.lemmas.Grind.{common_steps}
 use Rattle.std.proofs.Common.{◌≡◌, Some, true, refl, sym, ap, subst, arith}
 use Rattle.std.specs.Prelude.{IsSome}
-use Rattle.machine.specs.Transactions.{is_active, at, Puts}
-use Rattle.machine.specs.declared.handle.Outcome.TheVariants.{RolledBack}
+use Rattle.store_model.specs.Transactions.{is_active, at, Puts}
+use Rattle.store_model.specs.declared.handle.Outcome.TheVariants.{RolledBack}
 use Rattle.slab.specs.Slab.{Updates, with_value}
 use Rattle.slab.proofs.SlabLemmas.{Updates-with_value}
 use Rattle.transactions.specs.Tables.{Table, rolled_back_if}

@@ -2,7 +2,7 @@ use Rattle.std.proofs.Common.{◌≡◌, Some, refl, sym, ◌∙◌, ap, subst}
 use Rattle.std.specs.Prelude.{IsSome}
 use Rattle.slab.specs.Slab.{with_value}
 use Rattle.slab.proofs.SlabLemmas.{Updates-with_value}
-use Rattle.machine.specs.Transactions.{at}
+use Rattle.store_model.specs.Transactions.{at}
 use Rattle.transactions.specs.Entries.{transaction_of, places_of, IsViewed, IsMovedTo}
 use Rattle.transactions.specs.Tables.{Table}
 use Rattle.transactions.specs.declared.entry.Entry.{Entry}

@@ -1,7 +1,7 @@
 use Rattle.std.proofs.Common.{None}
 use Rattle.transactions.specs.Entries.{places_of}
 use Rattle.transactions.specs.Tables.{Table}
-use Rattle.machine.specs.Transactions.{Puts}
+use Rattle.store_model.specs.Transactions.{Puts}
 use Rattle.std.proofs.Common.{subst}
 use Rattle.transactions.proofs.Kept.{kept_vacated}
 use Rattle.transactions.proofs.Slots.{puts}

@@ -1,4 +1,4 @@
-use Rattle.machine.specs.Transactions.{at}
+use Rattle.store_model.specs.Transactions.{at}
 use Rattle.std.proofs.Common.{◌≡◌, Some, refl, sym, ◌∙◌, ap, subst}
 use Rattle.std.specs.Prelude.{IsSome}
 use Rattle.slab.specs.Slab.{with_value}

@@ -1,6 +1,6 @@
 use Rattle.std.proofs.Common.{Some, inl, inr, sym, subst}
 use Rattle.std.specs.Prelude.{IfOk}
-use Rattle.machine.specs.Transactions.{own}
+use Rattle.store_model.specs.Transactions.{own}
 use Rattle.transactions.specs.Entries.{IsJudgedOf, MayAdd, AddsTo}
 use Rattle.transactions.specs.Tables.{Table}
 use Rattle.transactions.proofs.TableChanges.{adds, judged_refused, may_add}

@@ -1,0 +1,6 @@
+use Rattle.change_codec.proofs.Operations.{op_law}
+use Rattle.change_codec.proofs.Lengths.{op_length}
+use Rattle.change_codec.proofs.laws.operation.Goals as goal
+
+pub returns : goal.returns
+returns c = record { text = λ hives most. op_law hives most; length = λ op. op_length op }

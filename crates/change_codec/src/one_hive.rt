@@ -1,0 +1,61 @@
+//! A change's operations on one hive, made of its text: those on others are skipped.
+ghost use Rattle.std.specs.Prelude.{◌≡◌, ◌==◌, List, None, IfOk, filter};
+ghost use Rattle.reg_tree.specs.declared.op.Op.{Op};
+ghost use Rattle.reg_tree.specs.Operations.{hive_of};
+ghost use Rattle.change_codec.specs.Readers.{repeat};
+ghost use Rattle.change_codec.specs.Text.{op_at};
+ghost use Rattle.change_codec.specs.Changes.{AreOps, HasOps, TakesOp};
+
+use crate::change_text::ALL_HIVES;
+use crate::hives::hive_in;
+use crate::reading::take_op;
+use crate::skipping::skip_op;
+use refusals::Refusal;
+use reg_tree::Op;
+use std::alloc::{AllocError, Global};
+
+/// Those on a hive, of so many operations that bytes begin with.
+pub(crate) fn take_ops_on(
+    alloc: Global,
+    hive: u8,
+    count: u32,
+    bytes: &[u8],
+) -> Result<Vec<Op>, AllocError>
+    requires { AreOps count bytes.now }
+    ensures { IfOk result (λ made. (ops : List Op) →
+        HasOps (repeat count (op_at 256) bytes.now) ops → made.items ≡ filter (λ op. hive_of op == hive) ops) }
+{
+    let mut made = Vec::new(alloc);
+    let mut rest = bytes;
+    for _taken in 0..count {
+        rest = take_if_on(alloc, hive, rest, &mut made)?;
+    }
+    Ok(made)
+}
+
+/// The bytes behind the operation that bytes begin with, which is put behind others where it is on a hive.
+fn take_if_on<'a>(
+    alloc: Global,
+    hive: u8,
+    bytes: &'a [u8],
+    made: &mut Vec<Op>,
+) -> Result<&'a [u8], AllocError>
+    requires { ¬ (op_at 256 bytes.now ≡ None) }
+    ensures { IfOk result (λ rest.
+        TakesOp (op_at 256 bytes.now) hive made.old.items made.new.items rest.now) }
+{
+    if hive_in(bytes) != hive {
+        let Some((_, rest)) = skip_op(ALL_HIVES, bytes) else {
+            unreachable!();
+        };
+        return Ok(rest);
+    }
+    match take_op(alloc, ALL_HIVES, bytes) {
+        Ok((op, rest)) => {
+            made.push(op)?;
+            Ok(rest)
+        }
+        Err(Refusal::NoMemory) => Err(AllocError),
+        Err(_) => unreachable!(),
+    }
+}

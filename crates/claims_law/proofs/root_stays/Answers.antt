@@ -1,8 +1,0 @@
-use Rattle.claims_law.proofs.Root.{root_stays_one, root_stays_all}
-use Rattle.claims_law.proofs.root_stays.Goals as goal
-
-pub returns-clause-one : goal.returns-clause-one
-returns-clause-one c = root_stays_one
-
-pub returns-clause-all : goal.returns-clause-all
-returns-clause-all c = root_stays_all

@@ -1,0 +1,176 @@
+//! The calls of a journal, and what is seen of it.
+ghost use Rattle.std.specs.Prelude.{◌≤◌};
+ghost use Rattle.refusals.specs.declared.limits.TheConstants.{MOST_HIVES};
+
+use crate::desk::{Desk, ID};
+use crate::names::number;
+use crate::steps;
+use commit_journal::{Journal, Opened};
+use disk_model::Progress;
+use refusals::Refusal;
+use refusals::limits::MOST_HIVES;
+use test_support::Fault;
+use uuid::Uuid;
+
+impl Desk {
+    /// Creates the journal of a store of so many hives.
+    pub fn create(&mut self, hives: &str, wanted: &[&str]) -> Result<(), Fault> {
+        let hives = number(hives)?;
+        if hives == 0 || hives > MOST_HIVES as u64 {
+            return Err(Fault::NotUnderstood);
+        }
+        let came = match self.created(hives as u8)? {
+            Ok(journal) => {
+                self.journal = Some(journal);
+                "Done"
+            }
+            Err(why) => refusal_text(why),
+        };
+        expect(came, wanted)
+    }
+
+    fn created(&mut self, hives: u8) -> Result<Result<Journal, Refusal>, Fault>
+        requires { (1 ≤ hives) × (hives ≤ MOST_HIVES) }
+    {
+        let before = self.look()?;
+        match Journal::create(self.alloc, &mut self.disk, Uuid::from_bytes(ID), hives) {
+            Err(Refusal::NoMemory) => {
+                self.sees_no_change(before)?;
+                Ok(Journal::create(self.alloc, &mut self.disk, Uuid::from_bytes(ID), hives))
+            }
+            made => Ok(made),
+        }
+    }
+
+    /// Opens the journal: the number of hives of its store, the number below the first element, and the used room.
+    pub fn open(&mut self, wanted: &[&str]) -> Result<(), Fault> {
+        match self.reopened()? {
+            Ok(
+                Opened {
+                    journal,
+                    below,
+                    elements,
+                    ..
+                },
+            ) => {
+                let numbers = [u64::from(journal.hives()), below, journal.used()];
+                self.journal = Some(journal);
+                self.opened = elements;
+                are_numbers(&numbers, wanted)
+            }
+            Err(why) => expect(refusal_text(why), wanted),
+        }
+    }
+
+    fn reopened(&mut self) -> Result<Result<Opened, Refusal>, Fault> {
+        let before = self.look()?;
+        match Journal::open(self.alloc, &mut self.disk, Vec::new(self.alloc)) {
+            Err(Refusal::NoMemory) => {
+                self.sees_no_change(before)?;
+                Ok(Journal::open(self.alloc, &mut self.disk, Vec::new(self.alloc)))
+            }
+            made => Ok(made),
+        }
+    }
+
+    /// So many steps as answers are wanted.
+    pub fn steps(&mut self, wanted: &[&str]) -> Result<(), Fault> {
+        for word in wanted {
+            let came = self.step()?;
+            if came != *word {
+                return Err(Fault::Otherwise(came));
+            }
+        }
+        Ok(())
+    }
+
+    fn step(&mut self) -> Result<&'static str, Fault> {
+        let before = self.look()?;
+        match self.step_once()? {
+            Err(Refusal::NoMemory) => {
+                self.sees_no_change(before)?;
+                Ok(answer_text(self.step_once()?))
+            }
+            answer => Ok(answer_text(answer)),
+        }
+    }
+
+    fn step_once(&mut self) -> Result<Result<Progress, Refusal>, Fault> {
+        let Some(journal) = &mut self.journal else {
+            return Err(Fault::NotUnderstood);
+        };
+        match steps::step(journal, &mut self.disk, &self.handed) {
+            Some(answer) => Ok(answer),
+            None => Err(Fault::NotUnderstood),
+        }
+    }
+
+    /// So many steps of a trim as answers are wanted.
+    pub fn trims(&mut self, wanted: &[&str]) -> Result<(), Fault> {
+        for word in wanted {
+            let came = self.trim()?;
+            if came != *word {
+                return Err(Fault::Otherwise(came));
+            }
+        }
+        Ok(())
+    }
+
+    fn trim(&mut self) -> Result<&'static str, Fault> {
+        let Some(journal) = &mut self.journal else {
+            return Err(Fault::NotUnderstood);
+        };
+        match steps::trim_step(journal, &mut self.disk) {
+            Some(answer) => Ok(answer_text(answer)),
+            None => Err(Fault::NotUnderstood),
+        }
+    }
+
+    /// The used room and the last number.
+    pub fn numbers(&mut self, wanted: &[&str]) -> Result<(), Fault> {
+        let Some(journal) = &self.journal else {
+            return Err(Fault::NotUnderstood);
+        };
+        are_numbers(&[journal.used(), journal.last_number()], wanted)
+    }
+}
+
+/// Sees that this and nothing else is wanted.
+pub(crate) fn expect(came: &'static str, wanted: &[&str]) -> Result<(), Fault> {
+    match wanted {
+        [word] if *word == came => Ok(()),
+        _ => Err(Fault::Otherwise(came)),
+    }
+}
+
+/// Sees that these numbers are wanted.
+pub(crate) fn are_numbers(came: &[u64], wanted: &[&str]) -> Result<(), Fault> {
+    if came.len() != wanted.len() {
+        return Err(Fault::Otherwise("numbers"));
+    }
+    for (value, word) in came.iter().zip(wanted) {
+        if *value != number(word)? {
+            return Err(Fault::Otherwise("another number"));
+        }
+    }
+    Ok(())
+}
+
+fn answer_text(answer: Result<Progress, Refusal>) -> &'static str {
+    match answer {
+        Ok(Progress::Idle) => "Idle",
+        Ok(Progress::More) => "More",
+        Ok(Progress::Done) => "Done",
+        Err(why) => refusal_text(why),
+    }
+}
+
+fn refusal_text(why: Refusal) -> &'static str {
+    match why {
+        Refusal::NoMemory => "NoMemory",
+        Refusal::JournalDamaged => "JournalDamaged",
+        Refusal::DiskFault => "DiskFault",
+        Refusal::Faulted => "Faulted",
+        _ => "another refusal",
+    }
+}

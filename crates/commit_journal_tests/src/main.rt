@@ -1,0 +1,113 @@
+//! Plays lines about the disk in memory and a journal on it, and sees that what comes is what each line says.
+//!
+//! Lines come on standard input. One that has nothing, or begins with `#`, says nothing. BYTES are words, each
+//! hexadecimal digits or a name, and behind either may stand `*` and how many times. WANTED is what has to come.
+//!
+//! | line | |
+//! |---|---|
+//! | `let NAME BYTES` | gives the bytes a name |
+//! | `disk BYTES` | a new disk; its journal's file has these bytes, and they are synced |
+//! | `create HIVES > WANTED` | creates the journal of the store 0102..10: `Done`, or a refusal's name |
+//! | `open > WANTED` | opens it: the number of hives, the number below the first element and the used room, or a refusal's name |
+//! | `opened > BYTES` | the elements that the last opening answered, by their texts |
+//! | `hand BYTES` | the elements that are handed in at each step from here on, by their texts |
+//! | `step > WANTED..` | so many steps: what each answers |
+//! | `trim > WANTED..` | so many steps of a trim |
+//! | `numbers > USED LAST` | the used room and the last number |
+//! | `file > BYTES` | the bytes of the journal's file, as a read gives them |
+//! | `stop K`, `fail K` | the K-th changing call and all behind it fail; the K-th call fails alone |
+//! | `crash old`, `crash new`, `crash torn` | what a crash leaves is the disk, and no journal is there |
+//! | `write FILE AT BYTES > WANTED`, `cut FILE LENGTH > WANTED`, `sync FILE > WANTED` | a call of the disk: `Done`, or `DiskFault` |
+//! | `length FILE > LENGTH`, `get FILE AT > BYTES` | a file's length; what a read of at most four bytes gives |
+//! | `left old FILE > BYTES`, and so `new` and `torn` | what a crash now would leave of a file |
+//! | `read > LENGTH` | reads the journal's file to its end, piece by piece |
+//! | `watch ROOM` | from here on a call that is refused memory has to leave file and journal as they were, and is made again; the disk's own calls take no memory within that room |
+//! | `timed LINE` | plays the line and prints the processor time that it took, in microseconds |
+//!
+//! The status is 0 where each line came as it says, 1 where memory was refused, and 2 where something else came.
+#![tactic(auto)]
+
+mod calls;
+mod desk;
+mod files;
+mod looks;
+mod names;
+mod steps;
+
+use crate::desk::Desk;
+use std::alloc::Global;
+use std::io::{BufRead, BufReader};
+use std::process::ExitCode;
+use std::time::CpuClock;
+use test_support::Fault;
+
+fn main(rt: HostRuntime) -> ExitCode {
+    match run(&rt) {
+        Ok(status) => ExitCode::from(status),
+        Err(Fault::NoMemory) => ExitCode::from(1),
+        Err(_) => ExitCode::from(2),
+    }
+}
+
+/// Plays all lines: the status.
+fn run<R: Input + Print + AllocGlobal + CpuClock>(rt: &R) -> Result<u8, Fault> {
+    let alloc = rt.alloc();
+    let mut desk = Desk::new(alloc)?;
+    let mut number = 0u64;
+    let mut is_right = true;
+    for line in BufReader::new(alloc, rt.reader())?.lines(alloc) {
+        number = number.saturating_add(1);
+        let line = line?;
+        match play(rt, alloc, &mut desk, line.as_str()) {
+            Ok(()) => {}
+            Err(Fault::NoMemory) => return Err(Fault::NoMemory),
+            Err(fault) => {
+                let came = fault.text();
+                println!(rt; "line {number}: {came}")?;
+                is_right = false;
+            }
+        }
+    }
+    Ok(status(is_right, desk.was_refused()))
+}
+
+fn status(is_right: bool, was_refused: bool) -> u8 {
+    match (is_right, was_refused) {
+        (false, _) => 2,
+        (true, true) => 1,
+        (true, false) => 0,
+    }
+}
+
+/// Plays a line: what stands behind a `>` says what has to come.
+fn play<R: Print + CpuClock>(
+    rt: &R,
+    alloc: Global,
+    desk: &mut Desk,
+    line: &str,
+) -> Result<(), Fault> {
+    let (asked, wanted) = line.split_once(">").unwrap_or((line, ""));
+    let asked: Vec<&str> = asked.split_whitespace().collect(alloc)?;
+    let wanted: Vec<&str> = wanted.split_whitespace().collect(alloc)?;
+    match asked.as_slice() {
+        [] => Ok(()),
+        [first, ..] if first.starts_with("#") => Ok(()),
+        ["timed", rest @ ..] => timed(rt, desk, rest, &wanted),
+        asked => desk.play(asked, &wanted),
+    }
+}
+
+/// Plays a line and prints the processor time that it took, in microseconds.
+fn timed<R: Print + CpuClock>(
+    rt: &R,
+    desk: &mut Desk,
+    asked: &[&str],
+    wanted: &[&str],
+) -> Result<(), Fault> {
+    let start = rt.process_cpu_time()?;
+    desk.play(asked, wanted)?;
+    let end = rt.process_cpu_time()?;
+    let took = end.saturating_sub(start).as_micros();
+    println!(rt; "{took}")?;
+    Ok(())
+}

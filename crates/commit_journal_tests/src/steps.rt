@@ -1,0 +1,88 @@
+//! Steps of a journal, after a look at whether they may be made: what the engine knows, a test has to ask.
+ghost use Rattle.std.specs.Prelude.{◌≡◌, ◌⊎◌, ◌+◌, ◌<◌, ◌≤◌, ℕ, length, true, IfSome, Some, None};
+ghost use Rattle.std.specs.List.{AllByRecursion};
+ghost use Rattle.crash_model.specs.Promises.{nothing, top};
+ghost use Rattle.reg_tree.specs.Operations.{hive_of};
+ghost use Rattle.commit_journal.specs.Store.{room_of};
+ghost use Rattle.commit_journal.specs.Handed.{OnHives, IsHanded};
+ghost use Rattle.commit_journal.specs.Journals.{choice_of, store_of};
+
+use change_codec::ChangeText;
+use commit_journal::Journal;
+use disk_model::{Disk, Progress};
+use refusals::Refusal;
+use refusals::limits::{GREATEST_NUMBER, MOST_ELEMENT_BYTES, MOST_JOURNAL_BYTES};
+
+fn is_on_hives(change: &ChangeText, hives: u8) -> bool
+    ensures { result ≡ true → OnHives hives change.now }
+{
+    let mut left = change.hives();
+    while let Some(hive) = left.next() {
+        if hive >= hives {
+            return false;
+        }
+    }
+    true
+}
+
+/// Whether the journal may be handed these elements behind what stands.
+pub fn may_hand(journal: &Journal, handed: &[ChangeText]) -> bool
+    ensures { result ≡ true → IsHanded (store_of journal.now).hives
+        (65 + room_of (choice_of journal.now).now.elements)
+        (top 0 (choice_of journal.now).now + 1) handed.now (choice_of journal.now).now }
+{
+    let last = journal.last_number();
+    if last > GREATEST_NUMBER || handed.len() as u64 > GREATEST_NUMBER - last {
+        return false;
+    }
+    let hives = journal.hives();
+    let mut room = journal.used();
+    for element in handed {
+        let len = element.text_len();
+        if len > MOST_ELEMENT_BYTES || !is_on_hives(element, hives) {
+            return false;
+        }
+        if room > MOST_JOURNAL_BYTES {
+            return false;
+        }
+        room += 17 + len;
+    }
+    room <= MOST_JOURNAL_BYTES || handed.is_empty()
+}
+
+/// One step with these elements behind what stands; nothing where the journal may not be handed them.
+pub fn step<D: Disk>(
+    journal: &mut Journal,
+    disk: &mut D,
+    handed: &[ChangeText],
+) -> Option<Result<Progress, Refusal>> {
+    if !may_hand(journal, handed) {
+        return None;
+    }
+    let first = journal.last_number() + 1;
+    Some(journal.step(disk, first, handed))
+}
+
+/// One step of a trim; nothing where the journal may not be trimmed.
+pub fn trim_step<D: Disk>(
+    journal: &mut Journal,
+    disk: &mut D,
+) -> Option<Result<Progress, Refusal>> {
+    if !may_trim(journal) {
+        return None;
+    }
+    Some(journal.trim_step(disk))
+}
+
+/// Whether a trim goes on, or an element stands and nothing is on its way.
+fn may_trim(journal: &Journal) -> bool
+    ensures some { result ≡ true → (choice_of journal.now).next ≡ None →
+        0 < length (choice_of journal.now).now.elements }
+    ensures trims { result ≡ true → ((choice_of journal.now).next ≡ None)
+        ⊎ ((choice_of journal.now).next ≡ Some nothing) }
+{
+    if journal.is_trimming() {
+        return true;
+    }
+    !journal.is_halfway() && journal.last_number() > 0
+}

@@ -1,0 +1,14 @@
+pub mod Changes
+pub mod AllHives
+pub mod Promises
+pub mod Recovery
+pub mod Life
+pub mod Kept
+pub mod Steps
+pub mod Lives
+pub mod Calls
+pub mod Memory
+pub mod Files
+pub mod Moments
+pub mod WrongProtocols
+pub mod StepAnswers

@@ -1,0 +1,27 @@
+-- What an opening behind a power cut tells.
+use Rattle.std.specs.Prelude.{◌≡◌, ◌⊎◌, ℕ, ◌<◌, ◌≤◌, List}
+use Rattle.refusals.specs.declared.refusal.Refusal.TheVariants.{DiskFault}
+use Rattle.disk_model.specs.FileState.{FileState}
+use Rattle.disk_model.specs.Tear.{IsCrashOf}
+use Rattle.disk_model.specs.declared.tear.Tear.{Tear}
+use Rattle.reg_tree.specs.Maps.{TreeMap}
+use Rattle.commit_journal.specs.Store.{Store}
+use Rattle.recovery.specs.Recovered.{IsNoStore, IsRecovered, seen_in}
+use Rattle.crash_sweep.specs.declared.finding.Bounds.{Bounds}
+use Rattle.crash_sweep.specs.declared.finding.Finding.{Finding}
+use Rattle.crash_sweep.specs.declared.finding.Finding.TheVariants.{Within, Outside, OtherTrees, Nothing}
+
+-- files recover this number
+abbrev pub Opens : (ℕ → List ℕ) → ℕ → Type 0
+Opens files number = (store : Store) × (trees : List TreeMap) × IsRecovered files store number trees
+
+-- a finding says which number files recover, and whether that is within bounds; or why they recover nothing
+abbrev pub Tells : Bounds → (ℕ → List ℕ) → Finding → Type 0
+Tells bounds files (Within number) = Opens files number × (bounds.low ≤ number) × (number ≤ bounds.high)
+Tells bounds files (Outside number) = Opens files number × ((number < bounds.low) ⊎ (bounds.high < number))
+Tells bounds files (OtherTrees number) = Opens files number × (bounds.low ≤ number) × (number ≤ bounds.high)
+Tells bounds files (Nothing why) = (why ≡ DiskFault) ⊎ IsNoStore (Unit {0}) files why
+
+-- a power cut with this tear, of files in these states, leaves files of which a finding tells
+abbrev pub IsFound : Tear → Bounds → (ℕ → FileState) → Finding → Type 0
+IsFound tear bounds state finding = (left : ℕ → FileState) × ((f : ℕ) → IsCrashOf tear (state f) (left f)) × Tells bounds (seen_in left) finding

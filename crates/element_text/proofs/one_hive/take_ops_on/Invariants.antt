@@ -1,6 +1,0 @@
-use Rattle.std.proofs.Common.{◌-◌}
-use Rattle.element_text.proofs.OneHive.{HasMade}
-use Rattle.element_text.proofs.one_hive.take_ops_on.Given as goal
-
-abbrev pub invariant-loop-taken : goal.invariant-loop-taken
-invariant-loop-taken l = HasMade l.hive l.count l.bytes (l.count - l._taken) l.rest l.made.items

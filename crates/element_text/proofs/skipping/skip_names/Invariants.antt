@@ -1,7 +1,0 @@
-use Rattle.std.proofs.Common.{◌-◌}
-use Rattle.element_text.specs.Text.{key_name_at}
-use Rattle.element_text.proofs.Taken.{HasSkipped}
-use Rattle.element_text.proofs.skipping.skip_names.Given as goal
-
-abbrev pub invariant-loop-skipped : goal.invariant-loop-skipped
-invariant-loop-skipped l = HasSkipped key_name_at l.count l.bytes (l.count - l._skipped) l.rest

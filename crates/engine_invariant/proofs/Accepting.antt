@@ -1,0 +1,131 @@
+-- An event that makes no step keeps what the engine keeps.
+use Rattle.std.proofs.Common.{◌≡◌, ◌⊎◌, inl, inr, ℕ, ◌+◌, ◌-◌, ◌<◌, ◌≤◌, true, List, [], ◌∷◌, ◌++◌, length, map, take, drop, refl, sym, ◌∙◌, ap, subst, arith, Some, slice_get}
+use Rattle.std.proofs.lemmas.List.{map-append, length-append, drop-append-le}
+use Rattle.refusals.specs.declared.limits.TheConstants.{GREATEST_NUMBER, MOST_JOURNAL_BYTES}
+use Rattle.reg_tree.specs.Maps.{TreeMap}
+use Rattle.reg_tree.specs.declared.element.Element.{Element}
+use Rattle.reg_tree.specs.declared.op.Op.{Op}
+use Rattle.crash_model.specs.Promises.{Choice, Spelled, nothing, floor}
+use Rattle.crash_model.specs.Life.{Life, NamesHive, tree_at, with_accepted}
+use Rattle.crash_model.specs.Life as life
+use Rattle.crash_model.specs.Kept as law
+use Rattle.crash_model.proofs.HiveByHive.{legal_at}
+use Rattle.crash_model.proofs.KeepSteps.{moved, step_accept}
+use Rattle.store_model.specs.Machine.{Machine, trees_now, last_number, pending}
+use Rattle.store_model.specs.Steps.{Step, is_calm}
+use Rattle.store_model.specs.Kept.{IsKept, AreLegalChanges, Stays, Grows}
+use Rattle.store_model.specs.declared.event.Event.{Event}
+use Rattle.store_model.specs.declared.event.Reply.{Reply}
+use Rattle.change_codec.specs.ModelChanges.{TimedOp, tree_rules, timed, timed_element, timed_elements}
+use Rattle.commit_journal.specs.Store.{room_of}
+use Rattle.engine_invariant.specs.States.{HiveView, tree_of, life_of, state_of, IsBatch, IsConsistent}
+use Rattle.engine_invariant.proofs.Bridge.{all_long, last_is, tree_is, trees_at_last, run_ops, names, all_allowed}
+use Rattle.engine_invariant.proofs.Room.{one_more_room, first_stay}
+
+-- The machine's laws that are used
+
+abbrev pub Keeps : Type 0
+Keeps = (old new : Machine) (event : Event) (reply : Reply) → IsKept old → Step old event reply new → IsKept new
+
+abbrev pub Settle : Type 0
+Settle = (old new : Machine) (event : Event) (reply : Reply) → IsKept old → is_calm event ≡ true → Step old event reply new → Stays old new ⊎ Grows old new
+
+life_is : (base : ℕ) (opened : List Element) (old new : Machine) → new.opened ≡ old.opened → new.accepted ≡ old.accepted → life_of new base opened ≡ life_of old base opened
+life_is base opened old new a b =
+    ap (λ (ts : List TreeMap). let l : Life TreeMap TimedOp = record { trees = tree_of ts; base = base; opened = timed_elements opened; accepted = timed_elements new.accepted } in l) a
+    ∙ ap (λ (es : List Element). let l : Life TreeMap TimedOp = record { trees = tree_of old.opened; base = base; opened = timed_elements opened; accepted = timed_elements es } in l) b
+
+names_some : (ts : List TreeMap) (ops : List Op) (moment : ℕ) → AreLegalChanges ts ops moment → 0 < length ops → NamesHive (length ts) (map (timed moment) ops)
+names_some ts [] moment l some = absurd (omega (arith, some))
+names_some ts (op ∷ ops) moment l some = names ts op ops moment l
+
+module _ (base : ℕ) (opened : List Element) (journal : Choice (Spelled TimedOp)) (hives : List HiveView) where
+  law_keeps : (old new : Machine) → old.before ≡ base + length opened → Stays old new ⊎ Grows old new → law.IsKept tree_rules GREATEST_NUMBER (length old.opened) (state_of old base opened journal hives)
+      → law.IsKept tree_rules GREATEST_NUMBER (length new.opened) (state_of new base opened journal hives)
+  law_keeps old new begun (inl s) kept =
+      subst (λ (ts : List TreeMap). law.IsKept tree_rules GREATEST_NUMBER (length ts) (state_of new base opened journal hives)) (sym s.opened)
+      (moved tree_rules GREATEST_NUMBER (length old.opened) (state_of old base opened journal hives) (state_of new base opened journal hives) (life_of old base opened) old.durable journal
+      (life_is base opened old new s.opened s.accepted) s.durable refl (λ j lt. refl) kept)
+  law_keeps old new begun (inr g) kept =
+      subst (λ (ts : List TreeMap). law.IsKept tree_rules GREATEST_NUMBER (length ts) (state_of new base opened journal hives)) (sym g.opened)
+      (step_accept tree_rules GREATEST_NUMBER (length old.opened) (state_of old base opened journal hives) (state_of new base opened journal hives) kept (record {
+        element = timed_element g.element;
+        room = omega (arith, g.number, last_is old base opened begun);
+        names = subst (λ n. NamesHive n (timed_element g.element)) (all_long old.opened old.accepted) (names_some (trees_now old) g.element.ops g.element.moment g.legal g.some);
+        legal = λ i lt. legal_at tree_rules i (timed_element g.element) (trees_now old) _ _ (run_ops (trees_now old) g.element.ops g.element.moment g.legal) (now_is i lt);
+        allowed = λ i lt. all_allowed i _ _;
+        life = grown;
+        durable = g.durable;
+        journal = refl;
+        files = λ j lt. refl;
+      }))
+    where
+      now_is : (i : ℕ) → i < length old.opened → slice_get (trees_now old) i ≡ Some (tree_at tree_rules (life_of old base opened) (life.last_number (life_of old base opened)) i)
+      now_is i lt = ap (λ (ts : List TreeMap). slice_get ts i) (sym (trees_at_last old)) ∙ tree_is old base opened begun (last_number old) i lt
+          ∙ ap (λ n. Some (tree_at tree_rules (life_of old base opened) n i)) (sym (last_is old base opened begun))
+
+      grown : life_of new base opened ≡ with_accepted (life_of old base opened) (timed_element g.element)
+      grown = ap (λ (ts : List TreeMap). let l : Life TreeMap TimedOp = record { trees = tree_of ts; base = base; opened = timed_elements opened; accepted = timed_elements new.accepted } in l) g.opened
+          ∙ ap (λ (es : List (List (ℕ × TimedOp))). let l : Life TreeMap TimedOp = record { trees = tree_of old.opened; base = base; opened = timed_elements opened; accepted = es } in l) (ap timed_elements g.accepted ∙ map-append timed_element old.accepted (g.element ∷ []))
+
+  opened_is : (old new : Machine) → Stays old new ⊎ Grows old new → new.opened ≡ old.opened
+  opened_is old new (inl s) = s.opened
+  opened_is old new (inr g) = g.opened
+
+  before_is : (old new : Machine) → Stays old new ⊎ Grows old new → new.before ≡ old.before
+  before_is old new (inl s) = s.before
+  before_is old new (inr g) = g.before
+
+  -- what is pending stays, but for one change more
+  pending_same : (old new : Machine) → Stays old new → pending new ≡ pending old
+  pending_same old new s = ap (λ n. drop (n - new.before) new.accepted) s.durable ∙ ap (λ n. drop (old.durable - n) new.accepted) s.before ∙ ap (drop (old.durable - old.before)) s.accepted
+
+  pending_more : (old new : Machine) → old.durable ≤ last_number old → (g : Grows old new) → pending new ≡ pending old ++ g.element ∷ []
+  pending_more old new known g = ap (λ n. drop (n - new.before) new.accepted) g.durable ∙ ap (λ n. drop (old.durable - n) new.accepted) g.before ∙ ap (drop (old.durable - old.before)) g.accepted
+      ∙ drop-append-le (old.durable - old.before) old.accepted (g.element ∷ []) (omega (arith, known))
+
+  onward_is : (old new : Machine) → old.durable ≤ last_number old → Stays old new ⊎ Grows old new → (now next : Spelled TimedOp) → (next ≡ nothing) ⊎ IsBatch old now next → (next ≡ nothing) ⊎ IsBatch new now next
+  onward_is old new known c now next (inl e) = inl e
+  onward_is old new known (inl s) now next (inr (count, some, few, is)) =
+      inr (
+        count,
+        some,
+        subst (λ (l : List Element). count ≤ length l) (sym (pending_same old new s)) few,
+        is ∙ ap (λ n. record { below = floor n now; elements = now.elements ++ take count (timed_elements (pending old)) }) (sym s.durable)
+            ∙ ap (λ (l : List Element). record { below = floor new.durable now; elements = now.elements ++ take count (timed_elements l) }) (sym (pending_same old new s)),
+      )
+  onward_is old new known (inr g) now next (inr (count, some, few, is)) =
+      let more = pending_more old new known g in
+      inr (
+        count,
+        some,
+        omega (arith, few, ap length more, length-append (pending old) (g.element ∷ [])),
+        is ∙ ap (λ n. record { below = floor n now; elements = now.elements ++ take count (timed_elements (pending old)) }) (sym g.durable)
+            ∙ ap (λ (l : List _). record { below = floor new.durable now; elements = now.elements ++ l }) (sym (ap (λ (l : List Element). take count (timed_elements l)) more ∙ first_stay count (pending old) g.element few)),
+      )
+
+  room_is : (old new : Machine) → old.durable ≤ last_number old → Stays old new ⊎ Grows old new → (used : ℕ) → old.room ≡ used + room_of (timed_elements (pending old)) → new.room ≡ used + room_of (timed_elements (pending new))
+  room_is old new known (inl s) used e = s.room ∙ e ∙ ap (λ (l : List Element). used + room_of (timed_elements l)) (sym (pending_same old new s))
+  room_is old new known (inr g) used e =
+      let more = ap (λ (l : List Element). room_of (timed_elements l)) (pending_more old new known g) in
+      let one = one_more_room (pending old) g.element in
+      omega (arith, g.room, e, more, one)
+
+  fits_on : (old new : Machine) → Stays old new ⊎ Grows old new → (0 < length (pending old) → old.room ≤ MOST_JOURNAL_BYTES) → 0 < length (pending new) → new.room ≤ MOST_JOURNAL_BYTES
+  fits_on old new (inl s) fit some = let was = fit (omega (arith, some, ap (λ (es : List Element). length es) (pending_same old new s))) in omega (arith, was, s.room)
+  fits_on old new (inr g) fit some = g.fits
+
+  pub calm_keeps : Settle → Keeps → (old new : Machine) → IsConsistent old base opened journal hives → (e : Event) (r : Reply) → is_calm e ≡ true → Step old e r new → IsConsistent new base opened journal hives
+  calm_keeps settle keeps old new i e r quiet step =
+      let c = settle old new e r i.kept quiet step in
+      let known = i.kept.within.known in
+      record {
+        kept = keeps old new e r i.kept step;
+        fits = fits_on old new c i.fits;
+        law = law_keeps old new i.begun c i.law;
+        begun = before_is old new c ∙ i.begun;
+        all = i.all ∙ ap length (sym (opened_is old new c));
+        own = i.own;
+        onward = λ next is. onward_is old new known c journal.now next (i.onward next is);
+        room = room_is old new known c (65 + room_of journal.now.elements) i.room;
+      }

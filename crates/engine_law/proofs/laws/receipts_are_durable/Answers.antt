@@ -1,5 +1,0 @@
-use Rattle.engine_law.proofs.Receipts.{all_held}
-use Rattle.engine_law.proofs.laws.receipts_are_durable.Goals as goal
-
-pub returns : goal.returns
-returns c = all_held c.steps_alone_settle.ensures c.states_are_kept.ensures.step

@@ -1,5 +1,0 @@
-use Rattle.engine_law.proofs.Advancing.{settle}
-use Rattle.engine_law.proofs.laws.six_steps_settle.Goals as goal
-
-pub returns : goal.returns
-returns c = λ machines left count enough some steps. settle machines left count some steps enough

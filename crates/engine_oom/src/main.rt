@@ -1,0 +1,52 @@
+//! Makes a store on the disk in memory, opens it and lets an engine go on over it, for runs in which memory is refused.
+//!
+//! `tools/failalloc each` runs it once for each allocation, which is refused, and once for each with all later ones refused too.
+//! The disk takes its memory ahead. An event that is refused memory has changed nothing, and is made again. What takes none is
+//! then asked for wherever the store stands, with a batch, a flush or a trim on its way: the finishing of a prepared event, each
+//! step behind a first one, and whatever ends a transaction or a session.
+//!
+//! The status is 0 where nothing was refused and all came as it should, 1 where memory was refused, 3 where a call was refused
+//! it twice, as where every allocation from one on is refused, and 2 where something else came.
+#![tactic(auto)]
+
+mod calm;
+mod desk;
+mod opening;
+
+use crate::desk::Desk;
+use std::alloc::Global;
+use std::process::ExitCode;
+use test_support::Fault;
+
+fn main(rt: HostRuntime) -> ExitCode {
+    match status(rt.alloc()) {
+        Ok(status) => ExitCode::from(status),
+        Err(Fault::NoMemory) => ExitCode::from(1),
+        Err(Fault::Twice) => ExitCode::from(3),
+        Err(Fault::NotUnderstood | Fault::Otherwise(_)) => ExitCode::from(2),
+    }
+}
+
+// an engine's life, and what is opened behind it: the status
+fn status(alloc: Global) -> Result<u8, Fault> {
+    let (engine, was_refused) = opening::made(alloc)?;
+    let mut desk = Desk::new(engine, was_refused);
+    let lived = live(alloc, &mut desk);
+    let was_refused = desk.was_refused;
+    let disk = desk.into_disk();
+    match lived {
+        Ok(()) => opening::seen_again(alloc, disk, was_refused),
+        Err(fault) => Err(fault),
+    }
+}
+
+// two stretches of a store's life, behind each of which stands what takes no memory
+fn live(alloc: Global, desk: &mut Desk) -> Result<(), Fault> {
+    let first = desk.begin_batch_and_flush(alloc);
+    desk.end()?;
+    first?;
+    let second = desk.begin_trim(alloc);
+    desk.end()?;
+    second?;
+    desk.end_session()
+}

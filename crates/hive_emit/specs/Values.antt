@@ -1,0 +1,117 @@
+-- Values that are written into cells that were not there.
+use Rattle.std.specs.Prelude.{◌≡◌, ◌⊎◌, ℕ, ◌<◌, ◌≤◌, ◌^◌, true, List, [], ◌∷◌, length, map, flat_map}
+use Rattle.std.specs.List.{AllByRecursion}
+use Rattle.reg_tree_parts.specs.declared.value.Value.{Value}
+use Rattle.hive_cells.specs.Bins.{Cells}
+use Rattle.hive_records.specs.Numbers.{nowhere}
+use Rattle.hive_records.specs.Fields.{Gives, Holds}
+use Rattle.hive_records.specs.BigTexts.{Segment, big_text, segment_places, together, AreFull}
+use Rattle.hive_records.specs.ListTexts.{offsets_text, AreOffsets}
+use Rattle.hive_records.specs.ValueTexts.{Fits}
+use Rattle.hive_records.specs.KeyTexts.{Written}
+use Rattle.hive_records.specs.Wholes.{IsWritten}
+use Rattle.hive_records.specs.Values.{values_at}
+use Rattle.std.specs.FinMap as finite
+use Rattle.reg_names.specs.Names.{folded}
+use Rattle.reg_tree_parts.specs.Rows.{ValueMap}
+use Rattle.hive_emit.specs.Making.{Adds, Lists}
+
+-- a segment is in its cell
+abbrev pub IsSegment : Cells → Segment → Type 0
+IsSegment cells s = Holds cells s.at s.text
+
+abbrev pub segment_own : Segment → List ℕ
+segment_own s = s.at ∷ []
+
+-- data lie in segments at places, of which something holds beside
+pub record InSegments (Full : List Segment → Type 0) (places text : List ℕ) (before after : Cells) : Type 0 where
+  pub segments : List Segment
+  pub listed : Lists IsSegment segment_own segments before after
+  pub at : segment_places segments ≡ places
+  pub its : together segments ≡ text
+  pub full : Full segments
+  pub near : AreOffsets places
+
+-- data lie in a cell, or in segments that a record in a cell leads to
+pub record InCell (to : ℕ) (text own : List ℕ) (cells : Cells) : Type 0 where
+  pub few : length text ≤ 16_344
+  pub is : own ≡ to ∷ []
+  pub held : Holds cells to text
+
+pub record InBig (to : ℕ) (text own : List ℕ) (cells : Cells) : Type 0 where
+  pub many : 16_344 < length text
+  pub list : ℕ
+  pub segments : List Segment
+  pub near_list : list < 2 ^ 32
+  pub is : own ≡ to ∷ list ∷ segment_places segments
+  pub its : text ≡ together segments
+  pub full : AreFull segments
+  pub count : length segments < 2 ^ 16
+  pub are : AreOffsets (segment_places segments)
+  pub leads : Holds cells to (big_text segments list)
+  pub listing : Holds cells list (offsets_text (segment_places segments))
+  pub held : AllByRecursion (IsSegment cells) segments
+
+pub record DataAt (to : ℕ) (text : List ℕ) (before after : Cells) : Type 0 where
+  pub own : List ℕ
+  pub near : to < 2 ^ 32
+  pub adds : Adds before after own
+  pub lies : InCell to text own after ⊎ InBig to text own after
+
+-- a value is written, its record at an offset
+pub record ValueAt (at : ℕ) (value : Value) (before after : Cells) : Type 0 where
+  pub own : List ℕ
+  pub near : at < 2 ^ 32
+  pub is : IsWritten true after (record { at = at; own = own; value = value })
+  pub adds : Adds before after own
+
+-- a value that can be put: it can be written, where its type is a number of 32 bits, and its data have so many segments as
+-- a record can count
+pub record CanPut (value : Value) : Type 0 where
+  pub fits : value.kind < 2 ^ 32 → Fits value
+  pub few : length value.«data» < 2 ^ 29
+
+-- values that can be put: each of them, under its own name, and no more than a record can count
+pub record CanPutAll (values : ValueMap) : Type 0 where
+  pub each : AllByRecursion CanPut (finite.values values)
+  pub filed : AllByRecursion (λ (entry : List ℕ × Value). let value = entry.1 in folded value.name ≡ entry.0) (finite.entries values)
+  pub few : finite.len values < 2 ^ 32
+
+abbrev pub IsValue : Cells → Written → Type 0
+IsValue cells v = IsWritten true cells v
+
+abbrev pub value_own : Written → List ℕ
+value_own v = v.own
+
+-- values are written one after another, their records at places
+pub record ListedValues (places : List ℕ) (values : List Value) (before after : Cells) : Type 0 where
+  pub written : List Written
+  pub listed : Lists IsValue value_own written before after
+  pub at : map (λ (v : Written). v.at) written ≡ places
+  pub its : map (λ (v : Written). v.value) written ≡ values
+  pub near : AreOffsets places
+
+-- a key's values have their records, and a list of these in the order of the values' folded names
+pub record HasValues (list : ℕ) (values : ValueMap) (own : List ℕ) (cells : Cells) : Type 0 where
+  pub written : List Written
+  pub its : map (λ (v : Written). v.value) written ≡ finite.values values
+  pub each : AllByRecursion (IsValue cells) written
+  pub held : Holds cells list (offsets_text (map (λ (v : Written). v.at) written))
+  pub its_own : own ≡ list ∷ flat_map value_own written
+
+-- none have no list, and its offset is that of none
+pub record HasNoValues (list : ℕ) (values : ValueMap) (own : List ℕ) : Type 0 where
+  pub none : finite.len values ≡ 0
+  pub without : list ≡ nowhere
+  pub its_own : own ≡ []
+
+abbrev pub AreListedValues : ℕ → ValueMap → List ℕ → Cells → Type 0
+AreListedValues list values own cells = HasNoValues list values own ⊎ HasValues list values own cells
+
+-- a key's values are written, and read back from the list at an offset, which hangs on cells that were not there
+pub record ValuesAt (list : ℕ) (values : ValueMap) (before after : Cells) : Type 0 where
+  pub own : List ℕ
+  pub near : list < 2 ^ 32
+  pub adds : Adds before after own
+  pub is : AreListedValues list values own after
+  pub gives : Gives (values_at true (finite.len values) list) after own [] values

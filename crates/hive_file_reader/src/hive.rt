@@ -1,0 +1,89 @@
+//! The hive of a file.
+ghost use Rattle.std.specs.Prelude.{◌≡◌, IfOk, IfErr, IfSome};
+ghost use Rattle.hive_file_reader.specs.Hives.{HoldsHive};
+ghost use Rattle.hive_file_reader.specs.declared.hive.Unread.TheVariants.{Refused};
+ghost use Rattle.hive_file_reader.specs.Readings.{IsUnread, TellsWhy, TellsWhyAs, of_hive};
+
+use crate::bytes::{fill, read_part};
+use crate::head::{HEAD_BYTES, judged};
+use hive_load::load_bins;
+use refusals::{Cause, Refusal};
+use reg_tree::Tree;
+use std::alloc::Global;
+use std::io;
+use std::io::{ErrorKind, Read};
+
+/// Why a file gives no tree.
+#[derive(Drop)]
+pub enum Unread {
+    /// The file's bytes are refused, or memory for them.
+    Refused(Refusal),
+    /// The file can't be read, or read on.
+    Unreadable,
+}
+
+impl From<io::Error> for Unread {
+    ghost from_gives = { λ _ unread. IsUnread unread };
+
+    fn from(error: io::Error) -> Unread {
+        match error.kind() {
+            ErrorKind::OutOfMemory => Unread::Refused(Refusal::NoMemory),
+            _ => Unread::Unreadable,
+        }
+    }
+}
+
+impl From<Refusal> for Unread {
+    ghost from_gives = { λ refusal unread. unread ≡ Refused refusal };
+
+    fn from(refusal: Refusal) -> Unread {
+        Unread::Refused(refusal)
+    }
+}
+
+/// The tree that a hive's primary file holds, read from where the reader stands: its base block, and as many bytes of bins data
+/// as that says. What follows is left unread. Whoever reads several files gives each its number, which only a refusal tells.
+///
+/// Refused with `HiveDamaged` of the hive of this number where the file ends early (`Truncated`), is no hive at all or has a wrong
+/// base block (`BadBase`), isn't clean (`NotClean`), or its bins data don't stand for a tree; with `Unsupported` for a version, a format, a
+/// type or a flag outside the profile; with `TooLarge` for bins data, a tree's weight or a path over the limits; and with
+/// `NoMemory`. A reader that fails is `Unreadable`.
+pub fn read_hive<R: Read>(alloc: Global, reader: &mut R, hive: u8) -> Result<Tree, Unread>
+    ensures hive { IfOk result (λ tree. IfSome (R.remaining reader.old) (λ file. HoldsHive file tree)) }
+    ensures unread { IfErr result (TellsWhyAs hive (R.remaining reader.old)) }
+{
+    match read_tree(alloc, reader) {
+        Ok(tree) => Ok(tree),
+        Err(Unread::Refused(why)) => Err(Unread::Refused(with_number(why, hive))),
+        Err(Unread::Unreadable) => Err(Unread::Unreadable),
+    }
+}
+
+// the tree that a hive's file holds, refused as that of hive 0
+fn read_tree<R: Read>(alloc: Global, reader: &mut R) -> Result<Tree, Unread>
+    ensures hive { IfOk result (λ tree. IfSome (R.remaining reader.old) (λ file. HoldsHive file tree)) }
+    ensures unread { IfErr result (TellsWhy (R.remaining reader.old)) }
+{
+    let mut head = [0; HEAD_BYTES];
+    let count = fill(reader, &mut head)?;
+    let block = judged(&head[..count])?;
+    let size = block.bins_size as usize;
+    let bins = read_part(alloc, reader, size)?;
+    if bins.len() < size {
+        return Err(Unread::Refused(Refusal::from(Cause::Truncated)));
+    }
+    match load_bins(alloc, bins, block.root, block.minor) {
+        Ok((tree, _)) => Ok(tree),
+        Err(why) => Err(Unread::Refused(why)),
+    }
+}
+
+// a refusal, told as that of the hive of this number
+fn with_number(why: Refusal, hive: u8) -> Refusal
+    ensures { result ≡ of_hive hive why }
+{
+    match why {
+        Refusal::HiveDamaged { hive: _, cause } => Refusal::HiveDamaged { hive, cause },
+        _ => why,
+    }
+}

@@ -1,0 +1,21 @@
+//! What a refusal says of a file: a law.
+ghost use Rattle.std.specs.Prelude.{◌≡◌, ◌≢◌, ℕ, List};
+ghost use Rattle.refusals.specs.declared.refusal.Refusal.{Refusal};
+ghost use Rattle.refusals.specs.declared.refusal.Refusal.TheVariants.{NoMemory};
+ghost use Rattle.reg_tree.specs.Maps.{TreeMap};
+ghost use Rattle.hive_file_reader.specs.Hives.{HoldsHive, NoHive};
+ghost use Rattle.hive_file_reader.specs.Readings.{IsRefusedAs};
+
+/// A file holds at most one tree; one in which a refusal stands, but for want of memory, holds none; and so one that is refused as
+/// a hive of any number.
+pub fn one_or_none()
+    ensures one { (file : List ℕ) (tree other : TreeMap) → HoldsHive file tree → HoldsHive file other →
+        tree ≡ other }
+    ensures none { (file : List ℕ) (why : Refusal) → NoHive file why → why ≢ NoMemory →
+        (tree : TreeMap) → HoldsHive file tree → ⊥ }
+    ensures refused { (hive : ℕ) (file : List ℕ) (why : Refusal) → IsRefusedAs hive file why →
+        why ≢ NoMemory → (tree : TreeMap) → HoldsHive file tree → ⊥ }
+{
+    hive_load::laws::refused_bins_exclude_trees();
+    hive_records::one_tree();
+}

@@ -1,0 +1,7 @@
+pub mod Holding
+pub mod Leaving
+pub mod Moving
+pub mod Planning
+pub mod Deciding
+pub mod Showing
+pub mod Sums

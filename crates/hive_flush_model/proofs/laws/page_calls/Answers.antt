@@ -1,0 +1,9 @@
+use Rattle.hive_flush_model.proofs.Moving.{page_written, page_failed, pages_synced}
+use Rattle.hive_flush_model.proofs.laws.page_calls.Goals as goal
+
+pub returns : goal.returns
+returns g c = record {
+  written = λ stands w n a m p l new mark sound on from within clean dirty done. page_written stands w n a m p l new sound on from within clean dirty done;
+  failed = λ stands w n a m p l new mark on from dirty part. page_failed stands w n a m p l new on from dirty part;
+  synced = λ stands w n p l new mark sound on clean done. pages_synced stands w n p l new sound on clean done;
+}

@@ -1,4 +1,0 @@
-pub mod Making
-pub mod Values
-pub mod KeyLists
-pub mod Costs

@@ -1,6 +1,0 @@
-use Rattle.std.proofs.Common.{◌≡◌, take}
-use Rattle.hive_records.specs.GoesOn.{elements_of}
-use Rattle.hive_keys.proofs.lists.elements.Given as goal
-
-abbrev pub invariant-loop-index : goal.invariant-loop-index
-invariant-loop-index l = l.found.items ≡ take l.index (elements_of l.list)

@@ -1,6 +1,0 @@
-use Rattle.std.proofs.Common.{◌≡◌, length, take}
-use Rattle.hive_records.specs.GoesOn.{units_of}
-use Rattle.hive_keys.proofs.names.name_of.Given as goal
-
-abbrev pub invariant-loop-place : goal.invariant-loop-place
-invariant-loop-place l = (l.units.items ≡ take l.place (units_of l.stored)) × (l.place-end ≡ length (units_of l.stored))

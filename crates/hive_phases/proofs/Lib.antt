@@ -1,6 +1,0 @@
-pub mod Holding
-pub mod Leaving
-pub mod Moving
-pub mod Planning
-pub mod Deciding
-pub mod Showing

@@ -1,5 +1,0 @@
-use Rattle.hive_phases.proofs.Showing.{reads_honest}
-use Rattle.hive_phases.proofs.laws.reads_are_honest.Goals as goal
-
-pub returns : goal.returns
-returns g c = λ stands work phase p l sound on rests. reads_honest stands work phase p l sound on rests

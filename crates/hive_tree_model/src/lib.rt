@@ -1,0 +1,175 @@
+//! The law of shapes: which tree an image of cells stands for, why it is at most one, which cells it hangs on,
+//! what an edit in place makes of it, and what stands in an image that stands for none.
+//!
+//! An image has cells, each with data at an offset. Keys are spelled by cells: a key's own cells say what its row is and
+//! which subkeys it has, by their offsets. How one key's cells are read is left open here; it is no recursion. The
+//! recursion is over keys alone, and is the same for every format of records: so it is told and proved once.
+//!
+//! There is no code here. Each law is the contract of a function with an empty body; `specs/` has the words:
+//!
+//! - `Keys`: what the cells of one key say (`Parts`), how keys are read (`Reads`), and keys with all that is below them;
+//! - `Trees`: the finite map that such keys make;
+//! - `Stands`: when the cells say it, and so which tree an image stands for;
+//! - `Chains`: the same without keys as a whole, by chains of listed keys;
+//! - `Faults`: what stands in an image that stands for no tree;
+//! - `Cells`, `Changes`: how keys hang on cells, and a change of one key and of what is below it.
+#![tactic(auto)]
+
+ghost use Rattle.std.specs.Prelude.{◌≡◌, ◌≢◌, ◌↔◌, ◌<◌, ◌++◌, ◌∷◌, [], ℕ, true, false, List, length, Option, Some, None, IsSome, Ok};
+ghost use Rattle.std.specs.FinMap as finite;
+ghost use Rattle.hive_tree_model.specs.Lists.{IsIn, Once};
+ghost use Rattle.hive_tree_model.specs.Keys.{Parts, Reads, Keys, none, offsets, names, lent_cells, all_cells};
+ghost use Rattle.hive_tree_model.specs.Trees.{TreeOf, tree_of};
+ghost use Rattle.hive_tree_model.specs.Stands.{Whole, Stands, IsKeyTree, NamesBy, LentApart};
+ghost use Rattle.hive_tree_model.specs.Chains.{Spells};
+ghost use Rattle.hive_tree_model.specs.Faults.{Unread, Nameless, Alike, IsTrail, Repeats, Shared, IsLentTrail, Lends, Deeper};
+ghost use Rattle.hive_tree_model.specs.Cells.{IsLocal, IsThere, Grows, AreNew, SameBut, LentThere, Written, Writing};
+ghost use Rattle.hive_tree_model.specs.Loads.{Marks, Marked, Loaded, Loading, with_last, Told};
+ghost use Rattle.hive_tree_model.specs.Changes.{Edits, with_key, rest_of, row_or, below_in};
+
+/// An image stands for at most one tree, and that is a tree.
+///
+/// - `one`: at most one.
+/// - `chains`: a path is in it exactly where a chain of listed keys from the root spells the path, with the row of the
+///   last of them.
+/// - `is`: the root is there, with a key its parent, and a key stands under its name.
+pub fn one_tree<R, C>()
+    ensures one { (reads : Reads R C) (root : ℕ) (t u : TreeOf R) → Stands reads root t →
+        Stands reads root u → t ≡ u }
+    ensures chains { (reads : Reads R C) (root : ℕ) (tree : TreeOf R) → Stands reads root tree →
+        (path : List (List ℕ)) (row : R) →
+        (finite.get tree path ≡ Some row) ↔ Spells reads root path row }
+    ensures is { (reads : Reads R C) (name_of : R → List ℕ) → NamesBy name_of reads →
+        (root : ℕ) (tree : TreeOf R) → Stands reads root tree → IsKeyTree name_of tree }
+{}
+
+/// Cells that nothing read hangs on may change: what the key at an offset and those below it say stays as it is.
+pub fn stays<D, R, C>()
+    ensures { (read : (ℕ → Option D) → Reads R C) → IsLocal read → (old new : ℕ →
+        Option D) (at : ℕ) (parts : Parts R) (below : Keys R) →
+        Whole (read old) at parts below → ((cell : ℕ) →
+        IsIn cell ((parts.own ++ parts.lent) ++ all_cells below) → new cell ≡ old cell) →
+        Whole (read new) at parts below }
+{}
+
+/// Where one key below the root comes to say something else, or has other keys below it, and its offset and name stay, the
+/// image stands for the tree that differs from the old one at and below that key's path alone.
+///
+/// - `whole`, `rows`: so in general.
+/// - `own`, `others`: where the keys below it stay too, it has its new row, and every other key its old one.
+pub fn edits<D, R, C>()
+    ensures whole { (read : (ℕ → Option D) → Reads R C) → IsLocal read → (old new : ℕ →
+        Option D) (root : ℕ) (above : Parts R) (kids : Keys R)
+        (n : List ℕ) (path : List (List ℕ)) (parts : Parts R) (below : Keys R) →
+        Whole (read old) root above kids → Edits read old new above kids n path parts below →
+        Whole (read new) root above (with_key kids (n ∷ path) parts below) }
+    ensures rows { (read : (ℕ → Option D) → Reads R C) → IsLocal read → (old new : ℕ →
+        Option D) (root : ℕ) (above : Parts R) (kids : Keys R)
+        (n : List ℕ) (path : List (List ℕ)) (parts : Parts R) (below : Keys R) →
+        Whole (read old) root above kids → Edits read old new above kids n path parts below →
+        (q : List (List ℕ)) →
+        finite.get (tree_of above (with_key kids (n ∷ path) parts below)) q
+        ≡ row_or (rest_of (n ∷ path) q) parts.row below (finite.get (tree_of above kids) q) }
+    ensures own { (read : (ℕ → Option D) → Reads R C) → IsLocal read → (old new : ℕ →
+        Option D) (root : ℕ) (above : Parts R) (kids : Keys R)
+        (n : List ℕ) (path : List (List ℕ)) (parts : Parts R) (below : Keys R) →
+        Whole (read old) root above kids → Edits read old new above kids n path parts below →
+        below_in kids (n ∷ path) ≡ Some below →
+        finite.get (tree_of above (with_key kids (n ∷ path) parts below)) (n ∷ path)
+        ≡ Some parts.row }
+    ensures others { (read : (ℕ → Option D) → Reads R C) → IsLocal read → (old new : ℕ →
+        Option D) (root : ℕ) (above : Parts R) (kids : Keys R)
+        (n : List ℕ) (path : List (List ℕ)) (parts : Parts R) (below : Keys R) →
+        Whole (read old) root above kids → Edits read old new above kids n path parts below →
+        below_in kids (n ∷ path) ≡ Some below →
+        (q : List (List ℕ)) → q ≢ n ∷ path →
+        finite.get (tree_of above (with_key kids (n ∷ path) parts below)) q
+        ≡ finite.get (tree_of above kids) q }
+{}
+
+/// An image in which a fault stands stands for no tree; and one that has a key deeper than a number of levels stands
+/// for no tree but one with a longer path.
+pub fn faults<R, C>()
+    ensures unread { (reads : Reads R C) (root : ℕ) (tree : TreeOf R) (cause : C) →
+        Unread reads root cause → Stands reads root tree → ⊥ }
+    ensures nameless { (reads : Reads R C) (root : ℕ) (tree : TreeOf R) → Nameless reads root →
+        Stands reads root tree → ⊥ }
+    ensures alike { (reads : Reads R C) (root : ℕ) (tree : TreeOf R) → Alike reads root →
+        Stands reads root tree → ⊥ }
+    ensures shared { (reads : Reads R C) (trail : ℕ → List ℕ) → IsTrail trail reads →
+        (root : ℕ) (tree : TreeOf R) → Shared trail reads root → Stands reads root tree → ⊥ }
+    ensures repeats { (reads : Reads R C) (trail : ℕ → List ℕ) → IsTrail trail reads →
+        (root : ℕ) (tree : TreeOf R) → Repeats trail reads root → Stands reads root tree → ⊥ }
+    ensures lends { (reads : Reads R C) (trail lends : ℕ → List ℕ) → IsTrail trail reads →
+        IsLentTrail lends reads → (root : ℕ) (tree : TreeOf R) →
+        Lends trail lends reads root → Stands reads root tree → ⊥ }
+    ensures told { (reads : Reads R C) (trail : ℕ → List ℕ) → IsTrail trail reads →
+        (bad_name shared : C) (root : ℕ) (tree : TreeOf R) (cause : C) →
+        Told trail reads bad_name shared (λ cell. false) root cause → Stands reads root tree → ⊥ }
+    ensures deep { (reads : Reads R C) (root : ℕ) (tree : TreeOf R) (most : ℕ) →
+        Deeper reads root most → Stands reads root tree →
+        (path : List (List ℕ)) × (row : R) × (finite.get tree path ≡ Some row) ×
+        (most < length path) }
+{}
+
+/// Reading keys one after another, each cell marked as it is looked at, so that none is looked at twice.
+///
+/// - `begins`, `goes_on`: the first of a key's subkeys are read, and one more.
+/// - `ends`: a key is read where its own cells are and all its subkeys, and no name is missing or stands twice.
+/// - `settled`, `lent`: at the end each cell that is lent is looked for among the marked ones: either none is there, or a
+///   fault is found.
+/// - `told`: a cause that is told for a subkey, the first ones being read, may be told for the key.
+pub fn loads<R, C>()
+    ensures begins { (reads : Reads R C) (marks : Marks) → Loading reads marks marks none }
+    ensures goes_on { (reads : Reads R C) (old mid new : Marks) (first : Keys R) (at : ℕ)
+        (parts : Parts R) (below : Keys R) →
+        Loading reads old mid first → Loaded reads mid new at parts below →
+        Loading reads old new (with_last first at parts below) }
+    ensures ends { (reads : Reads R C) (old mid new : Marks) (at : ℕ) (parts : Parts R)
+        (kids : Keys R) → reads at ≡ Ok parts →
+        Marked old mid parts.own → Loading reads mid new kids → offsets kids ≡ parts.kids →
+        Once (names kids) → (IsIn [] (names kids) → ⊥) →
+        Loaded reads old new at parts kids }
+    ensures settled { (reads : Reads R C) (now : Marks) (root : ℕ) (parts : Parts R)
+        (below : Keys R) → Loaded reads (λ cell. false) now root parts below →
+        ((cell : ℕ) → IsIn cell (parts.lent ++ lent_cells below) → now cell ≡ false) →
+        LentApart parts below }
+    ensures lent { (reads : Reads R C) (trail lends : ℕ → List ℕ) → IsTrail trail reads →
+        IsLentTrail lends reads → (now : Marks) (root : ℕ) (parts : Parts R) (below : Keys R) →
+        Loaded reads (λ cell. false) now root parts below → (cell : ℕ) →
+        IsIn cell (parts.lent ++ lent_cells below) → now cell ≡ true →
+        Lends trail lends reads root }
+    ensures told { (reads : Reads R C) (trail : ℕ → List ℕ) → IsTrail trail reads →
+        (bad_name shared : C) (at : ℕ) (parts : Parts R) → reads at ≡ Ok parts →
+        (old mid now : Marks) → Marked old mid parts.own → (first : Keys R) →
+        Loading reads mid now first → (kid : ℕ) (rest : List ℕ) →
+        parts.kids ≡ offsets first ++ kid ∷ rest →
+        (cause : C) → Told trail reads bad_name shared now kid cause →
+        Told trail reads bad_name shared old at cause }
+{}
+
+/// Writing keys one after another, each into cells that were not there, while all cells that are there stay.
+///
+/// - `begins`, `goes_on`: the first of a key's subkeys are written, and one more.
+/// - `ends`: a key is written where its own cells are, behind its subkeys.
+/// - `filled`: a key is written whose first cell was there ahead of its subkeys, and is filled behind them.
+pub fn writes<D, R, C>()
+    ensures begins { (read : (ℕ → Option D) → Reads R C) → IsLocal read → IsThere read →
+        (cells : ℕ → Option D) → Writing read cells cells none }
+    ensures goes_on { (read : (ℕ → Option D) → Reads R C) → IsLocal read → IsThere read →
+        (old mid new : ℕ → Option D) (first : Keys R) (at : ℕ) (parts : Parts R) (below : Keys R) →
+        Writing read old mid first → Written read mid new at parts below →
+        Writing read old new (with_last first at parts below) }
+    ensures ends { (read : (ℕ → Option D) → Reads R C) → IsLocal read → IsThere read →
+        (old mid new : ℕ → Option D) (at : ℕ) (parts : Parts R) (kids : Keys R) →
+        Writing read old mid kids → Grows mid new → read new at ≡ Ok parts → Once parts.own →
+        AreNew mid parts.own → offsets kids ≡ parts.kids →
+        Once (names kids) → (IsIn [] (names kids) → ⊥) → Written read old new at parts kids }
+    ensures filled { (read : (ℕ → Option D) → Reads R C) → IsLocal read → IsThere read →
+        (old start mid full new : ℕ → Option D) (at : ℕ) (parts : Parts R) (kids : Keys R)
+        (rest : List ℕ) → Grows old start → old at ≡ None → IsSome (start at) →
+        Writing read start mid kids → Grows mid full → SameBut at full new →
+        read new at ≡ Ok parts → parts.own ≡ at ∷ rest → Once rest → AreNew mid rest →
+        LentThere old kids → offsets kids ≡ parts.kids → Once (names kids) →
+        (IsIn [] (names kids) → ⊥) → Written read old new at parts kids }
+{}

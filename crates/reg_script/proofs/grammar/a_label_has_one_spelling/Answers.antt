@@ -1,5 +1,0 @@
-use Rattle.reg_script.proofs.Labels.{one_word}
-use Rattle.reg_script.proofs.grammar.a_label_has_one_spelling.Goals as goal
-
-pub returns : goal.returns
-returns c = one_word

@@ -1,5 +1,0 @@
-use Rattle.regtx_parts.proofs.Naming.{names}
-use Rattle.regtx_parts.proofs.labels.Labels.name.Goals as goal
-
-pub returns : goal.returns
-returns c = names c.args.self.now (record { named = c.insert.new.self }) c.bytes.result c.args.label c.args.tx c.bytes.ensures c.in-Ok.ensures.updates

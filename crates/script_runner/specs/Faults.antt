@@ -1,0 +1,26 @@
+-- Replies that tell of the device, and how a machine comes from another.
+use Rattle.std.specs.Prelude.{◌≡◌, Bool, true, false, List, Option, IfSome}
+use Rattle.refusals.specs.declared.refusal.Refusal.{Refusal}
+use Rattle.script_syntax.specs.declared.reply.ReplyLine.{ReplyLine}
+use Rattle.script_syntax.specs.declared.reply.ReplyLine.TheVariants as reply
+use Rattle.store_model.specs.Machine.{Machine, is_of_device}
+use Rattle.store_model.specs.Steps.{Run}
+use Rattle.store_model.specs.declared.event.Event.{Event}
+use Rattle.store_model.specs.declared.event.Reply.{Reply}
+
+-- whether a reply tells of the device: that it failed in this call, or in an earlier one
+abbrev pub tells_of_device : ReplyLine → Bool
+tells_of_device (reply.Refused refusal) = is_of_device refusal
+tells_of_device _ = false
+
+-- a reply tells of the device only if it has failed
+abbrev pub TellsOnlyIf : Type 0 → ReplyLine → Type 0
+TellsOnlyIf failed told = tells_of_device told ≡ true → failed
+
+-- the same of a refusal, where there is one
+abbrev pub IsOnlyIf : Type 0 → Option Refusal → Type 0
+IsOnlyIf failed ended = IfSome ended (λ refusal. is_of_device refusal ≡ true → failed)
+
+-- a machine has come from another by some events and their answers
+abbrev pub Comes : Machine → Machine → Type 0
+Comes old new = (events : List Event) × (replies : List Reply) × Run old events replies new

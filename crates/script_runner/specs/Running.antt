@@ -1,0 +1,161 @@
+-- The run of a script over the store that is on a disk: what is written, and with which status.
+use Rattle.std.specs.Prelude.{◌≡◌, ◌⊎◌, ℕ, ◌+◌, ◌<◌, Bool, true, false, List, length, [], ◌++◌, ◌∷◌, if◌then◌else◌, Option, Some, None, is_some, codes}
+use Rattle.std.specs.Fmt.{decimal}
+use Rattle.std.specs.Io.KnownBytes.{Appends}
+use Rattle.refusals.specs.Refusals.{refusal_text}
+use Rattle.refusals.specs.declared.refusal.Refusal.{Refusal}
+use Rattle.refusals.specs.declared.refusal.Refusal.TheVariants.{NoMemory, DiskFault, Faulted}
+use Rattle.reg_tree.specs.Maps.{TreeMap}
+use Rattle.script_syntax.specs.Replies.{reply_line}
+use Rattle.script_syntax.specs.Statuses.{with_refusal}
+use Rattle.script_syntax.specs.declared.line.Line.TheVariants.{Flush}
+use Rattle.script_syntax.specs.declared.reply.ReplyLine.{ReplyLine}
+use Rattle.script_syntax.specs.declared.status.Status.{Status}
+use Rattle.script_syntax.specs.declared.status.Status.TheVariants.{Refused}
+use Rattle.crash_model.specs.Promises.{Spelled}
+use Rattle.change_codec.specs.ModelChanges.{TimedOp}
+use Rattle.commit_journal.specs.Store.{Store, room_of}
+use Rattle.store_model.specs.Machine.{Machine, bounds_of, opened_machine}
+use Rattle.commit_journal.specs.Journals.{choice_of}
+use Rattle.recovery.specs.Recovered.{IsNoStore, IsRecovered, seen_in}
+use Rattle.recovery.specs.Shown.{Shown}
+use Rattle.script_runner.specs.Scripts.{Script, Answers, script_at}
+use Rattle.script_runner.specs.Plays.{PlaysOn, is_refusal}
+use Rattle.script_runner.specs.Faults.{IsOnlyIf, TellsOnlyIf}
+use Rattle.script_runner.specs.Work.{Works}
+use Rattle.disk_model.specs.FileState.{FileState}
+use Rattle.disk_model.specs.StoreFiles.{journal_file}
+use Rattle.engine_invariant.specs.Prefixes.{IsPrefix, IsSafeAt, Spells}
+use Rattle.engine.specs.Lives.{HasCome, IsLife, IsSafe, Life, ReadsSafely, end_of, faulted_in}
+use Rattle.script_runner.specs.declared.ending.Ending.{Ending}
+use Rattle.script_runner.specs.declared.working.Pace.TheVariants.{FreesRoom}
+
+-- the machine of a store that was opened at a number and trees, whose journal takes so much room, with these sessions open
+abbrev pub BeginsAt : ℕ → List TreeMap → ℕ → List ℕ → Machine → Type 0
+BeginsAt number trees room sessions machine = machine ≡ record (opened_machine (bounds_of trees) trees number [] 0) { room = room; sessions = sessions }
+
+-- session 0 alone
+abbrev pub session_0 : List ℕ
+session_0 = 0 ∷ []
+
+-- so much room the journal of these files takes, by what it spells
+abbrev pub IsRoomOf : (ℕ → List ℕ) → Store → ℕ → Type 0
+IsRoomOf files store room = (journal : Spelled TimedOp) → Spells store (files journal_file) journal → room ≡ 65 + room_of journal.elements
+
+-- the room that the journal of an opened store takes
+abbrev pub room_in : {D : Type 0} → Shown D → ℕ
+room_in opened = 65 + room_of (choice_of opened.found.journal).now.elements
+
+-- A store was opened on these files, with these sessions open: the machine begins at the number and the trees that they recover, and
+-- with the room that their journal takes, where the device has answered as it should.
+pub record IsOpenedOn (faithful : Type 0) (files : ℕ → List ℕ) (store : Store) (number : ℕ) (sessions : List ℕ) (machine : Machine) : Type 0 where
+  pub trees : List TreeMap
+  pub room : ℕ
+  pub begins : BeginsAt number trees room sessions machine
+  pub recovered : faithful → IsRecovered files store number trees
+  pub room_is : faithful → IsRoomOf files store room
+
+-- Why no store was opened on these files: memory was wanting, the device has failed, or they recover nothing.
+abbrev pub MayNotOpen : Type 0 → Type 0 → (ℕ → List ℕ) → Refusal → Type 0
+MayNotOpen failed faithful files why = (why ≡ NoMemory) ⊎ (((why ≡ DiskFault) × failed) ⊎ IsNoStore faithful files why)
+
+-- what is printed before the first line's reply
+abbrev pub opened_text : ℕ → List ℕ
+opened_text number = codes "opened " ++ decimal number ++ codes "\n"
+
+-- a flush that nobody asked for is told of where it is refused
+abbrev pub flushed_text : ReplyLine → List ℕ
+flushed_text told = if is_refusal told then reply_line told else []
+
+-- A store was opened, and its number told: the script begins on it.
+pub record HasBegun (faithful : Type 0) (files : ℕ → List ℕ) (store : Store) (before after : Option (List ℕ)) (script : Script) : Type 0 where
+  pub number : ℕ
+  pub machine : Machine
+  pub opened : IsOpenedOn faithful files store number session_0 machine
+  pub script_is : script ≡ script_at machine
+  pub told : Appends before after (opened_text number)
+
+-- No store was opened: why is told.
+pub record IsUnopened (failed faithful : Type 0) (files : ℕ → List ℕ) (before after : Option (List ℕ)) (status : Status) : Type 0 where
+  pub why : Refusal
+  pub may : MayNotOpen failed faithful files why
+  pub told : Appends before after (refusal_text why ++ 10 ∷ [])
+  pub status_is : status ≡ Refused
+
+-- What is left undone as a run ends, of the steps that no line asked for: the device failed in one between two lines; else what
+-- ended those of the end. `Faulted` alone says that the device failed earlier, and so what was asked then was told it.
+abbrev pub undone : Bool → Option Refusal → Option Refusal
+undone true ended = Some DiskFault
+undone false (Some Faulted) = None
+undone false ended = ended
+
+-- the last line, if something is left undone
+abbrev pub undone_text : Option Refusal → List ℕ
+undone_text None = []
+undone_text (Some why) = refusal_text why ++ 10 ∷ []
+
+-- From a machine on: it is faulted, or the failures of the device rise.
+abbrev pub HasFailedSince : Machine → ℕ → ℕ → Type 0
+HasFailedSince machine before after = (machine.faulted ≡ true) ⊎ (before < after)
+
+-- From a script on: the device failed in a step that no line asked for, or the same of its machine.
+abbrev pub MayHaveFailed : Script → ℕ → ℕ → Type 0
+MayHaveFailed script before after = (script.failed ≡ true) ⊎ HasFailedSince script.machine before after
+
+-- A script that came to this status ends: all is flushed, and then the store works on. What is left of it holds of its machine then.
+-- The flush is told if it is refused, and what is left undone after it. Neither tells of the device unless it has failed.
+pub record HasEnded (failed : Type 0) (IsLeft : Machine → Type 0) (script : Script) (came_to : Status) (before after : Option (List ℕ)) (status : Status) : Type 0 where
+  pub told : ReplyLine
+  pub last : Script
+  pub flushed : Answers script Flush told last
+  pub may : TellsOnlyIf failed told
+  pub machine : Machine
+  pub ended : Option Refusal
+  pub worked : Works ended last.machine machine
+  pub only : IsOnlyIf failed (undone last.failed ended)
+  pub left : IsLeft machine
+  pub wrote : Appends before after (flushed_text told ++ undone_text (undone last.failed ended))
+  pub status_is : status ≡ with_refusal (is_some (undone last.failed ended)) (with_refusal (is_refusal told) came_to)
+
+-- A store was opened; these lines were played over it, up to this ending, while it freed its room; and at the end all was
+-- flushed. No reply tells of the device unless it has failed. What is left holds of the store and of its machine at the end.
+pub record RunsOver (failed faithful : Type 0) (IsLeft : Store → Machine → Type 0) (files : ℕ → List ℕ) (lines : List (List ℕ)) (ending : Option Ending) (before after : Option (List ℕ)) (status : Status) : Type 0 where
+  pub store : Store
+  pub script : Script
+  pub opened : Option (List ℕ)
+  pub begins : HasBegun faithful files store before opened script
+  pub text : List ℕ
+  pub came_to : Status
+  pub end : Script
+  pub plays : PlaysOn (TellsOnlyIf failed) FreesRoom script 1 lines ending text came_to end
+  pub played : Option (List ℕ)
+  pub wrote : Appends opened played text
+  pub ends : HasEnded failed (IsLeft store) end came_to played after status
+
+-- A run: no store was opened, or the lines were played over one, of which this is left.
+abbrev pub IsRun : Type 0 → Type 0 → (Store → Machine → Type 0) → (ℕ → List ℕ) → List (List ℕ) → Option Ending → Option (List ℕ) → Option (List ℕ) → Status → Type 0
+IsRun failed faithful IsLeft files lines ending before after status =
+    IsUnopened failed faithful files before after status ⊎ RunsOver failed faithful IsLeft files lines ending before after status
+
+-- Where a disk that has these states is faithful, whatever a crash leaves of it at its last moment recovers one number, not below the
+-- machine's durable one, and the trees after the accepted changes up to it; and so does what a read gives, unless the device has
+-- failed.
+abbrev pub LeavesPrefix : Type 0 → (ℕ → ℕ → FileState) → ℕ → Store → Machine → Type 0
+LeavesPrefix faithful states clock store machine = faithful → IsSafeAt store states clock machine × (machine.faulted ≡ false → IsPrefix store machine (seen_in (states clock)))
+
+-- A machine has gone on so far on the files of a store, and is faulted only if the device has failed; and whatever a crash leaves of
+-- these files is a prefix of its changes, and so is what a read gives unless it is faulted.
+pub record GoesOnTo (failed : Type 0) (store : Store) (last : Machine) (end : ℕ → FileState) : Type 0 where
+  pub safe : IsSafe store last end
+  pub reads : last.faulted ≡ false → ReadsSafely (length last.opened) end
+  pub why : last.faulted ≡ true → failed
+
+-- Since a store was opened at a number and trees, a machine has gone on so far.
+abbrev pub HasLived : Type 0 → Store → ℕ → List TreeMap → (ℕ → FileState) → Type 0
+HasLived failed store number trees end = (last : Machine) × HasCome number trees last × GoesOnTo failed store last end
+
+-- What is left of files, where the device has answered as it should, is what a life of a store leaves: each file is as it was or
+-- synced; or what they recover was opened, and whatever a crash leaves then is a prefix of what was accepted since. The life is a
+-- faulted one only if the device has failed.
+abbrev pub LeavesLife : Type 0 → Type 0 → (ℕ → FileState) → (ℕ → FileState) → Type 0
+LeavesLife failed faithful state end = faithful → (store : Store) × (life : Life) × IsLife store state life × (end_of life ≡ end) × (faulted_in life ≡ true → failed)

@@ -1,0 +1,98 @@
+//! An answer of the store as the reply to a line.
+ghost use Rattle.std.specs.Prelude.{◌≡◌};
+ghost use Rattle.script_runner.specs.Faults.{tells_of_device};
+ghost use Rattle.script_runner.specs.Scripts.{reply_of, found_reply, accepted_reply, added_reply, standing_reply, step_reply};
+
+use refusals::Refusal;
+use reg_tree::Value;
+use script_syntax::ReplyLine;
+use store_model::{Found, Outcome, Progress, Reply};
+
+/// The reply to the line that asked. What is to be waited for is told as accepted, for the lines that wait have replies of
+/// their own. A receipt is no line's reply, and no line asks for a subkey by its index.
+pub(crate) fn reply_of(answer: Reply) -> ReplyLine
+    ensures { result ≡ reply_of answer }
+{
+    match answer {
+        Reply::Accepted { levels, number } => accepted_reply(levels, number),
+        Reply::Added { levels } => added_reply(levels),
+        Reply::Opened => ReplyLine::Opened,
+        Reply::Read { found } => found_reply(found),
+        Reply::Stands { outcome } => standing_reply(outcome),
+        Reply::Refused { refusal } => ReplyLine::Refused { refusal },
+        Reply::Awaits { number } => ReplyLine::Accepted { number },
+        Reply::Stepped { progress } => step_reply(progress),
+        Reply::Done | Reply::Begun { .. } | Reply::Receipt { .. } | Reply::NotYet => {
+            ReplyLine::Done
+        }
+    }
+}
+
+/// Whether a reply tells of the device: that it failed in this call, or in an earlier one.
+pub(crate) fn tells_of_device(told: &ReplyLine) -> bool
+    ensures { result ≡ tells_of_device told.now }
+{
+    match told {
+        ReplyLine::Refused {
+            refusal: Refusal::DiskFault | Refusal::Faulted,
+        } => true,
+        _ => false,
+    }
+}
+
+fn step_reply(progress: Progress) -> ReplyLine
+    ensures { result ≡ step_reply progress }
+{
+    match progress {
+        Progress::Idle => ReplyLine::StepIdle,
+        Progress::More => ReplyLine::StepMore,
+        Progress::Done => ReplyLine::StepDone,
+    }
+}
+
+fn accepted_reply(levels: Option<usize>, number: u64) -> ReplyLine
+    ensures { result ≡ accepted_reply levels number }
+{
+    match levels {
+        Some(levels) => ReplyLine::Created { levels, number },
+        None => ReplyLine::Accepted { number },
+    }
+}
+
+fn added_reply(levels: Option<usize>) -> ReplyLine
+    ensures { result ≡ added_reply levels }
+{
+    match levels {
+        Some(levels) => ReplyLine::CreatedInside { levels },
+        None => ReplyLine::Done,
+    }
+}
+
+fn found_reply(found: Found) -> ReplyLine
+    ensures { result ≡ found_reply found }
+{
+    match found {
+        Found::Value { value } => {
+            let Value { kind, data, .. } = value;
+            ReplyLine::Value { kind, data }
+        }
+        Found::Key { .. } => ReplyLine::Done,
+        Found::Keys { names } => ReplyLine::Keys { names },
+        Found::ValueNames { names } => ReplyLine::Values { names },
+        Found::Counts { info } => ReplyLine::Info {
+            subkeys: info.subkeys,
+            values: info.values,
+            time: info.time,
+        },
+    }
+}
+
+fn standing_reply(outcome: Outcome) -> ReplyLine
+    ensures { result ≡ standing_reply outcome }
+{
+    match outcome {
+        Outcome::Active => ReplyLine::StillActive,
+        Outcome::Committed => ReplyLine::HasCommitted,
+        Outcome::RolledBack => ReplyLine::RolledBack,
+    }
+}

@@ -1,0 +1,135 @@
+-- Which bytes spell which line, said as relations: a word and what it spells, piece by piece.
+use Rattle.std.specs.Prelude.{◌≡◌, ◌≢◌, ℕ, ◌-◌, ◌^◌, ◌<◌, ◌≤◌, ◌⊎◌, true, List, [], ◌∷◌, ◌++◌, length, replicate, Some, Ok, codes}
+use Rattle.std.specs.List.{list_all}
+use Rattle.std.specs.Char.{is_ascii_digit, is_ascii_alphanumeric}
+use Rattle.std.specs.Str.Parse.{digits_value}
+use Rattle.std.specs.Int.{from_be_bytes, w16}
+use Rattle.hex.specs.Hex.{decode_of, decode_sized}
+use Rattle.refusals.specs.declared.limits.TheConstants.{MOST_HIVES}
+use Rattle.script_syntax.specs.Words.{words, uuid_of}
+use Rattle.script_syntax.specs.declared.label.TheConstants.{LONGEST_LABEL}
+use Rattle.script_syntax.specs.declared.line.Place.{Place}
+use Rattle.script_syntax.specs.declared.line.Request.{Request}
+use Rattle.script_syntax.specs.declared.line.Request.TheVariants.{Create, Delete, Set, Unset, Get, Keys, Values, Info}
+use Rattle.script_syntax.specs.declared.line.Line.{Line}
+use Rattle.script_syntax.specs.declared.line.Line.TheVariants.{Hives, At, Session, End, Plain, Begin, Inside, Commit, Rollback, Close, Outcome, Flush, Lab}
+use Rattle.script_syntax.specs.declared.lab_line.LabLine.{LabLine}
+use Rattle.script_syntax.specs.declared.lab_line.LabLine.TheVariants.{Accept, JournalStep, FlusherStep, TrimStep, FlushWhole, StopAt, FailAt, Crash}
+use Rattle.script_syntax.specs.declared.lab_line.CrashTear.{CrashTear}
+use Rattle.script_syntax.specs.declared.lab_line.CrashTear.TheVariants.{Old, New, Torn}
+
+-- one decimal digit or more, and the number that they write
+pub record IsDecimal (word : List ℕ) (number : ℕ) : Type 0 where
+  pub some : 0 < length word
+  pub digits : list_all is_ascii_digit word ≡ true
+  pub value : number ≡ digits_value 10 word
+
+-- a unit but `%` is spelled by the byte of its number, and any unit by `%` and four hex digits
+abbrev pub IsPlain : List ℕ → ℕ → Type 0
+IsPlain piece unit = (unit ≢ 37) × (piece ≡ unit ∷ [])
+
+pub record IsEscape (piece : List ℕ) (unit : ℕ) : Type 0 where
+  pub digits : List ℕ
+  pub pair : List ℕ
+  pub spelled : piece ≡ 37 ∷ digits
+  pub four : length digits ≡ 4
+  pub decoded : decode_sized digits 2 ≡ Ok pair
+  pub is : unit ≡ from_be_bytes w16 pair
+
+-- units, one after another
+abbrev pub AreUnits : List ℕ → List ℕ → Type 0
+AreUnits word [] = word ≡ []
+AreUnits word (unit ∷ units) = (piece : List ℕ) × (rest : List ℕ) × (word ≡ piece ++ rest) × (IsPlain piece unit ⊎ IsEscape piece unit) × AreUnits rest units
+
+-- a hive's number, a colon, and the text of a path
+pub record IsPlace (word : List ℕ) (place : Place) : Type 0 where
+  pub number : List ℕ
+  pub text : List ℕ
+  pub spelled : word ≡ number ++ 58 ∷ text
+  pub hive : IsDecimal number place.hive
+  pub within : place.hive ≤ 255
+  pub path : AreUnits text place.path
+
+-- the name of a value: `@` is the empty one, and nothing else is
+abbrev pub IsName : List ℕ → List ℕ → Type 0
+IsName word units = ((word ≡ codes "@") × (units ≡ [])) ⊎ ((word ≢ codes "@") × (word ≢ []) × AreUnits word units)
+
+-- bytes: a minus for none, or pairs of hex digits, at least one pair
+abbrev pub IsData : List ℕ → List ℕ → Type 0
+IsData word bytes = ((word ≡ codes "-") × (bytes ≡ [])) ⊎ ((word ≢ codes "-") × (word ≢ []) × (decode_of word ≡ Ok bytes))
+
+-- a label: ASCII letters or digits, at least one and at most 16, filled up with zeros
+pub record IsLabel (word label : List ℕ) : Type 0 where
+  pub some : 0 < length word
+  pub short : length word ≤ LONGEST_LABEL
+  pub letters : list_all is_ascii_alphanumeric word ≡ true
+  pub filled : label ≡ word ++ replicate (LONGEST_LABEL - length word) 0
+
+-- a text form of a UUID, as its reader reads it
+abbrev pub IsUuid : List ℕ → List ℕ → Type 0
+IsUuid word id = uuid_of word ≡ Some id
+
+-- a word with a place behind it; with a place and a name; with a number; with a label
+abbrev pub OfPlace : List ℕ → Place → List (List ℕ) → Type 0
+OfPlace verb at said = (place : List ℕ) × (said ≡ verb ∷ place ∷ []) × IsPlace place at
+
+abbrev pub OfName : List ℕ → Place → List ℕ → List (List ℕ) → Type 0
+OfName verb at name said = (place : List ℕ) × (named : List ℕ) × (said ≡ verb ∷ place ∷ named ∷ []) × IsPlace place at × IsName named name
+
+abbrev pub OfNumber : List ℕ → ℕ → List (List ℕ) → Type 0
+OfNumber verb number said = (digits : List ℕ) × (said ≡ verb ∷ digits ∷ []) × IsDecimal digits number
+
+abbrev pub OfLabel : List ℕ → List ℕ → List (List ℕ) → Type 0
+OfLabel verb label said = (word : List ℕ) × (said ≡ verb ∷ word ∷ []) × IsLabel word label
+
+-- the words of a request: the first says which it is, and the others what it asks for
+abbrev pub RequestedBy : Request → List (List ℕ) → Type 0
+RequestedBy (Create at) said = OfPlace (codes "create") at said
+RequestedBy (Delete at) said = OfPlace (codes "delete") at said
+RequestedBy (Set at name kind bytes) said =
+    (place : List ℕ) × (named : List ℕ) × (number : List ℕ) × (digits : List ℕ) × (said ≡ codes "set" ∷ place ∷ named ∷ number ∷ digits ∷ [])
+    × IsPlace place at × IsName named name × IsDecimal number kind × (kind < 2 ^ 32) × IsData digits bytes
+RequestedBy (Unset at name) said = OfName (codes "unset") at name said
+RequestedBy (Get at name) said = OfName (codes "get") at name said
+RequestedBy (Keys at) said = OfPlace (codes "keys") at said
+RequestedBy (Values at) said = OfPlace (codes "values") at said
+RequestedBy (Info at) said = OfPlace (codes "info") at said
+
+-- the word of what a loss of power leaves
+abbrev pub tear_word : CrashTear → List ℕ
+tear_word Old = codes "old"
+tear_word New = codes "new"
+tear_word Torn = codes "torn"
+
+-- the words of a line that only a laboratory takes; calls of the device are counted from 1
+abbrev pub LabSpelledBy : LabLine → List (List ℕ) → Type 0
+LabSpelledBy (Accept label) said = OfLabel (codes "accept") label said
+LabSpelledBy JournalStep said = said ≡ codes "jstep" ∷ []
+LabSpelledBy (FlusherStep hive) said = OfNumber (codes "fstep") hive said × (hive ≤ 255)
+LabSpelledBy TrimStep said = said ≡ codes "tstep" ∷ []
+LabSpelledBy (FlushWhole hive) said = OfNumber (codes "fall") hive said × (hive ≤ 255)
+LabSpelledBy (StopAt call) said = OfNumber (codes "stop") call said × (1 ≤ call) × (call < 2 ^ 64)
+LabSpelledBy (FailAt call) said = OfNumber (codes "fail") call said × (1 ≤ call) × (call < 2 ^ 64)
+LabSpelledBy (Crash tear) said = said ≡ codes "crash" ∷ tear_word tear ∷ []
+
+-- the words of a line, likewise; a request stands alone, or behind `tx` and a label
+abbrev pub SpelledBy : Line → List (List ℕ) → Type 0
+SpelledBy (Hives count) said = OfNumber (codes "hives") count said × (1 ≤ count) × (count ≤ MOST_HIVES)
+SpelledBy (At moment) said = OfNumber (codes "at") moment said × (moment < 2 ^ 64)
+SpelledBy (Session number) said = OfNumber (codes "session") number said × (number < 2 ^ 32)
+SpelledBy (End number) said = OfNumber (codes "end") number said × (number < 2 ^ 32)
+SpelledBy (Plain request) said = RequestedBy request said
+SpelledBy (Begin label id) said =
+    (word : List ℕ) × (text : List ℕ) × (said ≡ codes "begin" ∷ word ∷ text ∷ []) × IsLabel word label × IsUuid text id
+SpelledBy (Inside label request) said =
+    (word : List ℕ) × (asked : List (List ℕ)) × (said ≡ codes "tx" ∷ word ∷ asked) × IsLabel word label × RequestedBy request asked
+SpelledBy (Commit label) said = OfLabel (codes "commit") label said
+SpelledBy (Rollback label) said = OfLabel (codes "rollback") label said
+SpelledBy (Close label) said = OfLabel (codes "close") label said
+SpelledBy (Outcome label) said = OfLabel (codes "outcome") label said
+SpelledBy Flush said = said ≡ codes "flush" ∷ []
+SpelledBy (Lab line) said = LabSpelledBy line said
+
+-- bytes spell a line where their parts between blanks do
+abbrev pub Spells : List ℕ → Line → Type 0
+Spells bytes line = SpelledBy line (words bytes)

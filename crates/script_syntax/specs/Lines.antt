@@ -1,0 +1,160 @@
+-- Which line the words of a script's line spell, where they spell one.
+use Rattle.std.specs.Prelude.{ℕ, ◌^◌, ◌-◌, nat_le, if◌then◌else◌, List, [], ◌∷◌, Option, Some, None, codes}
+use Rattle.std.specs.Option.{option_map, option_and_then}
+use Rattle.std.specs.Str.{bytes_eq}
+use Rattle.script_syntax.specs.Words.{words, number_of, data_of, name_of, place_of, label_of, uuid_of}
+use Rattle.script_syntax.specs.declared.line.Place.{Place}
+use Rattle.script_syntax.specs.declared.line.Request.{Request}
+use Rattle.script_syntax.specs.declared.line.Request.TheVariants.{Create, Delete, Set, Unset, Get, Keys, Values, Info}
+use Rattle.script_syntax.specs.declared.line.Line.{Line}
+use Rattle.script_syntax.specs.declared.line.Line.TheVariants.{Hives, At, Session, End, Plain, Begin, Inside, Commit, Rollback, Close, Outcome, Flush, Lab}
+use Rattle.script_syntax.specs.declared.lab_line.LabLine.TheVariants.{Accept, JournalStep, FlusherStep, TrimStep, FlushWhole, StopAt, FailAt, Crash}
+use Rattle.script_syntax.specs.declared.lab_line.CrashTear.{CrashTear}
+use Rattle.script_syntax.specs.declared.lab_line.CrashTear.TheVariants.{Old, New, Torn}
+use Rattle.refusals.specs.declared.limits.TheConstants.{MOST_HIVES}
+
+-- the words behind the first, where they are one, two or four
+abbrev pub one_of : List (List ℕ) → Option (List ℕ)
+one_of (a ∷ []) = Some a
+one_of _ = None
+
+abbrev pub two_of : List (List ℕ) → Option (List ℕ × List ℕ)
+two_of (a ∷ b ∷ []) = Some (a, b)
+two_of _ = None
+
+abbrev pub four_of : List (List ℕ) → Option (List ℕ × List ℕ × List ℕ × List ℕ)
+four_of (a ∷ b ∷ c ∷ d ∷ []) = Some (a, b, c, d)
+four_of _ = None
+
+-- a place alone, and a place with the name of a value
+abbrev pub place_in : List (List ℕ) → Option Place
+place_in args = option_and_then place_of (one_of args)
+
+abbrev pub named_place : List ℕ × List ℕ → Option (Place × List ℕ)
+named_place args = option_and_then (λ at. option_map (λ units. (at, units)) (name_of args.1)) (place_of args.0)
+
+abbrev pub named_in : List (List ℕ) → Option (Place × List ℕ)
+named_in args = option_and_then named_place (two_of args)
+
+abbrev pub set_request : List ℕ × List ℕ × List ℕ × List ℕ → Option Request
+set_request args =
+    option_and_then (λ at. option_and_then (λ units. option_and_then (λ number. option_map (λ contents. Set at units number contents) (data_of args.3)) (number_of (2 ^ 32 - 1) args.2)) (name_of args.1)) (place_of args.0)
+
+-- what is asked of a key: the first word says what
+abbrev pub request_with : List ℕ → List (List ℕ) → Option Request
+request_with verb args =
+    if bytes_eq verb (codes "create") then option_map (λ at. Create at) (place_in args)
+    else if bytes_eq verb (codes "delete") then option_map (λ at. Delete at) (place_in args)
+    else if bytes_eq verb (codes "set") then option_and_then set_request (four_of args)
+    else if bytes_eq verb (codes "unset") then option_map (λ found. Unset found.0 found.1) (named_in args)
+    else if bytes_eq verb (codes "get") then option_map (λ found. Get found.0 found.1) (named_in args)
+    else if bytes_eq verb (codes "keys") then option_map (λ at. Keys at) (place_in args)
+    else if bytes_eq verb (codes "values") then option_map (λ at. Values at) (place_in args)
+    else if bytes_eq verb (codes "info") then option_map (λ at. Info at) (place_in args)
+    else None
+
+abbrev pub request_of_words : List (List ℕ) → Option Request
+request_of_words [] = None
+request_of_words (verb ∷ args) = request_with verb args
+
+-- a store has at least one hive
+abbrev pub hives_of : ℕ → Option Line
+hives_of count = if nat_le 1 count then Some (Hives count) else None
+
+abbrev pub hives_line : List ℕ → Option Line
+hives_line count = option_and_then hives_of (number_of MOST_HIVES count)
+
+abbrev pub at_line : List ℕ → Option Line
+at_line moment = option_map (λ number. At number) (number_of (2 ^ 64 - 1) moment)
+
+abbrev pub session_line : List ℕ → Option Line
+session_line word = option_map (λ number. Session number) (number_of (2 ^ 32 - 1) word)
+
+abbrev pub end_line : List ℕ → Option Line
+end_line word = option_map (λ number. End number) (number_of (2 ^ 32 - 1) word)
+
+-- a line of one word: nothing stands behind it
+abbrev pub alone : Line → List (List ℕ) → Option Line
+alone line [] = Some line
+alone line (word ∷ args) = None
+
+abbrev pub begin_line : List ℕ × List ℕ → Option Line
+begin_line args = option_and_then (λ label. option_map (λ id. Begin label id) (uuid_of args.1)) (label_of args.0)
+
+-- a label and a request
+abbrev pub inside_line : List (List ℕ) → Option Line
+inside_line [] = None
+inside_line (word ∷ asked) = option_and_then (λ label. option_map (λ request. Inside label request) (request_of_words asked)) (label_of word)
+
+-- a label alone
+abbrev pub label_in : List (List ℕ) → Option (List ℕ)
+label_in args = option_and_then label_of (one_of args)
+
+-- the number of a hive
+abbrev pub hive_in : List (List ℕ) → Option ℕ
+hive_in args = option_and_then (number_of 255) (one_of args)
+
+-- which call it is: they are counted from 1
+abbrev pub call_of : ℕ → Option ℕ
+call_of call = if nat_le 1 call then Some call else None
+
+abbrev pub call_in : List (List ℕ) → Option ℕ
+call_in args = option_and_then (λ word. option_and_then call_of (number_of (2 ^ 64 - 1) word)) (one_of args)
+
+-- what a loss of power leaves
+abbrev pub tear_of : List ℕ → Option CrashTear
+tear_of word =
+    if bytes_eq word (codes "old") then Some Old
+    else if bytes_eq word (codes "new") then Some New
+    else if bytes_eq word (codes "torn") then Some Torn
+    else None
+
+abbrev pub tear_in : List (List ℕ) → Option CrashTear
+tear_in args = option_and_then tear_of (one_of args)
+
+-- a failure of the device to come, a loss of power, or a request alone
+abbrev pub device_line : List ℕ → List (List ℕ) → Option Line
+device_line verb args =
+    if bytes_eq verb (codes "stop") then option_map (λ call. Lab (StopAt call)) (call_in args)
+    else if bytes_eq verb (codes "fail") then option_map (λ call. Lab (FailAt call)) (call_in args)
+    else if bytes_eq verb (codes "crash") then option_map (λ tear. Lab (Crash tear)) (tear_in args)
+    else option_map (λ request. Plain request) (request_with verb args)
+
+-- a line of a single step, one that has to do with the device, or a request alone
+abbrev pub step_line : List ℕ → List (List ℕ) → Option Line
+step_line verb args =
+    if bytes_eq verb (codes "accept") then option_map (λ label. Lab (Accept label)) (label_in args)
+    else if bytes_eq verb (codes "jstep") then alone (Lab JournalStep) args
+    else if bytes_eq verb (codes "fstep") then option_map (λ hive. Lab (FlusherStep hive)) (hive_in args)
+    else if bytes_eq verb (codes "tstep") then alone (Lab TrimStep) args
+    else if bytes_eq verb (codes "fall") then option_map (λ hive. Lab (FlushWhole hive)) (hive_in args)
+    else device_line verb args
+
+-- a line that begins, uses or ends a transaction, a laboratory's, or a request alone
+abbrev pub transaction_line : List ℕ → List (List ℕ) → Option Line
+transaction_line verb args =
+    if bytes_eq verb (codes "tx") then inside_line args
+    else if bytes_eq verb (codes "begin") then option_and_then begin_line (two_of args)
+    else if bytes_eq verb (codes "commit") then option_map (λ label. Commit label) (label_in args)
+    else if bytes_eq verb (codes "rollback") then option_map (λ label. Rollback label) (label_in args)
+    else if bytes_eq verb (codes "close") then option_map (λ label. Close label) (label_in args)
+    else if bytes_eq verb (codes "outcome") then option_map (λ label. Outcome label) (label_in args)
+    else step_line verb args
+
+-- the first word says which line it is
+abbrev pub line_with : List ℕ → List (List ℕ) → Option Line
+line_with verb args =
+    if bytes_eq verb (codes "hives") then option_and_then hives_line (one_of args)
+    else if bytes_eq verb (codes "at") then option_and_then at_line (one_of args)
+    else if bytes_eq verb (codes "session") then option_and_then session_line (one_of args)
+    else if bytes_eq verb (codes "end") then option_and_then end_line (one_of args)
+    else if bytes_eq verb (codes "flush") then alone Flush args
+    else transaction_line verb args
+
+abbrev pub line_of_words : List (List ℕ) → Option Line
+line_of_words [] = None
+line_of_words (verb ∷ args) = line_with verb args
+
+-- the line that bytes spell, where they spell one
+abbrev pub line_of : List ℕ → Option Line
+line_of bytes = line_of_words (words bytes)

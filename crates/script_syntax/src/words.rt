@@ -1,0 +1,85 @@
+//! The parts of a line between separators.
+ghost use Rattle.std.specs.Prelude.{◌≡◌, ◌∷◌, [], ◌==◌, ◌<◌, length, IfSome, MatchResult};
+ghost use Rattle.std.specs.Option.{option_copied};
+ghost use Rattle.std.specs.List.{slice_split, position};
+ghost use Rattle.script_syntax.specs.Words.{parts_of, before, behind};
+ghost use Rattle.script_syntax.specs.Lines.{one_of, two_of, four_of};
+ghost use Rattle.script_syntax.specs.Reads.{ReadsAs};
+
+use crate::unread::Unread;
+
+/// The blank between two words.
+const BLANK: u8 = b' ';
+
+/// What stands before the first separator, and what stands behind it where there is one.
+pub(crate) fn first_part(bytes: &[u8], separator: u8) -> (&[u8], Option<&[u8]>)
+    ensures before { result.0.now ≡ before separator bytes.now }
+    ensures behind { option_copied result.1 ≡ behind separator bytes.now }
+    ensures parts { slice_split (λ byte. byte == separator) bytes.now
+        ≡ result.0.now ∷ parts_of separator (option_copied result.1) }
+    ensures shorter { IfSome result.1 (λ rest. length rest.now < length bytes.now) }
+{
+    match separator_in(bytes, separator) {
+        Some(at) => (&bytes[..at], Some(&bytes[at + 1..])),
+        None => (bytes, None),
+    }
+}
+
+/// The first word of a line, and what stands behind its blank where there is one.
+pub(crate) fn first_word(line: &[u8]) -> (&[u8], Option<&[u8]>)
+    ensures { slice_split (λ byte. byte == 32) line.now
+        ≡ result.0.now ∷ parts_of 32 (option_copied result.1) }
+{
+    first_part(line, BLANK)
+}
+
+/// The one word that stands behind a blank.
+pub(crate) fn one_word(rest: Option<&[u8]>) -> Result<&[u8], Unread>
+    ensures { ReadsAs (λ word. word.now) result (one_of (parts_of 32 (option_copied rest.entry))) }
+{
+    match next_word(rest)? {
+        (word, None) => Ok(word),
+        (_, Some(_)) => Err(Unread::NotUnderstood),
+    }
+}
+
+/// The two words that stand behind a blank.
+pub(crate) fn two_words(rest: Option<&[u8]>) -> Result<(&[u8], &[u8]), Unread>
+    ensures { ReadsAs (λ found. (found.0.now, found.1.now)) result
+        (two_of (parts_of 32 (option_copied rest.entry))) }
+{
+    let (first, rest) = next_word(rest)?;
+    let second = one_word(rest)?;
+    Ok((first, second))
+}
+
+/// The four words that stand behind a blank.
+pub(crate) fn four_words(rest: Option<&[u8]>) -> Result<(&[u8], &[u8], &[u8], &[u8]), Unread>
+    ensures { ReadsAs (λ found. (found.0.now, found.1.now, found.2.now, found.3.now)) result
+        (four_of (parts_of 32 (option_copied rest.entry))) }
+{
+    let (first, rest) = next_word(rest)?;
+    let (second, rest) = next_word(rest)?;
+    let (third, fourth) = two_words(rest)?;
+    Ok((first, second, third, fourth))
+}
+
+/// The first word behind a blank, and what stands behind its blank where there is one.
+pub(crate) fn next_word(rest: Option<&[u8]>) -> Result<(&[u8], Option<&[u8]>), Unread>
+    ensures { MatchResult result (λ found. parts_of 32 (option_copied rest.entry)
+        ≡ found.0.now ∷ parts_of 32 (option_copied found.1))
+        (λ unread. (unread ≡ Unread.NotUnderstood)
+        × (parts_of 32 (option_copied rest.entry) ≡ [])) }
+{
+    match rest {
+        Some(rest) => Ok(first_word(rest)),
+        None => Err(Unread::NotUnderstood),
+    }
+}
+
+// where the first separator stands
+fn separator_in(bytes: &[u8], separator: u8) -> Option<usize>
+    ensures { result ≡ position (λ byte. byte == separator) bytes.now }
+{
+    bytes.iter().position(|byte| *byte == separator)
+}

@@ -1,0 +1,27 @@
+//! What bounds one store, beside the limits that all stores have.
+ghost use Rattle.std.specs.Prelude.{◌≡◌};
+ghost use Rattle.store_model.specs.Machine.{bounds_of};
+
+use refusals::limits::MOST_HISTORY;
+use reg_tree::Trees;
+
+/// How many changes a store accepts from one opening on, and which hives calls may name.
+#[derive(Clone, Copy, Debug, PartialEq, Eq)]
+pub struct Bounds {
+    /// So many changes are accepted in one opening.
+    pub changes: u64,
+    /// Calls name the hives whose numbers are below this one. A store may have trees besides.
+    pub hives: usize,
+}
+
+impl Bounds {
+    /// Those of a store whose calls name each of these trees: 1,048,576 changes are accepted.
+    pub fn of(trees: &Trees) -> Bounds
+        ensures { result ≡ bounds_of trees.now }
+    {
+        Bounds {
+            changes: MOST_HISTORY,
+            hives: trees.len(),
+        }
+    }
+}

@@ -1,0 +1,59 @@
+//! Handles of transactions, and what became of a transaction.
+ghost use Rattle.std.specs.Prelude.{◌≡◌};
+ghost use Rattle.refusals.specs.declared.refusal.Refusal.TheVariants.{NoSuchHandle};
+ghost use Rattle.store_model.specs.Ends.{refusal_of};
+
+use refusals::Refusal;
+
+/// The handle of a transaction: the place that it has, and how many transactions were begun in this opening of the
+/// store, itself included. No two transactions of an opening have the same handle.
+#[derive(Clone, Copy, Debug, PartialEq, Eq)]
+pub struct Tx {
+    /// The place.
+    pub place: usize,
+    /// How many transactions were begun, itself included.
+    pub generation: u64,
+}
+
+/// Where a transaction stands.
+#[derive(Clone, Copy, Debug, PartialEq, Eq)]
+pub enum Outcome {
+    /// It may be written in, committed and rolled back.
+    Active,
+    /// Its operations were accepted as one change.
+    Committed,
+    /// Its operations were dropped.
+    RolledBack,
+}
+
+/// There is no such transaction in the session: its handle is stale, of another session, or was never given.
+#[derive(Clone, Copy, Debug, PartialEq, Eq)]
+pub struct NoSuchTransaction;
+
+/// Why a transaction cannot be ended. There is no place here for want of memory, which ending one never takes.
+#[derive(Clone, Copy, Debug, PartialEq, Eq)]
+pub enum NotEnded {
+    /// There is no such transaction in the session.
+    NoSuchTransaction,
+    /// It has committed or was rolled back.
+    NotActive,
+}
+
+impl From<NoSuchTransaction> for Refusal {
+    ghost from_gives = { λ none refusal. refusal ≡ NoSuchHandle };
+
+    fn from(_: NoSuchTransaction) -> Refusal {
+        Refusal::NoSuchHandle
+    }
+}
+
+impl From<NotEnded> for Refusal {
+    ghost from_gives = { λ why refusal. refusal ≡ refusal_of why };
+
+    fn from(why: NotEnded) -> Refusal {
+        match why {
+            NotEnded::NoSuchTransaction => Refusal::NoSuchHandle,
+            NotEnded::NotActive => Refusal::NotActive,
+        }
+    }
+}

@@ -1,0 +1,131 @@
+//! Laws of the machine, which follow from its definitions alone.
+//!
+//! They have no code of their own: each is the contract of a function that does nothing, for whoever keeps a store by
+//! the machine.
+ghost use Rattle.std.specs.Prelude.{◌≡◌, ◌≤◌, ◌⊎◌, ℕ, true, false, List, Some, None};
+ghost use Rattle.std.specs.List.Sorted.{IsStrictlySortedBy};
+ghost use Rattle.std.specs.Ordering.{nat_cmp};
+ghost use Rattle.refusals.specs.declared.limits.TheConstants.{GREATEST_NUMBER, MOST_JOURNAL_BYTES};
+ghost use Rattle.refusals.specs.declared.refusal.Refusal.TheVariants.{DiskFault};
+ghost use Rattle.reg_tree.specs.Maps.{TreeMap};
+ghost use Rattle.reg_tree.specs.declared.element.Element.{Element};
+ghost use Rattle.reg_tree.specs.Judgement.{any_outweighs};
+ghost use Rattle.reg_tree.specs.Sequences.{AreTrees, AreLegal};
+ghost use Rattle.store_model.specs.Transactions.{Transaction, own};
+ghost use Rattle.store_model.specs.Machine.{Machine, committed, opened_machine, trees_now, found_in};
+ghost use Rattle.store_model.specs.Steps.{Step, Run, is_calm, is_step};
+ghost use Rattle.store_model.specs.Kept.{IsKept, IsActiveAt, AreLegalButForWeight, AreLegalChanges, IsCounted, IsGone, Stays, Grows, handle_in, numbers_given};
+ghost use Rattle.store_model.specs.declared.bounds.Bounds.{Bounds};
+ghost use Rattle.store_model.specs.declared.handle.Tx.{Tx};
+ghost use Rattle.store_model.specs.declared.event.Event.{Event};
+ghost use Rattle.store_model.specs.declared.event.Event.TheVariants as event;
+ghost use Rattle.store_model.specs.declared.event.Reply.{Reply};
+ghost use Rattle.store_model.specs.declared.event.Reply.TheVariants as reply;
+
+/// What every state of a store keeps, from its opening on.
+///
+/// The trees of now are trees, no transaction's number is above how many were begun, the operations of each active
+/// transaction may be carried out in turn on the trees of now, and no claims of two active transactions conflict.
+/// Active transactions write to no hive but those that calls may name.
+/// What was there at the opening is durable and nothing is that was not accepted, numbers, changes, sessions and
+/// transactions are within their limits, and the journal's room is at least that of the changes which are not durable
+/// yet. Each accepted change was legal where it was accepted, and each of its operations changed something.
+///
+/// - `begins`: it is so as a store is opened on trees, whatever its bounds are and its journal spells.
+/// - `step`, `run`: each step keeps it, and so does every run.
+/// - `room`, `room_run`: the journal's room stays within its limit, where it was at the opening.
+pub fn states_are_kept()
+    ensures begins { (bounds : Bounds) (trees : List TreeMap) (number : ℕ)
+        (journaled : List Element) (failures : ℕ) →
+        AreTrees trees → number ≤ GREATEST_NUMBER →
+        IsKept (opened_machine bounds trees number journaled failures) }
+    ensures step { (old new : Machine) (event : Event) (reply : Reply) → IsKept old →
+        Step old event reply new →
+        IsKept new }
+    ensures run { (old new : Machine) (events : List Event) (replies : List Reply) → IsKept old →
+        Run old events replies new → IsKept new }
+    ensures room { (old new : Machine) (event : Event) (reply : Reply) → IsKept old →
+        Step old event reply new →
+        old.room ≤ MOST_JOURNAL_BYTES → new.room ≤ MOST_JOURNAL_BYTES }
+    ensures room_run { (old new : Machine) (events : List Event) (replies : List Reply) →
+        IsKept old →
+        Run old events replies new → old.room ≤ MOST_JOURNAL_BYTES → new.room ≤ MOST_JOURNAL_BYTES }
+{
+    reg_tree::laws::trees_stay();
+    reg_tree::laws::weight_alone_refuses();
+    conflicts::laws::stay_legal();
+    conflicts::laws::one_more();
+    conflicts::laws::holders_are_exact();
+}
+
+/// Only a step may be answered that the device failed: every other event makes no call of it.
+pub fn steps_alone_fail()
+    ensures { (old new : Machine) (event : Event) → Step old event (reply.Refused DiskFault) new →
+        is_step event ≡ true }
+{}
+
+/// Only a step may change what is durable, free room, or fault a store: every other event is calm, leaves all of that, and
+/// accepts one change at most.
+pub fn steps_alone_settle()
+    ensures { (old new : Machine) (event : Event) (reply : Reply) → IsKept old →
+        is_calm event ≡ true → Step old event reply new → Stays old new ⊎ Grows old new }
+{
+    commits_stay_legal();
+}
+
+/// At a commit no operation is illegal but for weight: others may have changed the trees since it was written, but
+/// nothing that its claim guards.
+///
+/// - `but_for_weight`: each operation of an active transaction, carried out in turn on the trees of now at whatever
+///   moment, is legal or refused for weight alone.
+/// - `within`, `in_order`: where none takes a tree over the limit of weight, each is legal, and so is the change that a
+///   commit makes of them.
+pub fn commits_stay_legal()
+    ensures but_for_weight { (machine : Machine) (place : ℕ) (one : Transaction) → IsKept machine →
+        IsActiveAt machine.places place one →
+        (moment : ℕ) → AreLegalButForWeight (trees_now machine) one.ops moment }
+    ensures within { (machine : Machine) (place : ℕ) (one : Transaction) (moment : ℕ) →
+        IsKept machine → IsActiveAt machine.places place one →
+        any_outweighs (trees_now machine) (committed machine one) moment ≡ false →
+        AreLegalChanges (trees_now machine) (committed machine one) moment }
+    ensures in_order { (machine : Machine) (place : ℕ) (one : Transaction) (moment : ℕ) →
+        IsKept machine → IsActiveAt machine.places place one →
+        any_outweighs (trees_now machine) (committed machine one) moment ≡ false →
+        AreLegal (trees_now machine) (committed machine one) moment }
+{
+    conflicts::laws::but_for_weight();
+    reg_tree::laws::weight_alone_refuses();
+}
+
+/// No handle is given twice, and one that was closed answers nothing for good.
+///
+/// - `step`: a handle that is given has the next number, which is how many transactions were begun then; every
+///   other answer leaves that count.
+/// - `run`: the numbers of the handles that are given along a run rise, so no two are the same.
+/// - `closed`, `ended`: a handle is gone after its close, and after the end of its session.
+/// - `gone`, `for_good`: what is gone stays gone.
+/// - `answered`, `not_found`: no session has a transaction by a handle that is gone, so each event with it is
+///   refused as the order of refusals says.
+pub fn handles_are_given_once()
+    ensures step { (old new : Machine) (event : Event) (reply : Reply) → Step old event reply new →
+        IsCounted old (handle_in reply) new }
+    ensures run { (old new : Machine) (events : List Event) (replies : List Reply) →
+        Run old events replies new →
+        IsStrictlySortedBy nat_cmp (numbers_given replies) }
+    ensures closed { (old new : Machine) (session : ℕ) (tx : Tx) → IsKept old →
+        Step old (event.Close session tx) reply.Done new →
+        IsGone new tx }
+    ensures ended { (old new : Machine) (session : ℕ) (tx : Tx) (one : Transaction) → IsKept old →
+        own old.places session tx ≡ Some one →
+        Step old (event.EndSession session) reply.Done new → IsGone new tx }
+    ensures gone { (old new : Machine) (event : Event) (reply : Reply) (tx : Tx) → IsGone old tx →
+        Step old event reply new →
+        IsGone new tx }
+    ensures for_good { (old new : Machine) (events : List Event) (replies : List Reply) (tx : Tx) →
+        IsGone old tx →
+        Run old events replies new → IsGone new tx }
+    ensures answered { (machine : Machine) (session : ℕ) (tx : Tx) → IsGone machine tx →
+        own machine.places session tx ≡ None }
+    ensures not_found { (machine : Machine) (session : ℕ) (tx : Tx) → IsGone machine tx →
+        found_in machine session tx ≡ None }
+{}

@@ -1,4 +1,0 @@
-use Rattle.tests_flush.proofs.hives.+repairs.Given as goal
-
-abbrev pub decreases-repair_on : goal.decreases-repair_on
-decreases-repair_on l = l.most

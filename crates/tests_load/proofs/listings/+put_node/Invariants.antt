@@ -1,4 +1,0 @@
-use Rattle.tests_load.proofs.listings.+put_node.Given as goal
-
-abbrev pub decreases-put_node : goal.decreases-put_node
-decreases-put_node l = l.levels

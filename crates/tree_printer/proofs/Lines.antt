@@ -1,0 +1,90 @@
+-- The lines of a key and of all below it are its own and those of its subkeys, one after the other.
+use Rattle.std.proofs.Common.{◌≡◌, ℕ, zero, suc, ◌+◌, ◌<◌, T, List, [], ◌∷◌, ◌++◌, length, map, take, slice_get, Option, Some, None, refl, sym, ◌∙◌, ap, arith, append_assoc}
+use Rattle.std.specs.List.{AllByRecursion, flat_map}
+use Rattle.std.specs.FinMap as finite
+use Rattle.std.specs.FinMap.{get-from_sorted, entries-from_sorted, len-entries}
+use Rattle.std.specs.FinMap.Entries.{is_sorted}
+use Rattle.std.proofs.lemmas.List.{append-nil, length-map, take_more}
+use Rattle.std.proofs.lemmas.List.Concat.{flat_map-append}
+use Rattle.std.proofs.lemmas.Option.{get_or_from_slice_get, slice_get_within}
+use Rattle.reg_tree_parts.specs.Orders.{name_order, path_order}
+use Rattle.reg_tree_parts.specs.Rows.{Row, ValueMap}
+use Rattle.reg_tree_parts.specs.Nodes.{Entries, below, all_below, entries_of, row_at, IsNode}
+use Rattle.reg_tree.specs.Maps.{beginnings}
+use Rattle.tree_printer.specs.TreeTexts.{name_of_row, key_lines, spelled_names}
+use Rattle.tree_printer.specs.Ways.{spelled_in, node_lines, kid_lines}
+use Rattle.tree_printer.proofs.Found.{StandsBelow, all_found, all_stand}
+
+-- the names along beginnings of a path that goes on from a subkey
+shifted : (whole : Entries) (kid : List ℕ × Entries) → StandsBelow whole kid → (starts : List (List (List ℕ))) → map (λ start. name_of_row (row_at whole start)) (map (λ rest. kid.0 ∷ rest) starts) ≡ map (λ start. name_of_row (row_at kid.1 start)) starts
+shifted whole kid stands [] = refl
+shifted whole kid stands (start ∷ starts) =
+    ap (λ r. name_of_row r ∷ map (λ start. name_of_row (row_at whole start)) (map (λ rest. kid.0 ∷ rest) starts)) (stands start)
+    ∙ ap (λ names. name_of_row (row_at kid.1 start) ∷ names) (shifted whole kid stands starts)
+
+spelled_below : (whole : Entries) (kid : List ℕ × Entries) → StandsBelow whole kid → (path : List (List ℕ)) → spelled_in whole (kid.0 ∷ path) ≡ name_of_row (row_at kid.1 []) ∷ spelled_in kid.1 path
+spelled_below whole kid stands path =
+    ap (λ r. name_of_row r ∷ map (λ start. name_of_row (row_at whole start)) (map (λ rest. kid.0 ∷ rest) (beginnings path))) (stands [])
+    ∙ ap (λ names. name_of_row (row_at kid.1 []) ∷ names) (shifted whole kid stands (beginnings path))
+
+module _ (hive : ℕ) (names : List (List ℕ)) (whole : Entries) where
+  -- the lines of one entry
+  abbrev its_lines : List (List ℕ) × Row → List ℕ
+  its_lines entry = key_lines hive (names ++ spelled_in whole entry.0) entry.1
+
+  below_lines : (kid : List ℕ × Entries) → StandsBelow whole kid → (some : Entries) → flat_map its_lines (below kid.0 some) ≡ flat_map (λ entry. key_lines hive ((names ++ name_of_row (row_at kid.1 []) ∷ []) ++ spelled_in kid.1 entry.0) entry.1) some
+  below_lines kid stands [] = refl
+  below_lines kid stands (entry ∷ some) =
+      ap (λ ns. key_lines hive ns entry.1 ++ flat_map its_lines (below kid.0 some)) (ap (λ ns. names ++ ns) (spelled_below whole kid stands entry.0) ∙ sym (append_assoc names (name_of_row (row_at kid.1 []) ∷ []) (spelled_in kid.1 entry.0)))
+      ∙ ap (λ t. key_lines hive ((names ++ name_of_row (row_at kid.1 []) ∷ []) ++ spelled_in kid.1 entry.0) entry.1 ++ t) (below_lines kid stands some)
+
+  kids_lines : (kids : List (List ℕ × Entries)) → AllByRecursion (StandsBelow whole) kids → flat_map its_lines (all_below kids) ≡ flat_map (kid_lines hive names) kids
+  kids_lines [] stand = refl
+  kids_lines (kid ∷ kids) stand =
+      flat_map-append its_lines (below kid.0 kid.1) (all_below kids)
+      ∙ ap (λ t. t ++ flat_map its_lines (all_below kids)) (below_lines kid stand.0 kid.1)
+      ∙ ap (λ t. kid_lines hive names kid ++ t) (kids_lines kids stand.1)
+
+pub node_text : (hive : ℕ) (names : List (List ℕ)) (row : Row) (kids : List (List ℕ × Entries)) → T (is_sorted name_order kids) → node_lines hive names (entries_of row kids) ≡ key_lines hive names row ++ flat_map (kid_lines hive names) kids
+node_text hive names row kids h =
+    ap (λ ns. key_lines hive ns row ++ flat_map (its_lines hive names (entries_of row kids)) (all_below kids)) (append-nil names)
+    ∙ ap (λ t. key_lines hive names row ++ t) (kids_lines hive names (entries_of row kids) kids (all_stand row kids kids h (all_found kids h)))
+
+-- the text of one more
+pub next_text : {X : Type 0} (text : X → List ℕ) (xs : List X) (i : ℕ) (x : X) → slice_get xs i ≡ Some x → flat_map text (take i xs) ++ text x ≡ flat_map text (take (i + 1) xs)
+next_text text xs i x e =
+    sym (ap (flat_map text) (take_more xs i x (slice_get_within xs i x e) ∙ ap (λ y. take i xs ++ y ∷ []) (get_or_from_slice_get xs i x x e))
+    ∙ flat_map-append text (take i xs) (x ∷ []) ∙ ap (λ t. flat_map text (take i xs) ++ t) (append-nil (text x)))
+
+-- the subkey whose entries stand at a place
+kid_at : (kids : List (List ℕ × Entries)) (i : ℕ) (es : Entries) → Some es ≡ slice_get (map (λ kid. kid.1) kids) i → (kid : List ℕ × Entries) × (slice_get kids i ≡ Some kid) × (kid.1 ≡ es)
+kid_at [] i es e = absurd (let no : ⊥ = cc in no)
+kid_at (kid ∷ kids) zero es e = (kid, refl, cc)
+kid_at (kid ∷ kids) (suc i) es e = kid_at kids i es e
+
+-- the lines of one subkey more
+pub next_kid : (hive : ℕ) (names : List (List ℕ)) (kids : List (List ℕ × Entries)) (i : ℕ) (es : Entries) (row : Row) → Some es ≡ slice_get (map (λ kid. kid.1) kids) i → row_at es [] ≡ Some row
+    → flat_map (kid_lines hive names) (take i kids) ++ node_lines hive (names ++ row.name ∷ []) es ≡ flat_map (kid_lines hive names) (take (i + 1) kids)
+next_kid hive names kids i es row at here =
+    let kid = kid_at kids i es at in
+    let its : node_lines hive (names ++ row.name ∷ []) es ≡ kid_lines hive names kid.0 =
+    ap (λ r. node_lines hive (names ++ name_of_row r ∷ []) es) (sym here) ∙ ap (λ xs. node_lines hive (names ++ name_of_row (row_at xs []) ∷ []) xs) (sym kid.2) in
+    ap (λ t. flat_map (kid_lines hive names) (take i kids) ++ t) its ∙ next_text (kid_lines hive names) kids i kid.0 kid.1
+
+-- what is at a place within a list
+pub is_there : {X : Type 0} (xs : List X) (i : ℕ) → i < length xs → None ≡ slice_get xs i → ⊥
+is_there [] i h e = absurd (omega arith)
+is_there (x ∷ xs) zero h e = cc
+is_there (x ∷ xs) (suc i) h e = is_there xs i (omega arith) e
+
+-- a key has as many values as its map
+pub values_long : (values : ValueMap) → finite.len values ≡ length (finite.values values)
+values_long values = len-entries values ∙ sym (length-map (finite.entries values) (λ e. e.1))
+
+-- a tree's keys are those of its root's node
+pub whole_lines : (hive : ℕ) (entries : Entries) → IsNode entries → node_lines hive [] entries ≡ flat_map (λ (e : List (List ℕ) × Row). key_lines hive (spelled_names (finite.from_sorted {R = path_order} entries) e.0) e.1) (finite.entries (finite.from_sorted {R = path_order} entries))
+whole_lines hive entries node =
+    let tree = finite.from_sorted {R = path_order} entries in
+    let same : (λ (path : List (List ℕ)). row_at entries path) ≡ (λ path. finite.get tree path) = λ i path. sym (get-from_sorted path_order entries path node.rises) i in
+    ap (λ (rows : List (List ℕ) → Option Row). flat_map (λ (e : List (List ℕ) × Row). key_lines hive (map (λ start. name_of_row (rows start)) (beginnings e.0)) e.1) entries) same
+    ∙ ap (λ (es : Entries). flat_map (λ (e : List (List ℕ) × Row). key_lines hive (spelled_names tree e.0) e.1) es) (sym (entries-from_sorted path_order entries node.rises))

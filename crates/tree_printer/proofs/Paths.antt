@@ -1,0 +1,29 @@
+-- The text of a path, a name longer.
+use Rattle.std.proofs.Common.{◌≡◌, ℕ, ◌<◌, List, [], ◌∷◌, ◌++◌, length, Option, Result, Ok, Err, OnOk, refl, sym, ◌∙◌, ap, arith, append_assoc, length-append}
+use Rattle.std.specs.Io.KnownBytes.{Appends}
+use Rattle.script_syntax.specs.Replies.{name_text}
+use Rattle.script_syntax.proofs.Written.{appends_both}
+use Rattle.tree_printer.specs.TreeTexts.{path_text}
+
+-- some names and one more, with a backslash between
+one_more : (name : List ℕ) (names : List (List ℕ)) (last : List ℕ) → path_text ((name ∷ names) ++ last ∷ []) ≡ path_text (name ∷ names) ++ (92 ∷ name_text last)
+one_more name [] last = refl
+one_more name (next ∷ names) last =
+    ap (λ t. name_text name ++ 92 ∷ t) (one_more next names last)
+    ∙ sym (append_assoc (name_text name) (92 ∷ path_text (next ∷ names)) (92 ∷ name_text last))
+
+behind : (names : List (List ℕ)) (last : List ℕ) → 0 < length names → path_text (names ++ last ∷ []) ≡ path_text names ++ (92 ∷ name_text last)
+behind [] last some = absurd (omega arith)
+behind (name ∷ names) last some = one_more name names last
+
+-- a name behind others was written, with a backslash between
+pub written_behind : (a b c d : Option (List ℕ)) (names : List (List ℕ)) (before last : List ℕ) → Appends a b (path_text (names ++ before ∷ [])) → Appends b c (92 ∷ []) → Appends c d (name_text last) → Appends a d (path_text ((names ++ before ∷ []) ++ last ∷ []))
+written_behind a b c d names before last one two three =
+    appends_both a c d (path_text (names ++ before ∷ []) ++ 92 ∷ []) (name_text last) (path_text ((names ++ before ∷ []) ++ last ∷ []))
+    (appends_both a b c (path_text (names ++ before ∷ [])) (92 ∷ []) (path_text (names ++ before ∷ []) ++ 92 ∷ []) one two refl) three
+    (append_assoc (path_text (names ++ before ∷ [])) (92 ∷ []) (name_text last) ∙ sym (behind (names ++ before ∷ []) last (omega (arith, length-append names (before ∷ [])))))
+
+-- what follows where an answer is Ok
+pub on_ok : {T E P Q : Type 0} (answer : Result T E) → (P → Q) → OnOk answer P → OnOk answer Q
+on_ok (Ok x) f p = f p
+on_ok (Err e) f p = tt

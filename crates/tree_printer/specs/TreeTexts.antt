@@ -1,0 +1,38 @@
+-- The text of a tree: its keys in the order of paths, each with its values in the order of names.
+use Rattle.std.specs.Prelude.{ℕ, List, [], ◌∷◌, ◌++◌, map, Option, Some, None, codes}
+use Rattle.std.specs.List.{flat_map}
+use Rattle.std.specs.Fmt.{decimal}
+use Rattle.std.specs.FinMap as finite
+use Rattle.reg_tree_parts.specs.declared.value.Value.{Value}
+use Rattle.reg_tree_parts.specs.Rows.{Row}
+use Rattle.reg_tree.specs.Maps.{TreeMap, row, beginnings}
+use Rattle.script_syntax.specs.Replies.{name_text, data_text}
+
+-- the name of a key as spelled, where one is there
+abbrev pub name_of_row : Option Row → List ℕ
+name_of_row None = []
+name_of_row (Some key) = key.name
+
+-- the names along a path, each as the key spells it that stands there in the tree
+abbrev pub spelled_names : TreeMap → List (List ℕ) → List (List ℕ)
+spelled_names tree path = map (λ start. name_of_row (row tree start)) (beginnings path)
+
+-- names with a backslash between each two
+abbrev pub path_text : List (List ℕ) → List ℕ
+path_text [] = []
+path_text (name ∷ []) = name_text name
+path_text (name ∷ next ∷ names) = name_text name ++ 92 ∷ path_text (next ∷ names)
+
+-- the line of a value: its name, type and data
+abbrev pub value_line : Value → List ℕ
+value_line value = codes "val " ++ name_text value.name ++ codes " " ++ decimal value.kind ++ codes " " ++ data_text value.«data» ++ codes "\n"
+
+-- the line of a key of a hive, whose path has these names, with the moment of its last write; and behind it the lines of
+-- its values
+abbrev pub key_lines : ℕ → List (List ℕ) → Row → List ℕ
+key_lines hive names key =
+    codes "key " ++ decimal hive ++ codes ":" ++ path_text names ++ codes " " ++ decimal key.time ++ codes "\n" ++ flat_map value_line (finite.values key.values)
+
+-- the text of a tree as the hive of a number
+abbrev pub tree_text : ℕ → TreeMap → List ℕ
+tree_text hive tree = codes "hive " ++ decimal hive ++ codes "\n" ++ flat_map (λ entry. key_lines hive (spelled_names tree entry.0) entry.1) (finite.entries tree)
