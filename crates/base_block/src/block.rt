@@ -5,7 +5,7 @@ ghost use Rattle.base_block.specs.Layout.{block_at, number_at, sector_of, fresh_
 ghost use Rattle.byteorder.specs.Endian.{little_bytes};
 
 use crate::fields::{AppliedNumber, FileType, SequenceNumber, Signature};
-use crate::sums::sum_of_front;
+use crate::sums::sum_of_prefix;
 use byteorder::{ByteOrder, LittleEndian};
 use uuid::Uuid;
 
@@ -101,7 +101,7 @@ impl BaseBlock {
             bins_size: u32_at(sector, 40),
             store: Uuid::from_bytes(store),
             applied: AppliedNumber(u64_at(sector, 192)),
-            sum_is_right: u32_at(sector, 508) == sum_of_front(sector),
+            sum_is_right: u32_at(sector, 508) == sum_of_prefix(sector),
         }
     }
 
@@ -122,12 +122,12 @@ impl BaseBlock {
     /// The sector of these fields: each at its offset, the clustering factor 1, the right sum, and zeros
     /// elsewhere. Reading it gives these fields again.
     pub fn write(&self) -> [u8; 512]
-        ensures text { result ≡ sector_of self.now }
+        ensures encoding { result ≡ sector_of self.now }
         ensures again { block_at result ≡ record self.now { sum_is_right = true } }
     {
         let mut sector = [0; 512];
         self.put_fields(&mut sector);
-        let sum = sum_of_front(&sector);
+        let sum = sum_of_prefix(&sector);
         put_u32(&mut sector, 508, sum);
         sector
     }

@@ -15,7 +15,7 @@ const _: () = prove!(WORDS == 127);
 pub fn sum(bytes: &[u8; 508]) -> u32
     ensures { result ≡ sum_of bytes.now }
 {
-    sum_of_front(bytes)
+    sum_of_prefix(bytes)
 }
 
 #[tactic(auto, unfolding(crate::specs::Sums::sum_of))]
@@ -27,7 +27,7 @@ pub fn sum_is_of_words()
 {}
 
 /// The same of the first 508 bytes of a sector.
-pub(crate) fn sum_of_front(bytes: &[u8]) -> u32
+pub(crate) fn sum_of_prefix(bytes: &[u8]) -> u32
     requires { 508 ≤ length bytes.now }
     ensures { result ≡ sum_of bytes.now }
 {

@@ -6,6 +6,6 @@ pub mod Elements
 pub mod May
 pub mod Taken
 pub mod Skipped
-pub mod Kept
+pub mod ChangeBytes
 pub mod OneHive
 pub mod ChangesApart

@@ -6,7 +6,7 @@ use Rattle.std.proofs.Math.Nat.{div-one, div-div-eq-div-mul, pow-suc}
 use Rattle.std.proofs.lemmas.Bool.{lt-ltb, ltb-true}
 use Rattle.std.proofs.lemmas.Option.{same_Some, none-some}
 use Rattle.byteorder.specs.Endian.{little_bytes}
-use Rattle.change_codec.specs.Readers.{number_at, IsText}
+use Rattle.change_codec.specs.Readers.{number_at, IsEncoding}
 
 -- the same bytes, by division
 abbrev digits : ℕ → ℕ → List ℕ
@@ -66,7 +66,7 @@ digits_back (suc n) (b ∷ bytes) x rest e =
       omega (arith, xs, lt, h.1, p),
     ))
 
-pub number : (n : ℕ) → IsText (number_at n) (little_bytes n) (λ x. x < 256 ^ n)
+pub number : (n : ℕ) → IsEncoding (number_at n) (little_bytes n) (λ x. x < 256 ^ n)
 number n = record {
   again = λ x rest lt. ap (λ (l : List ℕ). number_at n (l ++ rest)) (digits_are n x) ∙ digits_again n x rest lt;
   back = λ bytes x rest e.

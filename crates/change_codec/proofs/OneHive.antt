@@ -8,7 +8,7 @@ use Rattle.std.proofs.lemmas.Option.{same_Some}
 use Rattle.reg_tree.specs.declared.op.Op.{Op}
 use Rattle.reg_tree.specs.Operations.{hive_of}
 use Rattle.change_codec.specs.Readers.{repeat}
-use Rattle.change_codec.specs.Text.{op_at}
+use Rattle.change_codec.specs.Encoding.{op_at}
 use Rattle.change_codec.specs.Changes.{AreOps, HasOps}
 use Rattle.change_codec.proofs.Taken.{behind, behind_none, goes_on, stops, ends}
 

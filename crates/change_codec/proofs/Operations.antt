@@ -10,12 +10,12 @@ use Rattle.reg_names.specs.Names.{is_path, is_key_name, is_key_unit, is_value_na
 use Rattle.reg_tree.specs.declared.op.Op.{Op}
 use Rattle.reg_tree.specs.declared.op.Op.TheVariants.{CreateKey, DeleteKey, SetValue, DeleteValue}
 use Rattle.reg_tree.specs.Operations.{hive_of, spelled_path}
-use Rattle.change_codec.specs.Readers.{Reader, give, refuse, then_by, both, checked, repeat, number_at, string_at, IsText}
-use Rattle.change_codec.specs.Text.{string, kind_of, head_of, path_text, head_text, tail_text, op_text, TailFits, OpFits, key_name_at, name_count_at, path_at, value_name_at, head_at, set_value, by_kind, op_at}
+use Rattle.change_codec.specs.Readers.{Reader, give, refuse, then_by, both, checked, repeat, number_at, string_at, IsEncoding}
+use Rattle.change_codec.specs.Encoding.{string, kind_of, head_of, path_bytes, head_bytes, tail_bytes, op_bytes, TailFits, OpFits, key_name_at, name_count_at, path_at, value_name_at, head_at, set_value, by_kind, op_at}
 use Rattle.change_codec.proofs.Numbers.{number}
 use Rattle.change_codec.proofs.Combined.{weaken, then_law, both_law, checked_law, repeat_law, string_law}
 
-key_name_law : IsText key_name_at (string 1) (λ name. is_key_name name ≡ true)
+key_name_law : IsEncoding key_name_at (string 1) (λ name. is_key_name name ≡ true)
 key_name_law = weaken (checked_law is_key_name (string_at 1) (string 1) _ (string_law 1)) (λ name f. f.1) (λ name f.
     let a = and_parts (nat_le 1 (length name) && nat_le (length name) 255) (list_all is_key_unit name) f in
     let b = and_parts (nat_le 1 (length name)) (nat_le (length name) 255) a.0 in
@@ -29,7 +29,7 @@ each_name : (path : List (List ℕ)) → list_all is_key_name path ≡ true → 
 each_name [] e = tt
 each_name (name ∷ path) e = let a = and_parts (is_key_name name) (list_all is_key_name path) e in (a.0, each_name path a.1)
 
-path_law : IsText path_at path_text (λ path. is_path path ≡ true)
+path_law : IsEncoding path_at path_bytes (λ path. is_path path ≡ true)
 path_law = weaken
     (then_law name_count_at (λ n. repeat n key_name_at) (little_bytes 2) (flat_map (string 1)) (λ n. (n < 256 ^ 2) × (nat_le n 512 ≡ true)) (AllByRecursion (λ name. is_key_name name ≡ true)) (λ path. length path)
     (checked_law (λ n. nat_le n 512) (number_at 2) (little_bytes 2) (λ n. n < 256 ^ 2) (number 2)) (repeat_law key_name_at (string 1) (λ name. is_key_name name ≡ true) key_name_law))
@@ -38,7 +38,7 @@ path_law = weaken
     let a = and_parts (nat_le (length path) 512) (list_all is_key_name path) f in
     ((omega (arith, leb-true (length path) 512 a.0), a.0), each_name path a.1))
 
-value_name_law : IsText value_name_at (string 2) (λ name. is_value_name name ≡ true)
+value_name_law : IsEncoding value_name_at (string 2) (λ name. is_value_name name ≡ true)
 value_name_law = weaken (checked_law is_value_name (string_at 2) (string 2) _ (string_law 2)) (λ name f. f.1) (λ name f.
     let a = and_parts (nat_le (length name) 16383) (list_all is_name_unit name) f in
     (omega (arith, leb-true (length name) 16383 a.0), f))
@@ -47,17 +47,17 @@ module _ (hives : ℕ) (most : hives ≤ 256) where
   abbrev HeadFits : ℕ × (ℕ × List (List ℕ)) → Type 0
   HeadFits head = (head.0 < 256 ^ 1) × ((head.1.0 < hives) × (is_path head.1.1 ≡ true))
 
-  hive_law : IsText (checked (λ hive. nat_lt hive hives) (number_at 1)) (little_bytes 1) (λ hive. hive < hives)
+  hive_law : IsEncoding (checked (λ hive. nat_lt hive hives) (number_at 1)) (little_bytes 1) (λ hive. hive < hives)
   hive_law = weaken (checked_law (λ hive. nat_lt hive hives) (number_at 1) (little_bytes 1) _ (number 1)) (λ hive f. ltb-true hive hives f.1) (λ hive f. (omega (arith, f, most), lt-ltb hive hives f))
 
-  head_law : IsText (head_at hives) head_text HeadFits
-  head_law = both_law (number_at 1) (both (checked (λ hive. nat_lt hive hives) (number_at 1)) path_at) (little_bytes 1) (λ x. little_bytes 1 x.0 ++ path_text x.1) (λ k. k < 256 ^ 1) (λ x. (x.0 < hives) × (is_path x.1 ≡ true)) (number 1)
-      (both_law (checked (λ hive. nat_lt hive hives) (number_at 1)) path_at (little_bytes 1) path_text (λ hive. hive < hives) (λ path. is_path path ≡ true) hive_law path_law)
+  head_law : IsEncoding (head_at hives) head_bytes HeadFits
+  head_law = both_law (number_at 1) (both (checked (λ hive. nat_lt hive hives) (number_at 1)) path_at) (little_bytes 1) (λ x. little_bytes 1 x.0 ++ path_bytes x.1) (λ k. k < 256 ^ 1) (λ x. (x.0 < hives) × (is_path x.1 ≡ true)) (number 1)
+      (both_law (checked (λ hive. nat_lt hive hives) (number_at 1)) path_at (little_bytes 1) path_bytes (λ hive. hive < hives) (λ path. is_path path ≡ true) hive_law path_law)
 
 abbrev SetFields : Reader (List ℕ × (ℕ × List ℕ))
 SetFields = both value_name_at (both (number_at 4) (string_at 4))
 
-set_law : IsText SetFields (λ x. string 2 x.0 ++ (little_bytes 4 x.1.0 ++ string 4 x.1.1)) (λ x. (is_value_name x.0 ≡ true) × ((x.1.0 < 256 ^ 4) × (length x.1.1 < 256 ^ 4)))
+set_law : IsEncoding SetFields (λ x. string 2 x.0 ++ (little_bytes 4 x.1.0 ++ string 4 x.1.1)) (λ x. (is_value_name x.0 ≡ true) × ((x.1.0 < 256 ^ 4) × (length x.1.1 < 256 ^ 4)))
 set_law = both_law value_name_at (both (number_at 4) (string_at 4)) (string 2) (λ x. little_bytes 4 x.0 ++ string 4 x.1) (λ name. is_value_name name ≡ true) (λ x. (x.0 < 256 ^ 4) × (length x.1 < 256 ^ 4)) value_name_law
     (both_law (number_at 4) (string_at 4) (little_bytes 4) (string 4) (λ n. n < 256 ^ 4) (λ s. length s < 256 ^ 4) (number 4) (string_law 4))
 
@@ -65,7 +65,7 @@ choose : {B P : Type 0} (b : Bool) (r s : Reader B) (bytes : List ℕ) (y : B ×
 choose true r s bytes y e f g = f refl e
 choose false r s bytes y e f g = g e
 
-tail_again : (op : Op) (rest : List ℕ) → TailFits op → by_kind (kind_of op) (hive_of op) (spelled_path op) (tail_text op ++ rest) ≡ Some (op, rest)
+tail_again : (op : Op) (rest : List ℕ) → TailFits op → by_kind (kind_of op) (hive_of op) (spelled_path op) (tail_bytes op ++ rest) ≡ Some (op, rest)
 tail_again (CreateKey hive path) rest fits = refl
 tail_again (DeleteKey hive path) rest fits = refl
 tail_again (SetValue hive path name kind bytes) rest fits = ap (λ (o : Option ((List ℕ × (ℕ × List ℕ)) × List ℕ)). option_and_then (λ got. give (set_value hive path got.0) got.1) o) (set_law.again (name, (kind, bytes)) rest fits)
@@ -76,7 +76,7 @@ module _ (k h : ℕ) (p : List (List ℕ)) where
   Head = ℕ × (ℕ × List (List ℕ))
 
   abbrev Back : List ℕ → Op × List ℕ → Type 0
-  Back bytes got = (bytes ≡ tail_text got.0 ++ got.1) × ((head_of got.0 ≡ (k, (h, p))) × TailFits got.0)
+  Back bytes got = (bytes ≡ tail_bytes got.0 ++ got.1) × ((head_of got.0 ≡ (k, (h, p))) × TailFits got.0)
 
   head_is : (n : ℕ) → (k == n) ≡ true → ◌≡◌ {A = Head} (n, (h, p)) (k, (h, p))
   head_is n e = ap (λ (x : ℕ). (x, (h, p))) (sym (eqb-true k n e))
@@ -94,9 +94,9 @@ module _ (k h : ℕ) (p : List (List ℕ)) where
       let b = value_name_law.back bytes x.0 x.1 first in
       subst (Back bytes) (same_Some (DeleteValue h p x.0, x.1) got second) (b.0, (head_is 4 is, b.1)))) (λ e5. absurd (none-some got e5)))))
 
-  pub kind_law : IsText (by_kind k h p) tail_text (λ op. (head_of op ≡ (k, (h, p))) × TailFits op)
+  pub kind_law : IsEncoding (by_kind k h p) tail_bytes (λ op. (head_of op ≡ (k, (h, p))) × TailFits op)
   kind_law = record {
-    again = λ op rest fits. subst (λ (head : Head). by_kind head.0 head.1.0 head.1.1 (tail_text op ++ rest) ≡ Some (op, rest)) fits.0 (tail_again op rest fits.1);
+    again = λ op rest fits. subst (λ (head : Head). by_kind head.0 head.1.0 head.1.1 (tail_bytes op ++ rest) ≡ Some (op, rest)) fits.0 (tail_again op rest fits.1);
     back = λ bytes op rest e. tail_back bytes (op, rest) e;
   }
 
@@ -106,6 +106,6 @@ kind_small (DeleteKey hive path) = omega arith
 kind_small (SetValue hive path name kind bytes) = omega arith
 kind_small (DeleteValue hive path name) = omega arith
 
-pub op_law : (hives : ℕ) → hives ≤ 256 → IsText (op_at hives) op_text (OpFits hives)
-op_law hives most = weaken (then_law (head_at hives) (λ head. by_kind head.0 head.1.0 head.1.1) head_text tail_text (HeadFits hives most) TailFits head_of (head_law hives most) (λ head. kind_law head.0 head.1.0 head.1.1))
+pub op_law : (hives : ℕ) → hives ≤ 256 → IsEncoding (op_at hives) op_bytes (OpFits hives)
+op_law hives most = weaken (then_law (head_at hives) (λ head. by_kind head.0 head.1.0 head.1.1) head_bytes tail_bytes (HeadFits hives most) TailFits head_of (head_law hives most) (λ head. kind_law head.0 head.1.0 head.1.1))
     (λ op f. record { hive = f.0.1.0; path = f.0.1.1; tail = f.1 }) (λ op f. ((kind_small op, (f.hive, f.path)), f.tail))

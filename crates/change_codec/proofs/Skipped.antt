@@ -4,7 +4,7 @@ use Rattle.std.specs.Prelude.{if◌then◌else◌, ◌==◌, nat_le}
 use Rattle.std.specs.Option.{option_and_then}
 use Rattle.std.proofs.lemmas.Bool.{le-leb, eq-eqb, and_from}
 use Rattle.reg_tree.specs.declared.op.Op.{Op}
-use Rattle.change_codec.specs.Text.{fields_at, made, whole, element_at}
+use Rattle.change_codec.specs.Encoding.{fields_at, made, whole, element_at}
 
 module _ (hives : ℕ) (bytes : List ℕ) where
   -- where the fields are read, and the length is that of the bytes

@@ -4,7 +4,7 @@ use Rattle.reg_tree.specs.declared.op.Op.{Op}
 use Rattle.reg_tree.specs.declared.element.Element.{Element}
 use Rattle.reg_tree.specs.Operations.{hive_of}
 use Rattle.change_codec.specs.Readers.{repeat}
-use Rattle.change_codec.specs.Text.{op_at, element_at}
+use Rattle.change_codec.specs.Encoding.{op_at, element_at}
 
 -- a value was read, and these bytes are behind it
 abbrev pub Skips : {A : Type 0} → Option (A × List ℕ) → List ℕ → Type 0
@@ -36,8 +36,8 @@ abbrev pub change_in : List ℕ → Element
 change_in bytes = change_or_none (element_at 256 bytes)
 
 -- bytes are the text of a change, and no more
-abbrev pub IsChange : List ℕ → Type 0
-IsChange bytes = element_at 256 bytes ≡ Some (change_in bytes, [])
+abbrev pub EncodesOneChange : List ℕ → Type 0
+EncodesOneChange bytes = element_at 256 bytes ≡ Some (change_in bytes, [])
 
 -- the hives of a change's operations, one after another
 abbrev pub hives_of : Element → List ℕ

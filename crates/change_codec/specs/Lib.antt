@@ -1,6 +1,6 @@
 pub mod Readers
-pub mod Text
+pub mod Encoding
 pub mod Changes
-pub mod Kept
+pub mod ChangeBytes
 pub mod Examples
 pub mod ModelChanges

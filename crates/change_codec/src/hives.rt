@@ -4,12 +4,12 @@ ghost use Rattle.std.specs.List.{list_any};
 ghost use Rattle.reg_tree.specs.declared.op.Op.{Op};
 ghost use Rattle.reg_tree.specs.Operations.{hive_of};
 ghost use Rattle.change_codec.specs.Readers.{repeat};
-ghost use Rattle.change_codec.specs.Text.{op_at};
-ghost use Rattle.change_codec.specs.Changes.{IsChange, HasOps, change_in, hives_of};
+ghost use Rattle.change_codec.specs.Encoding.{op_at};
+ghost use Rattle.change_codec.specs.Changes.{EncodesOneChange, HasOps, change_in, hives_of};
 
-use crate::change_text::ALL_HIVES;
+use crate::encoded_change::ALL_HIVES;
 use crate::fields::{first_u8, first_u32, first_u64};
-use crate::skipping::{first_hive, skip_op};
+use crate::skipper::{first_hive, skip_op};
 use std::marker::Model;
 
 /// The hives of operations that are left, one after another: each hive as often as there is an operation on it.
@@ -34,11 +34,11 @@ impl<'a> Model for Hives<'a> {
 
 impl<'a> Hives<'a> {
     /// Those of a change's operations, by its text.
-    pub(crate) fn of(text: &'a [u8]) -> Hives<'a>
-        requires { IsChange text.now }
-        ensures { result ≡ hives_of (change_in text.now) }
+    pub(crate) fn of(encoding: &'a [u8]) -> Hives<'a>
+        requires { EncodesOneChange encoding.now }
+        ensures { result ≡ hives_of (change_in encoding.now) }
     {
-        let (left, bytes) = ops_in(text);
+        let (left, bytes) = ops_in(encoding);
         Hives { left, bytes }
     }
 
@@ -65,11 +65,11 @@ impl<'a> Hives<'a> {
 }
 
 /// How many operations the change has that bytes are the text of, and the bytes that begin with them.
-pub(crate) fn ops_in(text: &[u8]) -> (u32, &[u8])
-    requires { IsChange text.now }
-    ensures { HasOps (repeat result.0 (op_at 256) result.1.now) (change_in text.now).ops }
+pub(crate) fn ops_in(encoding: &[u8]) -> (u32, &[u8])
+    requires { EncodesOneChange encoding.now }
+    ensures { HasOps (repeat result.0 (op_at 256) result.1.now) (change_in encoding.now).ops }
 {
-    let Some((_, rest)) = first_u32(text) else {
+    let Some((_, rest)) = first_u32(encoding) else {
         unreachable!();
     };
     let Some((_, rest)) = first_u64(rest) else {
@@ -96,11 +96,11 @@ pub(crate) fn hive_in(bytes: &[u8]) -> u8
 }
 
 /// The moment of the change that bytes are the text of.
-pub(crate) fn moment_in(text: &[u8]) -> u64
-    requires { IsChange text.now }
-    ensures { result ≡ (change_in text.now).moment }
+pub(crate) fn moment_in(encoding: &[u8]) -> u64
+    requires { EncodesOneChange encoding.now }
+    ensures { result ≡ (change_in encoding.now).moment }
 {
-    let Some((_, rest)) = first_u32(text) else {
+    let Some((_, rest)) = first_u32(encoding) else {
         unreachable!();
     };
     let Some((moment, _)) = first_u64(rest) else {

@@ -5,32 +5,32 @@ ghost use Rattle.byteorder.specs.Endian.{little_bytes};
 ghost use Rattle.reg_tree.specs.declared.op.Op.{Op};
 ghost use Rattle.reg_tree.specs.declared.element.Element.{Element};
 ghost use Rattle.reg_tree.specs.Operations.{hive_of};
-ghost use Rattle.reg_tree.specs.Texts.{op_text_len, element_text_len};
-ghost use Rattle.change_codec.specs.Readers.{IsText, number_at};
+ghost use Rattle.reg_tree.specs.Encodings.{op_encoded_len, element_encoded_len};
+ghost use Rattle.change_codec.specs.Readers.{IsEncoding, number_at};
 ghost use Rattle.change_codec.specs.ModelChanges.{timed_element};
 ghost use Rattle.change_codec.specs.Examples.{first_change, first_bytes, second_change, second_bytes};
-ghost use Rattle.change_codec.specs.Text.{op_at, op_text, OpFits, HasText, element_at, element_text, Fits};
+ghost use Rattle.change_codec.specs.Encoding.{op_at, op_bytes, OpFits, HasEncoding, element_at, element_bytes, Fits};
 
 /// A number of so many bytes: each that fits is read again, whatever follows, and nothing else is read.
 pub fn number()
-    ensures { (n : ℕ) → IsText (number_at n) (little_bytes n) (λ x. x < 256 ^ n) }
+    ensures { (n : ℕ) → IsEncoding (number_at n) (little_bytes n) (λ x. x < 256 ^ n) }
 {}
 
 /// An operation on one of so many hives: each that fits is read again, whatever follows, and nothing else is read; and its
 /// text is as long as is counted elsewhere.
 pub fn operation()
-    ensures text { (hives : ℕ) → hives ≤ 256 → IsText (op_at hives) op_text (OpFits hives) }
-    ensures length { (op : Op) → length (op_text op) ≡ op_text_len op }
+    ensures encoding { (hives : ℕ) → hives ≤ 256 → IsEncoding (op_at hives) op_bytes (OpFits hives) }
+    ensures length { (op : Op) → length (op_bytes op) ≡ op_encoded_len op }
 {}
 
 /// An accepted change on so many hives.
 pub fn element()
     // Each that fits is read again from its text, whatever follows.
     ensures again { (hives : ℕ) → hives ≤ 256 → (e : Element) (rest : List ℕ) → Fits hives e →
-        element_at hives (element_text e ++ rest) ≡ Some (e, rest) }
+        element_at hives (element_bytes e ++ rest) ≡ Some (e, rest) }
     // What was read is the text of a change that fits, and the bytes behind it.
     ensures back { (hives : ℕ) → hives ≤ 256 → (bytes : List ℕ) (e : Element) (rest : List ℕ) →
-        element_at hives bytes ≡ Some (e, rest) → (bytes ≡ element_text e ++ rest) × Fits hives e }
+        element_at hives bytes ≡ Some (e, rest) → (bytes ≡ element_bytes e ++ rest) × Fits hives e }
     // What was read is read so whatever follows.
     ensures exact { (hives : ℕ) → hives ≤ 256 → (bytes : List ℕ) (e : Element) (rest : List ℕ) →
         element_at hives bytes ≡ Some (e, rest) →
@@ -38,21 +38,21 @@ pub fn element()
         × ((r : List ℕ) → element_at hives (chunk ++ r) ≡ Some (e, r)) }
     // Texts of two changes differ, and none is a beginning of the other.
     ensures apart { (hives : ℕ) → hives ≤ 256 → (e f : Element) (rest more : List ℕ) →
-        Fits hives e → Fits hives f → element_text e ++ rest ≡ element_text f ++ more → (e ≡ f)
+        Fits hives e → Fits hives f → element_bytes e ++ rest ≡ element_bytes f ++ more → (e ≡ f)
         × (rest ≡ more) }
     // It fits, if its operations may be written at all, and its text isn't too long.
     ensures fits { (hives : ℕ) (e : Element) → 1 ≤ length e.ops →
-        AllByRecursion HasText e.ops → AllByRecursion (λ op. hive_of op < hives) e.ops →
-        e.moment < 256 ^ 8 → element_text_len e < 256 ^ 4 → Fits hives e }
+        AllByRecursion HasEncoding e.ops → AllByRecursion (λ op. hive_of op < hives) e.ops →
+        e.moment < 256 ^ 8 → element_encoded_len e < 256 ^ 4 → Fits hives e }
     // The text is as long as is counted elsewhere.
-    ensures size { (e : Element) → length (element_text e) ≡ element_text_len e }
+    ensures size { (e : Element) → length (element_bytes e) ≡ element_encoded_len e }
 {}
 
 /// The bytes of two changes, as they are laid out by hand: a key is created, and a value is written and another deleted.
 pub fn examples()
-    ensures created { element_text first_change ≡ first_bytes }
+    ensures created { element_bytes first_change ≡ first_bytes }
     ensures created_read { element_at 1 first_bytes ≡ Some (first_change, []) }
-    ensures changed { element_text second_change ≡ second_bytes }
+    ensures changed { element_bytes second_change ≡ second_bytes }
     ensures changed_read { element_at 2 (second_bytes ++ 9 ∷ []) ≡ Some (second_change, 9 ∷ []) }
     // Refused: a byte that the length counts and no field takes, no operation at all, a kind that isn't one, and a hive that
     // the store hasn't.

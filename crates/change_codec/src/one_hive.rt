@@ -3,13 +3,13 @@ ghost use Rattle.std.specs.Prelude.{◌≡◌, ◌==◌, List, None, IfOk, filte
 ghost use Rattle.reg_tree.specs.declared.op.Op.{Op};
 ghost use Rattle.reg_tree.specs.Operations.{hive_of};
 ghost use Rattle.change_codec.specs.Readers.{repeat};
-ghost use Rattle.change_codec.specs.Text.{op_at};
+ghost use Rattle.change_codec.specs.Encoding.{op_at};
 ghost use Rattle.change_codec.specs.Changes.{AreOps, HasOps, TakesOp};
 
-use crate::change_text::ALL_HIVES;
+use crate::decoder::take_op;
+use crate::encoded_change::ALL_HIVES;
 use crate::hives::hive_in;
-use crate::reading::take_op;
-use crate::skipping::skip_op;
+use crate::skipper::skip_op;
 use refusals::Refusal;
 use reg_tree::Op;
 use std::alloc::{AllocError, Global};

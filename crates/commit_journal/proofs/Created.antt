@@ -4,34 +4,34 @@ use Rattle.std.specs.Prelude.{codes}
 use Rattle.std.proofs.lemmas.List.{length-replicate, nil_from_length}
 use Rattle.byteorder.specs.Endian.{little_bytes}
 use Rattle.byteorder.specs.Numbers.{length-bytes_low_first}
-use Rattle.crash_model.specs.Promises.{Spelled, nothing}
+use Rattle.crash_model.specs.Promises.{Content, nothing}
 use Rattle.disk_model.specs.FileState.{FileState, at_rest, put, resized, Cuts, Writes, Syncs}
 use Rattle.disk_model.proofs.Leaves.{put_end}
 use Rattle.disk_model.proofs.Put.{length-resized}
 use Rattle.change_codec.specs.ModelChanges.{TimedOp}
-use Rattle.commit_journal.specs.Store.{Store, created_text, header_text, texts}
-use Rattle.commit_journal.specs.OnDisk.{is_on, value_at, Phase.Quiet}
+use Rattle.commit_journal.specs.Store.{Store, created_bytes, header_bytes, encodings}
+use Rattle.commit_journal.specs.OnDisk.{is_on, view_at, Phase.AtRest}
 use Rattle.commit_journal.proofs.Opening.{created}
 
 -- a header is as long as where the first gate stands
-pub header_length : (store : Store) → length store.id ≡ 16 → length (header_text store) ≡ 64
+pub header_length : (store : Store) → length store.id ≡ 16 → length (header_bytes store) ≡ 64
 header_length store size =
     let zeros : List ℕ = replicate 36 0 in
     let hives = little_bytes 4 store.hives in
     omega (arith, size, length-append (codes "KTMJRNL1") (store.id ++ (hives ++ zeros)), length-append store.id (hives ++ zeros), length-append hives zeros, length-bytes_low_first 0 4 store.hives, length-replicate {A = ℕ} 36 0)
 
 -- a file that is made empty and written is what was written
-pub created_file : (store : Store) (bytes : List ℕ) → bytes ≡ created_text store → (old empty mid new : FileState) → Cuts 0 old empty → Writes 0 bytes empty mid → Syncs mid new
-    → new ≡ at_rest (created_text store)
+pub created_file : (store : Store) (bytes : List ℕ) → bytes ≡ created_bytes store → (old empty mid new : FileState) → Cuts 0 old empty → Writes 0 bytes empty mid → Syncs mid new
+    → new ≡ at_rest (created_bytes store)
 created_file store bytes is old empty mid new cuts wrote syncs =
     let none : empty.seen ≡ [] = ap (λ (s : FileState). s.seen) cuts ∙ nil_from_length (resized old.seen 0) (length-resized old.seen 0) in
     let all : put empty.seen 0 bytes ≡ bytes = ap (λ (l : List ℕ). put l 0 bytes) none ∙ put_end [] bytes 0 refl in
     syncs ∙ ap (λ (x : FileState). at_rest x.seen) wrote ∙ ap at_rest (all ∙ is)
 
-pub created_on : (store : Store) → length store.id ≡ 16 → (state : FileState) → state ≡ at_rest (created_text store)
-    → (s : Spelled TimedOp) (gate : ℕ) → s ≡ nothing → gate ≡ 64 → is_on (texts store) (value_at s nothing gate gate Quiet) state
+pub created_on : (store : Store) → length store.id ≡ 16 → (state : FileState) → state ≡ at_rest (created_bytes store)
+    → (s : Content TimedOp) (gate : ℕ) → s ≡ nothing → gate ≡ 64 → is_on (encodings store) (view_at s nothing gate gate AtRest) state
 created_on store size state is s gate none first =
-    subst (λ (x : FileState). is_on (texts store) (value_at s nothing gate gate Quiet) x) (sym is)
-    (subst (λ (x : Spelled TimedOp). is_on (texts store) (value_at x nothing gate gate Quiet) (at_rest (created_text store))) (sym none)
-    (subst (λ (k : ℕ). is_on (texts store) (value_at nothing nothing k k Quiet) (at_rest (created_text store))) (sym first)
-    (created (texts store) (header_length store size) 0 64 [] nothing (λ e. omega (arith, e)))))
+    subst (λ (x : FileState). is_on (encodings store) (view_at s nothing gate gate AtRest) x) (sym is)
+    (subst (λ (x : Content TimedOp). is_on (encodings store) (view_at x nothing gate gate AtRest) (at_rest (created_bytes store))) (sym none)
+    (subst (λ (k : ℕ). is_on (encodings store) (view_at nothing nothing k k AtRest) (at_rest (created_bytes store))) (sym first)
+    (created (encodings store) (header_length store size) 0 64 [] nothing (λ e. omega (arith, e)))))

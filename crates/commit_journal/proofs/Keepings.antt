@@ -6,32 +6,32 @@ use Rattle.std.proofs.Math.ListN.{drop_of_length-le}
 use Rattle.reg_tree.specs.declared.element.Element.{Element}
 use Rattle.crash_model.specs.Changes as law
 use Rattle.crash_model.specs.Changes.{on_hive, ops_on}
-use Rattle.crash_model.specs.Promises.{Spelled, floor, top}
+use Rattle.crash_model.specs.Promises.{Content, floor, top}
 use Rattle.std.proofs.lemmas.List.Sums.{sum_by-cons}
 use Rattle.refusals.specs.declared.limits.TheConstants.{GREATEST_NUMBER}
-use Rattle.reg_tree.specs.Texts.{element_text_len}
+use Rattle.reg_tree.specs.Encodings.{element_encoded_len}
 use Rattle.std.specs.Prelude.{sum_by}
 use Rattle.crash_model.proofs.Lists.{drop_nil}
 use Rattle.change_codec.specs.ModelChanges.{TimedOp, timed_element, timed_elements}
-use Rattle.commit_journal.specs.Lacking.{AreKept, IsKeeping, Lacks}
-use Rattle.commit_journal.specs.Naming.{AreLastIn, names}
-use Rattle.commit_journal.specs.Told.{changes_told, elements_told}
+use Rattle.commit_journal.specs.Lacking.{AreRetained, IsRetention, Lacks}
+use Rattle.commit_journal.specs.LastChangePerHive.{AreLastIn, names}
+use Rattle.commit_journal.specs.GhostLog.{logged_changes, logged_elements}
 use Rattle.commit_journal.specs.declared.layout.TheConstants.{MOST_BODY_BYTES}
-use Rattle.commit_journal.specs.declared.standing.Standing.{Standing}
-use Rattle.commit_journal.specs.declared.reader.Part.{Part}
-use Rattle.commit_journal.specs.Journals.{spelled_by}
-use Rattle.commit_journal.specs.Reading.{GoesOn, IsInPart, KeepsElements, KeepsPart}
+use Rattle.commit_journal.specs.declared.extent.Extent.{Extent}
+use Rattle.commit_journal.specs.declared.reader.PartialBody.{PartialBody}
+use Rattle.commit_journal.specs.Journals.{content_of}
+use Rattle.commit_journal.specs.Reading.{BodyMayFollow, IsLastOfPartial, ElementsAreSound, PartialIsSound}
 use Rattle.commit_journal.proofs.Numbers.{floor_some}
-use Rattle.commit_journal.specs.declared.told.Told.{Told, Nothing, Then', Same'}
+use Rattle.commit_journal.specs.declared.ghost_log.GhostLog.{GhostLog, Nothing, Then', Same'}
 use Rattle.commit_journal.proofs.Namings.{drop_more, named, one_counted, unnamed}
 
 -- the changes that were told, as the law sees them
-pub told_are : (told : Told) → elements_told told ≡ timed_elements (changes_told told)
-told_are Nothing = refl
-told_are (Then' shape before element) = ap (λ (l : List (law.Element TimedOp)). l ++ timed_element element.value ∷ []) (told_are before) ∙ sym (map-append timed_element (changes_told before) (element.value ∷ []))
-told_are (Same' shape before) = told_are before
+pub logged_are : (ghost_log : GhostLog) → logged_elements ghost_log ≡ timed_elements (logged_changes ghost_log)
+logged_are Nothing = refl
+logged_are (Then' shape before element) = ap (λ (l : List (law.Element TimedOp)). l ++ timed_element element.value ∷ []) (logged_are before) ∙ sym (map-append timed_element (logged_changes before) (element.value ∷ []))
+logged_are (Same' shape before) = logged_are before
 
-pub nothing_kept : (numbers named : List ℕ) → AreLastIn 0 [] named → IsKeeping numbers 0 [] 0 [] named
+pub nothing_kept : (numbers named : List ℕ) → AreLastIn 0 [] named → IsRetention numbers 0 [] 0 [] named
 nothing_kept numbers named last = record {
   few = omega arith;
   keeps = record { low = omega arith; high = omega arith; are = refl; held = λ i. ap (ops_on i) (drop_nil {A = law.Element TimedOp} (get_or numbers i 0 - 0)); first = λ e es is. absurd cc };
@@ -45,9 +45,9 @@ none_at low high are last i m is =
     record { none_after = ap (ops_on i) (drop_nil {A = law.Element TimedOp} (m - high)); named = elim (l.named) [ inl z ↦ inl z | inr s ↦ absurd (s.1 (ap (ops_on i) (drop_nil {A = law.Element TimedOp} (m - 1 - low)))) ] }
 
 -- before the first the number is any
-pub begins_at : (numbers : List ℕ) (last first : ℕ) (es kept : List Element) (below : ℕ) (are : List ℕ) → kept ≡ [] → 1 ≤ first → (es ≡ []) ⊎ (last + 1 ≡ first) → IsKeeping numbers last es below kept are → IsKeeping numbers (first - 1) es (first - 1) kept are
+pub begins_at : (numbers : List ℕ) (last first : ℕ) (es kept : List Element) (below : ℕ) (are : List ℕ) → kept ≡ [] → 1 ≤ first → (es ≡ []) ⊎ (last + 1 ≡ first) → IsRetention numbers last es below kept are → IsRetention numbers (first - 1) es (first - 1) kept are
 begins_at numbers last first es kept below are none some (inl empty) k =
-    subst (λ (l : List Element). IsKeeping numbers (first - 1) es (first - 1) l are) (sym none) (subst (λ (l : List Element). IsKeeping numbers (first - 1) l (first - 1) [] are) (sym empty) (record {
+    subst (λ (l : List Element). IsRetention numbers (first - 1) es (first - 1) l are) (sym none) (subst (λ (l : List Element). IsRetention numbers (first - 1) l (first - 1) [] are) (sym empty) (record {
       few = omega arith;
       keeps = record { low = omega arith; high = omega arith; are = sym (drop_nil {A = Element} (first - 1 - (first - 1 - 0))); held = λ i. ap (ops_on i) (ap (drop (get_or numbers i 0 - (first - 1 - 0))) (nothing_in (first - 1 - (first - 1 - 0))) ∙ drop_nil {A = law.Element TimedOp} (get_or numbers i 0 - (first - 1 - 0))); first = λ e es is. absurd cc };
       names = none_at (last - length es) (first - 1 - 0) are (subst (λ (l : List Element). AreLastIn (last - length es) (timed_elements l) are) empty k.names);
@@ -59,9 +59,9 @@ begins_at numbers last first es kept below are none some (inl empty) k =
 begins_at numbers last first es kept below are none some (inr follows) k =
     let e : last ≡ first - 1 = omega (arith, follows) in
     let b : below ≡ first - 1 = omega (arith, follows, k.keeps.low, k.keeps.high, k.few, ap length (sym k.keeps.are ∙ none), length-drop (below - (last - length es)) es) in
-    subst (λ n. IsKeeping numbers (first - 1) es n kept are) b (subst (λ n. IsKeeping numbers n es below kept are) e k)
+    subst (λ n. IsRetention numbers (first - 1) es n kept are) b (subst (λ n. IsRetention numbers n es below kept are) e k)
 
-module _ (numbers : List ℕ) (last : ℕ) (es kept : List Element) (below : ℕ) (now was : List ℕ) (e : Element) (k : IsKeeping numbers last es below kept was)
+module _ (numbers : List ℕ) (last : ℕ) (es kept : List Element) (below : ℕ) (now was : List ℕ) (e : Element) (k : IsRetention numbers last es below kept was)
     (each : (i : ℕ) → slice_get now i ≡ option_map (λ m. cond (names i e.ops) (last + 1) m) (slice_get was i)) where
   long : length (es ++ e ∷ []) ≡ length es + 1
   long = length-append es (e ∷ [])
@@ -79,10 +79,10 @@ module _ (numbers : List ℕ) (last : ℕ) (es kept : List Element) (below : ℕ
   names_on = subst (λ (l : List (law.Element TimedOp)). AreLastIn base l now) (sym timed_more) (one_counted base (timed_elements es) e (last + 1) was now (omega (arith, k.few, length-map es timed_element)) each k.names)
 
   -- one more is kept
-  pub one_kept : (0 < length kept) ⊎ Lacks numbers (last + 1) e → IsKeeping numbers (last + 1) (es ++ e ∷ []) below (kept ++ e ∷ []) now
+  pub one_kept : (0 < length kept) ⊎ Lacks numbers (last + 1) e → IsRetention numbers (last + 1) (es ++ e ∷ []) below (kept ++ e ∷ []) now
   one_kept why = record {
     few = omega (arith, long, k.few);
-    keeps = subst (λ b. AreKept numbers b (es ++ e ∷ []) below (kept ++ e ∷ [])) same (record {
+    keeps = subst (λ b. AreRetained numbers b (es ++ e ∷ []) below (kept ++ e ∷ [])) same (record {
       low = k.keeps.low;
       high = omega (arith, k.keeps.high, long);
       are = ap (λ (l : List Element). l ++ e ∷ []) k.keeps.are ∙ sym (drop-append-le (below - base) es (e ∷ []) (omega (arith, k.keeps.high)));
@@ -104,10 +104,10 @@ module _ (numbers : List ℕ) (last : ℕ) (es kept : List Element) (below : ℕ
           subst (λ (z : Element). Lacks numbers (below + 1) z) (cc same_one) (k.keeps.first y ys some)
 
   -- one more is let go
-  pub one_gone : kept ≡ [] → ((i : ℕ) → get_or numbers i 0 < last + 1 → names i e.ops ≡ false) → IsKeeping numbers (last + 1) (es ++ e ∷ []) (last + 1) kept now
+  pub one_gone : kept ≡ [] → ((i : ℕ) → get_or numbers i 0 < last + 1 → names i e.ops ≡ false) → IsRetention numbers (last + 1) (es ++ e ∷ []) (last + 1) kept now
   one_gone none held_by = record {
     few = omega (arith, long, k.few);
-    keeps = subst (λ b. AreKept numbers b (es ++ e ∷ []) (last + 1) kept) same (record {
+    keeps = subst (λ b. AreRetained numbers b (es ++ e ∷ []) (last + 1) kept) same (record {
       low = omega arith;
       high = omega (arith, long, k.few);
       are = none ∙ sym (drop_of_length-le (es ++ e ∷ []) (omega (arith, long, k.few)));
@@ -131,25 +131,25 @@ module _ (numbers : List ℕ) (last : ℕ) (es kept : List Element) (below : ℕ
 pub lacks_one : (numbers : List ℕ) (number : ℕ) (e : Element) → (i : ℕ) × (get_or numbers i 0 < number) × (names i e.ops ≡ true) → Lacks numbers number e
 lacks_one numbers number e (i, lt, is) = (i, lt, named i e.moment e.ops is)
 
-abbrev spelled_at : ℕ → List (law.Element TimedOp) → Spelled TimedOp
-spelled_at below es = record { below = below; elements = es }
+abbrev decoded_at : ℕ → List (law.Element TimedOp) → Content TimedOp
+decoded_at below es = record { below = below; elements = es }
 
 -- a number behind what stands goes on with what was read
-pub follows_on : (now : Standing) (es : List Element) (last first : ℕ) → elements_told now.told ≡ timed_elements es → last ≡ now.last → 1 ≤ first → top (first - 1) (spelled_by now) ≡ first - 1 → (es ≡ []) ⊎ (last + 1 ≡ first)
-follows_on now [] last first told same some ends = inl refl
-follows_on now (x ∷ xs) last first told same some ends =
-    let long : 1 ≤ length (elements_told now.told) = omega (arith, ap length told) in
-    inr (omega (arith, same, now.kept.last_is, ends, some, floor_some 0 now.below (elements_told now.told) long, floor_some (first - 1) now.below (elements_told now.told) long))
+pub follows_on : (now : Extent) (es : List Element) (last first : ℕ) → logged_elements now.ghost_log ≡ timed_elements es → last ≡ now.last → 1 ≤ first → top (first - 1) (content_of now) ≡ first - 1 → (es ≡ []) ⊎ (last + 1 ≡ first)
+follows_on now [] last first ghost_log same some ends = inl refl
+follows_on now (x ∷ xs) last first ghost_log same some ends =
+    let long : 1 ≤ length (logged_elements now.ghost_log) = omega (arith, ap length ghost_log) in
+    inr (omega (arith, same, now.kept.last_is, ends, some, floor_some 0 now.below (logged_elements now.ghost_log) long, floor_some (first - 1) now.below (logged_elements now.ghost_log) long))
 
-pub count_is : (below last : ℕ) (es : List (law.Element TimedOp)) → last ≡ top 0 (spelled_at below es) → last - below ≡ length es
+pub count_is : (below last : ℕ) (es : List (law.Element TimedOp)) → last ≡ top 0 (decoded_at below es) → last - below ≡ length es
 count_is below last [] is = omega (arith, is)
 count_is below last (e ∷ es) is = omega (arith, is)
 
-pub head_keeps : (hives : ℕ) (now : Standing) (es xs : List Element) (start : ℕ) → xs ≡ es → start ≡ length es → KeepsElements hives now es es → KeepsElements hives now (take start xs) xs
-head_keeps hives now es xs start same is keeps = subst (λ (l : List Element). KeepsElements hives now (take start l) l) (sym same) (subst (λ (l : List Element). KeepsElements hives now l es) (sym (take_all start es (omega (arith, is)))) keeps)
+pub head_keeps : (hives : ℕ) (now : Extent) (es xs : List Element) (start : ℕ) → xs ≡ es → start ≡ length es → ElementsAreSound hives now es es → ElementsAreSound hives now (take start xs) xs
+head_keeps hives now es xs start same is keeps = subst (λ (l : List Element). ElementsAreSound hives now (take start l) l) (sym same) (subst (λ (l : List Element). ElementsAreSound hives now l es) (sym (take_all start es (omega (arith, is)))) keeps)
 
-pub head_part : (now : Standing) (es : List Element) (first size count start : ℕ) → start ≡ length es → GoesOn GREATEST_NUMBER (spelled_by now) first count → 16 ≤ size → size ≤ MOST_BODY_BYTES
-    → KeepsPart now es (record { first = first; size = size; left = size - 16; count = count; start = start })
+pub head_part : (now : Extent) (es : List Element) (first size count start : ℕ) → start ≡ length es → BodyMayFollow GREATEST_NUMBER (content_of now) first count → 16 ≤ size → size ≤ MOST_BODY_BYTES
+    → PartialIsSound now es (record { first = first; size = size; left = size - 16; count = count; start = start })
 head_part now es first size count start is goes low high =
     let none : drop start es ≡ [] = drop_of_length-le es (omega (arith, is)) in
     record {
@@ -158,32 +158,32 @@ head_part now es first size count start is goes low high =
       ends = goes.ends;
       some = omega (arith, goes.some);
       most = omega (arith, goes.room, ap length none);
-      size = omega (arith, low, ap (λ (l : List Element). sum_by element_text_len l) none);
+      size = omega (arith, low, ap (λ (l : List Element). sum_by element_encoded_len l) none);
       short = high;
     }
 
-pub tied_more : (last new : ℕ) (es xs : List Element) (e : Element) (part : Part) (left count : ℕ) → part.start ≤ length es → xs ≡ es ++ e ∷ [] → new ≡ last + 1 → IsInPart last es part
-    → IsInPart new xs (record { first = part.first; size = part.size; left = left; count = count; start = part.start })
-tied_more last new es xs e part left count inside made up tied =
-    let body : drop part.start xs ≡ drop part.start es ++ e ∷ [] = ap (drop part.start) made ∙ drop-append-le part.start es (e ∷ []) inside in
-    omega (arith, up, tied, ap (λ (l : List Element). length l) body, length-append (drop part.start es) (e ∷ []))
+pub tied_more : (last new : ℕ) (es xs : List Element) (e : Element) (partial_body : PartialBody) (left count : ℕ) → partial_body.start ≤ length es → xs ≡ es ++ e ∷ [] → new ≡ last + 1 → IsLastOfPartial last es partial_body
+    → IsLastOfPartial new xs (record { first = partial_body.first; size = partial_body.size; left = left; count = count; start = partial_body.start })
+tied_more last new es xs e partial_body left count inside made up tied =
+    let body : drop partial_body.start xs ≡ drop partial_body.start es ++ e ∷ [] = ap (drop partial_body.start) made ∙ drop-append-le partial_body.start es (e ∷ []) inside in
+    omega (arith, up, tied, ap (λ (l : List Element). length l) body, length-append (drop partial_body.start es) (e ∷ []))
 
 pub no_changes : (l : List Element) → length l ≡ 0 → l ≡ []
 no_changes [] is = refl
 no_changes (x ∷ l) is = absurd (omega (arith, is))
 
 -- each element has 16 bytes at least
-pub least : (es : List Element) → 16 * length es ≤ sum_by element_text_len es
+pub least : (es : List Element) → 16 * length es ≤ sum_by element_encoded_len es
 least [] = omega arith
-least (e ∷ es) = let rest = least es in omega (arith, rest, sum_by-cons element_text_len e es)
+least (e ∷ es) = let rest = least es in omega (arith, rest, sum_by-cons element_encoded_len e es)
 
 -- the number below all that were read
-pub base_is : (now : Standing) (es : List Element) (last below : ℕ) → elements_told now.told ≡ timed_elements es → last ≡ now.last → last - length es ≤ below → below ≤ last - length es + length es → floor below (spelled_by now) ≡ last - length es
-base_is now [] last below told same low high = ap (λ (l : List (law.Element TimedOp)). floor below (spelled_at now.below l)) told ∙ omega (arith, low, high)
-base_is now (x ∷ xs) last below told same low high =
-    let long : 1 ≤ length (elements_told now.told) = omega (arith, ap length told) in
-    let many : length (elements_told now.told) ≡ length (x ∷ xs) = ap length told ∙ length-map (x ∷ xs) timed_element in
-    omega (arith, same, now.kept.last_is, many, floor_some 0 now.below (elements_told now.told) long, floor_some below now.below (elements_told now.told) long)
+pub base_is : (now : Extent) (es : List Element) (last below : ℕ) → logged_elements now.ghost_log ≡ timed_elements es → last ≡ now.last → last - length es ≤ below → below ≤ last - length es + length es → floor below (content_of now) ≡ last - length es
+base_is now [] last below ghost_log same low high = ap (λ (l : List (law.Element TimedOp)). floor below (decoded_at now.below l)) ghost_log ∙ omega (arith, low, high)
+base_is now (x ∷ xs) last below ghost_log same low high =
+    let long : 1 ≤ length (logged_elements now.ghost_log) = omega (arith, ap length ghost_log) in
+    let many : length (logged_elements now.ghost_log) ≡ length (x ∷ xs) = ap length ghost_log ∙ length-map (x ∷ xs) timed_element in
+    omega (arith, same, now.kept.last_is, many, floor_some 0 now.below (logged_elements now.ghost_log) long, floor_some below now.below (logged_elements now.ghost_log) long)
 
-pub none_told : (told : Told) → elements_told told ≡ [] → changes_told told ≡ []
-none_told told is = no_changes (changes_told told) (omega (arith, ap length (sym (told_are told) ∙ is), length-map (changes_told told) timed_element))
+pub none_logged : (ghost_log : GhostLog) → logged_elements ghost_log ≡ [] → logged_changes ghost_log ≡ []
+none_logged ghost_log is = no_changes (logged_changes ghost_log) (omega (arith, ap length (sym (logged_are ghost_log) ∙ is), length-map (logged_changes ghost_log) timed_element))

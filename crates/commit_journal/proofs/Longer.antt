@@ -2,26 +2,26 @@
 use Rattle.std.proofs.Common.{◌≡◌, ◌⊎◌, ⊎_elim, ℕ, zero, suc, ◌+◌, ◌-◌, ◌<◌, ◌≤◌, List, length, take, ◌++◌, refl, sym, ◌∙◌, ap, arith, Some, None, length-append, length-take}
 use Rattle.std.proofs.lemmas.Option.{same_Some, none-some}
 use Rattle.crash_model.specs.Changes as law
-use Rattle.crash_model.specs.Promises.{Choice, Spelled, settled, floor, BeginsBatch, IsUnderway, JournalSays, Answer.More, Answer.Done}
+use Rattle.crash_model.specs.Promises.{Choice, Content, settled, floor, BeginsBatch, IsUnderway, JournalSays, Answer.More, Answer.Done}
 use Rattle.change_codec.specs.ModelChanges.{TimedOp}
-use Rattle.commit_journal.specs.Journals.{value_in, choice_of, steps_in, steps_left, NowStands, IsStep, StandsLonger}
-use Rattle.commit_journal.specs.declared.standing.Standing.{Standing}
+use Rattle.commit_journal.specs.Journals.{view_in_phase, choice_of, steps_in, steps_left, BatchIsDurable, IsStep, DurableGrows}
+use Rattle.commit_journal.specs.declared.extent.Extent.{Extent}
 use Rattle.commit_journal.specs.declared.journal.Phase.{Phase}
-use Rattle.commit_journal.specs.declared.journal.Phase.TheVariants.{Quiet, BodyWritten, BodySynced, GateWritten, TrimWritten, Broken}
+use Rattle.commit_journal.specs.declared.journal.Phase.TheVariants.{AtRest, BodyWritten, BodySynced, GateWritten, TrimWritten, Broken}
 use Rattle.commit_journal.specs.declared.journal.Journal.{Journal}
 use Rattle.commit_journal.proofs.Progress.{few_steps}
 
 -- nothing is on its way exactly where four steps are left
-none_at_four : (now : Standing) (p : Phase) → steps_in (value_in now p).phase ≡ 4 → (value_in now p).choice.next ≡ None
-none_at_four now Quiet four = refl
+none_at_four : (now : Extent) (p : Phase) → steps_in (view_in_phase now p).phase ≡ 4 → (view_in_phase now p).choice.next ≡ None
+none_at_four now AtRest four = refl
 none_at_four now (BodyWritten batch) four = absurd (omega (arith, four))
 none_at_four now (BodySynced batch) four = absurd (omega (arith, four))
 none_at_four now (GateWritten batch) four = absurd (omega (arith, four))
 none_at_four now TrimWritten four = absurd (omega (arith, four))
 none_at_four now (Broken ahead) four = absurd (omega (arith, four))
 
-four_at_none : (now : Standing) (p : Phase) → (value_in now p).choice.next ≡ None → steps_in (value_in now p).phase ≡ 4
-four_at_none now Quiet none = refl
+four_at_none : (now : Extent) (p : Phase) → (view_in_phase now p).choice.next ≡ None → steps_in (view_in_phase now p).phase ≡ 4
+four_at_none now AtRest none = refl
 four_at_none now (BodyWritten batch) none = absurd (none-some _ (sym none))
 four_at_none now (BodySynced batch) none = absurd (none-some _ (sym none))
 four_at_none now (GateWritten batch) none = absurd (none-some _ (sym none))
@@ -29,39 +29,39 @@ four_at_none now TrimWritten none = absurd (none-some _ (sym none))
 four_at_none now (Broken ahead) none = absurd (none-some _ (sym none))
 
 -- so many elements stand, and more are on their way
-record Grows (n : ℕ) (c : Choice (Spelled TimedOp)) : Type 0 where
+record Grows (n : ℕ) (c : Choice (Content TimedOp)) : Type 0 where
   now : length c.now.elements ≡ n
-  then : Spelled TimedOp
+  then : Content TimedOp
   next : c.next ≡ Some then
   more : n < length then.elements
 
-settled_is_quiet : (j : Journal) (x : Spelled TimedOp) → choice_of j ≡ settled x → steps_left j ≡ 4
-settled_is_quiet j x e = four_at_none j.stands j.phase (ap (λ (c : Choice (Spelled TimedOp)). c.next) e)
+settled_is_quiet : (j : Journal) (x : Content TimedOp) → choice_of j ≡ settled x → steps_left j ≡ 4
+settled_is_quiet j x e = four_at_none j.on_device j.phase (ap (λ (c : Choice (Content TimedOp)). c.next) e)
 
 -- no step that isn't refused comes behind one with which none was left
 dead : (old new : Journal) → IsStep old new → steps_left old ≡ 0 → ⊥
-dead old new step none = ⊎_elim (λ (falls : steps_left new + 1 ≡ steps_left old). absurd (omega (arith, falls, none))) (λ (stands : NowStands old new). absurd (omega (arith, none, stands.0))) step.nearer
+dead old new step none = ⊎_elim (λ (falls : steps_left new + 1 ≡ steps_left old). absurd (omega (arith, falls, none))) (λ (on_device : BatchIsDurable old new). absurd (omega (arith, none, on_device.0))) step.nearer
 
 falls : (old new : Journal) (t : ℕ) → IsStep old new → steps_left old ≡ t + 2 → steps_left new ≡ t + 1
-falls old new t step left = ⊎_elim (λ (e : steps_left new + 1 ≡ steps_left old). omega (arith, e, left)) (λ (stands : NowStands old new). absurd (omega (arith, left, stands.0))) step.nearer
+falls old new t step left = ⊎_elim (λ (e : steps_left new + 1 ≡ steps_left old). omega (arith, e, left)) (λ (on_device : BatchIsDurable old new). absurd (omega (arith, left, on_device.0))) step.nearer
 
 -- the last step of a batch
-last : (old new newer : Journal) → IsStep old new → IsStep new newer → steps_left old ≡ 1 → NowStands old new
-last old new newer step next one = ⊎_elim (λ (e : steps_left new + 1 ≡ steps_left old). absurd (dead new newer next (omega (arith, e, one)))) (λ (stands : NowStands old new). stands) step.nearer
+last : (old new newer : Journal) → IsStep old new → IsStep new newer → steps_left old ≡ 1 → BatchIsDurable old new
+last old new newer step next one = ⊎_elim (λ (e : steps_left new + 1 ≡ steps_left old). absurd (dead new newer next (omega (arith, e, one)))) (λ (on_device : BatchIsDurable old new). on_device) step.nearer
 
 quiet_after : (old new newer : Journal) → IsStep old new → IsStep new newer → steps_left old ≡ 1 → steps_left new ≡ 4
-quiet_after old new newer step next one = let stands = last old new newer step next one in settled_is_quiet new stands.1.0 stands.1.2
+quiet_after old new newer step next one = let on_device = last old new newer step next one in settled_is_quiet new on_device.1.0 on_device.1.2
 
 -- a step where nothing is on its way begins a batch
-begun : (first : ℕ) (handed : List (law.Element TimedOp)) (old new : Choice (Spelled TimedOp)) → BeginsBatch first handed old new → Grows (length old.now.elements) new
+begun : (first : ℕ) (handed : List (law.Element TimedOp)) (old new : Choice (Content TimedOp)) → BeginsBatch first handed old new → Grows (length old.now.elements) new
 begun first handed old new (m, some, few, none, is) = record {
-  now = ap (λ (c : Choice (Spelled TimedOp)). length c.now.elements) is;
+  now = ap (λ (c : Choice (Content TimedOp)). length c.now.elements) is;
   then = record { below = floor (first - 1) old.now; elements = old.now.elements ++ take m handed };
-  next = ap (λ (c : Choice (Spelled TimedOp)). c.next) is;
+  next = ap (λ (c : Choice (Content TimedOp)). c.next) is;
   more = omega (arith, some, few, length-append old.now.elements (take m handed), length-take m handed);
 }
 
-begins : (old new : Choice (Spelled TimedOp)) (first : ℕ) (handed : List (law.Element TimedOp)) → old.next ≡ None → JournalSays first handed More old new ⊎ JournalSays first handed Done old new
+begins : (old new : Choice (Content TimedOp)) (first : ℕ) (handed : List (law.Element TimedOp)) → old.next ≡ None → JournalSays first handed More old new ⊎ JournalSays first handed Done old new
     → Grows (length old.now.elements) new
 begins old new first handed none says = ⊎_elim
     (λ more. ⊎_elim (λ (b : BeginsBatch first handed old new). begun first handed old new b) (λ (u : IsUnderway old new). absurd (none-some u.0.0 (sym none ∙ u.0.1))) more)
@@ -69,31 +69,31 @@ begins old new first handed none says = ⊎_elim
     says
 
 -- a step in a batch that isn't its last
-goes : (old new : Choice (Spelled TimedOp)) (n first : ℕ) (handed : List (law.Element TimedOp)) → Grows n old → ¬ (new.next ≡ None) → JournalSays first handed More old new ⊎ JournalSays first handed Done old new
+goes : (old new : Choice (Content TimedOp)) (n first : ℕ) (handed : List (law.Element TimedOp)) → Grows n old → ¬ (new.next ≡ None) → JournalSays first handed More old new ⊎ JournalSays first handed Done old new
     → Grows n new
 goes old new n first handed grows halfway says = ⊎_elim
     (λ more. ⊎_elim (λ (b : BeginsBatch first handed old new). absurd (none-some grows.then (sym b.3 ∙ grows.next))) (λ (u : IsUnderway old new). record {
-      now = ap (λ (c : Choice (Spelled TimedOp)). length c.now.elements) u.1 ∙ grows.now;
+      now = ap (λ (c : Choice (Content TimedOp)). length c.now.elements) u.1 ∙ grows.now;
       then = grows.then;
-      next = ap (λ (c : Choice (Spelled TimedOp)). c.next) u.1 ∙ grows.next;
+      next = ap (λ (c : Choice (Content TimedOp)). c.next) u.1 ∙ grows.next;
       more = grows.more;
     }) more)
-    (λ done. absurd (halfway (ap (λ (c : Choice (Spelled TimedOp)). c.next) done.2)))
+    (λ done. absurd (halfway (ap (λ (c : Choice (Content TimedOp)). c.next) done.2)))
     says
 
-goes_on : (old new : Journal) (n t : ℕ) → IsStep old new → Grows n (choice_of old) → steps_left old ≡ t + 2 → t + 1 < 4 → Grows n (choice_of new)
-goes_on old new n t step grows left few =
+continues : (old new : Journal) (n t : ℕ) → IsStep old new → Grows n (choice_of old) → steps_left old ≡ t + 2 → t + 1 < 4 → Grows n (choice_of new)
+continues old new n t step grows left few =
     let fallen = falls old new t step left in
-    goes (choice_of old) (choice_of new) n step.first step.handed grows (λ none. absurd (omega (arith, fallen, few, four_at_none new.stands new.phase none))) step.says
+    goes (choice_of old) (choice_of new) n step.first step.handed grows (λ none. absurd (omega (arith, fallen, few, four_at_none new.on_device new.phase none))) step.says
 
-stands_longer : (old new : Choice (Spelled TimedOp)) (n : ℕ) (x : Spelled TimedOp) → Grows n old → old.next ≡ Some x → new ≡ settled x → length old.now.elements < length new.now.elements
-stands_longer old new n x grows next is =
+prefix_longer : (old new : Choice (Content TimedOp)) (n : ℕ) (x : Content TimedOp) → Grows n old → old.next ≡ Some x → new ≡ settled x → length old.now.elements < length new.now.elements
+prefix_longer old new n x grows next is =
     let same : grows.then ≡ x = same_Some grows.then x (sym grows.next ∙ next) in
-    omega (arith, grows.now, grows.more, ap (λ (s : Spelled TimedOp). length s.elements) same, ap (λ (c : Choice (Spelled TimedOp)). length c.now.elements) is)
+    omega (arith, grows.now, grows.more, ap (λ (s : Content TimedOp). length s.elements) same, ap (λ (c : Choice (Content TimedOp)). length c.now.elements) is)
 
 module _ (journals : ℕ → Journal) (steps : (k : ℕ) → k < 8 → IsStep (journals k) (journals (k + 1))) where
   abbrev Found : Type 0
-  Found = (k : ℕ) × (k < 8) × StandsLonger (journals k) (journals (k + 1))
+  Found = (k : ℕ) × (k < 8) × DurableGrows (journals k) (journals (k + 1))
 
   -- a batch that begins at a step is done with the fourth
   batch : (m : ℕ) → m + 4 < 8 → steps_left (journals m) ≡ 4 → Found
@@ -105,14 +105,14 @@ module _ (journals : ℕ → Journal) (steps : (k : ℕ) → k < 8 → IsStep (j
       let d = steps (m + 1 + 1 + 1) (omega (arith, room)) in
       let e = steps (m + 1 + 1 + 1 + 1) (omega (arith, room)) in
       let n = length (choice_of j).now.elements in
-      let one = begins (choice_of j) (choice_of (journals (m + 1))) a.first a.handed (none_at_four j.stands j.phase quiet) a.says in
+      let one = begins (choice_of j) (choice_of (journals (m + 1))) a.first a.handed (none_at_four j.on_device j.phase quiet) a.says in
       let three = falls j (journals (m + 1)) 2 a quiet in
-      let two = goes_on (journals (m + 1)) (journals (m + 1 + 1)) n 1 b one three (omega arith) in
+      let two = continues (journals (m + 1)) (journals (m + 1 + 1)) n 1 b one three (omega arith) in
       let left_two = falls (journals (m + 1)) (journals (m + 1 + 1)) 1 b three in
-      let grows = goes_on (journals (m + 1 + 1)) (journals (m + 1 + 1 + 1)) n 0 c two left_two (omega arith) in
+      let grows = continues (journals (m + 1 + 1)) (journals (m + 1 + 1 + 1)) n 0 c two left_two (omega arith) in
       let left_one = falls (journals (m + 1 + 1)) (journals (m + 1 + 1 + 1)) 0 c left_two in
-      let stands = last (journals (m + 1 + 1 + 1)) (journals (m + 1 + 1 + 1 + 1)) (journals (m + 1 + 1 + 1 + 1 + 1)) d e left_one in
-      (m + 1 + 1 + 1, omega (arith, room), stands_longer (choice_of (journals (m + 1 + 1 + 1))) (choice_of (journals (m + 1 + 1 + 1 + 1))) n stands.1.0 grows stands.1.1 stands.1.2)
+      let on_device = last (journals (m + 1 + 1 + 1)) (journals (m + 1 + 1 + 1 + 1)) (journals (m + 1 + 1 + 1 + 1 + 1)) d e left_one in
+      (m + 1 + 1 + 1, omega (arith, room), prefix_longer (choice_of (journals (m + 1 + 1 + 1))) (choice_of (journals (m + 1 + 1 + 1 + 1))) n on_device.1.0 grows on_device.1.1 on_device.1.2)
 
   from : (n : ℕ) → steps_left (journals 0) ≡ n → n ≤ 5 → Found
   from zero left few = absurd (dead (journals 0) (journals 1) (steps 0 (omega arith)) left)
@@ -126,5 +126,5 @@ module _ (journals : ℕ → Journal) (steps : (k : ℕ) → k < 8 → IsStep (j
   from (suc (suc (suc (suc (suc zero))))) left few = batch 1 (omega arith) (falls (journals 0) (journals 1) 3 (steps 0 (omega arith)) left)
   from (suc (suc (suc (suc (suc (suc n)))))) left few = absurd (omega (arith, few))
 
-  pub longer : Found
-  longer = from (steps_left (journals 0)) refl (few_steps _)
+  pub with_elements : Found
+  with_elements = from (steps_left (journals 0)) refl (few_steps _)

@@ -16,7 +16,7 @@ use Rattle.crash_model.specs.Changes.{on_hive, ops_on}
 use Rattle.crash_model.proofs.Replays.{ops_on-append}
 use Rattle.crash_model.proofs.Lists.{drop_nil, first_nil}
 use Rattle.change_codec.specs.ModelChanges.{TimedOp, timed, timed_element}
-use Rattle.commit_journal.specs.Naming.{names, IsLastIn, AreLastIn}
+use Rattle.commit_journal.specs.LastChangePerHive.{names, IsLastIn, AreLastIn}
 
 -- An entry of a list
 
@@ -136,8 +136,8 @@ names_among : (i : ℕ) (ops : List Op) → names i ops ≡ among i (map hive_of
 names_among i [] = refl
 names_among i (op ∷ ops) = ap (λ b. eqb (hive_of op) i || b) (names_among i ops)
 
-among_more : (i : ℕ) (front : List ℕ) (h : ℕ) → among i (front ++ h ∷ []) ≡ (among i front || eqb h i)
-among_more i front h = list_any-append (λ k. eqb k i) front (h ∷ []) ∙ ap (λ b. among i front || b) (or_no (eqb h i))
+among_more : (i : ℕ) (prefix : List ℕ) (h : ℕ) → among i (prefix ++ h ∷ []) ≡ (among i prefix || eqb h i)
+among_more i prefix h = list_any-append (λ k. eqb k i) prefix (h ∷ []) ∙ ap (λ b. among i prefix || b) (or_no (eqb h i))
 
 pub one_named : (xs ys : List ℕ) (i h number : ℕ) (b : Bool) → h < length ys → slice_get ys i ≡ option_map (λ m. cond b number m) (slice_get xs i)
     → slice_get (slice_set ys h number) i ≡ option_map (λ m. cond (b || eqb h i) number m) (slice_get xs i)
@@ -189,7 +189,7 @@ named_past xs ys i h number b past is = by_test (eqb h i) refl
 
 -- Of a change's hives these are left, and the others have the number.
 abbrev pub HasNamed : List ℕ → ℕ → List ℕ → List ℕ → List ℕ → Type 0
-HasNamed was number hives is left = (front : List ℕ) × (hives ≡ front ++ left) × ((i : ℕ) → slice_get is i ≡ option_map (λ m. cond (among i front) number m) (slice_get was i)) × (length is ≡ length was)
+HasNamed was number hives is left = (prefix : List ℕ) × (hives ≡ prefix ++ left) × ((i : ℕ) → slice_get is i ≡ option_map (λ m. cond (among i prefix) number m) (slice_get was i)) × (length is ≡ length was)
 
 module _ (was : List ℕ) (number : ℕ) (hives : List ℕ) where
   untouched : (o : Option ℕ) → o ≡ option_map (λ m. m) o
@@ -200,47 +200,47 @@ module _ (was : List ℕ) (number : ℕ) (hives : List ℕ) where
   none_named_yet = ([], refl, λ i. untouched (slice_get was i), refl)
 
   pub next_named : (is : List ℕ) (h : ℕ) (left : List ℕ) → HasNamed was number hives is (h ∷ left) → h < length is → HasNamed was number hives (slice_set is h number) left
-  next_named is h left (front, are, named, many) lt = (
-    front ++ h ∷ [],
-    are ∙ sym (append_assoc front (h ∷ []) left),
-    λ i. one_named was is i h number (among i front) lt (named i) ∙ ap (λ b. option_map (λ m. cond b number m) (slice_get was i)) (sym (among_more i front h)),
+  next_named is h left (prefix, are, named, many) lt = (
+    prefix ++ h ∷ [],
+    are ∙ sym (append_assoc prefix (h ∷ []) left),
+    λ i. one_named was is i h number (among i prefix) lt (named i) ∙ ap (λ b. option_map (λ m. cond b number m) (slice_get was i)) (sym (among_more i prefix h)),
     length-set is h number ∙ many,
   )
 
   pub next_past : (is : List ℕ) (h : ℕ) (left : List ℕ) → HasNamed was number hives is (h ∷ left) → length is ≤ h → HasNamed was number hives is left
-  next_past is h left (front, are, named, many) past = (
-    front ++ h ∷ [],
-    are ∙ sym (append_assoc front (h ∷ []) left),
-    λ i. named_past was is i h number (among i front) past (named i) ∙ ap (λ b. option_map (λ m. cond b number m) (slice_get was i)) (sym (among_more i front h)),
+  next_past is h left (prefix, are, named, many) past = (
+    prefix ++ h ∷ [],
+    are ∙ sym (append_assoc prefix (h ∷ []) left),
+    λ i. named_past was is i h number (among i prefix) past (named i) ∙ ap (λ b. option_map (λ m. cond b number m) (slice_get was i)) (sym (among_more i prefix h)),
     many,
   )
 
 pub all_named : (was : List ℕ) (number : ℕ) (ops : List Op) (is : List ℕ) → HasNamed was number (map hive_of ops) is [] → (i : ℕ) → slice_get is i ≡ option_map (λ m. cond (names i ops) number m) (slice_get was i)
-all_named was number ops is (front, are, named, many) i =
-    named i ∙ ap (λ b. option_map (λ m. cond b number m) (slice_get was i)) (sym (names_among i ops ∙ ap (among i) (are ∙ append-nil front)))
+all_named was number ops is (prefix, are, named, many) i =
+    named i ∙ ap (λ b. option_map (λ m. cond b number m) (slice_get was i)) (sym (names_among i ops ∙ ap (among i) (are ∙ append-nil prefix)))
 
 -- Of a change's hives these are left, and each of the others holds the change of this number, by its own.
 abbrev pub HaveHeld : List ℕ → ℕ → List ℕ → List ℕ → Type 0
-HaveHeld numbers number hives left = (front : List ℕ) × (hives ≡ front ++ left) × ((i : ℕ) → get_or numbers i 0 < number → among i front ≡ false)
+HaveHeld numbers number hives left = (prefix : List ℕ) × (hives ≡ prefix ++ left) × ((i : ℕ) → get_or numbers i 0 < number → among i prefix ≡ false)
 
 module _ (numbers : List ℕ) (number : ℕ) where
   pub none_held_yet : (hives : List ℕ) → HaveHeld numbers number hives hives
   none_held_yet hives = ([], refl, λ i lacks. refl)
 
   pub next_held : (hives : List ℕ) (h : ℕ) (left : List ℕ) → HaveHeld numbers number hives (h ∷ left) → number ≤ get_or numbers h 0 → HaveHeld numbers number hives left
-  next_held hives h left (front, are, held) le = (front ++ h ∷ [], are ∙ sym (append_assoc front (h ∷ []) left), λ i lacks. among_more i front h ∙ ap (λ b. b || eqb h i) (held i lacks) ∙ other i lacks (eqb h i) refl)
+  next_held hives h left (prefix, are, held) le = (prefix ++ h ∷ [], are ∙ sym (append_assoc prefix (h ∷ []) left), λ i lacks. among_more i prefix h ∙ ap (λ b. b || eqb h i) (held i lacks) ∙ other i lacks (eqb h i) refl)
     where
       other : (i : ℕ) → get_or numbers i 0 < number → (b : Bool) → eqb h i ≡ b → b ≡ false
       other i lacks true e = absurd (omega (arith, le, lacks, ap (λ k. get_or numbers k 0) (eqb-true h i e)))
       other i lacks false e = refl
 
   pub all_held : (ops : List Op) → HaveHeld numbers number (map hive_of ops) [] → (i : ℕ) → get_or numbers i 0 < number → names i ops ≡ false
-  all_held ops (front, are, held) i lacks = names_among i ops ∙ ap (among i) (are ∙ append-nil front) ∙ held i lacks
+  all_held ops (prefix, are, held) i lacks = names_among i ops ∙ ap (among i) (are ∙ append-nil prefix) ∙ held i lacks
 
   -- the next hive is one of the change's
   pub next_is_named : (ops : List Op) (h : ℕ) (left : List ℕ) → HaveHeld numbers number (map hive_of ops) (h ∷ left) → names h ops ≡ true
-  next_is_named ops h left (front, are, held) =
-      names_among h ops ∙ ap (among h) are ∙ list_any-append (λ k. eqb k h) front (h ∷ left) ∙ ap (λ b. among h front || (b || among h left)) (eq-eqb h h refl) ∙ or_true (among h front)
+  next_is_named ops h left (prefix, are, held) =
+      names_among h ops ∙ ap (among h) are ∙ list_any-append (λ k. eqb k h) prefix (h ∷ left) ∙ ap (λ b. among h prefix || (b || among h left)) (eq-eqb h h refl) ∙ or_true (among h prefix)
     where
       or_true : (b : Bool) → (b || true) ≡ true
       or_true true = refl

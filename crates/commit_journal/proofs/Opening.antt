@@ -8,12 +8,12 @@ use Rattle.std.proofs.lemmas.List.{take_at, drop_at}
 use Rattle.std.proofs.lemmas.Bool.{eqb-true, eqb-false, and_parts, and_from, le-leb, leb-true}
 use Rattle.byteorder.specs.Endian.{little_number}
 use Rattle.byteorder.specs.Numbers.{little_from-append, little_from-take}
-use Rattle.crash_model.specs.Promises.{Spelled, nothing}
+use Rattle.crash_model.specs.Promises.{Content, nothing}
 use Rattle.disk_model.specs.FileState.{at_rest}
-use Rattle.commit_journal.specs.Text.{Texts, Body, body_of, is_body_length, read_body, read_gates, spelled_of, spelled, IsBody, AreGated, Stands}
+use Rattle.commit_journal.specs.Encoding.{Encodings, Body, body_of, is_body_length, read_body, read_gates, content_of_bodies, decoded, IsBody, AreGated, PrefixEncodes}
 use Rattle.commit_journal.proofs.Reading.{begun_with}
-use Rattle.commit_journal.proofs.Numbers.{stands_empty}
-use Rattle.commit_journal.specs.OnDisk.{is_on, value_at, Phase.Quiet}
+use Rattle.commit_journal.proofs.Numbers.{empty_prefix}
+use Rattle.commit_journal.specs.OnDisk.{is_on, view_at, Phase.AtRest}
 
 pub map_back : {A B P : Type 0} (f : A → B) (o : Option A) (y : B) → option_map f o ≡ Some y → ((x : A) → o ≡ Some x → f x ≡ y → P) → P
 map_back f None y e k = absurd (none-some y e)
@@ -28,7 +28,7 @@ pub length_fits : (len : ℕ) (bytes : List ℕ) → 16 ≤ len → len ≤ 8388
 length_fits len bytes low high there =
     and_from (nat_le 16 len) _ (le-leb 16 len low) (and_from (nat_le len 8388608) (nat_le len (length bytes)) (le-leb len 8388608 high) (le-leb len (length bytes) there))
 
-module _ {Op : Type 0} (t : Texts Op) where
+module _ {Op : Type 0} (t : Encodings Op) where
   -- bytes that are a body's, with their length before them, are read as that body, whatever follows
   pub body_read : (chunk : List ℕ) (b : Body Op) → little_number 4 chunk ≡ length chunk → 16 ≤ length chunk → length chunk ≤ 8388608 → body_of t chunk ≡ Some b → IsBody t chunk b
   body_read chunk b len low high is rest =
@@ -60,7 +60,7 @@ module _ {Op : Type 0} (t : Texts Op) where
       ))
 
   abbrev Split : List ℕ → List (Body Op) → Type 0
-  Split bytes bodies = (front : List ℕ) × (gate : ℕ) × (tail : List ℕ) × (bytes ≡ front ++ gate ∷ tail) × (gate ≢ 0xc3) × AreGated t front bodies
+  Split bytes bodies = (prefix : List ℕ) × (gate : ℕ) × (tail : List ℕ) × (bytes ≡ prefix ++ gate ∷ tail) × (gate ≢ 0xc3) × AreGated t prefix bodies
 
   gates_back : (n : ℕ) (bytes : List ℕ) (bodies : List (Body Op)) → read_gates t n bytes ≡ Some bodies → Split bytes bodies
   gates_back zero bytes bodies e = absurd (none-some bodies e)
@@ -86,12 +86,12 @@ module _ {Op : Type 0} (t : Texts Op) where
       by_gate later false is f = ([], gate, bytes, refl, eqb-false gate 0xc3 is, subst (λ (l : List (Body Op)). AreGated t [] l) (same_Some [] bodies f) refl)
 
   module _ (head : length t.header ≡ 64) where
-    pub spelled_back : (c : List ℕ) (s : Spelled Op) → spelled t c ≡ Some s → (front : List ℕ) × (gate : ℕ) × (tail : List ℕ) × (c ≡ front ++ gate ∷ tail) × (gate ≢ 0xc3) × Stands t s (length front) front
-    unfolding spelled
-    spelled_back c s e =
-        let test = let_through (starts_with nat_eq c t.header) (option_and_then (spelled_of t.most) (read_gates t (length c) (drop 64 c))) s e in
+    pub decoded_back : (c : List ℕ) (s : Content Op) → decoded t c ≡ Some s → (prefix : List ℕ) × (gate : ℕ) × (tail : List ℕ) × (c ≡ prefix ++ gate ∷ tail) × (gate ≢ 0xc3) × PrefixEncodes t s (length prefix) prefix
+    unfolding decoded
+    decoded_back c s e =
+        let test = let_through (starts_with nat_eq c t.header) (option_and_then (content_of_bodies t.most) (read_gates t (length c) (drop 64 c))) s e in
         let whole : c ≡ t.header ++ drop 64 c = begun_with c t.header test.0 ∙ ap (λ (n : ℕ). t.header ++ drop n c) head in
-        option_and_then_some (spelled_of t.most) (read_gates t (length c) (drop 64 c)) s test.1 (λ bodies read numbered.
+        option_and_then_some (content_of_bodies t.most) (read_gates t (length c) (drop 64 c)) s test.1 (λ bodies read numbered.
         let b = gates_back (length c) (drop 64 c) bodies read in (
           t.header ++ b.0,
           b.1,
@@ -102,13 +102,13 @@ module _ {Op : Type 0} (t : Texts Op) where
         ))
 
     -- what an opening may rest on
-    pub found : (c : List ℕ) (s any : Spelled Op) → spelled t c ≡ Some s → (gate : ℕ) × ((ahead : ℕ) → is_on t (value_at s any gate ahead Quiet) (at_rest c))
+    pub found : (c : List ℕ) (s any : Content Op) → decoded t c ≡ Some s → (gate : ℕ) × ((ahead : ℕ) → is_on t (view_at s any gate ahead AtRest) (at_rest c))
     unfolding is_on
     found c s any e =
-        let b = spelled_back c s e in
-        (length b.0, λ ahead. record { front = b.0; closed = b.1; tail = b.2; none = refl; stands = b.5; shut = b.4; is = ap at_rest b.3 })
+        let b = decoded_back c s e in
+        (length b.0, λ ahead. record { prefix = b.0; closed = b.1; tail = b.2; none = refl; on_device = b.5; shut = b.4; is = ap at_rest b.3 })
 
     -- a header and a gate that isn't open are a journal that spells nothing
-    pub created : (closed ahead : ℕ) (tail : List ℕ) (any : Spelled Op) → closed ≢ 0xc3 → is_on t (value_at nothing any 64 ahead Quiet) (at_rest (t.header ++ closed ∷ tail))
+    pub created : (closed ahead : ℕ) (tail : List ℕ) (any : Content Op) → closed ≢ 0xc3 → is_on t (view_at nothing any 64 ahead AtRest) (at_rest (t.header ++ closed ∷ tail))
     unfolding is_on
-    created closed ahead tail any shut = record { front = t.header; closed = closed; tail = tail; none = refl; stands = stands_empty t head; shut = shut; is = refl }
+    created closed ahead tail any shut = record { prefix = t.header; closed = closed; tail = tail; none = refl; on_device = empty_prefix t head; shut = shut; is = refl }

@@ -9,13 +9,13 @@ use Rattle.std.proofs.lemmas.Bool.{and_parts, leb-true, eqb-true}
 use Rattle.byteorder.specs.Endian.{little_number}
 use Rattle.byteorder.specs.Numbers.{little_from-take}
 use Rattle.crash_model.specs.Changes.{Element}
-use Rattle.crash_model.specs.Promises.{Spelled, nothing, floor_of, top}
+use Rattle.crash_model.specs.Promises.{Content, nothing, floor_of, top}
 use Rattle.disk_model.specs.FileState.{at_rest}
-use Rattle.commit_journal.specs.Text.{Texts, Body, read_elements, whole_body, body_of, is_body_length, read_body, read_gates, follow, elements_of, are_numbered, spelled_of, spelled, AreGated, Stands}
-use Rattle.commit_journal.specs.OnDisk.{is_on, value_at, longer, Phase.Quiet}
-use Rattle.commit_journal.specs.Reading.{AtGate, finished, rest_of_body, InBody, GoesOn}
-use Rattle.commit_journal.proofs.Reading.{begins, chosen, fewer, stands_spells}
-use Rattle.commit_journal.proofs.Numbers.{picked, floor_some, stands_push}
+use Rattle.commit_journal.specs.Encoding.{Encodings, Body, read_elements, whole_body, body_of, is_body_length, read_body, read_gates, continue_at, elements_of, are_numbered, content_of_bodies, decoded, AreGated, PrefixEncodes}
+use Rattle.commit_journal.specs.OnDisk.{is_on, view_at, with_elements, Phase.AtRest}
+use Rattle.commit_journal.specs.Reading.{AtGate, finished, rest_of_body, InBody, BodyMayFollow}
+use Rattle.commit_journal.proofs.Reading.{begins, chosen, fewer, extent_decodes}
+use Rattle.commit_journal.proofs.Numbers.{picked, floor_some, prefix_push}
 use Rattle.commit_journal.proofs.Opening.{map_back, let_through, length_fits, body_back}
 
 -- what is never something is nothing
@@ -41,7 +41,7 @@ module _ {Op : Type 0} where
   elements_append (b ∷ bs) more =
       omega (arith, length-append b.elements (elements_of (bs ++ more)), length-append b.elements (elements_of bs), elements_append bs more)
 
-  follow_back : (next : ℕ) (bs : List (Body Op)) (b : Body Op) (more : List (Body Op)) → follow next (bs ++ b ∷ more) ≡ true → (b.first ≡ next + length (elements_of bs)) × (1 ≤ length b.elements)
+  follow_back : (next : ℕ) (bs : List (Body Op)) (b : Body Op) (more : List (Body Op)) → continue_at next (bs ++ b ∷ more) ≡ true → (b.first ≡ next + length (elements_of bs)) × (1 ≤ length b.elements)
   follow_back next [] b more on =
       let p = and_parts (b.first == next) _ on in
       let q = and_parts (nat_le 1 (length b.elements)) _ p.1 in
@@ -53,12 +53,12 @@ module _ {Op : Type 0} where
       (omega (arith, r.0, length-append c.elements (elements_of bs)), r.1)
 
   -- a body that stands among others behind bodies goes on from what they spell
-  pub goes_on : (most : ℕ) (bs : List (Body Op)) (b : Body Op) (more : List (Body Op)) (now x : Spelled Op) → spelled_of most bs ≡ Some now → spelled_of most (bs ++ b ∷ more) ≡ Some x → GoesOn most now b.first (length b.elements)
-  goes_on most [] b more now x is all =
+  pub continues : (most : ℕ) (bs : List (Body Op)) (b : Body Op) (more : List (Body Op)) (now x : Content Op) → content_of_bodies most bs ≡ Some now → content_of_bodies most (bs ++ b ∷ more) ≡ Some x → BodyMayFollow most now b.first (length b.elements)
+  continues most [] b more now x is all =
       let none : nothing ≡ now = same_Some nothing now is in
       let p = picked (are_numbered most b more) (record { below = b.first - 1; elements = elements_of (b ∷ more) }) x all in
       let q = and_parts (nat_le 1 b.first) _ p.0 in
-      let r = and_parts (follow b.first (b ∷ more)) _ q.1 in
+      let r = and_parts (continue_at b.first (b ∷ more)) _ q.1 in
       let f = follow_back b.first [] b more r.0 in
       let high : b.first + length (elements_of (b ∷ more)) ≤ most + 1 = leb-true (b.first + length (elements_of (b ∷ more))) (most + 1) r.1 in
       record {
@@ -67,17 +67,17 @@ module _ {Op : Type 0} where
         some = f.1;
         room = omega (arith, high, length-append b.elements (elements_of more));
       }
-  goes_on most (c ∷ cs) b more now x is all =
+  continues most (c ∷ cs) b more now x is all =
       let s = picked (are_numbered most c cs) (record { below = c.first - 1; elements = elements_of (c ∷ cs) }) now is in
       let s1 = and_parts (nat_le 1 c.first) _ s.0 in
-      let s2 = and_parts (follow c.first (c ∷ cs)) _ s1.1 in
+      let s2 = and_parts (continue_at c.first (c ∷ cs)) _ s1.1 in
       let s3 = and_parts (c.first == c.first) _ s2.0 in
       let s4 = and_parts (nat_le 1 (length c.elements)) _ s3.1 in
       let one : 1 ≤ c.first = leb-true 1 c.first s1.0 in
       let full : 1 ≤ length (elements_of (c ∷ cs)) = omega (arith, leb-true 1 (length c.elements) s4.0, length-append c.elements (elements_of cs)) in
       let p = picked (are_numbered most c (cs ++ b ∷ more)) (record { below = c.first - 1; elements = elements_of (c ∷ cs ++ b ∷ more) }) x all in
       let q = and_parts (nat_le 1 c.first) _ p.0 in
-      let r = and_parts (follow c.first (c ∷ cs ++ b ∷ more)) _ q.1 in
+      let r = and_parts (continue_at c.first (c ∷ cs ++ b ∷ more)) _ q.1 in
       let f = follow_back c.first (c ∷ cs) b more r.0 in
       let high : c.first + length (elements_of (c ∷ cs ++ b ∷ more)) ≤ most + 1 = leb-true (c.first + length (elements_of (c ∷ cs ++ b ∷ more))) (most + 1) r.1 in
       let tops : floor_of (b.first - 1) (c.first - 1) (elements_of (c ∷ cs)) ≡ c.first - 1 = floor_some (b.first - 1) (c.first - 1) (elements_of (c ∷ cs)) full in
@@ -88,7 +88,7 @@ module _ {Op : Type 0} where
         room = omega (arith, high, f.0, elements_append (c ∷ cs) (b ∷ more), length-append b.elements (elements_of more));
       }
 
-module _ {Op : Type 0} (t : Texts Op) where
+module _ {Op : Type 0} (t : Encodings Op) where
   gates_on : (n k : ℕ) (chain rest : List ℕ) (bs : List (Body Op)) → AreGated t chain bs → n ≡ length bs + k → read_gates t n (chain ++ rest) ≡ option_map (λ more. bs ++ more) (read_gates t k rest)
   gates_on n k chain rest [] is e = ap (λ (l : List ℕ). read_gates t n (l ++ rest)) is ∙ ap (λ (m : ℕ). read_gates t m rest) (omega (arith, e)) ∙ map_none (read_gates t k rest)
   gates_on zero k chain rest (b ∷ bs) gated e = absurd (omega (arith, e))
@@ -100,22 +100,22 @@ module _ {Op : Type 0} (t : Texts Op) where
       ∙ map_more b bs (read_gates t k rest)
 
   -- what is spelled where something stands: that, with the bodies that are read behind it
-  spelled_on : (now : Spelled Op) (at : ℕ) (front rest : List ℕ) (s : Stands t now at front)
-      → (n : ℕ) × (length rest < n) × (spelled t (front ++ rest) ≡ option_and_then (λ more. spelled_of t.most (s.bodies ++ more)) (read_gates t n rest))
-  unfolding spelled
-  spelled_on now at front rest s =
+  decoded_on : (now : Content Op) (at : ℕ) (prefix rest : List ℕ) (s : PrefixEncodes t now at prefix)
+      → (n : ℕ) × (length rest < n) × (decoded t (prefix ++ rest) ≡ option_and_then (λ more. content_of_bodies t.most (s.bodies ++ more)) (read_gates t n rest))
+  unfolding decoded
+  decoded_on now at prefix rest s =
       let bytes = t.header ++ (s.chain ++ rest) in
-      let is : front ++ rest ≡ bytes = ap (λ (l : List ℕ). l ++ rest) s.is ∙ append_assoc t.header s.chain rest in
+      let is : prefix ++ rest ≡ bytes = ap (λ (l : List ℕ). l ++ rest) s.is ∙ append_assoc t.header s.chain rest in
       let behind : drop 64 bytes ≡ s.chain ++ rest = drop_at t.header (s.chain ++ rest) 64 s.head in
       let k = length bytes - length s.bodies in
       let long : length bytes ≡ 64 + (length s.chain + length rest) = omega (arith, s.head, length-append t.header (s.chain ++ rest), length-append s.chain rest) in
       let few : length s.bodies ≤ length s.chain = fewer t s.chain s.bodies s.gated in (
         k,
         omega (arith, long, few),
-        ap (spelled t) is
+        ap (decoded t) is
             ∙ chosen (starts_with nat_eq bytes t.header) _ _ (begins t.header (s.chain ++ rest))
-            ∙ ap (λ (o : Option (List (Body Op))). option_and_then (spelled_of t.most) o) (ap (λ (l : List ℕ). read_gates t (length bytes) l) behind ∙ gates_on (length bytes) k s.chain rest s.bodies s.gated (omega (arith, long, few)))
-            ∙ then_map (spelled_of t.most) (λ more. s.bodies ++ more) (read_gates t k rest),
+            ∙ ap (λ (o : Option (List (Body Op))). option_and_then (content_of_bodies t.most) o) (ap (λ (l : List ℕ). read_gates t (length bytes) l) behind ∙ gates_on (length bytes) k s.chain rest s.bodies s.gated (omega (arith, long, few)))
+            ∙ then_map (content_of_bodies t.most) (λ more. s.bodies ++ more) (read_gates t k rest),
       )
 
   gates_none : (n : ℕ) → read_gates t n [] ≡ None
@@ -123,36 +123,36 @@ module _ {Op : Type 0} (t : Texts Op) where
   gates_none (suc n) = refl
 
   -- a file that ends where a gate is to be spells nothing
-  pub no_gate : (file : List ℕ) (now : Spelled Op) (at : ℕ) → AtGate t file now at [] → spelled t file ≡ None
+  pub no_gate : (file : List ℕ) (now : Content Op) (at : ℕ) → AtGate t file now at [] → decoded t file ≡ None
   no_gate file now at here =
-      let p = spelled_on now at here.front [] here.stands in
-      ap (spelled t) here.is ∙ p.2 ∙ ap (λ (o : Option (List (Body Op))). option_and_then (λ more. spelled_of t.most (here.stands.bodies ++ more)) o) (gates_none p.0)
+      let p = decoded_on now at here.prefix [] here.on_device in
+      ap (decoded t) here.is ∙ p.2 ∙ ap (λ (o : Option (List (Body Op))). option_and_then (λ more. content_of_bodies t.most (here.on_device.bodies ++ more)) o) (gates_none p.0)
 
   -- what is spelled begins, behind an open gate, with a body that goes on from what stands
-  abbrev Opens : Spelled Op → List ℕ → Type 0
-  Opens now bytes = (b : Body Op) × (rest : List ℕ) × (read_body t bytes ≡ Some (b, rest)) × GoesOn t.most now b.first (length b.elements)
+  abbrev Opens : Content Op → List ℕ → Type 0
+  Opens now bytes = (b : Body Op) × (rest : List ℕ) × (read_body t bytes ≡ Some (b, rest)) × BodyMayFollow t.most now b.first (length b.elements)
 
-  opens_by : (n : ℕ) (now x : Spelled Op) (bytes : List ℕ) (bs : List (Body Op)) → spelled_of t.most bs ≡ Some now → length (0xc3 ∷ bytes) < n
-      → option_and_then (λ more. spelled_of t.most (bs ++ more)) (read_gates t n (0xc3 ∷ bytes)) ≡ Some x → Opens now bytes
+  opens_by : (n : ℕ) (now x : Content Op) (bytes : List ℕ) (bs : List (Body Op)) → content_of_bodies t.most bs ≡ Some now → length (0xc3 ∷ bytes) < n
+      → option_and_then (λ more. content_of_bodies t.most (bs ++ more)) (read_gates t n (0xc3 ∷ bytes)) ≡ Some x → Opens now bytes
   opens_by zero now x bytes bs is below e = absurd (omega (arith, below))
   opens_by (suc n) now x bytes bs is below e =
-      option_and_then_some (λ more. spelled_of t.most (bs ++ more)) (read_gates t (suc n) (0xc3 ∷ bytes)) x e (λ all read numbered.
+      option_and_then_some (λ more. content_of_bodies t.most (bs ++ more)) (read_gates t (suc n) (0xc3 ∷ bytes)) x e (λ all read numbered.
       option_and_then_some (λ got. option_map (λ more. got.0 ∷ more) (read_gates t n got.1)) (read_body t bytes) all read (λ got body others.
       map_back (λ more. got.0 ∷ more) (read_gates t n got.1) all others (λ more rest same.
-      (got.0, got.1, body, goes_on t.most bs got.0 more now x is (ap (λ (l : List (Body Op)). spelled_of t.most (bs ++ l)) same ∙ numbered)))))
+      (got.0, got.1, body, continues t.most bs got.0 more now x is (ap (λ (l : List (Body Op)). content_of_bodies t.most (bs ++ l)) same ∙ numbered)))))
 
-  pub opens : (file : List ℕ) (now x : Spelled Op) (at : ℕ) (bytes : List ℕ) → AtGate t file now at (0xc3 ∷ bytes) → spelled t file ≡ Some x → Opens now bytes
+  pub opens : (file : List ℕ) (now x : Content Op) (at : ℕ) (bytes : List ℕ) → AtGate t file now at (0xc3 ∷ bytes) → decoded t file ≡ Some x → Opens now bytes
   opens file now x at bytes here e =
-      let p = spelled_on now at here.front (0xc3 ∷ bytes) here.stands in
-      opens_by p.0 now x bytes here.stands.bodies here.stands.numbered p.1 (sym p.2 ∙ ap (spelled t) (sym here.is) ∙ e)
+      let p = decoded_on now at here.prefix (0xc3 ∷ bytes) here.on_device in
+      opens_by p.0 now x bytes here.on_device.bodies here.on_device.numbered p.1 (sym p.2 ∙ ap (decoded t) (sym here.is) ∙ e)
 
   -- at a gate that isn't open all is found
-  pub found_at : (file : List ℕ) (now : Spelled Op) (at gate : ℕ) (tail : List ℕ) → AtGate t file now at (gate ∷ tail) → gate ≢ 0xc3
-      → (spelled t file ≡ Some now) × ((any : Spelled Op) (ahead : ℕ) → is_on t (value_at now any at ahead Quiet) (at_rest file))
+  pub found_at : (file : List ℕ) (now : Content Op) (at gate : ℕ) (tail : List ℕ) → AtGate t file now at (gate ∷ tail) → gate ≢ 0xc3
+      → (decoded t file ≡ Some now) × ((any : Content Op) (ahead : ℕ) → is_on t (view_at now any at ahead AtRest) (at_rest file))
   unfolding is_on
   found_at file now at gate tail here shut = (
-    ap (spelled t) here.is ∙ stands_spells t now at here.front tail gate here.stands shut,
-    λ any ahead. record { front = here.front; closed = gate; tail = tail; none = refl; stands = here.stands; shut = shut; is = ap at_rest here.is },
+    ap (decoded t) here.is ∙ extent_decodes t now at here.prefix tail gate here.on_device shut,
+    λ any ahead. record { prefix = here.prefix; closed = gate; tail = tail; none = refl; on_device = here.on_device; shut = shut; is = ap at_rest here.is },
   )
 
   -- ---- a body
@@ -193,14 +193,14 @@ module _ {Op : Type 0} (t : Texts Op) where
       ap (λ (g : List (Element Op) × List ℕ). length g.0) (sym made) ∙ ap suc (read_count n one.1 more rest)))
 
   -- what the head of a body says, that goes on from what stands
-  pub record HeadSays (now : Spelled Op) (bytes : List ℕ) (len first count : ℕ) : Type 0 where
+  pub record HeadSays (now : Content Op) (bytes : List ℕ) (len first count : ℕ) : Type 0 where
     pub low : 16 ≤ len
     pub high : len ≤ 8388608
     pub there : len ≤ length bytes
-    pub goes : GoesOn t.most now first count
+    pub goes : BodyMayFollow t.most now first count
 
-  pub head_says : (file : List ℕ) (now x : Spelled Op) (at : ℕ) (bytes : List ℕ) (len first count : ℕ) → len ≡ little_number 4 bytes → first ≡ little_number 8 (drop 4 bytes) → count ≡ little_number 4 (drop 12 bytes)
-      → AtGate t file now at (0xc3 ∷ bytes) → spelled t file ≡ Some x → HeadSays now bytes len first count
+  pub head_says : (file : List ℕ) (now x : Content Op) (at : ℕ) (bytes : List ℕ) (len first count : ℕ) → len ≡ little_number 4 bytes → first ≡ little_number 8 (drop 4 bytes) → count ≡ little_number 4 (drop 12 bytes)
+      → AtGate t file now at (0xc3 ∷ bytes) → decoded t file ≡ Some x → HeadSays now bytes len first count
   head_says file now x at bytes len first count len_is first_is count_is here e =
       let o = opens file now x at bytes here e in
       let p = let_through (is_body_length (little_number 4 bytes) bytes) (option_map (λ body. (body, drop (little_number 4 bytes) bytes)) (body_of t (take (little_number 4 bytes) bytes))) (o.0, o.1) o.2 in
@@ -215,7 +215,7 @@ module _ {Op : Type 0} (t : Texts Op) where
       let same : ◌≡◌ {A = Body Op × List ℕ} (record { first = first; elements = [] ++ got.0 }, drop (len - 16) (drop 16 bytes)) (o.0, o.1) = same_Some _ _ test.1 in
       let counted : length o.0.elements ≡ count = sym (ap (λ (x : Body Op × List ℕ). length x.0.elements) same) ∙ read_count count (take (len - 16) (drop 16 bytes)) got read in
       let numbered : o.0.first ≡ first = sym (ap (λ (x : Body Op × List ℕ). x.0.first) same) in
-      record { low = low; high = high; there = there; goes = subst (λ (n : ℕ). GoesOn t.most now first n) counted (subst (λ (n : ℕ). GoesOn t.most now n (length o.0.elements)) numbered o.3) })
+      record { low = low; high = high; there = there; goes = subst (λ (n : ℕ). BodyMayFollow t.most now first n) counted (subst (λ (n : ℕ). BodyMayFollow t.most now n (length o.0.elements)) numbered o.3) })
 
   one_more : (first : ℕ) (es : List (Element Op)) (e : Element Op) (behind : List ℕ) (o : Option (List (Element Op) × List ℕ))
       → option_and_then (finished first es behind) (option_map (λ more. (e ∷ more.0, more.1)) o) ≡ option_and_then (finished first (es ++ e ∷ []) behind) o
@@ -237,22 +237,22 @@ module _ {Op : Type 0} (t : Texts Op) where
   pub body_ends : (first : ℕ) (es : List (Element Op)) (rest : List ℕ) → rest_of_body t first es 0 0 rest ≡ Some (record { first = first; elements = es }, rest)
   body_ends first es rest = ap (λ (l : List (Element Op)). Some (record { first = first; elements = l }, rest)) (append-nil es)
 
-  module _ (file : List ℕ) (now : Spelled Op) (at size first : ℕ) (es : List (Element Op)) (left count : ℕ) (rest : List ℕ) (here : InBody t file now at size first es left count rest) where
-    spells_body : (x : Spelled Op) → spelled t file ≡ Some x → (b : Body Op) × (behind : List ℕ) × (rest_of_body t first es left count rest ≡ Some (b, behind))
-    spells_body x e = let o = opens file now x at here.bytes here.gate e in (o.0, o.1, sym here.reads ∙ o.2)
+  module _ (file : List ℕ) (now : Content Op) (at size first : ℕ) (es : List (Element Op)) (left count : ℕ) (rest : List ℕ) (here : InBody t file now at size first es left count rest) where
+    decodes_body : (x : Content Op) → decoded t file ≡ Some x → (b : Body Op) × (behind : List ℕ) × (rest_of_body t first es left count rest ≡ Some (b, behind))
+    decodes_body x e = let o = opens file now x at here.bytes here.gate e in (o.0, o.1, sym here.reads ∙ o.2)
 
     -- a body with bytes left and no element is none
-    pub no_end : count ≡ 0 → 0 < left → spelled t file ≡ None
-    no_end none more = never (spelled t file) (λ x e.
-        let b = spells_body x e in
+    pub no_end : count ≡ 0 → 0 < left → decoded t file ≡ None
+    no_end none more = never (decoded t file) (λ x e.
+        let b = decodes_body x e in
         let is : finished first es (drop left rest) ([], take left rest) ≡ Some (b.0, b.1) = ap (λ (n : ℕ). rest_of_body t first es left n rest) (sym none) ∙ b.2 in
         let test = let_through (length (take left rest) == 0) (Some (record { first = first; elements = es ++ [] }, drop left rest)) (b.0, b.1) is in
         omega (arith, eqb-true (length (take left rest)) 0 test.0, length-take left rest, here.there, more))
 
     -- a body whose next element can't be read is none
-    pub no_element : 1 ≤ count → t.read (take left rest) ≡ None → spelled t file ≡ None
-    no_element some none = never (spelled t file) (λ x e.
-        let b = spells_body x e in
+    pub no_element : 1 ≤ count → t.read (take left rest) ≡ None → decoded t file ≡ None
+    no_element some none = never (decoded t file) (λ x e.
+        let b = decodes_body x e in
         let more = count - 1 in
         let is : count ≡ suc more = omega (arith, some) in
         let nothing_read : rest_of_body t first es left count rest ≡ None
@@ -272,25 +272,25 @@ module _ {Op : Type 0} (t : Texts Op) where
     }
 
   -- all of the body is read: more stands
-  pub body_done : (file : List ℕ) (now : Spelled Op) (at size first : ℕ) (es : List (Element Op)) (rest : List ℕ) → InBody t file now at size first es 0 0 rest → GoesOn t.most now first (length es)
-      → AtGate t file (longer now (first - 1) es) (at + 1 + size) rest
+  pub body_done : (file : List ℕ) (now : Content Op) (at size first : ℕ) (es : List (Element Op)) (rest : List ℕ) → InBody t file now at size first es 0 0 rest → BodyMayFollow t.most now first (length es)
+      → AtGate t file (with_elements now (first - 1) es) (at + 1 + size) rest
   body_done file now at size first es rest here goes =
       let b = body_back t here.bytes (record { first = first; elements = es }, rest) (here.reads ∙ body_ends first es rest) in
       let chunk = b.0 in
       let long : length chunk ≡ size = omega (arith, ap (λ (l : List ℕ). length l) b.1, length-append chunk rest, here.length_is) in
-      let stands = stands_push t now at (first - 1) here.gate.front chunk (record { first = first; elements = es }) here.gate.stands b.2 goes.ends (omega (arith, goes.one)) goes.some (omega (arith, goes.room, goes.one)) in
+      let on_device = prefix_push t now at (first - 1) here.gate.prefix chunk (record { first = first; elements = es }) here.gate.on_device b.2 goes.ends (omega (arith, goes.one)) goes.some (omega (arith, goes.room, goes.one)) in
       record {
-        front = here.gate.front ++ 0xc3 ∷ chunk;
-        is = here.gate.is ∙ ap (λ (l : List ℕ). here.gate.front ++ 0xc3 ∷ l) b.1 ∙ sym (append_assoc here.gate.front (0xc3 ∷ chunk) rest);
-        stands = subst (λ (n : ℕ). Stands t (longer now (first - 1) es) n (here.gate.front ++ 0xc3 ∷ chunk)) (omega (arith, long)) stands;
+        prefix = here.gate.prefix ++ 0xc3 ∷ chunk;
+        is = here.gate.is ∙ ap (λ (l : List ℕ). here.gate.prefix ++ 0xc3 ∷ l) b.1 ∙ sym (append_assoc here.gate.prefix (0xc3 ∷ chunk) rest);
+        on_device = subst (λ (n : ℕ). PrefixEncodes t (with_elements now (first - 1) es) n (here.gate.prefix ++ 0xc3 ∷ chunk)) (omega (arith, long)) on_device;
       }
 
   -- a file that is too short for a gate, or for a head, spells nothing
-  pub short_gate : (file : List ℕ) (now : Spelled Op) (at : ℕ) (rest : List ℕ) → AtGate t file now at rest → length rest < 1 → spelled t file ≡ None
+  pub short_gate : (file : List ℕ) (now : Content Op) (at : ℕ) (rest : List ℕ) → AtGate t file now at rest → length rest < 1 → decoded t file ≡ None
   short_gate file now at [] here few = no_gate file now at here
   short_gate file now at (b ∷ rest) here few = absurd (omega (arith, few))
 
-  pub short_head : (file : List ℕ) (now : Spelled Op) (at : ℕ) (rest : List ℕ) → AtGate t file now at (0xc3 ∷ rest) → length rest < 16 → spelled t file ≡ None
-  short_head file now at rest here few = never (spelled t file) (λ x e.
+  pub short_head : (file : List ℕ) (now : Content Op) (at : ℕ) (rest : List ℕ) → AtGate t file now at (0xc3 ∷ rest) → length rest < 16 → decoded t file ≡ None
+  short_head file now at rest here few = never (decoded t file) (λ x e.
       let h = head_says file now x at rest (little_number 4 rest) (little_number 8 (drop 4 rest)) (little_number 4 (drop 12 rest)) refl refl refl here e in
       omega (arith, h.low, h.there, few))

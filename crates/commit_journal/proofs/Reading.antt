@@ -7,8 +7,8 @@ use Rattle.std.proofs.lemmas.Bool.Decides.{Decides-eqb}
 use Rattle.std.specs.Option.{option_and_then}
 use Rattle.std.proofs.lemmas.List.{drop_at, append-nil}
 use Rattle.std.proofs.lemmas.Bool.{ne_eqb}
-use Rattle.crash_model.specs.Promises.{Spelled}
-use Rattle.commit_journal.specs.Text.{Texts, Body, read_gates, spelled_of, spelled, IsBody, AreGated, Stands}
+use Rattle.crash_model.specs.Promises.{Content}
+use Rattle.commit_journal.specs.Encoding.{Encodings, Body, read_gates, content_of_bodies, decoded, IsBody, AreGated, PrefixEncodes}
 
 pub choose : {A : Type 0} (b : Bool) (x y : A) → b ≡ false → (if b then x else y) ≡ y
 choose b x y e = ap (λ (c : Bool). if c then x else y) e
@@ -23,7 +23,7 @@ begins header rest = (starts_is Decides-eqb (header ++ rest) header (starts_with
 pub begun_with : (bytes header : List ℕ) → starts_with nat_eq bytes header ≡ true → bytes ≡ header ++ drop (length header) bytes
 begun_with bytes header test = (starts_is Decides-eqb bytes header (starts_with nat_eq bytes header) refl).0 test
 
-module _ {Op : Type 0} (t : Texts Op) where
+module _ {Op : Type 0} (t : Encodings Op) where
   -- one gate and body, in front of what else there is
   one_gate : (n : ℕ) (chunk rest : List ℕ) (b : Body Op) (bs : List (Body Op)) → IsBody t chunk b → read_gates t n rest ≡ Some bs
       → read_gates t (suc n) (0xc3 ∷ chunk ++ rest) ≡ Some (b ∷ bs)
@@ -37,21 +37,21 @@ module _ {Op : Type 0} (t : Texts Op) where
       omega (arith, ap (λ (l : List ℕ). length l) gated.2, length-append gated.0 gated.1, fewer gated.1 bs gated.4)
 
   -- gated bodies are read up to a gate that isn't open, whatever is behind it
-  pub reads : (n : ℕ) (front tail : List ℕ) (gate : ℕ) (bs : List (Body Op)) → AreGated t front bs → gate ≢ 0xc3 → length bs < n
-      → read_gates t n (front ++ gate ∷ tail) ≡ Some bs
-  reads zero front tail gate bs gated shut below = absurd (omega arith)
-  reads (suc n) front tail gate [] is shut below =
+  pub reads : (n : ℕ) (prefix tail : List ℕ) (gate : ℕ) (bs : List (Body Op)) → AreGated t prefix bs → gate ≢ 0xc3 → length bs < n
+      → read_gates t n (prefix ++ gate ∷ tail) ≡ Some bs
+  reads zero prefix tail gate bs gated shut below = absurd (omega arith)
+  reads (suc n) prefix tail gate [] is shut below =
       ap (λ (l : List ℕ). read_gates t (suc n) (l ++ gate ∷ tail)) is ∙ choose (gate == 0xc3) _ _ (ne_eqb gate 0xc3 shut)
-  reads (suc n) front tail gate (b ∷ bs) gated shut below =
+  reads (suc n) prefix tail gate (b ∷ bs) gated shut below =
       let more : read_gates t n (gated.1 ++ gate ∷ tail) ≡ Some bs = reads n gated.1 tail gate bs gated.4 shut (omega arith) in
       ap (λ (l : List ℕ). read_gates t (suc n) (l ++ gate ∷ tail)) gated.2
       ∙ ap (λ (l : List ℕ). read_gates t (suc n) (0xc3 ∷ l)) (append_assoc gated.0 gated.1 (gate ∷ tail))
       ∙ one_gate n gated.0 (gated.1 ++ gate ∷ tail) b bs gated.3 more
 
   -- a body more
-  pub gated_push : (front chunk : List ℕ) (bs : List (Body Op)) (b : Body Op) → AreGated t front bs → IsBody t chunk b → AreGated t (front ++ 0xc3 ∷ chunk) (bs ++ b ∷ [])
-  gated_push front chunk [] b is body = (chunk, [], ap (λ (l : List ℕ). l ++ 0xc3 ∷ chunk) is ∙ ap (λ (l : List ℕ). 0xc3 ∷ l) (sym (append-nil chunk)), body, refl)
-  gated_push front chunk (c ∷ bs) b gated body = (
+  pub gated_push : (prefix chunk : List ℕ) (bs : List (Body Op)) (b : Body Op) → AreGated t prefix bs → IsBody t chunk b → AreGated t (prefix ++ 0xc3 ∷ chunk) (bs ++ b ∷ [])
+  gated_push prefix chunk [] b is body = (chunk, [], ap (λ (l : List ℕ). l ++ 0xc3 ∷ chunk) is ∙ ap (λ (l : List ℕ). 0xc3 ∷ l) (sym (append-nil chunk)), body, refl)
+  gated_push prefix chunk (c ∷ bs) b gated body = (
     gated.0,
     gated.1 ++ 0xc3 ∷ chunk,
     ap (λ (l : List ℕ). l ++ 0xc3 ∷ chunk) gated.2 ∙ ap (λ (l : List ℕ). 0xc3 ∷ l) (append_assoc gated.0 gated.1 (0xc3 ∷ chunk)),
@@ -60,16 +60,16 @@ module _ {Op : Type 0} (t : Texts Op) where
   )
 
   -- what stands is spelled, whatever is behind the gate that isn't open
-  pub stands_spells : (now : Spelled Op) (used : ℕ) (front tail : List ℕ) (gate : ℕ) → Stands t now used front → gate ≢ 0xc3 → spelled t (front ++ gate ∷ tail) ≡ Some now
-  unfolding spelled
-  stands_spells now used front tail gate stands shut =
-      let bytes = t.header ++ (stands.chain ++ gate ∷ tail) in
-      let is : front ++ gate ∷ tail ≡ bytes = ap (λ (l : List ℕ). l ++ gate ∷ tail) stands.is ∙ append_assoc t.header stands.chain (gate ∷ tail) in
-      let rest : drop 64 bytes ≡ stands.chain ++ gate ∷ tail = drop_at t.header (stands.chain ++ gate ∷ tail) 64 stands.head in
-      let enough : length stands.bodies < length bytes = omega (arith, fewer stands.chain stands.bodies stands.gated, length-append t.header (stands.chain ++ gate ∷ tail), length-append stands.chain (gate ∷ tail)) in
-      let got : read_gates t (length bytes) (drop 64 bytes) ≡ Some stands.bodies
-      = ap (λ (l : List ℕ). read_gates t (length bytes) l) rest ∙ reads (length bytes) stands.chain tail gate stands.bodies stands.gated shut enough in
-      ap (spelled t) is
-      ∙ chosen (starts_with nat_eq bytes t.header) _ _ (begins t.header (stands.chain ++ gate ∷ tail))
-      ∙ ap (λ (o : Option (List (Body Op))). option_and_then (spelled_of t.most) o) got
-      ∙ stands.numbered
+  pub extent_decodes : (now : Content Op) (used : ℕ) (prefix tail : List ℕ) (gate : ℕ) → PrefixEncodes t now used prefix → gate ≢ 0xc3 → decoded t (prefix ++ gate ∷ tail) ≡ Some now
+  unfolding decoded
+  extent_decodes now used prefix tail gate on_device shut =
+      let bytes = t.header ++ (on_device.chain ++ gate ∷ tail) in
+      let is : prefix ++ gate ∷ tail ≡ bytes = ap (λ (l : List ℕ). l ++ gate ∷ tail) on_device.is ∙ append_assoc t.header on_device.chain (gate ∷ tail) in
+      let rest : drop 64 bytes ≡ on_device.chain ++ gate ∷ tail = drop_at t.header (on_device.chain ++ gate ∷ tail) 64 on_device.head in
+      let enough : length on_device.bodies < length bytes = omega (arith, fewer on_device.chain on_device.bodies on_device.gated, length-append t.header (on_device.chain ++ gate ∷ tail), length-append on_device.chain (gate ∷ tail)) in
+      let got : read_gates t (length bytes) (drop 64 bytes) ≡ Some on_device.bodies
+      = ap (λ (l : List ℕ). read_gates t (length bytes) l) rest ∙ reads (length bytes) on_device.chain tail gate on_device.bodies on_device.gated shut enough in
+      ap (decoded t) is
+      ∙ chosen (starts_with nat_eq bytes t.header) _ _ (begins t.header (on_device.chain ++ gate ∷ tail))
+      ∙ ap (λ (o : Option (List (Body Op))). option_and_then (content_of_bodies t.most) o) got
+      ∙ on_device.numbered

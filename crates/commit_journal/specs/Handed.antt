@@ -3,10 +3,10 @@ use Rattle.std.specs.Prelude.{◌≡◌, ◌⊎◌, ℕ, ◌+◌, ◌-◌, ◌<�
 use Rattle.std.specs.List.{AllByRecursion}
 use Rattle.refusals.specs.declared.limits.TheConstants.{GREATEST_NUMBER, MOST_ELEMENT_BYTES, MOST_JOURNAL_BYTES}
 use Rattle.reg_tree.specs.Operations.{hive_of}
-use Rattle.reg_tree.specs.Texts.{element_text_len}
+use Rattle.reg_tree.specs.Encodings.{element_encoded_len}
 use Rattle.reg_tree.specs.declared.element.Element.{Element}
-use Rattle.crash_model.specs.Promises.{Spelled, MayFollow}
-use Rattle.change_codec.specs.Text.{Fits}
+use Rattle.crash_model.specs.Promises.{Content, MayFollow}
+use Rattle.change_codec.specs.Encoding.{Fits}
 use Rattle.change_codec.specs.ModelChanges.{TimedOp, timed_elements}
 use Rattle.commit_journal.specs.declared.layout.TheConstants.{MOST_BODY_BYTES}
 
@@ -20,24 +20,24 @@ pub record FitsIfThere (e : Element) : Type 0 where
 
 -- the change's text is not longer than an accepted change's may be
 abbrev pub IsShort : Element → Type 0
-IsShort e = element_text_len e ≤ MOST_ELEMENT_BYTES
+IsShort e = element_encoded_len e ≤ MOST_ELEMENT_BYTES
 
 -- Elements that a batch may be handed, the first of which has this number: it is 1 or more, they go on from what stands
 -- within the greatest number, each is on hives that are there and is as short as an accepted change, and the journal has
 -- room for all of them.
-pub record IsHanded (hives used first : ℕ) (handed : List Element) (now : Spelled TimedOp) : Type 0 where
+pub record IsHanded (hives used first : ℕ) (handed : List Element) (now : Content TimedOp) : Type 0 where
   pub number : 1 ≤ first
-  pub follow : MayFollow GREATEST_NUMBER (first - 1) (timed_elements handed) now
+  pub continue_at : MayFollow GREATEST_NUMBER (first - 1) (timed_elements handed) now
   pub there : AllByRecursion (OnHives hives) handed
   pub short : AllByRecursion IsShort handed
-  pub room : 0 < length handed → used + sum_by (λ e. 17 + element_text_len e) handed ≤ MOST_JOURNAL_BYTES
+  pub room : 0 < length handed → used + sum_by (λ e. 17 + element_encoded_len e) handed ≤ MOST_JOURNAL_BYTES
 
 -- how long the body of these elements is
 abbrev pub body_len : List Element → ℕ
-body_len es = 16 + sum_by element_text_len es
+body_len es = 16 + sum_by element_encoded_len es
 
 -- so many of the first elements are as many as fit a body
-pub record IsLongestFront (count : ℕ) (handed : List Element) : Type 0 where
+pub record IsLongestPrefix (count : ℕ) (handed : List Element) : Type 0 where
   pub there : count ≤ length handed
   pub fits : body_len (take count handed) ≤ MOST_BODY_BYTES
   pub longest : (count ≡ length handed) ⊎ (MOST_BODY_BYTES < body_len (take (count + 1) handed))

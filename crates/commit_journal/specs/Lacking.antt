@@ -3,7 +3,7 @@ use Rattle.std.specs.Prelude.{◌≡◌, ℕ, ◌+◌, ◌-◌, ◌<◌, ◌≤�
 use Rattle.reg_tree.specs.declared.element.Element.{Element}
 use Rattle.crash_model.specs.Changes.{on_hive, ops_on}
 use Rattle.change_codec.specs.ModelChanges.{timed_element, timed_elements}
-use Rattle.commit_journal.specs.Naming.{AreLastIn}
+use Rattle.commit_journal.specs.LastChangePerHive.{AreLastIn}
 
 -- Some hive lacks the change of this number: the change has an operation on it, and the hive's own number is below. These are the
 -- hives' own numbers, in their order; the number of a hive behind them is 0.
@@ -12,7 +12,7 @@ Lacks numbers number e = (i : ℕ) × (get_or numbers i 0 < number) × ¬ (on_hi
 
 -- Of changes that are numbered from `base` + 1 on, those above `below` are kept. Of the others no hive lacks an operation; and of
 -- these some hive lacks the first.
-pub record AreKept (numbers : List ℕ) (base : ℕ) (changes : List Element) (below : ℕ) (kept : List Element) : Type 0 where
+pub record AreRetained (numbers : List ℕ) (base : ℕ) (changes : List Element) (below : ℕ) (kept : List Element) : Type 0 where
   pub low : base ≤ below
   pub high : below ≤ base + length changes
   pub are : kept ≡ drop (below - base) changes
@@ -20,7 +20,7 @@ pub record AreKept (numbers : List ℕ) (base : ℕ) (changes : List Element) (b
   pub first : (e : Element) (es : List Element) → kept ≡ e ∷ es → Lacks numbers (below + 1) e
 
 -- Changes that were read, the last of which has this number; those of them that are kept; and of each hive the last one that names it.
-pub record IsKeeping (numbers : List ℕ) (last : ℕ) (changes : List Element) (below : ℕ) (kept : List Element) (named : List ℕ) : Type 0 where
+pub record IsRetention (numbers : List ℕ) (last : ℕ) (changes : List Element) (below : ℕ) (kept : List Element) (named : List ℕ) : Type 0 where
   pub few : length changes ≤ last
-  pub keeps : AreKept numbers (last - length changes) changes below kept
+  pub keeps : AreRetained numbers (last - length changes) changes below kept
   pub names : AreLastIn (last - length changes) (timed_elements changes) named

@@ -1,27 +1,27 @@
 //! The body of a batch: which elements it takes, and its bytes.
 ghost use Rattle.std.specs.Prelude.{◌≡◌, ◌+◌, ◌<◌, ◌≤◌, ◌^◌, ◌++◌, ℕ, length, take, sum_by, IfOk, OnOk};
 ghost use Rattle.std.specs.List.{AllByRecursion, flat_map};
-ghost use Rattle.reg_tree.specs.Texts.{element_text_len};
-ghost use Rattle.change_codec.specs.Text.{element_text};
-ghost use Rattle.commit_journal.specs.Text.{body_text};
-ghost use Rattle.commit_journal.specs.Handed.{IsShort, FitsIfThere, body_len, IsLongestFront};
+ghost use Rattle.reg_tree.specs.Encodings.{element_encoded_len};
+ghost use Rattle.change_codec.specs.Encoding.{element_bytes};
+ghost use Rattle.commit_journal.specs.Encoding.{body_bytes};
+ghost use Rattle.commit_journal.specs.Handed.{IsShort, FitsIfThere, body_len, IsLongestPrefix};
 ghost use Rattle.commit_journal.specs.declared.layout.TheConstants.{MOST_BODY_BYTES};
 
 use crate::layout::MOST_BODY_BYTES;
-use change_codec::{ChangeText, put_u32, put_u64};
+use change_codec::{EncodedChange, put_u32, put_u64};
 use std::alloc::{AllocError, Global};
 
 /// So many of the first elements, and the bytes of the body that they make.
 #[derive(Clone, Copy)]
-pub(crate) struct Front {
+pub(crate) struct Prefix {
     pub count: usize,
     pub size: u64,
 }
 
 /// As many of the first elements as fit a body.
-pub(crate) fn longest_front(handed: &[ChangeText]) -> Front
+pub(crate) fn longest_prefix(handed: &[EncodedChange]) -> Prefix
     requires { AllByRecursion IsShort handed.now }
-    ensures front { IsLongestFront result.count handed.now }
+    ensures prefix { IsLongestPrefix result.count handed.now }
     ensures size { result.size ≡ body_len (take result.count handed.now) }
     ensures some { 0 < length handed.now → 0 < result.count }
 {
@@ -29,11 +29,11 @@ pub(crate) fn longest_front(handed: &[ChangeText]) -> Front
     for (count, element) in handed.iter().enumerate() {
         let more = element.text_len();
         if more > MOST_BODY_BYTES - size {
-            return Front { count, size };
+            return Prefix { count, size };
         }
         size += more;
     }
-    Front {
+    Prefix {
         count: handed.len(),
         size,
     }
@@ -44,13 +44,13 @@ pub(crate) fn longest_front(handed: &[ChangeText]) -> Front
 pub(crate) fn encode(
     alloc: Global,
     first: u64,
-    elements: &[ChangeText],
+    elements: &[EncodedChange],
     size: u64,
 ) -> Result<Vec<u8>, AllocError>
     requires size { size ≡ body_len elements.now }
     requires most { size ≤ MOST_BODY_BYTES }
-    ensures text { IfOk result (λ body. body.items
-        ≡ body_text first (length elements.now) (flat_map element_text elements.now)) }
+    ensures encoding { IfOk result (λ body. body.items
+        ≡ body_bytes first (length elements.now) (flat_map element_bytes elements.now)) }
     ensures fit { IfOk result (λ _. AllByRecursion FitsIfThere elements.now) }
 {
     let mut body = Vec::with_capacity(alloc, size as usize + 1)?;
@@ -62,10 +62,10 @@ pub(crate) fn encode(
 }
 
 /// Puts the texts of elements behind some bytes.
-fn write_all(elements: &[ChangeText], bytes: &mut Vec<u8>) -> Result<(), AllocError>
-    requires { sum_by element_text_len elements.now < 2 ^ 32 }
-    ensures text { OnOk result (bytes.new.items
-        ≡ bytes.old.items ++ flat_map element_text elements.now) }
+fn write_all(elements: &[EncodedChange], bytes: &mut Vec<u8>) -> Result<(), AllocError>
+    requires { sum_by element_encoded_len elements.now < 2 ^ 32 }
+    ensures encoding { OnOk result (bytes.new.items
+        ≡ bytes.old.items ++ flat_map element_bytes elements.now) }
     ensures fit { OnOk result (AllByRecursion FitsIfThere elements.now) }
 {
     for element in elements {

@@ -1,9 +1,9 @@
 //! The calls of the device that a journal makes.
 ghost use Rattle.std.specs.Prelude.{◌≡◌, ◌+◌, ◌≤◌, ℕ, length, IfOk, OnOk, OnErr, MatchResult};
 ghost use Rattle.disk_model.specs.FileState.{Cuts, Writes, MayWrite, Syncs};
-ghost use Rattle.disk_model.specs.Call.{OneCall, Reads};
+ghost use Rattle.disk_model.specs.Call.{OneCall, ReadGives};
 ghost use Rattle.disk_model.specs.StoreFiles.{IsJournal};
-ghost use Rattle.disk_model.specs.Unwritten.{OnlyReads, OnlySyncs};
+ghost use Rattle.disk_model.specs.ReadOnly.{OnlyReads, OnlySyncs};
 
 use disk_model::{Disk, Failed};
 
@@ -58,7 +58,7 @@ pub(crate) fn sync<D: Disk>(disk: &mut D) -> Result<(), Failed>
 pub(crate) fn len<D: Disk>(disk: &mut D) -> Result<u64, Failed>
     ensures len { IfOk result (λ n. D.faithful disk.new →
         n ≡ length (D.state_at disk.old (D.clock disk.old) 0).seen) }
-    ensures still { OnlyReads (D.state_at disk.old) (D.state_at disk.new) (D.clock disk.old)
+    ensures no_change { OnlyReads (D.state_at disk.old) (D.state_at disk.new) (D.clock disk.old)
         (D.clock disk.new) }
     ensures failures { MatchResult result (λ _. D.failures disk.new ≡ D.failures disk.old)
         (λ _. D.failures disk.new ≡ D.failures disk.old + 1) }
@@ -68,17 +68,17 @@ pub(crate) fn len<D: Disk>(disk: &mut D) -> Result<u64, Failed>
 }
 
 /// Reads from an offset in the journal's file on into the front of a piece: answers how many bytes came.
-pub(crate) fn read<D: Disk>(disk: &mut D, offset: u64, piece: &mut Vec<u8>) -> Result<usize, Failed>
-    ensures size { length piece.new.items ≡ length piece.old.items }
-    ensures count { IfOk result (λ n. n ≤ length piece.new.items) }
+pub(crate) fn read<D: Disk>(disk: &mut D, offset: u64, chunk: &mut Vec<u8>) -> Result<usize, Failed>
+    ensures size { length chunk.new.items ≡ length chunk.old.items }
+    ensures count { IfOk result (λ n. n ≤ length chunk.new.items) }
     ensures read { IfOk result (λ n. D.faithful disk.new →
-        Reads offset (D.state_at disk.old (D.clock disk.old) 0).seen
-        piece.old.items piece.new.items n) }
-    ensures still { OnlyReads (D.state_at disk.old) (D.state_at disk.new) (D.clock disk.old)
+        ReadGives offset (D.state_at disk.old (D.clock disk.old) 0).seen
+        chunk.old.items chunk.new.items n) }
+    ensures no_change { OnlyReads (D.state_at disk.old) (D.state_at disk.new) (D.clock disk.old)
         (D.clock disk.new) }
     ensures failures { MatchResult result (λ _. D.failures disk.new ≡ D.failures disk.old)
         (λ _. D.failures disk.new ≡ D.failures disk.old + 1) }
     ensures faithful { D.faithful disk.new → D.faithful disk.old }
 {
-    disk.read(JOURNAL, offset, piece)
+    disk.read(JOURNAL, offset, chunk)
 }

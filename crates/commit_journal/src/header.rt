@@ -2,7 +2,7 @@
 ghost use Rattle.std.specs.Prelude.{◌≡◌, ◌≤◌, IfOk, MatchResult, length, take, codes};
 ghost use Rattle.refusals.specs.Answers.{RefusedFor};
 ghost use Rattle.refusals.specs.declared.refusal.Refusal.TheVariants.{JournalDamaged};
-ghost use Rattle.commit_journal.specs.Store.{Store, IsStore, header_text};
+ghost use Rattle.commit_journal.specs.Store.{Store, IsStore, header_bytes};
 
 use byteorder::{ByteOrder, LittleEndian};
 use change_codec::put_u32;
@@ -20,7 +20,7 @@ const ZEROS: [u8; 36] = [0; 36];
 /// The header of a store's journal. There is room for a gate behind it.
 pub(crate) fn encode(alloc: Global, id: Uuid, hives: u8) -> Result<Vec<u8>, AllocError>
     ensures { IfOk result (λ header. header.items
-        ≡ header_text (record { id = id; hives = hives })) }
+        ≡ header_bytes (record { id = id; hives = hives })) }
 {
     let mut header = Vec::with_capacity(alloc, 65)?;
     header.extend_from_slice(MAGIC)?;
@@ -36,9 +36,9 @@ pub(crate) fn decode(alloc: Global, bytes: &[u8]) -> Result<(Uuid, u8), Refusal>
     requires { 64 ≤ length bytes.now }
     ensures { MatchResult result
         (λ got. IsStore (record { id = got.0; hives = got.1 })
-        × (take 64 bytes.now ≡ header_text (record { id = got.0; hives = got.1 })))
+        × (take 64 bytes.now ≡ header_bytes (record { id = got.0; hives = got.1 })))
         (RefusedFor JournalDamaged ((store : Store) → IsStore store →
-        ¬ (take 64 bytes.now ≡ header_text store))) }
+        ¬ (take 64 bytes.now ≡ header_bytes store))) }
 {
     let hives = LittleEndian::read_u32(&bytes[24..]);
     if hives == 0 || hives > MOST_HIVES as u32 {

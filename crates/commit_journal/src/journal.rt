@@ -8,16 +8,16 @@ ghost use Rattle.refusals.specs.declared.refusal.Refusal.TheVariants.{Faulted, N
 ghost use Rattle.refusals.specs.declared.limits.TheConstants.{MOST_HIVES};
 ghost use Rattle.change_codec.specs.ModelChanges.{TimedOp, timed_elements};
 ghost use Rattle.crash_model.specs.StepAnswers.{Says};
-ghost use Rattle.commit_journal.specs.OnDisk.{is_on, longer, value_at};
-ghost use Rattle.commit_journal.specs.Told.{changes_told, elements_told};
+ghost use Rattle.commit_journal.specs.OnDisk.{is_on, with_elements, view_at};
+ghost use Rattle.commit_journal.specs.GhostLog.{logged_changes, logged_elements};
 ghost use Rattle.commit_journal.specs.OnDisk as phase;
-ghost use Rattle.commit_journal.specs.Store.{texts, room_of};
-ghost use Rattle.commit_journal.specs.Handed.{IsHanded, IsLongestFront};
+ghost use Rattle.commit_journal.specs.Store.{encodings, room_of};
+ghost use Rattle.commit_journal.specs.Handed.{IsHanded, IsLongestPrefix};
 
+use crate::extent::Extent;
 use crate::layout::{CLOSED_GATE, FIRST_GATE, OPEN_GATE};
-use crate::standing::Standing;
 use crate::{body, device};
-use change_codec::ChangeText;
+use change_codec::EncodedChange;
 use disk_model::{Disk, Progress};
 use refusals::Refusal;
 use std::alloc::Global;
@@ -28,15 +28,15 @@ use uuid::Uuid;
 /// What will stand once a batch is done: it has an element.
 #[derive(Drop)]
 struct Batch {
-    ahead: Standing,
-    ghost some: { 0 < length (elements_told ahead.told) },
+    ahead: Extent,
+    ghost some: { 0 < length (logged_elements ahead.ghost_log) },
 }
 
 /// How far a batch or a trim has come.
 #[derive(Drop)]
 enum Phase {
     /// Nothing is on its way.
-    Quiet,
+    AtRest,
     /// A batch's body and the next gate are written.
     BodyWritten(Batch),
     /// They are synced.
@@ -46,7 +46,7 @@ enum Phase {
     /// The first gate is closed, by a trim.
     TrimWritten,
     /// The device has failed. What was on its way is known to contracts alone.
-    Broken(Snapshot<Standing>),
+    Broken(Snapshot<Extent>),
 }
 
 /// The journal of a store, on file 0 of a disk.
@@ -59,27 +59,27 @@ pub struct Journal {
     alloc: Global,
     id: Uuid,
     hives: u8,
-    stands: Standing,
+    on_device: Extent,
     phase: Phase,
     ghost few: { hives ≤ 256 },
 }
 
 impl Journal {
-    ghost use Rattle.commit_journal.specs.Journals.{spelled_by, changes_of, value_in, value_of, choice_of, store_of, texts_of, IsReady, BeginsLongest, IsTrimming, IsBroken, steps_left, ComesNearer};
+    ghost use Rattle.commit_journal.specs.Journals.{content_of, changes_of, view_in_phase, journal_view, choice_of, store_of, encodings_of, IsReady, BeginsLongest, IsTrimming, IsBroken, steps_left, MakesProgress};
 
     /// The journal of what stands in a file that is at rest.
-    pub(crate) fn found(alloc: Global, id: Uuid, hives: u8, stands: Standing) -> Journal
+    pub(crate) fn found(alloc: Global, id: Uuid, hives: u8, on_device: Extent) -> Journal
         ensures store { store_of result ≡ record { id = id; hives = hives } }
-        ensures value { value_of result ≡ value_at (spelled_by stands) nothing stands.gate stands.gate
-            phase.Phase.Quiet }
-        ensures changes { changes_of result ≡ changes_told stands.told }
+        ensures value { journal_view result ≡ view_at (content_of on_device) nothing on_device.gate on_device.gate
+            phase.Phase.AtRest }
+        ensures changes { changes_of result ≡ logged_changes on_device.ghost_log }
     {
         Journal {
             alloc,
             id,
             hives,
-            stands,
-            phase: Phase::Quiet,
+            on_device,
+            phase: Phase::AtRest,
         }
     }
 
@@ -101,21 +101,21 @@ impl Journal {
     pub fn used(&self) -> u64
         ensures { result ≡ 65 + room_of (choice_of self.now).now.elements }
     {
-        self.stands.used
+        self.on_device.used
     }
 
     /// The number of the last element that stands, or 0 where none does.
     pub fn last_number(&self) -> u64
         ensures { result ≡ top 0 (choice_of self.now).now }
     {
-        self.stands.last
+        self.on_device.last
     }
 
     /// A batch or a trim is on its way, or was as the device failed.
     pub fn is_halfway(&self) -> bool
         ensures { (result ≡ false) ↔ ((choice_of self.now).next ≡ None) }
     {
-        !self.is_quiet()
+        !self.is_at_rest()
     }
 
     /// A trim is on its way.
@@ -126,11 +126,11 @@ impl Journal {
         matches!(self.phase, Phase::TrimWritten)
     }
 
-    fn is_quiet(&self) -> bool
-        ensures quiet { (result ≡ true) ↔ (self.now.phase ≡ Phase.Quiet) }
+    fn is_at_rest(&self) -> bool
+        ensures quiet { (result ≡ true) ↔ (self.now.phase ≡ Phase.AtRest) }
         ensures none { (result ≡ true) ↔ ((choice_of self.now).next ≡ None) }
     {
-        matches!(self.phase, Phase::Quiet)
+        matches!(self.phase, Phase::AtRest)
     }
 
     /// One step: where nothing is on its way the first call of a batch of as many of the elements as fit, and else the next
@@ -143,7 +143,7 @@ impl Journal {
         &mut self,
         disk: &mut D,
         first: u64,
-        handed: &[ChangeText],
+        handed: &[EncodedChange],
     ) -> Result<Progress, Refusal>
         requires handed { (choice_of self.old).next ≡ None →
             IsHanded (store_of self.old).hives (65 + room_of (choice_of self.old).now.elements) first handed.now (choice_of self.old).now }
@@ -155,13 +155,13 @@ impl Journal {
         ensures broken { IsBroken self.new ↔ (IsBroken self.old ⊎ (result ≡ Err DiskFault)) }
         ensures idle { (choice_of self.old).next ≡ None → length handed.now ≡ 0 →
             result ≡ Ok Progress.Idle }
-        ensures still { (result ≡ Err Faulted) ⊎ ((result ≡ Err NoMemory)
+        ensures no_change { (result ≡ Err Faulted) ⊎ ((result ≡ Err NoMemory)
             ⊎ (result ≡ Ok Progress.Idle)) → disk.new ≡ disk.old }
-        ensures on { D.faithful disk.new → is_on (texts_of self.old) (value_of self.old)
+        ensures on { D.faithful disk.new → is_on (encodings_of self.old) (journal_view self.old)
             (D.state_at disk.old (D.clock disk.old) 0) →
-            is_on (texts_of self.old) (value_of self.new) (D.state_at disk.new (D.clock disk.new) 0) }
+            is_on (encodings_of self.old) (journal_view self.new) (D.state_at disk.new (D.clock disk.new) 0) }
         ensures nearer { OnOk result ((0 < length handed.now) ⊎ ¬ ((choice_of self.old).next ≡ None) →
-            ComesNearer self.old self.new) }
+            MakesProgress self.old self.new) }
         ensures ends { IsTrimming self.old → OnOk result (result ≡ Ok Progress.Done) }
         ensures same { store_of self.new ≡ store_of self.old }
         ensures call { OneCall IsJournal (D.state_at disk.old) (D.state_at disk.new)
@@ -169,13 +169,13 @@ impl Journal {
         ensures failures { HasFailed result (D.failures disk.old) (D.failures disk.new) }
         ensures faithful { D.faithful disk.new → D.faithful disk.old }
     {
-        if !self.is_quiet() {
+        if !self.is_at_rest() {
             return self.go_on(disk);
         }
         if handed.is_empty() {
             return Ok(Progress::Idle);
         }
-        self.begin(disk, first, handed)
+        self.begin_batch(disk, first, handed)
     }
 
     /// One step of a trim: where nothing is on its way the first gate is closed, and else the trim's second call is made. Its
@@ -192,17 +192,17 @@ impl Journal {
         ensures ends { IsTrimming self.old → OnOk result (result ≡ Ok Progress.Done) }
         ensures faulted { (result ≡ Err Faulted) ↔ IsBroken self.old }
         ensures broken { IsBroken self.new ↔ (IsBroken self.old ⊎ (result ≡ Err DiskFault)) }
-        ensures still { (result ≡ Err Faulted) → disk.new ≡ disk.old }
-        ensures on { D.faithful disk.new → is_on (texts_of self.old) (value_of self.old)
+        ensures no_change { (result ≡ Err Faulted) → disk.new ≡ disk.old }
+        ensures on { D.faithful disk.new → is_on (encodings_of self.old) (journal_view self.old)
             (D.state_at disk.old (D.clock disk.old) 0) →
-            is_on (texts_of self.old) (value_of self.new) (D.state_at disk.new (D.clock disk.new) 0) }
+            is_on (encodings_of self.old) (journal_view self.new) (D.state_at disk.new (D.clock disk.new) 0) }
         ensures same { store_of self.new ≡ store_of self.old }
         ensures call { OneCall IsJournal (D.state_at disk.old) (D.state_at disk.new)
             (D.clock disk.old) (D.clock disk.new) }
         ensures failures { HasFailed result (D.failures disk.old) (D.failures disk.new) }
         ensures faithful { D.faithful disk.new → D.faithful disk.old }
     {
-        if self.is_quiet() {
+        if self.is_at_rest() {
             self.begin_trim(disk)
         } else {
             self.go_on(disk)
@@ -212,11 +212,11 @@ impl Journal {
     /// The second call of a batch: its body is synced.
     fn sync_body<D: Disk>(&mut self, disk: &mut D, batch: Batch) -> Result<Progress, Refusal>
         ensures says { (first : ℕ) (handed : List (law.Element TimedOp)) →
-            Says (JournalSays first handed) result (value_in self.old.stands (Phase.BodyWritten batch)).choice (choice_of self.new) }
-        ensures on { D.faithful disk.new → is_on (texts_of self.old)
-            (value_in self.old.stands (Phase.BodyWritten batch))
+            Says (JournalSays first handed) result (view_in_phase self.old.on_device (Phase.BodyWritten batch)).choice (choice_of self.new) }
+        ensures on { D.faithful disk.new → is_on (encodings_of self.old)
+            (view_in_phase self.old.on_device (Phase.BodyWritten batch))
             (D.state_at disk.old (D.clock disk.old) 0) →
-            is_on (texts_of self.old) (value_of self.new) (D.state_at disk.new (D.clock disk.new) 0) }
+            is_on (encodings_of self.old) (journal_view self.new) (D.state_at disk.new (D.clock disk.new) 0) }
         ensures nearer { OnOk result (steps_left self.new ≡ 2) }
         ensures same { store_of self.new ≡ store_of self.old }
         ensures unbroken { ¬ (result ≡ Err Faulted) }
@@ -241,11 +241,11 @@ impl Journal {
     /// The third call of a batch: the gate before its body is opened.
     fn open_gate<D: Disk>(&mut self, disk: &mut D, batch: Batch) -> Result<Progress, Refusal>
         ensures says { (first : ℕ) (handed : List (law.Element TimedOp)) →
-            Says (JournalSays first handed) result (value_in self.old.stands (Phase.BodySynced batch)).choice (choice_of self.new) }
-        ensures on { D.faithful disk.new → is_on (texts_of self.old)
-            (value_in self.old.stands (Phase.BodySynced batch))
+            Says (JournalSays first handed) result (view_in_phase self.old.on_device (Phase.BodySynced batch)).choice (choice_of self.new) }
+        ensures on { D.faithful disk.new → is_on (encodings_of self.old)
+            (view_in_phase self.old.on_device (Phase.BodySynced batch))
             (D.state_at disk.old (D.clock disk.old) 0) →
-            is_on (texts_of self.old) (value_of self.new) (D.state_at disk.new (D.clock disk.new) 0) }
+            is_on (encodings_of self.old) (journal_view self.new) (D.state_at disk.new (D.clock disk.new) 0) }
         ensures nearer { OnOk result (steps_left self.new ≡ 1) }
         ensures same { store_of self.new ≡ store_of self.old }
         ensures unbroken { ¬ (result ≡ Err Faulted) }
@@ -255,7 +255,7 @@ impl Journal {
         ensures failures { HasFailed result (D.failures disk.old) (D.failures disk.new) }
         ensures faithful { D.faithful disk.new → D.faithful disk.old }
     {
-        match device::write(disk, self.stands.gate, &[OPEN_GATE]) {
+        match device::write(disk, self.on_device.gate, &[OPEN_GATE]) {
             Ok(()) => {
                 self.phase = Phase::GateWritten(batch);
                 Ok(Progress::More)
@@ -270,12 +270,12 @@ impl Journal {
     /// The last call of a batch: its gate is synced, and it stands.
     fn sync_gate<D: Disk>(&mut self, disk: &mut D, batch: Batch) -> Result<Progress, Refusal>
         ensures says { (first : ℕ) (handed : List (law.Element TimedOp)) →
-            Says (JournalSays first handed) result (value_in self.old.stands (Phase.GateWritten batch)).choice (choice_of self.new) }
-        ensures on { D.faithful disk.new → is_on (texts_of self.old)
-            (value_in self.old.stands (Phase.GateWritten batch))
+            Says (JournalSays first handed) result (view_in_phase self.old.on_device (Phase.GateWritten batch)).choice (choice_of self.new) }
+        ensures on { D.faithful disk.new → is_on (encodings_of self.old)
+            (view_in_phase self.old.on_device (Phase.GateWritten batch))
             (D.state_at disk.old (D.clock disk.old) 0) →
-            is_on (texts_of self.old) (value_of self.new) (D.state_at disk.new (D.clock disk.new) 0) }
-        ensures stands { OnOk result (choice_of self.new ≡ settled (spelled_by batch.ahead)) }
+            is_on (encodings_of self.old) (journal_view self.new) (D.state_at disk.new (D.clock disk.new) 0) }
+        ensures on_device { OnOk result (choice_of self.new ≡ settled (content_of batch.ahead)) }
         ensures same { store_of self.new ≡ store_of self.old }
         ensures unbroken { ¬ (result ≡ Err Faulted) }
         ensures breaks { IsBroken self.new ↔ (result ≡ Err DiskFault) }
@@ -287,8 +287,8 @@ impl Journal {
         match device::sync(disk) {
             Ok(()) => {
                 let Batch { ahead } = batch;
-                self.stands = ahead;
-                self.phase = Phase::Quiet;
+                self.on_device = ahead;
+                self.phase = Phase::AtRest;
                 Ok(Progress::Done)
             }
             Err(_) => {
@@ -301,13 +301,13 @@ impl Journal {
     /// The last call of a trim: nothing is spelled.
     fn sync_trim<D: Disk>(&mut self, disk: &mut D) -> Result<Progress, Refusal>
         ensures says { (first : ℕ) (handed : List (law.Element TimedOp)) →
-            Says (JournalSays first handed) result (value_in self.old.stands Phase.TrimWritten).choice (choice_of self.new) }
-        ensures trims { Says TrimSays result (value_in self.old.stands Phase.TrimWritten).choice
+            Says (JournalSays first handed) result (view_in_phase self.old.on_device Phase.TrimWritten).choice (choice_of self.new) }
+        ensures trims { Says TrimSays result (view_in_phase self.old.on_device Phase.TrimWritten).choice
             (choice_of self.new) }
-        ensures on { D.faithful disk.new → is_on (texts_of self.old)
-            (value_in self.old.stands Phase.TrimWritten)
+        ensures on { D.faithful disk.new → is_on (encodings_of self.old)
+            (view_in_phase self.old.on_device Phase.TrimWritten)
             (D.state_at disk.old (D.clock disk.old) 0) →
-            is_on (texts_of self.old) (value_of self.new) (D.state_at disk.new (D.clock disk.new) 0) }
+            is_on (encodings_of self.old) (journal_view self.new) (D.state_at disk.new (D.clock disk.new) 0) }
         ensures nearer { OnOk result (steps_left self.new ≡ 4) }
         ensures ends { OnOk result (result ≡ Ok Progress.Done) }
         ensures same { store_of self.new ≡ store_of self.old }
@@ -318,11 +318,11 @@ impl Journal {
         ensures failures { HasFailed result (D.failures disk.old) (D.failures disk.new) }
         ensures faithful { D.faithful disk.new → D.faithful disk.old }
     {
-        let nothing = Standing::nothing();
+        let nothing = Extent::nothing();
         match device::sync(disk) {
             Ok(()) => {
-                self.stands = nothing;
-                self.phase = Phase::Quiet;
+                self.on_device = nothing;
+                self.phase = Phase::AtRest;
                 Ok(Progress::Done)
             }
             Err(_) => {
@@ -334,12 +334,12 @@ impl Journal {
 
     /// The first call of a trim: the first gate is closed.
     fn begin_trim<D: Disk>(&mut self, disk: &mut D) -> Result<Progress, Refusal>
-        requires quiet { self.old.phase ≡ Phase.Quiet }
-        requires some { 0 < length (spelled_by self.old.stands).elements }
+        requires quiet { self.old.phase ≡ Phase.AtRest }
+        requires some { 0 < length (content_of self.old.on_device).elements }
         ensures says { Says TrimSays result (choice_of self.old) (choice_of self.new) }
-        ensures on { D.faithful disk.new → is_on (texts_of self.old) (value_of self.old)
+        ensures on { D.faithful disk.new → is_on (encodings_of self.old) (journal_view self.old)
             (D.state_at disk.old (D.clock disk.old) 0) →
-            is_on (texts_of self.old) (value_of self.new) (D.state_at disk.new (D.clock disk.new) 0) }
+            is_on (encodings_of self.old) (journal_view self.new) (D.state_at disk.new (D.clock disk.new) 0) }
         ensures begins { OnOk result (IsTrimming self.new) }
         ensures same { store_of self.new ≡ store_of self.old }
         ensures unbroken { ¬ (result ≡ Err Faulted) }
@@ -355,7 +355,7 @@ impl Journal {
                 Ok(Progress::More)
             }
             Err(_) => {
-                let nothing = Standing::nothing();
+                let nothing = Extent::nothing();
                 self.phase = Phase::Broken(Snapshot::of(&nothing));
                 Err(Refusal::DiskFault)
             }
@@ -363,42 +363,42 @@ impl Journal {
     }
 
     /// The body of a batch of as many elements as fit, with the next gate behind it, and what will stand with it.
-    fn prepare(&self, first: u64, handed: &[ChangeText]) -> Result<(Vec<u8>, Batch), Refusal>
+    fn prepare(&self, first: u64, handed: &[EncodedChange]) -> Result<(Vec<u8>, Batch), Refusal>
         requires some { 0 < length handed.now }
-        requires handed { IsHanded self.now.hives self.now.stands.used first handed.now
-            (spelled_by self.now.stands) }
+        requires handed { IsHanded self.now.hives self.now.on_device.used first handed.now
+            (content_of self.now.on_device) }
         ensures ready { IfOk result (λ made. IsReady
-            (texts_of self.now) self.now.stands first handed.now made.0.items made.1.ahead) }
+            (encodings_of self.now) self.now.on_device first handed.now made.0.items made.1.ahead) }
         ensures memory { IfErr result (λ why. why ≡ NoMemory) }
     {
-        let front = body::longest_front(handed);
-        let chosen = &handed[..front.count];
-        let mut bytes = body::encode(self.alloc, first, chosen, front.size)?;
+        let prefix = body::longest_prefix(handed);
+        let chosen = &handed[..prefix.count];
+        let mut bytes = body::encode(self.alloc, first, chosen, prefix.size)?;
         bytes.push(CLOSED_GATE)?;
-        let ahead = self.stands.longer(first, front.size, chosen);
+        let ahead = self.on_device.with_elements(first, prefix.size, chosen);
         Ok((bytes, Batch { ahead }))
     }
 
     /// The first call of a batch: its body and the next gate are written behind the gate that isn't open.
-    fn begin<D: Disk>(
+    fn begin_batch<D: Disk>(
         &mut self,
         disk: &mut D,
         first: u64,
-        handed: &[ChangeText],
+        handed: &[EncodedChange],
     ) -> Result<Progress, Refusal>
-        requires quiet { self.old.phase ≡ Phase.Quiet }
+        requires quiet { self.old.phase ≡ Phase.AtRest }
         requires some { 0 < length handed.now }
-        requires handed { IsHanded self.old.hives self.old.stands.used first handed.now
-            (spelled_by self.old.stands) }
+        requires handed { IsHanded self.old.hives self.old.on_device.used first handed.now
+            (content_of self.old.on_device) }
         ensures says { Says (JournalSays first (timed_elements handed.now)) result
             (choice_of self.old) (choice_of self.new) }
         ensures longest { (result ≡ Ok Progress.More) →
             BeginsLongest first handed.now (choice_of self.old) (choice_of self.new) }
-        ensures still { (result ≡ Err NoMemory) ⊎ (result ≡ Ok Progress.Idle) →
+        ensures no_change { (result ≡ Err NoMemory) ⊎ (result ≡ Ok Progress.Idle) →
             disk.new ≡ disk.old }
-        ensures on { D.faithful disk.new → is_on (texts_of self.old) (value_of self.old)
+        ensures on { D.faithful disk.new → is_on (encodings_of self.old) (journal_view self.old)
             (D.state_at disk.old (D.clock disk.old) 0) →
-            is_on (texts_of self.old) (value_of self.new) (D.state_at disk.new (D.clock disk.new) 0) }
+            is_on (encodings_of self.old) (journal_view self.new) (D.state_at disk.new (D.clock disk.new) 0) }
         ensures nearer { OnOk result (steps_left self.new ≡ 3) }
         ensures same { store_of self.new ≡ store_of self.old }
         ensures unbroken { ¬ (result ≡ Err Faulted) }
@@ -409,7 +409,7 @@ impl Journal {
         ensures faithful { D.faithful disk.new → D.faithful disk.old }
     {
         let (bytes, batch) = self.prepare(first, handed)?;
-        match device::write(disk, self.stands.gate + 1, &bytes) {
+        match device::write(disk, self.on_device.gate + 1, &bytes) {
             Ok(()) => {
                 self.phase = Phase::BodyWritten(batch);
                 Ok(Progress::More)
@@ -423,18 +423,18 @@ impl Journal {
 
     /// The next call of what is on its way. After a failure none is made.
     fn go_on<D: Disk>(&mut self, disk: &mut D) -> Result<Progress, Refusal>
-        requires halfway { ¬ (self.old.phase ≡ Phase.Quiet) }
+        requires halfway { ¬ (self.old.phase ≡ Phase.AtRest) }
         ensures says { (first : ℕ) (handed : List (law.Element TimedOp)) →
             Says (JournalSays first handed) result (choice_of self.old) (choice_of self.new) }
         ensures trims { (choice_of self.old).next ≡ Some nothing →
             Says TrimSays result (choice_of self.old) (choice_of self.new) }
         ensures faulted { (result ≡ Err Faulted) ↔ IsBroken self.old }
         ensures broken { IsBroken self.new ↔ (IsBroken self.old ⊎ (result ≡ Err DiskFault)) }
-        ensures still { (result ≡ Err Faulted) → disk.new ≡ disk.old }
-        ensures on { D.faithful disk.new → is_on (texts_of self.old) (value_of self.old)
+        ensures no_change { (result ≡ Err Faulted) → disk.new ≡ disk.old }
+        ensures on { D.faithful disk.new → is_on (encodings_of self.old) (journal_view self.old)
             (D.state_at disk.old (D.clock disk.old) 0) →
-            is_on (texts_of self.old) (value_of self.new) (D.state_at disk.new (D.clock disk.new) 0) }
-        ensures nearer { OnOk result (ComesNearer self.old self.new) }
+            is_on (encodings_of self.old) (journal_view self.new) (D.state_at disk.new (D.clock disk.new) 0) }
+        ensures nearer { OnOk result (MakesProgress self.old self.new) }
         ensures ends { IsTrimming self.old → OnOk result (result ≡ Ok Progress.Done) }
         ensures same { store_of self.new ≡ store_of self.old }
         ensures call { OneCall IsJournal (D.state_at disk.old) (D.state_at disk.new)
@@ -442,8 +442,8 @@ impl Journal {
         ensures failures { HasFailed result (D.failures disk.old) (D.failures disk.new) }
         ensures faithful { D.faithful disk.new → D.faithful disk.old }
     {
-        match mem::replace(&mut self.phase, Phase::Quiet) {
-            Phase::Quiet => Ok(Progress::Idle),
+        match mem::replace(&mut self.phase, Phase::AtRest) {
+            Phase::AtRest => Ok(Progress::Idle),
             Phase::BodyWritten(batch) => self.sync_body(disk, batch),
             Phase::BodySynced(batch) => self.open_gate(disk, batch),
             Phase::GateWritten(batch) => self.sync_gate(disk, batch),

@@ -7,22 +7,22 @@
 #![tactic(auto)]
 
 mod body;
-mod creating;
+mod buffer;
+mod creation;
 mod device;
+mod extent;
+mod ghost_log;
 mod header;
 mod journal;
-mod keeping;
+mod last_changes;
 pub mod laws;
 mod layout;
-mod naming;
+mod opening_scan;
 mod reader;
-mod scanning;
-mod standing;
-mod told;
-mod window;
+mod retention;
 
-pub use creating::JournalImage;
+pub use creation::JournalImage;
 pub use journal::Journal;
+pub use last_changes::LastChangePerHive;
 pub use layout::{FIRST_GATE, MOST_BODY_BYTES, OPEN_GATE};
-pub use naming::Naming;
-pub use scanning::{Opened, Owner};
+pub use opening_scan::{OpenedJournal, StoreHeader};

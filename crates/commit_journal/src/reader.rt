@@ -7,15 +7,15 @@ ghost use Rattle.byteorder.specs.Endian.{little_number};
 ghost use Rattle.refusals.specs.Answers.{RefusedFor};
 ghost use Rattle.refusals.specs.declared.refusal.Refusal.TheVariants.{JournalDamaged};
 ghost use Rattle.crash_model.specs.Promises.{nothing};
-ghost use Rattle.commit_journal.specs.Text.{spelled};
-ghost use Rattle.commit_journal.specs.Store.{texts};
-ghost use Rattle.commit_journal.specs.Told.{changes_told};
+ghost use Rattle.commit_journal.specs.Encoding.{decoded};
+ghost use Rattle.commit_journal.specs.Store.{encodings};
+ghost use Rattle.commit_journal.specs.GhostLog.{logged_changes};
 
-use crate::keeping::Keeping;
+use crate::extent::Extent;
 use crate::layout::{MOST_BODY_BYTES, OPEN_GATE};
-use crate::standing::Standing;
+use crate::retention::Retention;
 use byteorder::{ByteOrder, LittleEndian};
-use change_codec::ChangeText;
+use change_codec::EncodedChange;
 use refusals::Refusal;
 use refusals::limits::GREATEST_NUMBER;
 use std::alloc::Global;
@@ -31,7 +31,7 @@ const MOST_ROOM: u64 = 1 << 63;
 
 /// A body that is read in part.
 #[derive(Clone, Copy)]
-pub(crate) struct Part {
+pub(crate) struct PartialBody {
     /// The number of its first element.
     pub first: u64,
     /// Its bytes, with its head.
@@ -46,15 +46,15 @@ pub(crate) struct Part {
 
 /// What comes next in the file.
 #[derive(Clone, Copy)]
-pub(crate) enum Next {
+pub(crate) enum NextField {
     /// A gate.
     Gate,
     /// The head of a body, behind an open gate.
     Head,
     /// The length of a body's next element.
-    Size(Part),
+    Size(PartialBody),
     /// An element of so many bytes, its length with them.
-    Text(Part, usize),
+    Encoding(PartialBody, usize),
     /// Nothing: the last gate wasn't open, and what is behind it is free.
     Done,
 }
@@ -65,58 +65,58 @@ pub(crate) struct Reader {
     alloc: Global,
     hives: u8,
     /// What the bodies spell that were read whole.
-    pub stands: Standing,
+    pub on_device: Extent,
     /// The elements that were read, in their order.
-    pub keeping: Keeping,
-    next: Next,
+    pub retention: Retention,
+    next: NextField,
     ghost few: { hives ≤ 256 },
 }
 
 impl Reader {
-    ghost use Rattle.commit_journal.specs.Journals.{spelled_by};
-    ghost use Rattle.commit_journal.specs.Reading.{AtGate, in_part, reading_at, texts_for, IsReading, GoesOn, KeepsElements, KeepsPart, keeps_at, Keeps, IsTied, wanted_by, waits, read_by, tied_at, IsInPart, IsKept, IsOf};
+    ghost use Rattle.commit_journal.specs.Journals.{content_of};
+    ghost use Rattle.commit_journal.specs.Reading.{AtGate, in_partial_body, reading_at, encodings_for, IsReading, BodyMayFollow, ElementsAreSound, PartialIsSound, sound_at, ReaderIsSound, NumbersAgree, wanted_by, waits, read_by, numbers_agree_at, IsLastOfPartial, IsRetained, HasSameNumbers};
 
     /// Nothing was read: the first gate comes next.
-    pub fn new(alloc: Global, hives: u8, keeping: Keeping) -> Reader
-        requires none { changes_told keeping.read ≡ [] }
-        requires zero { keeping.last ≡ 0 }
-        ensures keeps { Keeps result }
-        ensures tied { IsTied result }
-        ensures keeping { result.keeping ≡ keeping }
+    pub fn new(alloc: Global, hives: u8, retention: Retention) -> Reader
+        requires none { logged_changes retention.read ≡ [] }
+        requires zero { retention.last ≡ 0 }
+        ensures keeps { ReaderIsSound result }
+        ensures tied { NumbersAgree result }
+        ensures retention { result.retention ≡ retention }
         ensures hives { result.hives ≡ hives }
         ensures begins { (id file rest : List ℕ) →
-            AtGate (texts (record { id = id; hives = hives })) file nothing 64 rest →
+            AtGate (encodings (record { id = id; hives = hives })) file nothing 64 rest →
             IsReading id file result rest }
     {
         Reader {
             alloc,
             hives,
-            stands: Standing::nothing(),
-            keeping,
-            next: Next::Gate,
+            on_device: Extent::nothing(),
+            retention,
+            next: NextField::Gate,
         }
     }
 
     /// All is read that counts.
     pub fn is_done(&self) -> bool
-        ensures { (result ≡ true) ↔ (self.now.next ≡ Next.Done) }
+        ensures { (result ≡ true) ↔ (self.now.next ≡ NextField.Done) }
     {
-        matches!(self.next, Next::Done)
+        matches!(self.next, NextField::Done)
     }
 
     /// How many bytes it wants at least. Where the file has fewer, it spells nothing.
     pub fn wants(&self) -> usize
-        requires keeps { Keeps self.now }
+        requires keeps { ReaderIsSound self.now }
         ensures wants { result ≡ wanted_by self.now.next }
         ensures short { (id file rest : List ℕ) → IsReading id file self.now rest →
-            length rest < result → spelled (texts_for id self.now) file ≡ None }
+            length rest < result → decoded (encodings_for id self.now) file ≡ None }
     {
         match self.next {
-            Next::Gate => 1,
-            Next::Head => 16,
-            Next::Size(_) => 4,
-            Next::Text(_, len) => len,
-            Next::Done => 0,
+            NextField::Gate => 1,
+            NextField::Head => 16,
+            NextField::Size(_) => 4,
+            NextField::Encoding(_, len) => len,
+            NextField::Done => 0,
         }
     }
 
@@ -124,16 +124,16 @@ impl Reader {
     ///
     /// Refused with `JournalDamaged` only where the file spells nothing, and with `NoMemory`.
     pub fn take(&mut self, bytes: &[u8], left: u64) -> Result<usize, Refusal>
-        requires goes_on { ¬ (self.old.next ≡ Next.Done) }
+        requires continues { ¬ (self.old.next ≡ NextField.Done) }
         requires there { wanted_by self.old.next ≤ length bytes.now }
-        requires keeps { Keeps self.old }
-        requires tied { IsTied self.old }
-        requires kept { IsKept self.old.keeping }
-        ensures keeps { OnOk result (Keeps self.new) }
-        ensures tied { OnOk result (IsTied self.new) }
-        ensures kept { OnOk result (IsKept self.new.keeping) }
+        requires keeps { ReaderIsSound self.old }
+        requires tied { NumbersAgree self.old }
+        requires kept { IsRetained self.old.retention }
+        ensures keeps { OnOk result (ReaderIsSound self.new) }
+        ensures tied { OnOk result (NumbersAgree self.new) }
+        ensures kept { OnOk result (IsRetained self.new.retention) }
         ensures hives { self.new.hives ≡ self.old.hives }
-        ensures numbers { IsOf self.old.keeping self.new.keeping }
+        ensures numbers { HasSameNumbers self.old.retention self.new.retention }
         ensures within { IfOk result (λ n. n ≤ length bytes.now) }
         ensures falls { IfOk result (λ n. waits self.new.next < waits self.old.next + 2 * n) }
         ensures reads { IfOk result (λ n. (id file behind : List ℕ) → left ≡ length bytes.now + length behind →
@@ -142,68 +142,68 @@ impl Reader {
         ensures refused { IfErr result (RefusedFor JournalDamaged ((id file behind : List ℕ) →
             left ≡ length bytes.now + length behind →
             IsReading id file self.old (bytes.now ++ behind) →
-            spelled (texts_for id self.old) file ≡ None)) }
+            decoded (encodings_for id self.old) file ≡ None)) }
     {
         match self.next {
-            Next::Gate => {
+            NextField::Gate => {
                 self.gate(bytes);
                 Ok(1)
             }
-            Next::Head => {
+            NextField::Head => {
                 self.head(bytes, left)?;
                 Ok(16)
             }
-            Next::Size(part) => self.size(part, bytes),
-            Next::Text(part, len) => self.again(part, len, bytes),
-            Next::Done => Ok(0),
+            NextField::Size(partial_body) => self.size(partial_body, bytes),
+            NextField::Encoding(partial_body, len) => self.sized_element(partial_body, len, bytes),
+            NextField::Done => Ok(0),
         }
     }
 
     /// A gate: behind an open one a body comes.
     fn gate(&mut self, bytes: &[u8])
         requires there { 1 ≤ length bytes.now }
-        requires keeps { keeps_at self.old.hives self.old.stands (read_by self.old) Next.Gate }
-        requires tied { tied_at self.old.keeping.last self.old.stands (read_by self.old) Next.Gate }
-        requires kept { IsKept self.old.keeping }
-        ensures keeps { Keeps self.new }
-        ensures tied { IsTied self.new }
-        ensures kept { IsKept self.new.keeping }
+        requires keeps { sound_at self.old.hives self.old.on_device (read_by self.old) NextField.Gate }
+        requires tied { numbers_agree_at self.old.retention.last self.old.on_device (read_by self.old) NextField.Gate }
+        requires kept { IsRetained self.old.retention }
+        ensures keeps { ReaderIsSound self.new }
+        ensures tied { NumbersAgree self.new }
+        ensures kept { IsRetained self.new.retention }
         ensures hives { self.new.hives ≡ self.old.hives }
-        ensures numbers { IsOf self.old.keeping self.new.keeping }
+        ensures numbers { HasSameNumbers self.old.retention self.new.retention }
         ensures falls { waits self.new.next < 2 }
         ensures reads { (id file behind : List ℕ) →
-            reading_at (texts_for id self.old) file self.old.stands (read_by self.old) Next.Gate
+            reading_at (encodings_for id self.old) file self.old.on_device (read_by self.old) NextField.Gate
             (bytes.now ++ behind) →
             IsReading id file self.new (drop 1 bytes.now ++ behind) }
     {
         self.next = if bytes[0] == OPEN_GATE {
-            Next::Head
+            NextField::Head
         } else {
-            Next::Done
+            NextField::Done
         };
     }
 
     /// The head of a body: its length, the number of its first element, and how many elements it has.
     fn head(&mut self, bytes: &[u8], left: u64) -> Result<(), Refusal>
         requires there { 16 ≤ length bytes.now }
-        requires keeps { keeps_at self.old.hives self.old.stands (read_by self.old) Next.Head }
-        requires tied { tied_at self.old.keeping.last self.old.stands (read_by self.old) Next.Head }
-        requires kept { IsKept self.old.keeping }
-        ensures keeps { OnOk result (Keeps self.new) }
-        ensures tied { OnOk result (IsTied self.new) }
-        ensures kept { OnOk result (IsKept self.new.keeping) }
+        requires keeps { sound_at self.old.hives self.old.on_device (read_by self.old) NextField.Head }
+        requires tied { numbers_agree_at self.old.retention.last self.old.on_device (read_by self.old) NextField.Head }
+        requires kept { IsRetained self.old.retention }
+        ensures keeps { OnOk result (ReaderIsSound self.new) }
+        ensures tied { OnOk result (NumbersAgree self.new) }
+        ensures kept { OnOk result (IsRetained self.new.retention) }
         ensures hives { self.new.hives ≡ self.old.hives }
-        ensures numbers { IsOf self.old.keeping self.new.keeping }
+        ensures numbers { HasSameNumbers self.old.retention self.new.retention }
         ensures falls { OnOk result (waits self.new.next < 32) }
         ensures reads { OnOk result ((id file behind : List ℕ) → left ≡ length bytes.now + length behind →
-            reading_at (texts_for id self.old) file self.old.stands (read_by self.old) Next.Head
+            reading_at (encodings_for id self.old) file self.old.on_device (read_by self.old) NextField.Head
             (bytes.now ++ behind) →
             IsReading id file self.new (drop 16 bytes.now ++ behind)) }
         ensures refused { IfErr result (RefusedFor JournalDamaged ((id file behind : List ℕ) →
             left ≡ length bytes.now + length behind →
-            reading_at (texts_for id self.old) file self.old.stands (read_by self.old) Next.Head
+            reading_at (encodings_for id self.old) file self.old.on_device (read_by self.old) NextField.Head
             (bytes.now ++ behind) →
-            spelled (texts_for id self.old) file ≡ None)) }
+            decoded (encodings_for id self.old) file ≡ None)) }
     {
         let size = u64::from(LittleEndian::read_u32(bytes));
         let first = LittleEndian::read_u64(&bytes[4..]);
@@ -214,9 +214,9 @@ impl Reader {
         if !self.may_follow(first, count) {
             return Err(Refusal::JournalDamaged);
         }
-        let start = self.stands.count();
-        self.keeping.follow(first);
-        self.part(Part {
+        let start = self.on_device.count();
+        self.retention.continue_at(first);
+        self.partial_body(PartialBody {
             first,
             size,
             left: size - HEAD_BYTES,
@@ -227,9 +227,9 @@ impl Reader {
 
     /// Whether a body with so many elements from this number on may stand behind what stands.
     fn may_follow(&self, first: u64, count: u64) -> bool
-        ensures { (result ≡ true) ↔ GoesOn GREATEST_NUMBER (spelled_by self.now.stands) first count }
+        ensures { (result ≡ true) ↔ BodyMayFollow GREATEST_NUMBER (content_of self.now.on_device) first count }
     {
-        let last = self.stands.last;
+        let last = self.on_device.last;
         first > 0
             && (last == 0 || first - 1 == last)
             && count > 0
@@ -238,169 +238,181 @@ impl Reader {
     }
 
     /// What comes next in a body: an element, or the gate behind it.
-    fn part(&mut self, part: Part) -> Result<(), Refusal>
-        requires elements { KeepsElements self.old.hives self.old.stands
-            (take part.start (read_by self.old)) (read_by self.old) }
-        requires part { KeepsPart self.old.stands (read_by self.old) part }
-        requires tied { IsInPart self.old.keeping.last (read_by self.old) part }
-        requires kept { IsKept self.old.keeping }
-        ensures keeps { OnOk result (Keeps self.new) }
-        ensures tied { OnOk result (IsTied self.new) }
-        ensures kept { OnOk result (IsKept self.new.keeping) }
+    fn partial_body(&mut self, partial_body: PartialBody) -> Result<(), Refusal>
+        requires elements { ElementsAreSound self.old.hives self.old.on_device
+            (take partial_body.start (read_by self.old)) (read_by self.old) }
+        requires partial_body { PartialIsSound self.old.on_device (read_by self.old) partial_body }
+        requires tied { IsLastOfPartial self.old.retention.last (read_by self.old) partial_body }
+        requires kept { IsRetained self.old.retention }
+        ensures keeps { OnOk result (ReaderIsSound self.new) }
+        ensures tied { OnOk result (NumbersAgree self.new) }
+        ensures kept { OnOk result (IsRetained self.new.retention) }
         ensures hives { self.new.hives ≡ self.old.hives }
-        ensures numbers { IsOf self.old.keeping self.new.keeping }
+        ensures numbers { HasSameNumbers self.old.retention self.new.retention }
         ensures falls { OnOk result (waits self.new.next < 2) }
         ensures reads { OnOk result ((id file rest : List ℕ) →
-            in_part (texts_for id self.old) file self.old.stands (read_by self.old) part rest →
+            in_partial_body (encodings_for id self.old) file self.old.on_device (read_by self.old) partial_body rest →
             IsReading id file self.new rest) }
         ensures refused { IfErr result (RefusedFor JournalDamaged ((id file rest : List ℕ) →
-            in_part (texts_for id self.old) file self.old.stands (read_by self.old) part rest →
-            spelled (texts_for id self.old) file ≡ None)) }
+            in_partial_body (encodings_for id self.old) file self.old.on_device (read_by self.old) partial_body rest →
+            decoded (encodings_for id self.old) file ≡ None)) }
     {
-        if part.count == 0 {
-            return self.end(part);
+        if partial_body.count == 0 {
+            return self.end(partial_body);
         }
-        if part.left < LEAST_ELEMENT_BYTES {
+        if partial_body.left < LEAST_ELEMENT_BYTES {
             return Err(Refusal::JournalDamaged);
         }
-        self.next = Next::Size(part);
+        self.next = NextField::Size(partial_body);
         Ok(())
     }
 
     /// The end of a body, all of whose elements were read: with it more stands.
     ///
     /// A journal whose elements have more than 2^63 bytes would not find memory for them: it is refused as one that doesn't.
-    fn end(&mut self, part: Part) -> Result<(), Refusal>
-        requires none { part.count ≡ 0 }
-        requires elements { KeepsElements self.old.hives self.old.stands
-            (take part.start (read_by self.old)) (read_by self.old) }
-        requires part { KeepsPart self.old.stands (read_by self.old) part }
-        requires tied { IsInPart self.old.keeping.last (read_by self.old) part }
-        requires kept { IsKept self.old.keeping }
-        ensures keeps { OnOk result (Keeps self.new) }
-        ensures tied { OnOk result (IsTied self.new) }
-        ensures kept { OnOk result (IsKept self.new.keeping) }
+    fn end(&mut self, partial_body: PartialBody) -> Result<(), Refusal>
+        requires none { partial_body.count ≡ 0 }
+        requires elements { ElementsAreSound self.old.hives self.old.on_device
+            (take partial_body.start (read_by self.old)) (read_by self.old) }
+        requires partial_body { PartialIsSound self.old.on_device (read_by self.old) partial_body }
+        requires tied { IsLastOfPartial self.old.retention.last (read_by self.old) partial_body }
+        requires kept { IsRetained self.old.retention }
+        ensures keeps { OnOk result (ReaderIsSound self.new) }
+        ensures tied { OnOk result (NumbersAgree self.new) }
+        ensures kept { OnOk result (IsRetained self.new.retention) }
         ensures hives { self.new.hives ≡ self.old.hives }
-        ensures numbers { IsOf self.old.keeping self.new.keeping }
+        ensures numbers { HasSameNumbers self.old.retention self.new.retention }
         ensures falls { OnOk result (waits self.new.next < 2) }
         ensures reads { OnOk result ((id file rest : List ℕ) →
-            in_part (texts_for id self.old) file self.old.stands (read_by self.old) part rest →
+            in_partial_body (encodings_for id self.old) file self.old.on_device (read_by self.old) partial_body rest →
             IsReading id file self.new rest) }
         ensures refused { IfErr result (RefusedFor JournalDamaged ((id file rest : List ℕ) →
-            in_part (texts_for id self.old) file self.old.stands (read_by self.old) part rest →
-            spelled (texts_for id self.old) file ≡ None)) }
+            in_partial_body (encodings_for id self.old) file self.old.on_device (read_by self.old) partial_body rest →
+            decoded (encodings_for id self.old) file ≡ None)) }
     {
-        if part.left > 0 {
+        if partial_body.left > 0 {
             return Err(Refusal::JournalDamaged);
         }
-        let count = self.keeping.last + 1 - part.first;
-        let room = 17 * count + (part.size - HEAD_BYTES);
-        if self.stands.used >= MOST_ROOM || room >= MOST_ROOM - self.stands.used {
+        let count = self.retention.last + 1 - partial_body.first;
+        let room = 17 * count + (partial_body.size - HEAD_BYTES);
+        if self.on_device.used >= MOST_ROOM || room >= MOST_ROOM - self.on_device.used {
             return Err(Refusal::NoMemory);
         }
-        self.stands = self.stands.with_body(part, count, self.keeping.told());
-        self.next = Next::Gate;
+        self.on_device = self
+            .on_device
+            .with_body(partial_body, count, self.retention.ghost_log());
+        self.next = NextField::Gate;
         Ok(())
     }
 
     /// The length of an element, which is read again with it: where so many bytes are at hand it is taken.
-    fn size(&mut self, part: Part, bytes: &[u8]) -> Result<usize, Refusal>
+    fn size(&mut self, partial_body: PartialBody, bytes: &[u8]) -> Result<usize, Refusal>
         requires there { 4 ≤ length bytes.now }
-        requires keeps { keeps_at self.old.hives self.old.stands (read_by self.old) (Next.Size part) }
-        requires tied { tied_at self.old.keeping.last self.old.stands (read_by self.old) (Next.Size part) }
-        requires kept { IsKept self.old.keeping }
-        ensures keeps { OnOk result (Keeps self.new) }
-        ensures tied { OnOk result (IsTied self.new) }
-        ensures kept { OnOk result (IsKept self.new.keeping) }
+        requires keeps { sound_at self.old.hives self.old.on_device (read_by self.old) (NextField.Size partial_body) }
+        requires tied { numbers_agree_at self.old.retention.last self.old.on_device (read_by self.old) (NextField.Size partial_body) }
+        requires kept { IsRetained self.old.retention }
+        ensures keeps { OnOk result (ReaderIsSound self.new) }
+        ensures tied { OnOk result (NumbersAgree self.new) }
+        ensures kept { OnOk result (IsRetained self.new.retention) }
         ensures hives { self.new.hives ≡ self.old.hives }
-        ensures numbers { IsOf self.old.keeping self.new.keeping }
+        ensures numbers { HasSameNumbers self.old.retention self.new.retention }
         ensures within { IfOk result (λ n. n ≤ length bytes.now) }
         ensures falls { IfOk result (λ n. waits self.new.next < 1 + 2 * n) }
         ensures reads { IfOk result (λ n. (id file behind : List ℕ) →
-            reading_at (texts_for id self.old) file self.old.stands (read_by self.old)
-            (Next.Size part) (bytes.now ++ behind) →
+            reading_at (encodings_for id self.old) file self.old.on_device (read_by self.old)
+            (NextField.Size partial_body) (bytes.now ++ behind) →
             IsReading id file self.new (drop n bytes.now ++ behind)) }
         ensures refused { IfErr result (RefusedFor JournalDamaged ((id file behind : List ℕ) →
-            reading_at (texts_for id self.old) file self.old.stands (read_by self.old)
-            (Next.Size part) (bytes.now ++ behind) →
-            spelled (texts_for id self.old) file ≡ None)) }
+            reading_at (encodings_for id self.old) file self.old.on_device (read_by self.old)
+            (NextField.Size partial_body) (bytes.now ++ behind) →
+            decoded (encodings_for id self.old) file ≡ None)) }
     {
         let len = u64::from(LittleEndian::read_u32(bytes));
-        if len < LEAST_ELEMENT_BYTES || len > part.left {
+        if len < LEAST_ELEMENT_BYTES || len > partial_body.left {
             return Err(Refusal::JournalDamaged);
         }
         let len = len as usize;
         if len > bytes.len() {
-            self.next = Next::Text(part, len);
+            self.next = NextField::Encoding(partial_body, len);
             return Ok(0);
         }
-        self.texts(part, len, bytes)
+        self.encodings(partial_body, len, bytes)
     }
 
     /// An element whose length was read before it was at hand, and with it again.
-    fn again(&mut self, part: Part, len: usize, bytes: &[u8]) -> Result<usize, Refusal>
+    fn sized_element(
+        &mut self,
+        partial_body: PartialBody,
+        len: usize,
+        bytes: &[u8],
+    ) -> Result<usize, Refusal>
         requires there { len ≤ length bytes.now }
-        requires keeps { keeps_at self.old.hives self.old.stands (read_by self.old)
-            (Next.Text part len) }
-        requires tied { tied_at self.old.keeping.last self.old.stands (read_by self.old)
-            (Next.Text part len) }
-        requires kept { IsKept self.old.keeping }
-        ensures keeps { OnOk result (Keeps self.new) }
-        ensures tied { OnOk result (IsTied self.new) }
-        ensures kept { OnOk result (IsKept self.new.keeping) }
+        requires keeps { sound_at self.old.hives self.old.on_device (read_by self.old)
+            (NextField.Encoding partial_body len) }
+        requires tied { numbers_agree_at self.old.retention.last self.old.on_device (read_by self.old)
+            (NextField.Encoding partial_body len) }
+        requires kept { IsRetained self.old.retention }
+        ensures keeps { OnOk result (ReaderIsSound self.new) }
+        ensures tied { OnOk result (NumbersAgree self.new) }
+        ensures kept { OnOk result (IsRetained self.new.retention) }
         ensures hives { self.new.hives ≡ self.old.hives }
-        ensures numbers { IsOf self.old.keeping self.new.keeping }
+        ensures numbers { HasSameNumbers self.old.retention self.new.retention }
         ensures within { IfOk result (λ n. n ≤ length bytes.now) }
         ensures falls { IfOk result (λ n. waits self.new.next < 2 * n) }
         ensures reads { IfOk result (λ n. (id file behind : List ℕ) →
-            reading_at (texts_for id self.old) file self.old.stands (read_by self.old)
-            (Next.Text part len) (bytes.now ++ behind) →
+            reading_at (encodings_for id self.old) file self.old.on_device (read_by self.old)
+            (NextField.Encoding partial_body len) (bytes.now ++ behind) →
             IsReading id file self.new (drop n bytes.now ++ behind)) }
         ensures refused { IfErr result (RefusedFor JournalDamaged ((id file behind : List ℕ) →
-            reading_at (texts_for id self.old) file self.old.stands (read_by self.old)
-            (Next.Text part len) (bytes.now ++ behind) →
-            spelled (texts_for id self.old) file ≡ None)) }
+            reading_at (encodings_for id self.old) file self.old.on_device (read_by self.old)
+            (NextField.Encoding partial_body len) (bytes.now ++ behind) →
+            decoded (encodings_for id self.old) file ≡ None)) }
     {
         if LittleEndian::read_u32(bytes) as usize != len {
             return Err(Refusal::JournalDamaged);
         }
-        self.texts(part, len, bytes)
+        self.encodings(partial_body, len, bytes)
     }
 
     /// An element, and those behind it that are at hand whole: answers how many bytes they have.
-    fn texts(&mut self, part: Part, len: usize, bytes: &[u8]) -> Result<usize, Refusal>
+    fn encodings(
+        &mut self,
+        partial_body: PartialBody,
+        len: usize,
+        bytes: &[u8],
+    ) -> Result<usize, Refusal>
         requires there { len ≤ length bytes.now }
         requires len { little_number 4 bytes.now ≡ len }
-        requires keeps { keeps_at self.old.hives self.old.stands (read_by self.old)
-            (Next.Text part len) }
-        requires tied { IsInPart self.old.keeping.last (read_by self.old) part }
-        requires kept { IsKept self.old.keeping }
-        ensures keeps { OnOk result (Keeps self.new) }
-        ensures tied { OnOk result (IsTied self.new) }
-        ensures kept { OnOk result (IsKept self.new.keeping) }
+        requires keeps { sound_at self.old.hives self.old.on_device (read_by self.old)
+            (NextField.Encoding partial_body len) }
+        requires tied { IsLastOfPartial self.old.retention.last (read_by self.old) partial_body }
+        requires kept { IsRetained self.old.retention }
+        ensures keeps { OnOk result (ReaderIsSound self.new) }
+        ensures tied { OnOk result (NumbersAgree self.new) }
+        ensures kept { OnOk result (IsRetained self.new.retention) }
         ensures hives { self.new.hives ≡ self.old.hives }
-        ensures numbers { IsOf self.old.keeping self.new.keeping }
+        ensures numbers { HasSameNumbers self.old.retention self.new.retention }
         ensures within { IfOk result (λ n. n ≤ length bytes.now) }
         ensures falls { IfOk result (λ n. waits self.new.next < 2 * n) }
         ensures reads { IfOk result (λ n. (id file behind : List ℕ) →
-            in_part (texts_for id self.old) file self.old.stands (read_by self.old) part
+            in_partial_body (encodings_for id self.old) file self.old.on_device (read_by self.old) partial_body
             (bytes.now ++ behind) →
             IsReading id file self.new (drop n bytes.now ++ behind)) }
         ensures refused { IfErr result (RefusedFor JournalDamaged ((id file behind : List ℕ) →
-            in_part (texts_for id self.old) file self.old.stands (read_by self.old) part
+            in_partial_body (encodings_for id self.old) file self.old.on_device (read_by self.old) partial_body
             (bytes.now ++ behind) →
-            spelled (texts_for id self.old) file ≡ None)) }
+            decoded (encodings_for id self.old) file ≡ None)) }
     {
-        let mut part = part;
-        self.text(&mut part, len, bytes)?;
+        let mut partial_body = partial_body;
+        self.encoding(&mut partial_body, len, bytes)?;
         let mut taken = len;
-        'elements: while let Some(more) = part.whole(&bytes[taken..]) {
-            match self.text(&mut part, more, &bytes[taken..]) {
+        'elements: while let Some(more) = partial_body.whole(&bytes[taken..]) {
+            match self.encoding(&mut partial_body, more, &bytes[taken..]) {
                 Ok(()) => taken += more,
                 Err(why) => return Err(why),
             }
         }
-        match self.part(part) {
+        match self.partial_body(partial_body) {
             Ok(()) => Ok(taken),
             Err(why) => Err(why),
         }
@@ -408,42 +420,47 @@ impl Reader {
 
     /// An element: the part has one less.
     #[inline(always)]
-    fn text(&mut self, part: &mut Part, len: usize, bytes: &[u8]) -> Result<(), Refusal>
+    fn encoding(
+        &mut self,
+        partial_body: &mut PartialBody,
+        len: usize,
+        bytes: &[u8],
+    ) -> Result<(), Refusal>
         requires there { len ≤ length bytes.now }
         requires len { little_number 4 bytes.now ≡ len }
-        requires keeps { keeps_at self.old.hives self.old.stands (read_by self.old)
-            (Next.Text part.old len) }
-        requires tied { IsInPart self.old.keeping.last (read_by self.old) part.old }
-        requires kept { IsKept self.old.keeping }
-        ensures elements { OnOk result (KeepsElements self.new.hives self.new.stands
-            (take part.new.start (read_by self.new)) (read_by self.new)) }
-        ensures part { OnOk result (KeepsPart self.new.stands (read_by self.new) part.new) }
-        ensures tied { OnOk result (IsInPart self.new.keeping.last (read_by self.new) part.new) }
-        ensures kept { OnOk result (IsKept self.new.keeping) }
+        requires keeps { sound_at self.old.hives self.old.on_device (read_by self.old)
+            (NextField.Encoding partial_body.old len) }
+        requires tied { IsLastOfPartial self.old.retention.last (read_by self.old) partial_body.old }
+        requires kept { IsRetained self.old.retention }
+        ensures elements { OnOk result (ElementsAreSound self.new.hives self.new.on_device
+            (take partial_body.new.start (read_by self.new)) (read_by self.new)) }
+        ensures partial_body { OnOk result (PartialIsSound self.new.on_device (read_by self.new) partial_body.new) }
+        ensures tied { OnOk result (IsLastOfPartial self.new.retention.last (read_by self.new) partial_body.new) }
+        ensures kept { OnOk result (IsRetained self.new.retention) }
         ensures hives { self.new.hives ≡ self.old.hives }
-        ensures numbers { IsOf self.old.keeping self.new.keeping }
+        ensures numbers { HasSameNumbers self.old.retention self.new.retention }
         ensures reads { OnOk result ((id file behind : List ℕ) →
-            in_part (texts_for id self.old) file self.old.stands (read_by self.old) part.old
+            in_partial_body (encodings_for id self.old) file self.old.on_device (read_by self.old) partial_body.old
             (bytes.now ++ behind) →
-            in_part (texts_for id self.new) file self.new.stands (read_by self.new) part.new
+            in_partial_body (encodings_for id self.new) file self.new.on_device (read_by self.new) partial_body.new
             (drop len bytes.now ++ behind)) }
         ensures refused { IfErr result (RefusedFor JournalDamaged ((id file behind : List ℕ) →
-            in_part (texts_for id self.old) file self.old.stands (read_by self.old) part.old
+            in_partial_body (encodings_for id self.old) file self.old.on_device (read_by self.old) partial_body.old
             (bytes.now ++ behind) →
-            spelled (texts_for id self.old) file ≡ None)) }
+            decoded (encodings_for id self.old) file ≡ None)) }
     {
-        let element = match ChangeText::take(self.alloc, self.hives, bytes) {
+        let element = match EncodedChange::take(self.alloc, self.hives, bytes) {
             Ok((element, _)) => element,
             Err(why) => return Err(why),
         };
-        self.keeping.push(element)?;
-        part.left -= len as u64;
-        part.count -= 1;
+        self.retention.push(element)?;
+        partial_body.left -= len as u64;
+        partial_body.count -= 1;
         Ok(())
     }
 }
 
-impl Part {
+impl PartialBody {
     ghost use Rattle.commit_journal.specs.Reading.{IsNext};
 
     /// The length of its next element, where that is at hand whole.

@@ -2,17 +2,17 @@
 ghost use Rattle.std.specs.Prelude.{◌≤◌};
 ghost use Rattle.refusals.specs.declared.limits.TheConstants.{MOST_HIVES};
 
-use crate::desk::{Desk, ID};
+use crate::driver::{ID, JournalDriver};
 use crate::names::number;
 use crate::steps;
-use commit_journal::{Journal, Opened};
+use commit_journal::{Journal, OpenedJournal};
 use disk_model::Progress;
 use refusals::Refusal;
 use refusals::limits::MOST_HIVES;
 use test_support::Fault;
 use uuid::Uuid;
 
-impl Desk {
+impl JournalDriver {
     /// Creates the journal of a store of so many hives.
     pub fn create(&mut self, hives: &str, wanted: &[&str]) -> Result<(), Fault> {
         let hives = number(hives)?;
@@ -46,7 +46,7 @@ impl Desk {
     pub fn open(&mut self, wanted: &[&str]) -> Result<(), Fault> {
         match self.reopened()? {
             Ok(
-                Opened {
+                OpenedJournal {
                     journal,
                     below,
                     elements,
@@ -62,7 +62,7 @@ impl Desk {
         }
     }
 
-    fn reopened(&mut self) -> Result<Result<Opened, Refusal>, Fault> {
+    fn reopened(&mut self) -> Result<Result<OpenedJournal, Refusal>, Fault> {
         let before = self.look()?;
         match Journal::open(self.alloc, &mut self.disk, Vec::new(self.alloc)) {
             Err(Refusal::NoMemory) => {

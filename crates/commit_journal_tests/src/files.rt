@@ -1,11 +1,11 @@
 //! The calls of the disk, and what a crash would leave of a file.
 use crate::calls::{are_numbers, expect};
-use crate::desk::{Desk, plan};
+use crate::driver::{JournalDriver, plan};
 use crate::names::number;
 use disk_model::{Disk, Failed, Tear};
 use test_support::Fault;
 
-impl Desk {
+impl JournalDriver {
     /// Writes into a file.
     pub fn write(
         &mut self,

@@ -1,12 +1,12 @@
 //! What is on the disk and in the journal, as lines see it.
-use crate::desk::Desk;
+use crate::driver::JournalDriver;
 use crate::files::same;
 use crate::names::number;
 use disk_model::{Disk, Tear};
 use test_support::Fault;
 
 /// The bytes that one reading call asks for.
-const PIECE_BYTES: usize = 65_536;
+const CHUNK_BYTES: usize = 65_536;
 
 /// The journal's file, and the numbers of the journal where there is one.
 #[derive(Drop)]
@@ -15,7 +15,7 @@ pub(crate) struct Look {
     numbers: Option<(u64, u64, bool)>,
 }
 
-impl Desk {
+impl JournalDriver {
     /// From here on each call of the journal that takes memory is looked at, on a disk that takes none for so many bytes.
     pub fn watch(&mut self, bytes: &str) -> Result<(), Fault> {
         let bytes = number(bytes)?;
@@ -67,11 +67,11 @@ impl Desk {
     /// Sees that the last opening answered the elements of which words spell the texts.
     pub fn opened(&mut self, wanted: &[&str]) -> Result<(), Fault> {
         let wanted = self.names.bytes(wanted)?;
-        let mut texts = Vec::new(self.alloc);
+        let mut encodings = Vec::new(self.alloc);
         for element in &self.opened {
-            texts.extend_from_slice(element.bytes())?;
+            encodings.extend_from_slice(element.bytes())?;
         }
-        if texts == wanted {
+        if encodings == wanted {
             Ok(())
         } else {
             Err(Fault::Otherwise("other elements"))
@@ -80,7 +80,7 @@ impl Desk {
 
     /// Reads the journal's file to its end, piece by piece: how many bytes came.
     pub fn read(&mut self, wanted: &[&str]) -> Result<(), Fault> {
-        let mut piece = vec![in self.alloc; 0u8; PIECE_BYTES]?;
+        let mut piece = vec![in self.alloc; 0u8; CHUNK_BYTES]?;
         let len = self.disk.len(0)?;
         let mut at = 0u64;
         for _ in 0..len {

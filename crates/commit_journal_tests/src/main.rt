@@ -28,13 +28,13 @@
 #![tactic(auto)]
 
 mod calls;
-mod desk;
+mod driver;
 mod files;
 mod looks;
 mod names;
 mod steps;
 
-use crate::desk::Desk;
+use crate::driver::JournalDriver;
 use std::alloc::Global;
 use std::io::{BufRead, BufReader};
 use std::process::ExitCode;
@@ -52,13 +52,13 @@ fn main(rt: HostRuntime) -> ExitCode {
 /// Plays all lines: the status.
 fn run<R: Input + Print + AllocGlobal + CpuClock>(rt: &R) -> Result<u8, Fault> {
     let alloc = rt.alloc();
-    let mut desk = Desk::new(alloc)?;
+    let mut driver = JournalDriver::new(alloc)?;
     let mut number = 0u64;
     let mut is_right = true;
     for line in BufReader::new(alloc, rt.reader())?.lines(alloc) {
         number = number.saturating_add(1);
         let line = line?;
-        match play(rt, alloc, &mut desk, line.as_str()) {
+        match play(rt, alloc, &mut driver, line.as_str()) {
             Ok(()) => {}
             Err(Fault::NoMemory) => return Err(Fault::NoMemory),
             Err(fault) => {
@@ -68,7 +68,7 @@ fn run<R: Input + Print + AllocGlobal + CpuClock>(rt: &R) -> Result<u8, Fault> {
             }
         }
     }
-    Ok(status(is_right, desk.was_refused()))
+    Ok(status(is_right, driver.was_refused()))
 }
 
 fn status(is_right: bool, was_refused: bool) -> u8 {
@@ -83,7 +83,7 @@ fn status(is_right: bool, was_refused: bool) -> u8 {
 fn play<R: Print + CpuClock>(
     rt: &R,
     alloc: Global,
-    desk: &mut Desk,
+    driver: &mut JournalDriver,
     line: &str,
 ) -> Result<(), Fault> {
     let (asked, wanted) = line.split_once(">").unwrap_or((line, ""));
@@ -92,20 +92,20 @@ fn play<R: Print + CpuClock>(
     match asked.as_slice() {
         [] => Ok(()),
         [first, ..] if first.starts_with("#") => Ok(()),
-        ["timed", rest @ ..] => timed(rt, desk, rest, &wanted),
-        asked => desk.play(asked, &wanted),
+        ["timed", rest @ ..] => timed(rt, driver, rest, &wanted),
+        asked => driver.play(asked, &wanted),
     }
 }
 
 /// Plays a line and prints the processor time that it took, in microseconds.
 fn timed<R: Print + CpuClock>(
     rt: &R,
-    desk: &mut Desk,
+    driver: &mut JournalDriver,
     asked: &[&str],
     wanted: &[&str],
 ) -> Result<(), Fault> {
     let start = rt.process_cpu_time()?;
-    desk.play(asked, wanted)?;
+    driver.play(asked, wanted)?;
     let end = rt.process_cpu_time()?;
     let took = end.saturating_sub(start).as_micros();
     println!(rt; "{took}")?;

@@ -5,15 +5,15 @@ use test_support::Fault;
 
 /// Bytes that have a name.
 #[derive(Drop)]
-pub(crate) struct Names {
+pub(crate) struct NamedBytes {
     alloc: Global,
     named: BTreeMap<String, Vec<u8>>,
 }
 
-impl Names {
+impl NamedBytes {
     /// None.
-    pub fn new(alloc: Global) -> Names {
-        Names {
+    pub fn new(alloc: Global) -> NamedBytes {
+        NamedBytes {
             alloc,
             named: BTreeMap::new(alloc),
         }

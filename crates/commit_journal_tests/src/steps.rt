@@ -7,13 +7,13 @@ ghost use Rattle.commit_journal.specs.Store.{room_of};
 ghost use Rattle.commit_journal.specs.Handed.{OnHives, IsHanded};
 ghost use Rattle.commit_journal.specs.Journals.{choice_of, store_of};
 
-use change_codec::ChangeText;
+use change_codec::EncodedChange;
 use commit_journal::Journal;
 use disk_model::{Disk, Progress};
 use refusals::Refusal;
 use refusals::limits::{GREATEST_NUMBER, MOST_ELEMENT_BYTES, MOST_JOURNAL_BYTES};
 
-fn is_on_hives(change: &ChangeText, hives: u8) -> bool
+fn is_on_hives(change: &EncodedChange, hives: u8) -> bool
     ensures { result ≡ true → OnHives hives change.now }
 {
     let mut left = change.hives();
@@ -26,7 +26,7 @@ fn is_on_hives(change: &ChangeText, hives: u8) -> bool
 }
 
 /// Whether the journal may be handed these elements behind what stands.
-pub fn may_hand(journal: &Journal, handed: &[ChangeText]) -> bool
+pub fn may_hand(journal: &Journal, handed: &[EncodedChange]) -> bool
     ensures { result ≡ true → IsHanded (store_of journal.now).hives
         (65 + room_of (choice_of journal.now).now.elements)
         (top 0 (choice_of journal.now).now + 1) handed.now (choice_of journal.now).now }
@@ -54,7 +54,7 @@ pub fn may_hand(journal: &Journal, handed: &[ChangeText]) -> bool
 pub fn step<D: Disk>(
     journal: &mut Journal,
     disk: &mut D,
-    handed: &[ChangeText],
+    handed: &[EncodedChange],
 ) -> Option<Result<Progress, Refusal>> {
     if !may_hand(journal, handed) {
         return None;

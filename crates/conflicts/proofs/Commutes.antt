@@ -66,7 +66,7 @@ keeps (DeleteValue h p name) hive spelled e apart depth descriptor q r on gone =
 -- How far a way leads
 
 depth_by : (tree : TreeMap) → IsTree tree → (path : List (List ℕ)) (d : ℕ) → d ≤ length path → IsSome (row tree (take d path)) → (d < length path → (rest : List (List ℕ)) → row tree (take (d + 1) path ++ rest) ≡ None) → depth_there tree path ≡ d
-depth_by tree is path d within home gone = omega (arith, levels_missing tree is path d within home gone)
+depth_by tree is path d within touched_path gone = omega (arith, levels_missing tree is path d within touched_path gone)
 
 depth_within : (tree : TreeMap) (path : List (List ℕ)) → depth_there tree path ≤ length path
 depth_within tree path = omega arith

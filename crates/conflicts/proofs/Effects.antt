@@ -28,7 +28,7 @@ edited edit key = record key { values = edit key.values }
 
 -- done at a moment
 abbrev pub done : ℕ → Deed → Option Row → Option Row
-done m (Makes home new name descriptor) o = cond home (option_map (touched m) o) (cond new (Some (new_row name descriptor m)) o)
+done m (Makes touched_path new name descriptor) o = cond touched_path (option_map (touched m) o) (cond new (Some (new_row name descriptor m)) o)
 done m (Removes here parent) o = cond here None (cond parent (option_map (touched m) o) o)
 done m (Edits here edit) o = cond here (option_map (λ key. touched m (edited edit key)) o) o
 
@@ -68,7 +68,7 @@ row_done tree op m q = row-tree_after tree op m q ∙ row_deed tree op m q
 
 -- it makes only what isn't there, and does all else to what is
 abbrev pub FitsRow : Deed → Option Row → Type 0
-FitsRow (Makes home new name descriptor) o = (home ≡ true → IsSome o) × (new ≡ true → o ≡ None)
+FitsRow (Makes touched_path new name descriptor) o = (touched_path ≡ true → IsSome o) × (new ≡ true → o ≡ None)
 FitsRow (Removes here parent) o = (here ≡ true → IsSome o) × (parent ≡ true → IsSome o)
 FitsRow (Edits here edit) o = here ≡ true → IsSome o
 

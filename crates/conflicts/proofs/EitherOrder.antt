@@ -17,7 +17,7 @@ use Rattle.reg_tree.specs.Operations.{hive_of, touched, tree_after, depth_there}
 use Rattle.reg_tree.specs.Judgement.{judged, changed_if, applied, applied_one, applied_if}
 use Rattle.reg_tree.specs.Sequences.{AreTrees}
 use Rattle.reg_tree.specs.TreeLists.{levels_in, levels_made}
-use Rattle.reg_tree.specs.Stamps.{time_at, time_in, home_of, stamped_at, stamped_if, stamped}
+use Rattle.reg_tree.specs.Stamps.{time_at, time_in, touched_path_of, stamped_at, stamped_if, stamped}
 use Rattle.reg_tree.specs.Times.{timeless, untimed, SameButTimes}
 use Rattle.reg_tree.specs.declared.op.Op.{Op}
 use Rattle.reg_tree.specs.declared.op.Op.TheVariants.{CreateKey, DeleteKey, SetValue, DeleteValue}
@@ -28,13 +28,13 @@ use Rattle.reg_tree.proofs.Times.{applied_same, moments_alike, same_untimed}
 use Rattle.reg_tree.proofs.Paths.{eq_is, eq_self, told as by_bool}
 use Rattle.reg_tree.proofs.Stamps.{row-stamped}
 use Rattle.conflicts.proofs.Tests.{never}
-use Rattle.conflicts.specs.Skeletons.{judged_if, judged_in, AreCarriedOut, AreApart, MakesAlike, IsBeside}
+use Rattle.conflicts.specs.TreeOutlines.{judged_if, judged_in, AreCarriedOut, OpsDontConflict, MakesAlike, IsBeside}
 use Rattle.conflicts.proofs.KeyDepths.{levels, depth_is}
 use Rattle.conflicts.proofs.OnSkeletons.{Found, found, set_here}
 use Rattle.conflicts.proofs.StaysLegal.{LawOfClaims, past_one, trees_stay}
 use Rattle.conflicts.proofs.Effects.{Deed, its, done, FitsRow, makes, writes, Orders, twice, row_done, there_written, stays_written, done_at}
-use Rattle.conflicts.proofs.TimesTold.{at_path, IsTold, AreTold, told}
-use Rattle.conflicts.proofs.Homes.{levels_here, written_home}
+use Rattle.conflicts.proofs.TimesAsRead.{at_path, IsTold, AreTold, told}
+use Rattle.conflicts.proofs.TouchedPaths.{levels_here, written_home}
 use Rattle.conflicts.proofs.Commutes.{NoConflict, conflict_back, StaysAsLong, same_deed, either_tree, no_shorter, fits}
 
 -- an operation that may be carried out puts its hive's tree after it
@@ -304,7 +304,7 @@ module _ (the_law : LawOfClaims) where
       )
 
   -- the operation between, without its neighbours
-  one_apart : (ops : List Op) (b : Op) → AreApart ops (b ∷ []) → AllByRecursion (λ a. NoConflict a b) ops
+  one_apart : (ops : List Op) (b : Op) → OpsDontConflict ops (b ∷ []) → AllByRecursion (λ a. NoConflict a b) ops
   one_apart [] b apart = tt
   one_apart (a ∷ ops) b apart = (apart.0.0, one_apart ops b apart.1)
 
@@ -375,11 +375,11 @@ module _ (the_law : LawOfClaims) where
 
     -- The times, where the change has a moment of its own: the key that it writes has that of the operations, where they wrote it
 
-    abbrev home : List (List ℕ)
-    home = home_of change (levels_made after_ops change)
+    abbrev touched_path : List (List ℕ)
+    touched_path = touched_path_of change (levels_made after_ops change)
 
-    at_home : (q : List (List ℕ)) → writes (y q) ≡ true → q ≡ home
-    at_home q w = written_home on.tree change q w ∙ ap (home_of change) (sym (levels_here after_ops change on.tree on.at))
+    at_home : (q : List (List ℕ)) → writes (y q) ≡ true → q ≡ touched_path
+    at_home q w = written_home on.tree change q w ∙ ap (touched_path_of change) (sym (levels_here after_ops change on.tree on.at))
 
     time_at_path : (o : Option TreeMap) (path : List (List ℕ)) → option_and_then (λ tree. time_at tree path) o ≡ option_map (λ (key : Row). key.time) (at_path o path)
     time_at_path None path = refl
@@ -389,7 +389,7 @@ module _ (the_law : LawOfClaims) where
     time_here q = ap (λ o. option_and_then (λ tree. time_at tree q) o) on.at
 
     -- where they didn't write it, nothing else is to be done
-    pub unwritten : (time_in after_ops its_hive home ≡ Some m → ⊥) → change_last ≡ change_first
+    pub unwritten : (time_in after_ops its_hive touched_path ≡ Some m → ⊥) → change_last ≡ change_first
     unwritten other = all_same (λ q. elim (orders q) [
       | inl s ↦ sym s.0
       | inr w ↦ elim (by_bool (writes (y q))) [
@@ -403,11 +403,11 @@ module _ (the_law : LawOfClaims) where
         time_of o (Some key) e there = ap (option_map (λ (key : Row). key.time)) e
 
     -- where they did, and it had another time before, it has theirs
-    pub written : time_in after_ops its_hive home ≡ Some m → (time_in trees its_hive home ≡ Some m → ⊥) → stamped change_last its_hive home m ≡ change_first
-    written mine other = same_lists (stamped change_last its_hive home m) change_first (λ hive. elim (cases_eq hive its_hive) [
-      | inl e ↦ subst (λ k. slice_get (stamped change_last its_hive home m) k ≡ slice_get change_first k) (sym e)
-          (stamped_here ∙ same_tree (Some (stamped_at after home m)) (slice_get change_first its_hive) times rows)
-      | inr ne ↦ ap (λ ts. slice_get ts hive) stamped_is ∙ set_other change_last its_hive hive (stamped_at after home m) ne ∙ elsewhere hive ne
+    pub written : time_in after_ops its_hive touched_path ≡ Some m → (time_in trees its_hive touched_path ≡ Some m → ⊥) → stamped change_last its_hive touched_path m ≡ change_first
+    written mine other = same_lists (stamped change_last its_hive touched_path m) change_first (λ hive. elim (cases_eq hive its_hive) [
+      | inl e ↦ subst (λ k. slice_get (stamped change_last its_hive touched_path m) k ≡ slice_get change_first k) (sym e)
+          (stamped_here ∙ same_tree (Some (stamped_at after touched_path m)) (slice_get change_first its_hive) times rows)
+      | inr ne ↦ ap (λ ts. slice_get ts hive) stamped_is ∙ set_other change_last its_hive hive (stamped_at after touched_path m) ne ∙ elsewhere hive ne
     ])
       where
         after : TreeMap
@@ -416,11 +416,11 @@ module _ (the_law : LawOfClaims) where
         at_left : slice_get change_last its_hive ≡ Some after
         at_left = put_there after_ops change n on.tree on.at on.legal
 
-        stamped_is : stamped change_last its_hive home m ≡ slice_set change_last its_hive (stamped_at after home m)
-        stamped_is = ap (λ o. stamped_if change_last o its_hive home m) at_left
+        stamped_is : stamped change_last its_hive touched_path m ≡ slice_set change_last its_hive (stamped_at after touched_path m)
+        stamped_is = ap (λ o. stamped_if change_last o its_hive touched_path m) at_left
 
-        stamped_here : slice_get (stamped change_last its_hive home m) its_hive ≡ Some (stamped_at after home m)
-        stamped_here = ap (λ ts. slice_get ts its_hive) stamped_is ∙ set_here change_last its_hive (stamped_at after home m) after at_left
+        stamped_here : slice_get (stamped change_last its_hive touched_path m) its_hive ≡ Some (stamped_at after touched_path m)
+        stamped_here = ap (λ ts. slice_get ts its_hive) stamped_is ∙ set_here change_last its_hive (stamped_at after touched_path m) after at_left
 
         set_other : (xs : List TreeMap) (i k : ℕ) (x : TreeMap) → (k ≡ i → ⊥) → slice_get (slice_set xs i x) k ≡ slice_get xs k
         set_other [] i k x ne = refl
@@ -430,12 +430,12 @@ module _ (the_law : LawOfClaims) where
         set_other (z ∷ xs) (suc i) (suc k) x ne = set_other xs i k x (λ same. ne (ap suc same))
 
         -- whether a row is the one that is written
-        rows : (q : List (List ℕ)) → row (stamped_at after home m) q ≡ at_path (slice_get change_first its_hive) q
-        rows q = row-stamped after home m q ∙ ap (λ o. cond (eq_by_cmp path_order q home) (option_map (touched m) o) o) (row_done on.tree change n q) ∙ by_home (by_bool (eq_by_cmp path_order q home))
+        rows : (q : List (List ℕ)) → row (stamped_at after touched_path m) q ≡ at_path (slice_get change_first its_hive) q
+        rows q = row-stamped after touched_path m q ∙ ap (λ o. cond (eq_by_cmp path_order q touched_path) (option_map (touched m) o) o) (row_done on.tree change n q) ∙ by_home (by_bool (eq_by_cmp path_order q touched_path))
           where
-            by_home : (eq_by_cmp path_order q home ≡ true) ⊎ (eq_by_cmp path_order q home ≡ false) → cond (eq_by_cmp path_order q home) (option_map (touched m) (done n (y q) (row on.tree q))) (done n (y q) (row on.tree q)) ≡ at_path (slice_get change_first its_hive) q
+            by_home : (eq_by_cmp path_order q touched_path ≡ true) ⊎ (eq_by_cmp path_order q touched_path ≡ false) → cond (eq_by_cmp path_order q touched_path) (option_map (touched m) (done n (y q) (row on.tree q))) (done n (y q) (row on.tree q)) ≡ at_path (slice_get change_first its_hive) q
             by_home (inl e) = ap (λ b. cond b (option_map (touched m) (done n (y q) (row on.tree q))) (done n (y q) (row on.tree q))) e ∙ elim (orders q) [
-              | inl s ↦ absurd (other (ap (time_in trees its_hive) (sym (eq_is q home e)) ∙ time_at_path (slice_get trees its_hive) q ∙ ap (option_map (λ (key : Row). key.time)) (sym s.1) ∙ sym (time_here q) ∙ ap (time_in after_ops its_hive) (eq_is q home e) ∙ mine))
+              | inl s ↦ absurd (other (ap (time_in trees its_hive) (sym (eq_is q touched_path e)) ∙ time_at_path (slice_get trees its_hive) q ∙ ap (option_map (λ (key : Row). key.time)) (sym s.1) ∙ sym (time_here q) ∙ ap (time_in after_ops its_hive) (eq_is q touched_path e) ∙ mine))
               | inr w ↦ sym w.0
             ]
             by_home (inr ne) = ap (λ b. cond b (option_map (touched m) (done n (y q) (row on.tree q))) (done n (y q) (row on.tree q))) ne ∙ elim (orders q) [
@@ -444,11 +444,11 @@ module _ (the_law : LawOfClaims) where
             ]
               where
                 off : (writes (y q) ≡ true) ⊎ (writes (y q) ≡ false) → writes (y q) ≡ false
-                off (inl here) = absurd (true≢false (sym (ap (λ p. eq_by_cmp path_order p home) (at_home q here) ∙ eq_self home) ∙ ne))
+                off (inl here) = absurd (true≢false (sym (ap (λ p. eq_by_cmp path_order p touched_path) (at_home q here) ∙ eq_self touched_path) ∙ ne))
                 off (inr none) = none
 
-        times : option_map untimed (Some (stamped_at after home m)) ≡ option_map untimed (slice_get change_first its_hive)
-        times = ap Some (same_untimed (stamped_at after home m) after (λ q. ap (option_map timeless) (row-stamped after home m q) ∙ blind (eq_by_cmp path_order q home) (row after q))) ∙ sym (ap (option_map untimed) at_left) ∙ known.1.0
+        times : option_map untimed (Some (stamped_at after touched_path m)) ≡ option_map untimed (slice_get change_first its_hive)
+        times = ap Some (same_untimed (stamped_at after touched_path m) after (λ q. ap (option_map timeless) (row-stamped after touched_path m q) ∙ blind (eq_by_cmp path_order q touched_path) (row after q))) ∙ sym (ap (option_map untimed) at_left) ∙ known.1.0
           where
             blind : (b : Bool) (o : Option Row) → option_map timeless (cond b (option_map (touched m) o) o) ≡ option_map timeless o
             blind true None = refl

@@ -28,7 +28,7 @@ use Rattle.reg_tree.proofs.Changes.{nothing_below}
 use Rattle.conflicts.specs.Legal as legal
 use Rattle.conflicts.proofs.Tests.{never}
 use Rattle.conflicts.specs.Claims.{key_at}
-use Rattle.conflicts.specs.Skeletons.{row_if, row_of, is_protected, has_value, skeleton, outline, judged_if, judged_in, FitsData}
+use Rattle.conflicts.specs.TreeOutlines.{row_if, row_of, is_protected, has_value, skeleton, outline, judged_if, judged_in, FitsData}
 use Rattle.conflicts.proofs.KeyDepths.{home_is_there, past_home, few_missing}
 use Rattle.conflicts.proofs.OnSkeletons.{Found, found}
 
@@ -106,10 +106,10 @@ module _ (trees : List TreeMap) (are : AreTrees trees) where
       let on = found trees (CreateKey hive spelled) e in
       let p : List (List ℕ) = folded_path spelled in
       let asks = create_asks (is_there on.tree p) (nat_lt MOST_NEW_LEVELS (length (missing on.tree p))) on.legal in
-      let home : IsSome (row on.tree (take (depth_there on.tree p) p)) = home_is_there on.tree (are hive on.tree on.at) p in
+      let touched_path : IsSome (row on.tree (take (depth_there on.tree p) p)) = home_is_there on.tree (are hive on.tree on.at) p in
       let few : length (missing on.tree p) ≤ 32 = grind (arith, nat_tests, asks.1) in
       let near : length (drop (depth_there on.tree p) p) ≤ length (missing on.tree p) = past_home on.tree (are hive on.tree on.at) p in
-      ((ap is_some (of_hive hive on.tree on.at p) ∙ asks.0, (take (depth_there on.tree p) p, drop (depth_there on.tree p) p, sym (take-append-drop (depth_there on.tree p) p), omega (arith, near, few), ap is_some (of_hive hive on.tree on.at (take (depth_there on.tree p) p)) ∙ home)), tt)
+      ((ap is_some (of_hive hive on.tree on.at p) ∙ asks.0, (take (depth_there on.tree p) p, drop (depth_there on.tree p) p, sym (take-append-drop (depth_there on.tree p) p), omega (arith, near, few), ap is_some (of_hive hive on.tree on.at (take (depth_there on.tree p) p)) ∙ touched_path)), tt)
   legal_from_judged (DeleteKey hive []) e = let on = found trees (DeleteKey hive []) e in let bad : Err Fixed ≡ Ok Legal = on.legal in absurd cc
   legal_from_judged (DeleteKey hive (s ∷ spelled)) e =
       let on = found trees (DeleteKey hive (s ∷ spelled)) e in by_row on (row on.tree (folded_path (s ∷ spelled))) refl on.legal

@@ -19,22 +19,22 @@ use Rattle.std.proofs.lemmas.List.Elements.{filter_map-append}
 use Rattle.conflicts.specs.Skeleton.{Claim}
 use Rattle.conflicts.specs.declared.table.Kept.{Kept}
 use Rattle.conflicts.proofs.Tests.{never}
-use Rattle.conflicts.specs.Holders.{Held, same_held, is_some_that, stands_against, asks, with_holder, each_once, holders_of}
+use Rattle.conflicts.specs.Holders.{HeldClaim, same_held_claim, is_some_that, blocks, asks, with_holder, each_once, holders_of}
 use Rattle.conflicts.specs.Claims.{meets}
-use Rattle.conflicts.specs.Spots.{Spot, spot_order, spot_text}
+use Rattle.conflicts.specs.IndexKeys.{IndexKey, index_key_order, index_key_text}
 use Rattle.conflicts.specs.Index.{IsListed}
-use Rattle.conflicts.specs.declared.spots.Index.{Index}
-use Rattle.conflicts.specs.Filed.{Numbered, claims_of, IsFiled, AreFiled}
-use Rattle.conflicts.proofs.Filing.{has_lookup}
-use Rattle.conflicts.proofs.SpotRanges.{at_text}
+use Rattle.conflicts.specs.declared.index_keys.Index.{Index}
+use Rattle.conflicts.specs.ClaimIndexes.{Numbered, claims_of, IsInIndexes, AreInIndexes}
+use Rattle.conflicts.proofs.Indexing.{has_lookup}
+use Rattle.conflicts.proofs.IndexKeyRanges.{at_text}
 use Rattle.conflicts.proofs.Members.{held_is, parts, here, later, first_or_later, none_empty, filter_has}
 use Rattle.conflicts.proofs.Once.{holders-more}
 
 -- the claim of a number, where there is one
-abbrev pub look : List Numbered → ℕ → Option Held
+abbrev pub look : List Numbered → ℕ → Option HeldClaim
 look kept n = option_map (λ (k : Kept). k.entry) (lookup (is_at (nat_cmp n)) kept)
 
-abbrev pub looked : List Numbered → List ℕ → List Held
+abbrev pub looked : List Numbered → List ℕ → List HeldClaim
 looked kept numbers = filter_map (look kept) numbers
 
 is_less : (m n : ℕ) → m < n → nat_cmp m n ≡ Less
@@ -82,7 +82,7 @@ above_all : (k n : ℕ) (xs : List ℕ) → k < n → Above n xs → Above k xs
 above_all k n [] lt a = tt
 above_all k n (x ∷ xs) lt a = let further : n < x = less_is n x a.0 in (is_less k x (omega (arith, lt, further)), above_all k n xs lt a.1)
 
-module _ (p : Held → Bool) where
+module _ (p : HeldClaim → Bool) where
   nothing : (kept : List Numbered) → ((n : ℕ) (k : Kept) → Contains kept (n, k) → p k.entry ≡ false) → filter p (claims_of kept) ≡ []
   nothing [] h = refl
   nothing (e ∷ kept) h = ap (λ b. cond b (e.1.entry ∷ filter p (claims_of kept)) (filter p (claims_of kept))) (h e.0 e.1 (here e kept)) ∙ nothing kept (λ n k c. h n k (later e kept (n, k) c))
@@ -94,7 +94,7 @@ module _ (p : Held → Bool) where
   abbrev Covers : List Numbered → List ℕ → Type 0
   Covers kept ks = (n : ℕ) (k : Kept) → Contains kept (n, k) → p k.entry ≡ true → Contains ks n
 
-  one_more : (x : Held) (xs ys : List Held) → filter p xs ≡ filter p ys → filter p (x ∷ xs) ≡ filter p (x ∷ ys)
+  one_more : (x : HeldClaim) (xs ys : List HeldClaim) → filter p xs ≡ filter p ys → filter p (x ∷ xs) ≡ filter p (x ∷ ys)
   one_more x xs ys e = ap (λ zs. cond (p x) (x ∷ zs) zs) e
 
   number_in : (kept : List Numbered) (n : ℕ) (k : Kept) → Contains kept (n, k) → Contains (map (λ (e : Numbered). e.0) kept) n
@@ -144,9 +144,9 @@ module _ (p : Held → Bool) where
 
 -- so the holders among the claims looked up are all
 pub all_holders : (kept : List Numbered) (numbers : List ℕ) (asker : Option ℕ) (claim : Claim) → Rises (map (λ (e : Numbered). e.0) kept) → Rises numbers
-    → ((n : ℕ) (k : Kept) → Contains kept (n, k) → stands_against asker claim k.entry ≡ true → Contains numbers n) → holders_of (looked kept numbers) asker claim ≡ holders_of (claims_of kept) asker claim
+    → ((n : ℕ) (k : Kept) → Contains kept (n, k) → blocks asker claim k.entry ≡ true → Contains numbers n) → holders_of (looked kept numbers) asker claim ≡ holders_of (claims_of kept) asker claim
 all_holders kept numbers asker claim rk rn covers =
-    ap (λ hs. each_once (map (λ (h : Held). h.owner) hs)) (looked_all (stands_against asker claim) (length kept + length numbers) kept numbers (omega arith) rk rn covers)
+    ap (λ hs. each_once (map (λ (h : HeldClaim). h.owner) hs)) (looked_all (blocks asker claim) (length kept + length numbers) kept numbers (omega arith) rk rn covers)
 
 -- one number more
 pub holders_turn : (kept : List Numbered) (numbers : List ℕ) (i : ℕ) (asker : Option ℕ) (claim : Claim) (old new : List ℕ) → i < length numbers → old ≡ holders_of (looked kept (take i numbers)) asker claim
@@ -155,7 +155,7 @@ holders_turn kept numbers i asker claim old new lt was now =
     now ∙ ap (λ xs. with_holder xs (look kept (get_or numbers i 0)) asker claim) was ∙ by_look (look kept (get_or numbers i 0))
     ∙ ap (λ hs. holders_of hs asker claim) (sym (filter_map-append (look kept) (take i numbers) (get_or numbers i 0 ∷ []))) ∙ ap (λ ns. holders_of (looked kept ns) asker claim) (sym (take_more numbers i 0 lt))
   where
-    by_look : (o : Option Held) → with_holder (holders_of (looked kept (take i numbers)) asker claim) o asker claim ≡ holders_of (looked kept (take i numbers) ++ cons_option o []) asker claim
+    by_look : (o : Option HeldClaim) → with_holder (holders_of (looked kept (take i numbers)) asker claim) o asker claim ≡ holders_of (looked kept (take i numbers) ++ cons_option o []) asker claim
     by_look None = ap (λ hs. holders_of hs asker claim) (sym (append-nil (looked kept (take i numbers))))
     by_look (Some one) = sym (holders-more (looked kept (take i numbers)) one asker claim)
 
@@ -171,22 +171,22 @@ lent_entry None = refl
 lent_entry (Some k) = refl
 
 -- the numbers near a claim are those of all claims that may stand against it
-pub covered : (next : ℕ) (index : Index) (owned : List (ℕ × ℕ)) (kept : List Numbered) → AreFiled next index owned kept → next < 18446744073709551616 → (asker : Option ℕ) (claim : Claim) (numbers : List ℕ)
+pub covered : (next : ℕ) (index : Index) (owned : List (ℕ × ℕ)) (kept : List Numbered) → AreInIndexes next index owned kept → next < 18446744073709551616 → (asker : Option ℕ) (claim : Claim) (numbers : List ℕ)
     → ((number : ℕ) (held : Claim) → number < 18446744073709551616 → IsListed index number held → meets claim held ≡ true → Contains numbers number)
-    → (n : ℕ) (k : Kept) → Contains kept (n, k) → stands_against asker claim k.entry ≡ true → Contains numbers n
+    → (n : ℕ) (k : Kept) → Contains kept (n, k) → blocks asker claim k.entry ≡ true → Contains numbers n
 covered next index owned kept are small asker claim numbers complete n k has t =
-    let filed : IsFiled next index owned n k.entry = are.filed n k has in
-    let below : n < next = filed.below in
-    complete n k.entry.claim (omega (arith, below, small)) filed.listed (parts (not (asks asker k.entry.owner)) (meets claim k.entry.claim) t).1
+    let in_indexes : IsInIndexes next index owned n k.entry = are.in_indexes n k has in
+    let below : n < next = in_indexes.below in
+    complete n k.entry.claim (omega (arith, below, small)) in_indexes.listed (parts (not (asks asker k.entry.owner)) (meets claim k.entry.claim) t).1
 
 -- Whether some claim passes a test
 
-none_passes : (p : Held → Bool) (held : List Held) → ((one : Held) → Contains held one → p one ≡ false) → list_any p held ≡ false
+none_passes : (p : HeldClaim → Bool) (held : List HeldClaim) → ((one : HeldClaim) → Contains held one → p one ≡ false) → list_any p held ≡ false
 none_passes p [] h = refl
 none_passes p (one ∷ held) h = ap (λ b. b || list_any p held) (h one (here one held)) ∙ none_passes p held (λ other c. h other (later one held other c))
 
 -- that of a number does
-pub found_one : (p : Held → Bool) (kept : List Numbered) (n : ℕ) → is_some_that p (look kept n) ≡ true → list_any p (claims_of kept) ≡ true
+pub found_one : (p : HeldClaim → Bool) (kept : List Numbered) (n : ℕ) → is_some_that p (look kept n) ≡ true → list_any p (claims_of kept) ≡ true
 found_one p [] n t = never t
 found_one p (x ∷ kept) n t = by_case (found_one p kept n) (is_eq (nat_cmp n x.0)) t
   where
@@ -199,7 +199,7 @@ found_one p (x ∷ kept) n t = by_case (found_one p kept n) (is_eq (nat_cmp n x.
     by_case rest false t = or_true (p x.1.entry) (list_any p (claims_of kept)) (rest t)
 
 -- those of no number do
-found_none : (p : Held → Bool) (kept all : List Numbered) → ((n : ℕ) (k : Kept) → Contains kept (n, k) → Contains all (n, k)) → Rises (map (λ (e : Numbered). e.0) all)
+found_none : (p : HeldClaim → Bool) (kept all : List Numbered) → ((n : ℕ) (k : Kept) → Contains kept (n, k) → Contains all (n, k)) → Rises (map (λ (e : Numbered). e.0) all)
     → ((n : ℕ) (k : Kept) → Contains all (n, k) → p k.entry ≡ true → is_some_that p (look all n) ≡ false) → list_any p (claims_of kept) ≡ false
 found_none p [] all within rises none = refl
 found_none p (x ∷ kept) all within rises none =
@@ -214,7 +214,7 @@ found_none p (x ∷ kept) all within rises none =
     by_case true e = ap (is_some_that p) (sym (ap (option_map (λ (k : Kept). k.entry)) (has_lookup all rises x.0 x.1 there))) ∙ none x.0 x.1 there e
 
 -- nor do those of the numbers so far
-pub none_yet : (p : Held → Bool) (kept : List Numbered) (numbers : List ℕ) (i : ℕ) → i < length numbers → ((n : ℕ) → Contains (take i numbers) n → is_some_that p (look kept n) ≡ false) → is_some_that p (look kept (get_or numbers i 0)) ≡ false
+pub none_yet : (p : HeldClaim → Bool) (kept : List Numbered) (numbers : List ℕ) (i : ℕ) → i < length numbers → ((n : ℕ) → Contains (take i numbers) n → is_some_that p (look kept n) ≡ false) → is_some_that p (look kept (get_or numbers i 0)) ≡ false
     → (n : ℕ) → Contains (take (i + 1) numbers) n → is_some_that p (look kept n) ≡ false
 none_yet p kept numbers i lt was now n c = by_case (take i numbers) was (subst (λ xs. Contains xs n) (take_more numbers i 0 lt) c)
   where
@@ -226,32 +226,32 @@ none_yet p kept numbers i lt was now n c = by_case (take i numbers) was (subst (
     ]
 
 -- so none conflicts, where those of the numbers near don't
-pub none_met : (next : ℕ) (index : Index) (owned : List (ℕ × ℕ)) (kept : List Numbered) → AreFiled next index owned kept → next < 18446744073709551616 → (asker : Option ℕ) (claim : Claim) (numbers : List ℕ)
+pub none_met : (next : ℕ) (index : Index) (owned : List (ℕ × ℕ)) (kept : List Numbered) → AreInIndexes next index owned kept → next < 18446744073709551616 → (asker : Option ℕ) (claim : Claim) (numbers : List ℕ)
     → ((number : ℕ) (held : Claim) → number < 18446744073709551616 → IsListed index number held → meets claim held ≡ true → Contains numbers number)
-    → ((n : ℕ) → Contains numbers n → is_some_that (stands_against asker claim) (look kept n) ≡ false) → list_any (stands_against asker claim) (claims_of kept) ≡ false
+    → ((n : ℕ) → Contains numbers n → is_some_that (blocks asker claim) (look kept n) ≡ false) → list_any (blocks asker claim) (claims_of kept) ≡ false
 none_met next index owned kept are small asker claim numbers complete none =
-    found_none (stands_against asker claim) kept kept (λ n k c. c) are.rises (λ n k c t. none n (covered next index owned kept are small asker claim numbers complete n k c t))
+    found_none (blocks asker claim) kept kept (λ n k c. c) are.rises (λ n k c t. none n (covered next index owned kept are small asker claim numbers complete n k c t))
 
 -- and none is the one asked for, where those of the spots at its text aren't
-pub none_same : (next : ℕ) (index : Index) (owned : List (ℕ × ℕ)) (kept : List Numbered) → AreFiled next index owned kept → next < 18446744073709551616 → (one : Held) (from to : Spot) → from.0.items ≡ spot_text one.claim → from.1 ≡ 0 → to.0.items ≡ from.0.items → to.1 ≡ 18446744073709551615
-    → ((spot : Spot) → Contains (filter (λ s. range_contains spot_order (Included from) (Included to) s) index.spots.keys) spot → is_some_that (same_held one) (look kept spot.1) ≡ false) → list_any (same_held one) (claims_of kept) ≡ false
+pub none_same : (next : ℕ) (index : Index) (owned : List (ℕ × ℕ)) (kept : List Numbered) → AreInIndexes next index owned kept → next < 18446744073709551616 → (one : HeldClaim) (from to : IndexKey) → from.0.items ≡ index_key_text one.claim → from.1 ≡ 0 → to.0.items ≡ from.0.items → to.1 ≡ 18446744073709551615
+    → ((index_key : IndexKey) → Contains (filter (λ s. range_contains index_key_order (Included from) (Included to) s) index.index_keys.keys) index_key → is_some_that (same_held_claim one) (look kept index_key.1) ≡ false) → list_any (same_held_claim one) (claims_of kept) ≡ false
 none_same next index owned kept are small one from to at least same most none =
-    found_none (same_held one) kept kept (λ n k c. c) are.rises (λ n k c t.
-    let filed : IsFiled next index owned n k.entry = are.filed n k c in
-    let text : filed.listed.spot.0.items ≡ from.0.items = filed.listed.text ∙ ap (λ (h : Held). spot_text h.claim) (sym (held_is one k.entry t)) ∙ sym at in
-    let below : n < next = filed.below in
-    let numbered : filed.listed.spot.1 ≡ n = filed.listed.numbered in
-    subst (λ m. is_some_that (same_held one) (look kept m) ≡ false) filed.listed.numbered
-    (none filed.listed.spot (filter_has (λ s. range_contains spot_order (Included from) (Included to) s) index.spots.keys filed.listed.spot filed.listed.listed (at_text from to least same most filed.listed.spot text (omega (arith, below, small, numbered))))))
+    found_none (same_held_claim one) kept kept (λ n k c. c) are.rises (λ n k c t.
+    let in_indexes : IsInIndexes next index owned n k.entry = are.in_indexes n k c in
+    let text : in_indexes.listed.index_key.0.items ≡ from.0.items = in_indexes.listed.text ∙ ap (λ (h : HeldClaim). index_key_text h.claim) (sym (held_is one k.entry t)) ∙ sym at in
+    let below : n < next = in_indexes.below in
+    let numbered : in_indexes.listed.index_key.1 ≡ n = in_indexes.listed.numbered in
+    subst (λ m. is_some_that (same_held_claim one) (look kept m) ≡ false) in_indexes.listed.numbered
+    (none in_indexes.listed.index_key (filter_has (λ s. range_contains index_key_order (Included from) (Included to) s) index.index_keys.keys in_indexes.listed.index_key in_indexes.listed.listed (at_text from to least same most in_indexes.listed.index_key text (omega (arith, below, small, numbered))))))
 
 -- the spots that are still to be gone through
-pub none_before : (p : Held → Bool) (kept : List Numbered) (spots rest : List Spot) (first : Spot) → ((spot : Spot) → Contains spots spot → Contains (first ∷ rest) spot ⊎ (is_some_that p (look kept spot.1) ≡ false)) → is_some_that p (look kept first.1) ≡ false
-    → (spot : Spot) → Contains spots spot → Contains rest spot ⊎ (is_some_that p (look kept spot.1) ≡ false)
-none_before p kept spots rest first was now spot c = elim (was spot c) [
-  | inl d ↦ elim (first_or_later first rest spot d) [ inl e ↦ inr (subst (λ (s : Spot). is_some_that p (look kept s.1) ≡ false) e now) | inr r ↦ inl r ]
+pub none_before : (p : HeldClaim → Bool) (kept : List Numbered) (index_keys rest : List IndexKey) (first : IndexKey) → ((index_key : IndexKey) → Contains index_keys index_key → Contains (first ∷ rest) index_key ⊎ (is_some_that p (look kept index_key.1) ≡ false)) → is_some_that p (look kept first.1) ≡ false
+    → (index_key : IndexKey) → Contains index_keys index_key → Contains rest index_key ⊎ (is_some_that p (look kept index_key.1) ≡ false)
+none_before p kept index_keys rest first was now index_key c = elim (was index_key c) [
+  | inl d ↦ elim (first_or_later first rest index_key d) [ inl e ↦ inr (subst (λ (s : IndexKey). is_some_that p (look kept s.1) ≡ false) e now) | inr r ↦ inl r ]
   | inr f ↦ inr f
 ]
 
-pub none_left_over : (p : Held → Bool) (kept : List Numbered) (spots rest : List Spot) → ((spot : Spot) → Contains spots spot → Contains rest spot ⊎ (is_some_that p (look kept spot.1) ≡ false)) → rest ≡ []
-    → (spot : Spot) → Contains spots spot → is_some_that p (look kept spot.1) ≡ false
-none_left_over p kept spots rest was none spot c = elim (was spot c) [ inl d ↦ absurd (none_empty spot (subst (λ xs. Contains xs spot) none d)) | inr f ↦ f ]
+pub none_left_over : (p : HeldClaim → Bool) (kept : List Numbered) (index_keys rest : List IndexKey) → ((index_key : IndexKey) → Contains index_keys index_key → Contains rest index_key ⊎ (is_some_that p (look kept index_key.1) ≡ false)) → rest ≡ []
+    → (index_key : IndexKey) → Contains index_keys index_key → is_some_that p (look kept index_key.1) ≡ false
+none_left_over p kept index_keys rest was none index_key c = elim (was index_key c) [ inl d ↦ absurd (none_empty index_key (subst (λ xs. Contains xs index_key) none d)) | inr f ↦ f ]

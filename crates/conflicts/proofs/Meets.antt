@@ -2,7 +2,7 @@
 use Rattle.std.proofs.Common.{◌≡◌, ◌==◌, ◌⊎◌, inl, inr, ◌↔◌, ℕ, Bool, true, false, ◌||◌, ◌&&◌, IsTrue, List, [], ◌∷◌, ◌++◌, length, refl, sym, ◌∙◌, ap, arith, ◌+◌, length-append}
 use Rattle.std.proofs.lemmas.List.{append-nil}
 use Rattle.reg_names.specs.Names as names
-use Rattle.conflicts.specs.Skeleton.{Key, Same, Begins, ProperlyBegins, same_key, begins_key, Kind, Shape, Hold, Claim, Conflict}
+use Rattle.conflicts.specs.Skeleton.{Key, Same, Begins, ProperlyBegins, same_key, begins_key, ClaimKind, Shape, Hold, Claim, Conflict}
 use Rattle.conflicts.proofs.Tests.{key_is, key_begins, same_begins, same_sym, begins_refl, proper_begins, split, never}
 use Rattle.conflicts.proofs.Closed.{same_is, begins_is_true}
 use Rattle.std.proofs.lemmas.Bool.{eqb-true, eq-eqb}
@@ -39,11 +39,11 @@ right_true : (a b : Bool) → b ≡ true → (a || b) ≡ true
 right_true true b h = refl
 right_true false b h = h
 
-shape_is : (k : Kind) → is_shape k ≡ true → k ≡ Shape
+shape_is : (k : ClaimKind) → is_shape k ≡ true → k ≡ Shape
 shape_is Shape h = refl
 shape_is Hold h = never h
 
-is_shape_of : (k : Kind) → k ≡ Shape → is_shape k ≡ true
+is_shape_of : (k : ClaimKind) → k ≡ Shape → is_shape k ≡ true
 is_shape_of k e = ap is_shape e
 
 -- keys that begin one another are the same

@@ -3,10 +3,10 @@ use Rattle.std.proofs.Common.{◌≡◌, ◌⊎◌, inl, inr, ◌↔◌, ℕ, ze
 use Rattle.std.specs.Prelude.{◌==◌, ◌≢◌, filter, Contains, nat_eq}
 use Rattle.std.specs.List.{list_any, AllByRecursion, IsDistinct}
 use Rattle.std.proofs.lemmas.Bool.{eqb-true, eq-eqb}
-use Rattle.conflicts.specs.Skeleton.{Same, Kind, Shape, Hold, Claim, same_key}
+use Rattle.conflicts.specs.Skeleton.{Same, ClaimKind, Shape, Hold, Claim, same_key}
 use Rattle.conflicts.proofs.Tests.{never, key_is}
 use Rattle.conflicts.specs.Claims.{meets, same_kind, same_claim}
-use Rattle.conflicts.specs.Holders.{Held, same_held, holds_claim, with_claim, without_owner, asks, stands_against, each_once, holders_of, IsHolder}
+use Rattle.conflicts.specs.Holders.{HeldClaim, same_held_claim, holds_claim, with_claim, without_owner, asks, blocks, each_once, holders_of, IsHolder}
 use Rattle.conflicts.proofs.Meets.{meets_conflict, conflict_meets}
 use Rattle.conflicts.proofs.Once.{told}
 
@@ -134,35 +134,35 @@ joined : (a b : Bool) → a ≡ true → b ≡ true → (a && b) ≡ true
 joined true b h g = g
 joined false b h g = never h
 
-pub who : (held : List Held) (asker : Option ℕ) (claim : Claim) (owner : ℕ) → Contains (holders_of held asker claim) owner ↔ IsHolder held asker claim owner
+pub who : (held : List HeldClaim) (asker : Option ℕ) (claim : Claim) (owner : ℕ) → Contains (holders_of held asker claim) owner ↔ IsHolder held asker claim owner
 who held asker claim owner = (to, from)
   where
     to : Contains (holders_of held asker claim) owner → IsHolder held asker claim owner
     to c =
-        let found = has_map (λ (h : Held). h.owner) (filter (stands_against asker claim) held) owner (has_once (map (λ (h : Held). h.owner) (filter (stands_against asker claim) held)) owner c) in
-        let stands = has_filter (stands_against asker claim) held found.0 found.1 in
+        let found = has_map (λ (h : HeldClaim). h.owner) (filter (blocks asker claim) held) owner (has_once (map (λ (h : HeldClaim). h.owner) (filter (blocks asker claim) held)) owner c) in
+        let stands = has_filter (blocks asker claim) held found.0 found.1 in
         let both = parts (not (asks asker found.0.owner)) (meets claim found.0.claim) stands.1 in
         (found.0.claim, subst (λ n. Contains held (record { owner = n; claim = found.0.claim })) found.2 stands.0, meets_conflict claim found.0.claim both.1, subst (λ n. asker ≢ Some n) found.2 (asker_not asker found.0.owner both.0))
 
     from : IsHolder held asker claim owner → Contains (holders_of held asker claim) owner
     from h =
-        let one : Held = record { owner = owner; claim = h.0 } in
-        once_has (map (λ (h : Held). h.owner) (filter (stands_against asker claim) held)) owner
-        (map_has (λ (h : Held). h.owner) (filter (stands_against asker claim) held) one
-        (filter_has (stands_against asker claim) held one h.1 (joined (not (asks asker owner)) (meets claim h.0) (not_asker asker owner h.3) (conflict_meets claim h.0 h.2))))
+        let one : HeldClaim = record { owner = owner; claim = h.0 } in
+        once_has (map (λ (h : HeldClaim). h.owner) (filter (blocks asker claim) held)) owner
+        (map_has (λ (h : HeldClaim). h.owner) (filter (blocks asker claim) held) one
+        (filter_has (blocks asker claim) held one h.1 (joined (not (asks asker owner)) (meets claim h.0) (not_asker asker owner h.3) (conflict_meets claim h.0 h.2))))
 
-pub once : (held : List Held) (asker : Option ℕ) (claim : Claim) → IsDistinct nat_eq (holders_of held asker claim)
-once held asker claim = once_distinct (map (λ (h : Held). h.owner) (filter (stands_against asker claim) held))
+pub once : (held : List HeldClaim) (asker : Option ℕ) (claim : Claim) → IsDistinct nat_eq (holders_of held asker claim)
+once held asker claim = once_distinct (map (λ (h : HeldClaim). h.owner) (filter (blocks asker claim) held))
 
 -- The claims of a table
 
-kind_is : (c d : Kind) → same_kind c d ≡ true → c ≡ d
+kind_is : (c d : ClaimKind) → same_kind c d ≡ true → c ≡ d
 kind_is Shape Shape e = refl
 kind_is Shape Hold e = never e
 kind_is Hold Shape e = never e
 kind_is Hold Hold e = refl
 
-pub held_is : (a b : Held) → same_held a b ≡ true → a ≡ b
+pub held_is : (a b : HeldClaim) → same_held_claim a b ≡ true → a ≡ b
 held_is a b t =
     let first = parts (b.owner == a.owner) (same_claim a.claim b.claim) t in
     let second = parts (same_kind a.claim.kind b.claim.kind) (same_key a.claim.key b.claim.key) first.1 in
@@ -171,15 +171,15 @@ held_is a b t =
     let kinds : a.claim.kind ≡ b.claim.kind = kind_is a.claim.kind b.claim.kind second.0 in
     λ i. record { owner = sym owners i; claim = record { kind = kinds i; key = record { hive = key.0 i; path = key.1 i } } }
 
-pub same_has : (one : Held) (held : List Held) → list_any (same_held one) held ≡ true → Contains held one
+pub same_has : (one : HeldClaim) (held : List HeldClaim) → list_any (same_held_claim one) held ≡ true → Contains held one
 same_has one [] t = never t
-same_has one (h ∷ held) t = by_case (same_has one held) (same_held one h) refl t
+same_has one (h ∷ held) t = by_case (same_has one held) (same_held_claim one h) refl t
   where
-    by_case : (list_any (same_held one) held ≡ true → Contains held one) → (b : Bool) → same_held one h ≡ b → (b || list_any (same_held one) held) ≡ true → Contains (h ∷ held) one
+    by_case : (list_any (same_held_claim one) held ≡ true → Contains held one) → (b : Bool) → same_held_claim one h ≡ b → (b || list_any (same_held_claim one) held) ≡ true → Contains (h ∷ held) one
     by_case rest true e t = subst (λ x. Contains (x ∷ held) one) (held_is one h e) (here one held)
     by_case rest false e t = later h held one (rest t)
 
-snoc_has : (held : List Held) (one other : Held) → Contains held other ⊎ (one ≡ other) → Contains (held ++ one ∷ []) other
+snoc_has : (held : List HeldClaim) (one other : HeldClaim) → Contains held other ⊎ (one ≡ other) → Contains (held ++ one ∷ []) other
 snoc_has [] one other (inl c) = absurd (none_empty other c)
 snoc_has [] one other (inr e) = subst (λ x. Contains (x ∷ []) other) (sym e) (here other [])
 snoc_has (h ∷ held) one other (inl c) = elim (first_or_later h held other c) [
@@ -188,24 +188,24 @@ snoc_has (h ∷ held) one other (inl c) = elim (first_or_later h held other c) [
 ]
 snoc_has (h ∷ held) one other (inr e) = later h (held ++ one ∷ []) other (snoc_has held one other (inr e))
 
-pub has_snoc : (held : List Held) (one other : Held) → Contains (held ++ one ∷ []) other → Contains held other ⊎ (one ≡ other)
+pub has_snoc : (held : List HeldClaim) (one other : HeldClaim) → Contains (held ++ one ∷ []) other → Contains held other ⊎ (one ≡ other)
 has_snoc [] one other c = elim (first_or_later one [] other c) [ inl e ↦ inr e | inr d ↦ inl d ]
 has_snoc (h ∷ held) one other c = elim (first_or_later h (held ++ one ∷ []) other c) [
   | inl e ↦ inl (subst (λ x. Contains (x ∷ held) other) (sym e) (here other held))
   | inr d ↦ elim (has_snoc held one other d) [ inl k ↦ inl (later h held other k) | inr e ↦ inr e ]
 ]
 
-pub added : (held : List Held) (one other : Held) → Contains (with_claim held one) other ↔ (Contains held other ⊎ (one ≡ other))
+pub added : (held : List HeldClaim) (one other : HeldClaim) → Contains (with_claim held one) other ↔ (Contains held other ⊎ (one ≡ other))
 added held one other = by_case (holds_claim held one) refl
   where
-    by_case : (b : Bool) → list_any (same_held one) held ≡ b → Contains (cond b held (held ++ one ∷ [])) other ↔ (Contains held other ⊎ (one ≡ other))
+    by_case : (b : Bool) → list_any (same_held_claim one) held ≡ b → Contains (cond b held (held ++ one ∷ [])) other ↔ (Contains held other ⊎ (one ≡ other))
     by_case true e = (λ c. inl c, λ c. elim c [ inl k ↦ k | inr same ↦ subst (λ x. Contains held x) same (same_has one held e) ])
     by_case false e = (has_snoc held one other, snoc_has held one other)
 
-pub dropped : (held : List Held) (owner : ℕ) (other : Held) → Contains (without_owner held owner) other ↔ (Contains held other × (other.owner ≢ owner))
+pub dropped : (held : List HeldClaim) (owner : ℕ) (other : HeldClaim) → Contains (without_owner held owner) other ↔ (Contains held other × (other.owner ≢ owner))
 dropped held owner other = (
-  λ c. let t = has_filter (λ (h : Held). not (h.owner == owner)) held other c in (t.0, λ e. never (sym (ap not (eq-eqb other.owner owner e)) ∙ t.1)),
-  λ c. filter_has (λ (h : Held). not (h.owner == owner)) held other c.0 (by_case (other.owner == owner) refl c.1),
+  λ c. let t = has_filter (λ (h : HeldClaim). not (h.owner == owner)) held other c in (t.0, λ e. never (sym (ap not (eq-eqb other.owner owner e)) ∙ t.1)),
+  λ c. filter_has (λ (h : HeldClaim). not (h.owner == owner)) held other c.0 (by_case (other.owner == owner) refl c.1),
 )
   where
     by_case : (b : Bool) → (other.owner == owner) ≡ b → other.owner ≢ owner → not (other.owner == owner) ≡ true

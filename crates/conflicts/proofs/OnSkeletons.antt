@@ -23,7 +23,7 @@ use Rattle.reg_tree.proofs.TreesAfter.{row-tree_after}
 use Rattle.reg_tree.proofs.OthersStay.{hives_stay}
 use Rattle.conflicts.specs.Skeleton as law
 use Rattle.conflicts.specs.Claims.{key_at}
-use Rattle.conflicts.specs.Skeletons.{row_if, row_of, is_protected, has_value, skeleton, outline, judged_if, judged_in}
+use Rattle.conflicts.specs.TreeOutlines.{row_if, row_of, is_protected, has_value, skeleton, outline, judged_if, judged_in}
 use Rattle.conflicts.proofs.KeyTests.{names_agree, paths_agree, begins_agree}
 use Rattle.conflicts.proofs.RowsAfter.{touched_there, touched_protected, touched_value, created_there, created_else, deleted_all, edited_else, set_rows, unset_rows}
 

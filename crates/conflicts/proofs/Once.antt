@@ -8,7 +8,7 @@ use Rattle.std.proofs.lemmas.List.Elements.{filter-append}
 use Rattle.std.proofs.lemmas.Map.Views.{any-filter_same}
 use Rattle.conflicts.proofs.Tests.{never}
 use Rattle.conflicts.specs.Skeleton.{Claim}
-use Rattle.conflicts.specs.Holders.{Held, stands_against, each_once, with_number, holders_of}
+use Rattle.conflicts.specs.Holders.{HeldClaim, blocks, each_once, with_number, holders_of}
 
 pub told : (b : Bool) → (b ≡ true) ⊎ (b ≡ false)
 told true = inl refl
@@ -67,14 +67,14 @@ each_once-more (a ∷ xs) x = ap (λ ys. a ∷ others a ys) (each_once-more xs x
         push false = refl
 
 -- the holders, of one claim more
-pub holders-more : (held : List Held) (one : Held) (asker : _) (claim : Claim) → holders_of (held ++ one ∷ []) asker claim ≡ cond (stands_against asker claim one) (with_number (holders_of held asker claim) one.owner) (holders_of held asker claim)
+pub holders-more : (held : List HeldClaim) (one : HeldClaim) (asker : _) (claim : Claim) → holders_of (held ++ one ∷ []) asker claim ≡ cond (blocks asker claim one) (with_number (holders_of held asker claim) one.owner) (holders_of held asker claim)
 holders-more held one asker claim =
-    ap (λ hs. each_once (map (λ (h : Held). h.owner) hs)) (filter-append (stands_against asker claim) held (one ∷ []))
-    ∙ by_case (stands_against asker claim one)
+    ap (λ hs. each_once (map (λ (h : HeldClaim). h.owner) hs)) (filter-append (blocks asker claim) held (one ∷ []))
+    ∙ by_case (blocks asker claim one)
   where
-    by_case : (b : Bool) → each_once (map (λ (h : Held). h.owner) (filter (stands_against asker claim) held ++ cond b (one ∷ []) [])) ≡ cond b (with_number (each_once (map (λ (h : Held). h.owner) (filter (stands_against asker claim) held))) one.owner) (each_once (map (λ (h : Held). h.owner) (filter (stands_against asker claim) held)))
-    by_case true = ap each_once (map-append (λ (h : Held). h.owner) (filter (stands_against asker claim) held) (one ∷ [])) ∙ each_once-more (map (λ (h : Held). h.owner) (filter (stands_against asker claim) held)) one.owner
-    by_case false = ap (λ hs. each_once (map (λ (h : Held). h.owner) hs)) (append-nil (filter (stands_against asker claim) held))
+    by_case : (b : Bool) → each_once (map (λ (h : HeldClaim). h.owner) (filter (blocks asker claim) held ++ cond b (one ∷ []) [])) ≡ cond b (with_number (each_once (map (λ (h : HeldClaim). h.owner) (filter (blocks asker claim) held))) one.owner) (each_once (map (λ (h : HeldClaim). h.owner) (filter (blocks asker claim) held)))
+    by_case true = ap each_once (map-append (λ (h : HeldClaim). h.owner) (filter (blocks asker claim) held) (one ∷ [])) ∙ each_once-more (map (λ (h : HeldClaim). h.owner) (filter (blocks asker claim) held)) one.owner
+    by_case false = ap (λ hs. each_once (map (λ (h : HeldClaim). h.owner) hs)) (append-nil (filter (blocks asker claim) held))
 
 module _ {A : Type 0} (number : A → ℕ) where
   -- what is not listed is added, and what is listed is not
@@ -92,12 +92,12 @@ module _ {A : Type 0} (number : A → ℕ) where
   listed_already xs x b e t false = refl
 
 -- the holders among one claim more of a list
-holders_step : (items : List Held) (i : ℕ) (one : Held) (asker : Option ℕ) (claim : Claim) → i < length items → one ≡ get_or items i one
-    → holders_of (take (i + 1) items) asker claim ≡ cond (stands_against asker claim one) (with_number (holders_of (take i items) asker claim) one.owner) (holders_of (take i items) asker claim)
+holders_step : (items : List HeldClaim) (i : ℕ) (one : HeldClaim) (asker : Option ℕ) (claim : Claim) → i < length items → one ≡ get_or items i one
+    → holders_of (take (i + 1) items) asker claim ≡ cond (blocks asker claim one) (with_number (holders_of (take i items) asker claim) one.owner) (holders_of (take i items) asker claim)
 holders_step items i one asker claim lt is =
     ap (λ hs. holders_of hs asker claim) (take_more items i one lt ∙ ap (λ h. take i items ++ h ∷ []) (sym is)) ∙ holders-more (take i items) one asker claim
 
-pub found_same : (items : List Held) (i : ℕ) (one : Held) (asker : Option ℕ) (claim : Claim) (old : List ℕ) (b : Bool) → i < length items → one ≡ get_or items i one
-    → b ≡ stands_against asker claim one → b ≡ false → old ≡ holders_of (take i items) asker claim → old ≡ holders_of (take (i + 1) items) asker claim
+pub found_same : (items : List HeldClaim) (i : ℕ) (one : HeldClaim) (asker : Option ℕ) (claim : Claim) (old : List ℕ) (b : Bool) → i < length items → one ≡ get_or items i one
+    → b ≡ blocks asker claim one → b ≡ false → old ≡ holders_of (take i items) asker claim → old ≡ holders_of (take (i + 1) items) asker claim
 found_same items i one asker claim old b lt is e f was =
     was ∙ ap (λ s. cond s (with_number (holders_of (take i items) asker claim) one.owner) (holders_of (take i items) asker claim)) (sym f ∙ e) ∙ sym (holders_step items i one asker claim lt is)

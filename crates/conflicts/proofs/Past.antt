@@ -3,7 +3,7 @@ use Rattle.std.proofs.Common.{◌≡◌, inl, ℕ, List, [], ◌∷◌, refl, �
 use Rattle.std.specs.List.{AllByRecursion}
 use mathlib.Core.Path.{fun_ext}
 use Rattle.conflicts.specs.Skeleton.{Key, Same, Begins, same_name, same_key, Shape, Op, CreateKey, DeleteKey, SetValue, DeleteValue, claim, Skeleton, makes, removes, makes_value, removes_value, apply, applied}
-use Rattle.conflicts.specs.Legal.{Near, Legal, LegalInOrder, Apart, AllApart}
+use Rattle.conflicts.specs.Legal.{Near, Legal, LegalInOrder, DontConflict, NoneConflict}
 use Rattle.conflicts.proofs.Tests.{never, both, key_is, key_begins, same_begins, begins_begins, same_refl, begins_refl, proper_begins, shape_conflict, conflict_sym, stays, stays_away, either_order}
 
 made_begins : (o : Op) (x : Key) → makes o x ≡ true → ((claim o).kind ≡ Shape) × Begins x (claim o).key
@@ -31,25 +31,25 @@ removed_value_is (SetValue k v) x w h = never h
 removed_value_is (DeleteValue k v) x w h = key_is x k (both (same_key x k) (same_name w v) h).0
 
 -- the four facts: what one operation changes touches no key that the other asks about
-no_removed : (a b : Op) (x : Key) → Apart a b → Begins x (claim b).key → removes a x ≡ true → ⊥
+no_removed : (a b : Op) (x : Key) → DontConflict a b → Begins x (claim b).key → removes a x ≡ true → ⊥
 no_removed a b x apart h r = let t : ((claim a).kind ≡ Shape) × Same x (claim a).key = removed_is a x r in
     apart (shape_conflict (claim a) (claim b) t.0 (same_begins x (claim a).key (claim b).key t.1 h))
 
-no_made : (a b : Op) (x : Key) → Apart a b → (claim b).kind ≡ Shape → Begins (claim b).key x → makes a x ≡ true → ⊥
+no_made : (a b : Op) (x : Key) → DontConflict a b → (claim b).kind ≡ Shape → Begins (claim b).key x → makes a x ≡ true → ⊥
 no_made a b x apart s h m = let t : ((claim a).kind ≡ Shape) × Begins x (claim a).key = made_begins a x m in
     apart (conflict_sym (claim b) (claim a) (shape_conflict (claim b) (claim a) s (begins_begins (claim b).key x (claim a).key h t.1)))
 
-other_key : (a b : Op) (x : Key) → Apart a b → Same x (claim a).key → Same x (claim b).key → ⊥
+other_key : (a b : Op) (x : Key) → DontConflict a b → Same x (claim a).key → Same x (claim b).key → ⊥
 other_key a b x apart s t = apart (inl (sym s.0 ∙ t.0, sym s.1 ∙ t.1))
 
-pub apart_sym : (a b : Op) → Apart a b → Apart b a
+pub apart_sym : (a b : Op) → DontConflict a b → DontConflict b a
 apart_sym a b apart c = apart (conflict_sym (claim b) (claim a) c)
 
-not_both : (a b : Op) (x : Key) → Apart a b → makes a x ≡ true → removes b x ≡ true → ⊥
+not_both : (a b : Op) (x : Key) → DontConflict a b → makes a x ≡ true → removes b x ≡ true → ⊥
 not_both a b x apart m r = no_removed b a x (apart_sym a b apart) (made_begins a x m).1 r
 
 -- legal before, legal after
-pub past_one : (a b : Op) (s : Skeleton) → Apart a b → Legal s b → Legal (apply a s) b
+pub past_one : (a b : Op) (s : Skeleton) → DontConflict a b → Legal s b → Legal (apply a s) b
 past_one a (CreateKey k) s apart l = (
   stays_away (s.there k) (makes a k) (removes a k) l.0 (no_made a (CreateKey k) k apart refl (begins_refl k)),
   near l.1,
@@ -70,7 +70,7 @@ past_one a (DeleteValue k v) s apart l = (
   stays (s.value k v) (makes_value a k v) (removes_value a k v) l.1 (λ r. other_key a (DeleteValue k v) k apart (removed_value_is a k v r) (same_refl k)),
 )
 
-pub orders : (a b : Op) (s : Skeleton) → Apart a b → apply a (apply b s) ≡ apply b (apply a s)
+pub orders : (a b : Op) (s : Skeleton) → DontConflict a b → apply a (apply b s) ≡ apply b (apply a s)
 orders a b s apart =
     ap (λ (f : Key → Bool). record { there = f; protected = (apply a (apply b s)).protected; value = (apply a (apply b s)).value })
     (fun_ext (λ x. either_order (s.there x) (makes a x) (removes a x) (makes b x) (removes b x) (not_both a b x apart) (not_both b a x (apart_sym a b apart))))
@@ -82,10 +82,10 @@ orders a b s apart =
     (λ m r. other_key a b x apart (removed_value_is a x w r) (made_value_is b x w m)))))
 
 -- a list stays legal past one operation
-pub past_ops : (a : Op) (os : List Op) (s : Skeleton) → AllByRecursion (λ o. Apart a o) os → LegalInOrder os s → LegalInOrder os (apply a s)
+pub past_ops : (a : Op) (os : List Op) (s : Skeleton) → AllByRecursion (λ o. DontConflict a o) os → LegalInOrder os s → LegalInOrder os (apply a s)
 past_ops a [] s apart l = tt
 past_ops a (o ∷ os) s apart l = (past_one a o s apart.0 l.0, subst (λ t. LegalInOrder os t) (orders a o s apart.0) (past_ops a os (apply o s) apart.1 l.1))
 
-pub past_all : (es os : List Op) (s : Skeleton) → AllApart es os → LegalInOrder os s → LegalInOrder os (applied es s)
+pub past_all : (es os : List Op) (s : Skeleton) → NoneConflict es os → LegalInOrder os s → LegalInOrder os (applied es s)
 past_all [] os s apart l = l
 past_all (e ∷ es) os s apart l = past_all es os (apply e s) apart.1 (past_ops e os s apart.0 l)

@@ -17,7 +17,7 @@ use Rattle.reg_tree_parts.proofs.Keys.{names_total}
 use Rattle.reg_tree.specs.Maps.{TreeMap, row, IsTree}
 use Rattle.reg_tree.specs.Operations.{touched, depth_there, descriptor_of, row_created, row_deleted, row_edited}
 use Rattle.reg_tree.proofs.Paths.{eq_is, split_begins}
-use Rattle.conflicts.specs.Skeletons.{is_protected, has_value}
+use Rattle.conflicts.specs.TreeOutlines.{is_protected, has_value}
 use Rattle.conflicts.proofs.KeyDepths.{gone_past, there_up_to, home_is_there}
 
 pub touched_there : (m : ℕ) (o : Option Row) → is_some (option_map (touched m) o) ≡ is_some o
@@ -57,11 +57,11 @@ module _ (tree : TreeMap) (is : IsTree tree) where
     created_there = by_case (eq_by_cmp path_order q (take (depth_there tree (folded_path spelled)) (folded_path spelled))) (begins_path q (folded_path spelled)) (nat_lt (depth_there tree (folded_path spelled)) (length q)) at_home fresh old
       where
         by_case : (a b l : Bool) → (a ≡ true → IsSome (row tree q)) → (b ≡ true → l ≡ true → row tree q ≡ None) → (b ≡ true → l ≡ false → IsSome (row tree q)) → is_some (made a (b && l)) ≡ cond b true (is_some (row tree q))
-        by_case true true l home fresh old = touched_there m (row tree q) ∙ home refl
-        by_case true false l home fresh old = touched_there m (row tree q)
-        by_case false true true home fresh old = refl
-        by_case false true false home fresh old = old refl refl
-        by_case false false l home fresh old = refl
+        by_case true true l touched_path fresh old = touched_there m (row tree q) ∙ touched_path refl
+        by_case true false l touched_path fresh old = touched_there m (row tree q)
+        by_case false true true touched_path fresh old = refl
+        by_case false true false touched_path fresh old = old refl refl
+        by_case false false l touched_path fresh old = refl
 
     pub created_else : (f : Option Row → Bool) → ((o : Option Row) → f (option_map (touched m) o) ≡ f o) → ((name descriptor : List ℕ) → f (Some (new_row name descriptor m)) ≡ f None) → f (row_created tree spelled m q) ≡ f (row tree q)
     created_else f timeless none = by_case (eq_by_cmp path_order q (take (depth_there tree (folded_path spelled)) (folded_path spelled))) (begins_path q (folded_path spelled)) (nat_lt (depth_there tree (folded_path spelled)) (length q)) fresh

@@ -17,13 +17,13 @@ use Rattle.reg_tree.proofs.OthersStay.{trees_stay_one}
 use Rattle.conflicts.specs.Skeleton as law
 use Rattle.conflicts.specs.Legal as legal
 use Rattle.conflicts.specs.Claims.{claim_of}
-use Rattle.conflicts.specs.Skeletons.{skeleton, outline, judged_if, judged_in, FitsData, AreCarriedOut, AreApart}
+use Rattle.conflicts.specs.TreeOutlines.{skeleton, outline, judged_if, judged_in, FitsData, AreCarriedOut, OpsDontConflict}
 use Rattle.conflicts.proofs.OnSkeletons.{follows}
 use Rattle.conflicts.proofs.LegalOnSkeletons.{legal_from_judged, judged_from_legal}
 
 -- the law of claims, as it is handed in
 abbrev pub LawOfClaims : Type 0
-LawOfClaims = (element ops : List law.Op) (s : law.Skeleton) → legal.AllApart element ops → legal.LegalInOrder ops s → legal.LegalInOrder ops (law.applied element s)
+LawOfClaims = (element ops : List law.Op) (s : law.Skeleton) → legal.NoneConflict element ops → legal.LegalInOrder ops s → legal.LegalInOrder ops (law.applied element s)
 
 claim_is : (op : Op) → law.claim (outline op) ≡ claim_of op
 claim_is (CreateKey hive path) = refl
@@ -86,7 +86,7 @@ module _ (the_law : LawOfClaims) where
     | inr not_legal ↦ subst (λ t. AreCarriedOut t ops m) (sym (unchanged trees op n not_legal)) c
   ]
 
-  past_all : (trees : List TreeMap) (first ops : List Op) (m n : ℕ) → AreTrees trees → AreApart first ops → AreCarriedOut trees ops m → AreCarriedOut (applied trees first n) ops m
+  past_all : (trees : List TreeMap) (first ops : List Op) (m n : ℕ) → AreTrees trees → OpsDontConflict first ops → AreCarriedOut trees ops m → AreCarriedOut (applied trees first n) ops m
   past_all trees [] ops m n are apart c = c
   past_all trees (op ∷ first) ops m n are apart c = past_all (applied_one trees op n) first ops m n (trees_stay_one trees op n are) apart.1 (past_one trees op ops m n are apart.0 c)
 
@@ -98,7 +98,7 @@ pub trees_stay : (trees : List TreeMap) (ops : List Op) (m : ℕ) → AreTrees t
 trees_stay trees [] m are = are
 trees_stay trees (op ∷ ops) m are = trees_stay (applied_one trees op m) ops m (trees_stay_one trees op m are)
 
-pub stay_legal : LawOfClaims → (trees : List TreeMap) (first ops : List Op) (m n k : ℕ) → AreTrees trees → AreApart first ops → AreCarriedOut trees ops m → AreCarriedOut (applied trees first n) ops k
+pub stay_legal : LawOfClaims → (trees : List TreeMap) (first ops : List Op) (m n k : ℕ) → AreTrees trees → OpsDontConflict first ops → AreCarriedOut trees ops m → AreCarriedOut (applied trees first n) ops k
 stay_legal the_law trees first ops m n k are apart c = any_moment (applied trees first n) (trees_stay trees first n are) ops m k (past_all the_law trees first ops m n are apart c)
 
 -- one operation more, judged on the trees after those before it

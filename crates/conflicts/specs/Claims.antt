@@ -5,15 +5,15 @@ use Rattle.reg_tree.specs.declared.op.Op.{Op}
 use Rattle.reg_tree.specs.declared.op.Op.TheVariants.{CreateKey, DeleteKey, SetValue, DeleteValue}
 use Rattle.conflicts.specs.Skeleton as law
 use Rattle.conflicts.specs.Skeleton.{same_key, begins_key}
-use Rattle.conflicts.specs.declared.claim.Kind.{Kind}
-use Rattle.conflicts.specs.declared.claim.Kind.TheVariants.{Shape, Hold}
+use Rattle.conflicts.specs.declared.claim.ClaimKind.{ClaimKind}
+use Rattle.conflicts.specs.declared.claim.ClaimKind.TheVariants.{Shape, Hold}
 
 -- the key of a path of a hive, by its folded names
 abbrev pub key_at : ℕ → List (List ℕ) → law.Key
 key_at hive spelled = record { hive = hive; path = folded_path spelled }
 
 -- the kind of a claim
-abbrev pub kind_of : Kind → law.Kind
+abbrev pub kind_of : ClaimKind → law.ClaimKind
 kind_of Shape = law.Shape
 kind_of Hold = law.Hold
 
@@ -24,7 +24,7 @@ claim_of (DeleteKey hive path) = record { kind = law.Shape; key = key_at hive pa
 claim_of (SetValue hive path name kind bytes) = record { kind = law.Hold; key = key_at hive path }
 claim_of (DeleteValue hive path name) = record { kind = law.Hold; key = key_at hive path }
 
-abbrev pub is_shape : law.Kind → Bool
+abbrev pub is_shape : law.ClaimKind → Bool
 is_shape law.Shape = true
 is_shape law.Hold = false
 
@@ -37,7 +37,7 @@ abbrev pub meets : law.Claim → law.Claim → Bool
 meets c d = reaches c d || reaches d c
 
 -- whether two claims are the same: of one kind, on one key
-abbrev pub same_kind : law.Kind → law.Kind → Bool
+abbrev pub same_kind : law.ClaimKind → law.ClaimKind → Bool
 same_kind law.Shape law.Shape = true
 same_kind law.Shape law.Hold = false
 same_kind law.Hold law.Shape = false

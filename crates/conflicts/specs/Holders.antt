@@ -5,29 +5,29 @@ use Rattle.conflicts.specs.Skeleton.{Claim, Conflict}
 use Rattle.conflicts.specs.Claims.{same_claim, meets}
 
 -- a claim, and the number of the transaction that holds it
-pub record Held : Type 0 where
+pub record HeldClaim : Type 0 where
   pub owner : ℕ
   pub claim : Claim
 
 -- whether one is the other
-abbrev pub same_held : Held → Held → Bool
-same_held a b = b.owner == a.owner && same_claim a.claim b.claim
+abbrev pub same_held_claim : HeldClaim → HeldClaim → Bool
+same_held_claim a b = b.owner == a.owner && same_claim a.claim b.claim
 
 -- whether there is one, and it passes a test
-abbrev pub is_some_that : (Held → Bool) → Option Held → Bool
+abbrev pub is_some_that : (HeldClaim → Bool) → Option HeldClaim → Bool
 is_some_that test None = false
 is_some_that test (Some one) = test one
 
 -- whether a claim of a transaction is among them
-abbrev pub holds_claim : List Held → Held → Bool
-holds_claim held one = list_any (same_held one) held
+abbrev pub holds_claim : List HeldClaim → HeldClaim → Bool
+holds_claim held one = list_any (same_held_claim one) held
 
 -- the claims with one more: at the end, where it is not among them
-abbrev pub with_claim : List Held → Held → List Held
+abbrev pub with_claim : List HeldClaim → HeldClaim → List HeldClaim
 with_claim held one = if holds_claim held one then held else held ++ one ∷ []
 
 -- the claims of all others than one transaction
-abbrev pub without_owner : List Held → ℕ → List Held
+abbrev pub without_owner : List HeldClaim → ℕ → List HeldClaim
 without_owner held owner = filter (λ h. not (h.owner == owner)) held
 
 -- whether it is the transaction that asks
@@ -36,8 +36,8 @@ asks None owner = false
 asks (Some asker) owner = asker == owner
 
 -- whether a claim is another's than the asker's and conflicts with the claim asked for
-abbrev pub stands_against : Option ℕ → Claim → Held → Bool
-stands_against asker claim held = not (asks asker held.owner) && meets claim held.claim
+abbrev pub blocks : Option ℕ → Claim → HeldClaim → Bool
+blocks asker claim held = not (asks asker held.owner) && meets claim held.claim
 
 -- each number once, where it first stands
 abbrev pub each_once : List ℕ → List ℕ
@@ -46,27 +46,27 @@ each_once (x ∷ xs) = x ∷ filter (λ y. not (y == x)) (each_once xs)
 
 -- who holds a claim that conflicts with the one asked for: each transaction once, in the order of its first such
 -- claim; the asker is left out
-abbrev pub holders_of : List Held → Option ℕ → Claim → List ℕ
-holders_of held asker claim = each_once (map (λ h. h.owner) (filter (stands_against asker claim) held))
+abbrev pub holders_of : List HeldClaim → Option ℕ → Claim → List ℕ
+holders_of held asker claim = each_once (map (λ h. h.owner) (filter (blocks asker claim) held))
 
 -- the numbers with one more: at the end, where it is not among them
 abbrev pub with_number : List ℕ → ℕ → List ℕ
 with_number xs x = if list_any (λ y. y == x) xs then xs else xs ++ x ∷ []
 
 -- the numbers with the owner of a claim, where there is one and it stands against the claim asked for
-abbrev pub with_holder : List ℕ → Option Held → Option ℕ → Claim → List ℕ
+abbrev pub with_holder : List ℕ → Option HeldClaim → Option ℕ → Claim → List ℕ
 with_holder xs None asker claim = xs
-with_holder xs (Some one) asker claim = if stands_against asker claim one then with_number xs one.owner else xs
+with_holder xs (Some one) asker claim = if blocks asker claim one then with_number xs one.owner else xs
 
 -- a transaction holds a claim that conflicts with the one asked for, and is not the asker
-abbrev pub IsHolder : List Held → Option ℕ → Claim → ℕ → Type 0
+abbrev pub IsHolder : List HeldClaim → Option ℕ → Claim → ℕ → Type 0
 IsHolder held asker claim owner = (one : Claim) × Contains held (record { owner = owner; claim = one }) × Conflict claim one × (asker ≢ Some owner)
 
 -- no claim of one transaction conflicts with one of another
-abbrev pub StandApart : List Held → Type 0
-StandApart held = (one other : Held) → Contains held one → Contains held other → stands_against (Some one.owner) one.claim other ≡ false
+abbrev pub OwnersDontConflict : List HeldClaim → Type 0
+OwnersDontConflict held = (one other : HeldClaim) → Contains held one → Contains held other → blocks (Some one.owner) one.claim other ≡ false
 
 -- a transaction asks for a claim: it holds it then exactly where no other holds one that conflicts with it
-abbrev pub AsksFor : List Held → Held → Bool → List Held → Type 0
-AsksFor old one true new = (holders_of old (Some one.owner) one.claim ≡ []) × (new ≡ with_claim old one)
-AsksFor old one false new = (holders_of old (Some one.owner) one.claim ≢ []) × (new ≡ old)
+abbrev pub IsClaimResult : List HeldClaim → HeldClaim → Bool → List HeldClaim → Type 0
+IsClaimResult old one true new = (holders_of old (Some one.owner) one.claim ≡ []) × (new ≡ with_claim old one)
+IsClaimResult old one false new = (holders_of old (Some one.owner) one.claim ≢ []) × (new ≡ old)

@@ -22,9 +22,9 @@ LegalInOrder [] s = Unit {0}
 LegalInOrder (o ∷ os) s = Legal s o × LegalInOrder os (apply o s)
 
 -- their claims do not conflict
-abbrev pub Apart : Op → Op → Type 0
-Apart a b = Conflict (claim a) (claim b) → ⊥
+abbrev pub DontConflict : Op → Op → Type 0
+DontConflict a b = Conflict (claim a) (claim b) → ⊥
 
 -- no claim of the first conflicts with one of the second
-abbrev pub AllApart : List Op → List Op → Type 0
-AllApart xs ys = AllByRecursion (λ a. AllByRecursion (λ b. Apart a b) ys) xs
+abbrev pub NoneConflict : List Op → List Op → Type 0
+NoneConflict xs ys = AllByRecursion (λ a. AllByRecursion (λ b. DontConflict a b) ys) xs

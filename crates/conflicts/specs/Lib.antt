@@ -1,9 +1,9 @@
 pub mod Claims
 pub mod Holders
-pub mod Skeletons
-pub mod Spots
+pub mod TreeOutlines
+pub mod IndexKeys
 pub mod Index
-pub mod Filed
+pub mod ClaimIndexes
 pub mod Skeleton
 pub mod Legal
 pub mod Machine

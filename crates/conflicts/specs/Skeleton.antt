@@ -46,13 +46,13 @@ abbrev pub begins_key : Key → Key → Bool
 begins_key k l = if eqb k.hive l.hive then begins_path k.path l.path else false
 
 -- how an operation claims its key
-pub data Kind : Type 0 where
-  Shape : Kind
-  Hold : Kind
+pub data ClaimKind : Type 0 where
+  Shape : ClaimKind
+  Hold : ClaimKind
 
 -- what an operation claims
 pub record Claim : Type 0 where
-  pub kind : Kind
+  pub kind : ClaimKind
   pub key : Key
 
 -- two claims conflict where their keys are the same, or one is a Shape and the other's key is below its key

@@ -9,7 +9,7 @@ use std::marker::Model;
 
 /// How a key is claimed.
 #[derive(Clone, Copy)]
-pub enum Kind {
+pub enum ClaimKind {
     /// The key is made or deleted: no other may touch what lies at or below it.
     Shape,
     /// A value of the key is changed.
@@ -21,7 +21,7 @@ pub enum Kind {
 pub struct Claim<'a> {
     pub(crate) hive: u8,
     pub(crate) path: &'a Path,
-    pub(crate) kind: Kind,
+    pub(crate) kind: ClaimKind,
 }
 
 impl<'a> Model for Claim<'a> {
@@ -40,8 +40,8 @@ pub fn claims(op: &Op) -> Claim<'_>
     ensures { result ≡ claim_of op.now }
 {
     let kind = match op {
-        Op::CreateKey { .. } | Op::DeleteKey { .. } => Kind::Shape,
-        Op::SetValue { .. } | Op::DeleteValue { .. } => Kind::Hold,
+        Op::CreateKey { .. } | Op::DeleteKey { .. } => ClaimKind::Shape,
+        Op::SetValue { .. } | Op::DeleteValue { .. } => ClaimKind::Hold,
     };
     Claim {
         hive: op.hive(),
@@ -83,7 +83,7 @@ fn begins(one: &Claim, other: &Claim) -> bool
 fn is_shape(claim: &Claim) -> bool
     ensures { result ≡ is_shape claim.now.kind }
 {
-    matches!(claim.kind, Kind::Shape)
+    matches!(claim.kind, ClaimKind::Shape)
 }
 
 // whether two claims are the same
@@ -91,7 +91,9 @@ pub(crate) fn same_claim(one: &Claim, other: &Claim) -> bool
     ensures { result ≡ same_claim one.now other.now }
 {
     match (one.kind, other.kind) {
-        (Kind::Shape, Kind::Shape) | (Kind::Hold, Kind::Hold) => same_key(one, other),
+        (ClaimKind::Shape, ClaimKind::Shape) | (ClaimKind::Hold, ClaimKind::Hold) => same_key(
+            one, other,
+        ),
         _ => false,
     }
 }

@@ -8,7 +8,7 @@ ghost use Rattle.std.specs.List.{IsDistinct};
 ghost use Rattle.refusals.specs.declared.refusal.Refusal.TheVariants.{TooLarge};
 ghost use Rattle.reg_tree.specs.Maps.{TreeMap};
 ghost use Rattle.reg_tree.specs.Operations.{hive_of};
-ghost use Rattle.reg_tree.specs.Stamps.{time_in, home_of, stamped};
+ghost use Rattle.reg_tree.specs.Stamps.{time_in, touched_path_of, stamped};
 ghost use Rattle.reg_tree.specs.TreeLists.{levels_made};
 ghost use Rattle.reg_tree.specs.Judgement.{legal, applied, applied_one};
 ghost use Rattle.reg_tree.specs.Sequences.{AreTrees};
@@ -17,8 +17,8 @@ ghost use Rattle.reg_tree.specs.declared.op.Op.{Op};
 ghost use Rattle.reg_tree.specs.declared.op.Legality.TheVariants.{Legal};
 ghost use Rattle.conflicts.specs.Skeleton.{apply, Claim};
 ghost use Rattle.conflicts.specs.Legal as law;
-ghost use Rattle.conflicts.specs.Skeletons.{skeleton, outline, judged_in, FitsData, AreCarriedOut, AreApart, IsBeside};
-ghost use Rattle.conflicts.specs.Holders.{Held, with_claim, without_owner, holders_of, IsHolder};
+ghost use Rattle.conflicts.specs.TreeOutlines.{skeleton, outline, judged_in, FitsData, AreCarriedOut, OpsDontConflict, IsBeside};
+ghost use Rattle.conflicts.specs.Holders.{HeldClaim, with_claim, without_owner, holders_of, IsHolder};
 
 use crate::skeleton_laws;
 
@@ -26,7 +26,7 @@ use crate::skeleton_laws;
 /// with theirs, at whatever moments. The others need not be legal.
 pub fn stay_legal()
     ensures { (trees : List TreeMap) (first ops : List Op) (m n k : ℕ) → AreTrees trees →
-        AreApart first ops →
+        OpsDontConflict first ops →
         AreCarriedOut trees ops m → AreCarriedOut (applied trees first n) ops k }
 {
     skeleton_laws::stays_legal();
@@ -61,16 +61,16 @@ pub fn either_order()
     ensures unwritten { (trees : List TreeMap) (ops : List Op) (change : Op) (m n : ℕ) →
         IsBeside trees ops change m →
         time_in (applied trees ops m) (hive_of change)
-        (home_of change (levels_made (applied trees ops m) change)) ≢ Some m →
+        (touched_path_of change (levels_made (applied trees ops m) change)) ≢ Some m →
         applied_one (applied trees ops m) change n ≡ applied (applied_one trees change n) ops m }
     ensures written { (trees : List TreeMap) (ops : List Op) (change : Op) (m n : ℕ) →
         IsBeside trees ops change m →
         time_in (applied trees ops m) (hive_of change)
-        (home_of change (levels_made (applied trees ops m) change)) ≡ Some m →
+        (touched_path_of change (levels_made (applied trees ops m) change)) ≡ Some m →
         time_in trees (hive_of change)
-        (home_of change (levels_made (applied trees ops m) change)) ≢ Some m →
+        (touched_path_of change (levels_made (applied trees ops m) change)) ≢ Some m →
         stamped (applied_one (applied trees ops m) change n) (hive_of change)
-        (home_of change (levels_made (applied trees ops m) change)) m
+        (touched_path_of change (levels_made (applied trees ops m) change)) m
         ≡ applied (applied_one trees change n) ops m }
     ensures but_for_times { (trees seen : List TreeMap) (ops : List Op) (change : Op)
         (m n k l : ℕ) → IsBeside trees ops change m →
@@ -95,17 +95,17 @@ pub fn outlines()
 /// The holders of a claim are exactly the transactions that hold a claim which conflicts with it, the asker left
 /// out; and each is listed once.
 pub fn holders_are_exact()
-    ensures who { (held : List Held) (asker : Option ℕ) (claim : Claim) (owner : ℕ) →
+    ensures who { (held : List HeldClaim) (asker : Option ℕ) (claim : Claim) (owner : ℕ) →
         Contains (holders_of held asker claim) owner ↔ IsHolder held asker claim owner }
-    ensures once { (held : List Held) (asker : Option ℕ) (claim : Claim) →
+    ensures once { (held : List HeldClaim) (asker : Option ℕ) (claim : Claim) →
         IsDistinct nat_eq (holders_of held asker claim) }
 {}
 
 /// Which claims a table has: after one more was added those before and this one, and after those of a transaction
 /// were dropped the claims of all others.
 pub fn claims_kept()
-    ensures added { (held : List Held) (one other : Held) →
+    ensures added { (held : List HeldClaim) (one other : HeldClaim) →
         Contains (with_claim held one) other ↔ (Contains held other ⊎ (one ≡ other)) }
-    ensures dropped { (held : List Held) (owner : ℕ) (other : Held) →
+    ensures dropped { (held : List HeldClaim) (owner : ℕ) (other : HeldClaim) →
         Contains (without_owner held owner) other ↔ (Contains held other × (other.owner ≢ owner)) }
 {}

@@ -7,10 +7,10 @@
 #![tactic(auto)]
 
 mod claim;
+mod index_keys;
 pub mod laws;
 pub mod skeleton_laws;
-mod spots;
 mod table;
 
-pub use claim::{Claim, Kind, claims, conflict};
-pub use table::{ClaimTable, Owner};
+pub use claim::{Claim, ClaimKind, claims, conflict};
+pub use table::{ClaimOwner, ClaimTable};

@@ -12,7 +12,7 @@
 //!   values that they have;
 //! - `Legal`: which operations are legal on a skeleton, and which lists of them in order;
 //! - `Closed`, `Levels`: what every skeleton of trees keeps, and how many levels of a path are missing;
-//! - `Machine`: the trees of now, what active transactions hold, and the steps that change them.
+//! - `ClaimState`: the trees of now, what active transactions hold, and the steps that change them.
 //!
 //! Weights are left out: whether a tree is too heavy at a commit can't be told before it.
 ghost use Rattle.std.specs.Prelude.{[], ◌≡◌, List, true, ◌≤◌, ◌↔◌, ℕ};
@@ -20,21 +20,21 @@ ghost use Rattle.std.specs.List.{AllByRecursion};
 ghost use Rattle.conflicts.specs.Skeleton.{Op, Skeleton, apply, applied, Key, root_key, Same, Begins, same_key, begins_key};
 ghost use Rattle.conflicts.specs.Closed.{Closed};
 ghost use Rattle.conflicts.specs.Levels.{missing_levels};
-ghost use Rattle.conflicts.specs.Legal.{Legal, LegalInOrder, Apart, AllApart, Near};
-ghost use Rattle.conflicts.specs.Machine.{Machine, Kept, Step, Runs};
+ghost use Rattle.conflicts.specs.Legal.{Legal, LegalInOrder, DontConflict, NoneConflict, Near};
+ghost use Rattle.conflicts.specs.ClaimState.{ClaimState, ClaimsAreSound, ClaimStep, Runs};
 
 /// Two operations whose claims do not conflict: what is legal for the second stays so after the first, and
 /// either order leads to one skeleton. Whether the first is legal does not matter.
 pub fn either_order()
-    ensures legal { (a b : Op) (s : Skeleton) → Apart a b → Legal s b → Legal (apply a s) b }
-    ensures same { (a b : Op) (s : Skeleton) → Apart a b → apply a (apply b s)
+    ensures legal { (a b : Op) (s : Skeleton) → DontConflict a b → Legal s b → Legal (apply a s) b }
+    ensures same { (a b : Op) (s : Skeleton) → DontConflict a b → apply a (apply b s)
         ≡ apply b (apply a s) }
 {}
 
 /// Operations that are legal one after another stay so after any others none of whose claims conflicts with
 /// theirs.
 pub fn stays_legal()
-    ensures { (element ops : List Op) (s : Skeleton) → AllApart element ops → LegalInOrder ops s →
+    ensures { (element ops : List Op) (s : Skeleton) → NoneConflict element ops → LegalInOrder ops s →
         LegalInOrder ops (applied element s) }
 {}
 
@@ -44,10 +44,10 @@ pub fn stays_legal()
 /// - `begins`: it is so while no transaction holds operations.
 /// - `step`, `always`: each step keeps it, and so does any list of steps.
 pub fn at_any_time()
-    ensures begins { (s : Skeleton) → Kept (record { now = s; held = λ i. [] }) }
-    ensures step { (old new : Machine) → Kept old → Step old new → Kept new }
-    ensures always { (m : Machine) (ns : List Machine) → Kept m → Runs m ns →
-        AllByRecursion Kept ns }
+    ensures begins { (s : Skeleton) → ClaimsAreSound (record { now = s; held = λ i. [] }) }
+    ensures step { (old new : ClaimState) → ClaimsAreSound old → ClaimStep old new → ClaimsAreSound new }
+    ensures always { (m : ClaimState) (ns : List ClaimState) → ClaimsAreSound m → Runs m ns →
+        AllByRecursion ClaimsAreSound ns }
 {}
 
 /// Legal operations keep what every skeleton of trees keeps; and the tests of keys say what they are named for.

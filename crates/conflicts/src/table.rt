@@ -3,12 +3,12 @@ ghost use Rattle.std.specs.Prelude.{◌≡◌, ◌==◌, ◌∷◌, ◌++◌, �
 ghost use Rattle.std.specs.List.{list_any};
 ghost use Rattle.std.specs.Option.{option_map};
 ghost use Rattle.std.specs.BTreeSet.{contains_by};
-ghost use Rattle.conflicts.specs.Spots.{pair_order};
-ghost use Rattle.conflicts.specs.Filed.{TakesOwn, LeavesOthers};
-ghost use Rattle.conflicts.specs.Holders.{Held, same_held, AsksFor, StandApart, without_owner, stands_against, holds_claim, with_number, with_holder, is_some_that, holders_of};
+ghost use Rattle.conflicts.specs.IndexKeys.{pair_order};
+ghost use Rattle.conflicts.specs.ClaimIndexes.{TakesOwn, LeavesOthers};
+ghost use Rattle.conflicts.specs.Holders.{HeldClaim, same_held_claim, IsClaimResult, OwnersDontConflict, without_owner, blocks, holds_claim, with_number, with_holder, is_some_that, holders_of};
 
-use crate::claim::{Claim, Kind, conflict, same_claim};
-use crate::spots::{Index, Spot, copy, numbers_near, spot_of};
+use crate::claim::{Claim, ClaimKind, conflict, same_claim};
+use crate::index_keys::{Index, IndexKey, copy, index_key_of, numbers_near};
 use reg_names::Path;
 use std::alloc::{AllocError, Global};
 use std::collections::{BTreeMap, BTreeSet};
@@ -16,21 +16,21 @@ use std::marker::Model;
 
 /// The number by which a table of claims knows a transaction.
 #[derive(Clone, Copy)]
-pub struct Owner(pub u64);
+pub struct ClaimOwner(pub u64);
 
 // a claim of a transaction
 #[derive(Drop)]
 struct Entry {
-    owner: Owner,
+    owner: ClaimOwner,
     hive: u8,
     path: Path,
-    kind: Kind,
+    kind: ClaimKind,
 }
 
 impl Model for Entry {
-    ghost use Rattle.conflicts.specs.Holders.{Held};
+    ghost use Rattle.conflicts.specs.Holders.{HeldClaim};
 
-    ghost Value = { Held };
+    ghost Value = { HeldClaim };
 
     ghost use Rattle.conflicts.specs.Claims.{kind_of, key_at};
 
@@ -42,7 +42,7 @@ impl Model for Entry {
 }
 
 impl Entry {
-    fn new(owner: Owner, claim: &Claim) -> Result<Entry, AllocError>
+    fn new(owner: ClaimOwner, claim: &Claim) -> Result<Entry, AllocError>
         ensures { IfOk result (λ entry. entry ≡ record { owner = owner.0; claim = claim.now }) }
     {
         Ok(Entry {
@@ -53,22 +53,22 @@ impl Entry {
         })
     }
 
-    fn owner(&self) -> Owner
+    fn owner(&self) -> ClaimOwner
         ensures { result.0 ≡ self.now.owner }
     {
         self.owner
     }
 
     // whether it is this claim of this transaction
-    fn is(&self, owner: Owner, claim: &Claim) -> bool
-        ensures { result ≡ same_held (record { owner = owner.0; claim = claim.now }) self.now }
+    fn is(&self, owner: ClaimOwner, claim: &Claim) -> bool
+        ensures { result ≡ same_held_claim (record { owner = owner.0; claim = claim.now }) self.now }
     {
         self.owner.0 == owner.0 && same_claim(claim, &self.claim())
     }
 
     // whether it is another's than the asker's, and conflicts
-    fn stands_against(&self, asker: Option<Owner>, claim: &Claim) -> bool
-        ensures { result ≡ stands_against (option_map (λ o. o.0) asker) claim.now self.now }
+    fn blocks(&self, asker: Option<ClaimOwner>, claim: &Claim) -> bool
+        ensures { result ≡ blocks (option_map (λ o. o.0) asker) claim.now self.now }
     {
         let own = match asker {
             Some(asker) => asker.0 == self.owner.0,
@@ -92,7 +92,7 @@ impl Entry {
 #[derive(Drop)]
 struct Kept {
     entry: Entry,
-    spot: Spot,
+    index_key: IndexKey,
 }
 
 /// The claims of all active transactions, each claim of a transaction once, in the order in which they were first
@@ -126,16 +126,16 @@ impl Drop for ClaimTable {
 
 impl Model for ClaimTable {
     ghost use Rattle.std.specs.Prelude.{List};
-    ghost use Rattle.conflicts.specs.Holders.{Held};
+    ghost use Rattle.conflicts.specs.Holders.{HeldClaim};
 
-    ghost Value = { List Held };
+    ghost Value = { List HeldClaim };
 
     ghost use Rattle.std.specs.Prelude.{vec_len};
-    ghost use Rattle.conflicts.specs.Filed.{claims_of, AreHeld};
+    ghost use Rattle.conflicts.specs.ClaimIndexes.{claims_of, TableIsConsistent};
 
     ghost view = { λ inside. claims_of inside.kept.entries };
 
-    ghost invariant = { λ inside. AreHeld (vec_len inside.added) inside.index
+    ghost invariant = { λ inside. TableIsConsistent (vec_len inside.added) inside.index
         inside.owned.keys inside.kept.entries };
 }
 
@@ -155,15 +155,15 @@ impl ClaimTable {
     /// Holds a claim for a transaction, and tells whether it does: not where another transaction holds a claim that conflicts
     /// with it. It is added at the end, unless the transaction has it already. Refused for want of memory alone, and the
     /// table is then unchanged.
-    pub fn claim(&mut self, owner: Owner, claim: &Claim) -> Result<bool, AllocError>
+    pub fn claim(&mut self, owner: ClaimOwner, claim: &Claim) -> Result<bool, AllocError>
         ensures ok { IfOk result (λ held.
-            AsksFor self.old (record { owner = owner.0; claim = claim.now }) held self.new) }
+            IsClaimResult self.old (record { owner = owner.0; claim = claim.now }) held self.new) }
         ensures err { OnErr result (self.new ≡ self.old) }
     {
         if self.has(owner, claim)? {
             return Ok(true);
         }
-        if self.is_met(owner, claim)? {
+        if self.is_blocked(owner, claim)? {
             return Ok(false);
         }
         self.put(owner, claim)?;
@@ -171,8 +171,8 @@ impl ClaimTable {
     }
 
     // adds a claim that the transaction does not have, and that no other's conflicts with
-    fn put(&mut self, owner: Owner, claim: &Claim) -> Result<(), AllocError>
-        requires { list_any (stands_against (Some owner.0) claim.now) self.old ≡ false }
+    fn put(&mut self, owner: ClaimOwner, claim: &Claim) -> Result<(), AllocError>
+        requires { list_any (blocks (Some owner.0) claim.now) self.old ≡ false }
         ensures ok { OnOk result (self.new
             ≡ self.old ++ record { owner = owner.0; claim = claim.now } ∷ []) }
         ensures err { OnErr result (self.new ≡ self.old) }
@@ -180,11 +180,11 @@ impl ClaimTable {
         let number = self.added.len() as u64;
         let entry = Entry::new(owner, claim)?;
         let alloc = *self.added.allocator();
-        let spot = spot_of(alloc, claim, number)?;
-        let copy = (copy(alloc, &spot.0)?, number);
+        let index_key = index_key_of(alloc, claim, number)?;
+        let copy = (copy(alloc, &index_key.0)?, number);
         self.added.push(())?;
         self.owned.insert((owner.0, number))?;
-        self.kept.insert(number, Kept { entry, spot })?;
+        self.kept.insert(number, Kept { entry, index_key })?;
         match self.index.put(copy) {
             Ok(()) => Ok(()),
             Err(refused) => {
@@ -195,17 +195,17 @@ impl ClaimTable {
     }
 
     // whether the transaction has the claim: then no other's conflicts with it
-    fn has(&self, owner: Owner, claim: &Claim) -> Result<bool, AllocError>
+    fn has(&self, owner: ClaimOwner, claim: &Claim) -> Result<bool, AllocError>
         ensures told { IfOk result (λ has. has
             ≡ holds_claim self.now (record { owner = owner.0; claim = claim.now })) }
         ensures apart { IfOk result (λ has. has ≡ true →
-            list_any (stands_against (Some owner.0) claim.now) self.now ≡ false) }
+            list_any (blocks (Some owner.0) claim.now) self.now ≡ false) }
     {
         let alloc = *self.added.allocator();
-        let from = spot_of(alloc, claim, 0)?;
+        let from = index_key_of(alloc, claim, 0)?;
         let to = (copy(alloc, &from.0)?, u64::MAX);
-        for spot in self.index.spots.range(&from..=&to) {
-            if is_kept(self.kept.get(&spot.1), owner, claim) {
+        for index_key in self.index.index_keys.range(&from..=&to) {
+            if is_kept(self.kept.get(&index_key.1), owner, claim) {
                 return Ok(true);
             }
         }
@@ -213,9 +213,9 @@ impl ClaimTable {
     }
 
     // whether another transaction holds a claim that conflicts with this one
-    fn is_met(&self, owner: Owner, claim: &Claim) -> Result<bool, AllocError>
+    fn is_blocked(&self, owner: ClaimOwner, claim: &Claim) -> Result<bool, AllocError>
         ensures { IfOk result (λ met. met
-            ≡ list_any (stands_against (Some owner.0) claim.now) self.now) }
+            ≡ list_any (blocks (Some owner.0) claim.now) self.now) }
     {
         let numbers = numbers_near(*self.added.allocator(), &self.index, claim)?;
         for number in &numbers {
@@ -227,21 +227,21 @@ impl ClaimTable {
     }
 
     /// No transaction's claim conflicts with another's. It does nothing: what it ensures is so of every table.
-    pub fn stand_apart(&self)
-        ensures { StandApart self.now }
+    pub fn owners_dont_conflict(&self)
+        ensures { OwnersDontConflict self.now }
     {
         let _ = &self.added;
     }
 
     /// Drops all claims of a transaction. Takes no memory.
-    pub fn drop_of(&mut self, owner: Owner)
+    pub fn drop_of(&mut self, owner: ClaimOwner)
         ensures { self.new ≡ without_owner self.old owner.0 }
     {
         while let Some(listed) = first_of(&self.owned, owner) {
             self.owned.remove(&listed);
             match take_own(&mut self.kept, owner, listed.1) {
                 Some(kept) => {
-                    self.index.take(&kept.spot);
+                    self.index.take(&kept.index_key);
                 }
                 None => {}
             }
@@ -250,7 +250,11 @@ impl ClaimTable {
 
     /// The transactions that hold a claim which conflicts with this one: each once, in the order of its first such
     /// claim. Claims of the asker are left out. Takes memory for the list.
-    pub fn holders(&self, asker: Option<Owner>, claim: &Claim) -> Result<Vec<Owner>, AllocError>
+    pub fn holders(
+        &self,
+        asker: Option<ClaimOwner>,
+        claim: &Claim,
+    ) -> Result<Vec<ClaimOwner>, AllocError>
         ensures { IfOk result (λ found. map (λ o. o.0) found.items
             ≡ holders_of self.now (option_map (λ o. o.0) asker) claim.now) }
     {
@@ -265,7 +269,7 @@ impl ClaimTable {
 }
 
 // the first number that is listed under an owner
-fn first_of(owned: &BTreeSet<(u64, u64)>, owner: Owner) -> Option<(u64, u64)>
+fn first_of(owned: &BTreeSet<(u64, u64)>, owner: ClaimOwner) -> Option<(u64, u64)>
     ensures some { IfSome result (λ listed. (listed.0 ≡ owner.0)
         × (contains_by (pair_order listed) owned.now ≡ true)) }
     ensures none { IfNone result ((number : ℕ) → number < 2 ^ 64 →
@@ -280,7 +284,7 @@ fn first_of(owned: &BTreeSet<(u64, u64)>, owner: Owner) -> Option<(u64, u64)>
 }
 
 // takes the claim of a number out, where it is the owner's
-fn take_own(kept: &mut BTreeMap<u64, Kept>, owner: Owner, number: u64) -> Option<Kept>
+fn take_own(kept: &mut BTreeMap<u64, Kept>, owner: ClaimOwner, number: u64) -> Option<Kept>
     ensures some { IfSome result (λ one. TakesOwn kept.old.entries kept.new.entries owner.0 number
         one) }
     ensures none { IfNone result (LeavesOthers kept.old.entries kept.new.entries owner.0 number) }
@@ -293,8 +297,8 @@ fn take_own(kept: &mut BTreeMap<u64, Kept>, owner: Owner, number: u64) -> Option
 }
 
 // whether it is this claim of this transaction
-fn is_kept(kept: Option<&Kept>, owner: Owner, claim: &Claim) -> bool
-    ensures { result ≡ is_some_that (same_held (record { owner = owner.0; claim = claim.now }))
+fn is_kept(kept: Option<&Kept>, owner: ClaimOwner, claim: &Claim) -> bool
+    ensures { result ≡ is_some_that (same_held_claim (record { owner = owner.0; claim = claim.now }))
         (option_map (λ k. k.now.entry) kept.entry) }
 {
     match kept {
@@ -304,21 +308,21 @@ fn is_kept(kept: Option<&Kept>, owner: Owner, claim: &Claim) -> bool
 }
 
 // whether it is another's than this owner's, and conflicts with the claim
-fn meets(kept: Option<&Kept>, owner: Owner, claim: &Claim) -> bool
-    ensures { result ≡ is_some_that (stands_against (Some owner.0) claim.now)
+fn meets(kept: Option<&Kept>, owner: ClaimOwner, claim: &Claim) -> bool
+    ensures { result ≡ is_some_that (blocks (Some owner.0) claim.now)
         (option_map (λ k. k.now.entry) kept.entry) }
 {
     match kept {
-        Some(kept) => kept.entry.stands_against(Some(owner), claim),
+        Some(kept) => kept.entry.blocks(Some(owner), claim),
         None => false,
     }
 }
 
 // lists the owner of a claim, where there is one, it stands against the one asked for and its owner is not in the list
 fn list_holder(
-    found: &mut Vec<Owner>,
+    found: &mut Vec<ClaimOwner>,
     kept: Option<&Kept>,
-    asker: Option<Owner>,
+    asker: Option<ClaimOwner>,
     claim: &Claim,
 ) -> Result<(), AllocError>
     ensures { OnOk result (map (λ o. o.0) found.new.items ≡ with_holder (map (λ o. o.0)
@@ -334,22 +338,22 @@ fn list_holder(
 // lists the owner of a claim, where the claim stands against the one asked for and its owner is not in the list;
 // of a listed owner no more claims are compared
 fn list_once(
-    found: &mut Vec<Owner>,
+    found: &mut Vec<ClaimOwner>,
     entry: &Entry,
-    asker: Option<Owner>,
+    asker: Option<ClaimOwner>,
     claim: &Claim,
 ) -> Result<(), AllocError>
     ensures { OnOk result (map (λ o. o.0) found.new.items ≡ with_holder (map (λ o. o.0)
         found.old.items) (Some entry.now) (option_map (λ o. o.0) asker) claim.now) }
 {
     let owner = entry.owner();
-    if !is_listed(found, owner) && entry.stands_against(asker, claim) {
+    if !is_listed(found, owner) && entry.blocks(asker, claim) {
         found.push(owner)?;
     }
     Ok(())
 }
 
-fn is_listed(found: &[Owner], owner: Owner) -> bool
+fn is_listed(found: &[ClaimOwner], owner: ClaimOwner) -> bool
     ensures { result ≡ list_any (λ o. o.0 == owner.0) found.now }
 {
     found.iter().any(|known| known.0 == owner.0)

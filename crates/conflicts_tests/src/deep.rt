@@ -1,6 +1,6 @@
 //! Claims of keys below one another, and of keys that the index takes for one.
 use crate::operations::path;
-use conflicts::{ClaimTable, Owner, claims};
+use conflicts::{ClaimOwner, ClaimTable, claims};
 use refusals::Refusal;
 use reg_names::{Name, Path};
 use reg_tree::{Data, Op};
@@ -38,7 +38,7 @@ fn set(alloc: Global, path: Path) -> Result<Op, Refusal> {
 
 // whether the transaction gets the operation's claim
 fn gets(table: &mut ClaimTable, owner: u64, op: &Op) -> Result<bool, Refusal> {
-    let held = table.claim(Owner(owner), &claims(op))?;
+    let held = table.claim(ClaimOwner(owner), &claims(op))?;
     Ok(held)
 }
 
@@ -55,7 +55,7 @@ fn claims_of_values_above_a_key_are_not_in_its_way(rt: HostRuntime) -> Result<()
     let found = table.holders(None, &claims(&third_last))?;
     assert!(&rt; found.len() == 3 && found[0].0 == 510 && found[1].0 == 511 && found[2].0 == 512);
     for owner in [512, 510, 511] {
-        table.drop_of(Owner(owner));
+        table.drop_of(ClaimOwner(owner));
     }
     assert!(&rt; gets(&mut table, 1, &third_last)?);
     let last = set(alloc, nested(alloc, DEEPEST)?)?;
@@ -73,10 +73,10 @@ fn the_claim_of_a_made_key_is_in_the_way_of_all_below_it(rt: HostRuntime) -> Res
     for level in [1, 2, 256, DEEPEST] {
         let op = set(alloc, nested(alloc, level)?)?;
         assert!(&rt; !gets(&mut table, 2, &op)?);
-        let found = table.holders(Some(Owner(2)), &claims(&op))?;
+        let found = table.holders(Some(ClaimOwner(2)), &claims(&op))?;
         assert!(&rt; found.len() == 1 && found[0].0 == 9);
     }
-    table.drop_of(Owner(9));
+    table.drop_of(ClaimOwner(9));
     let op = create(nested(alloc, 1)?);
     assert!(&rt; gets(&mut table, 2, &op)?);
     Ok(())
@@ -96,7 +96,7 @@ fn keys_of_one_hash_are_told_apart(rt: HostRuntime) -> Result<(), Fail> {
     assert!(&rt; gets(&mut table, 2, &below_other)?);
     assert!(&rt; gets(&mut table, 2, &other)?);
     assert!(&rt; !gets(&mut table, 2, &below_one)?);
-    table.drop_of(Owner(9));
+    table.drop_of(ClaimOwner(9));
     assert!(&rt; gets(&mut table, 2, &below_one)?);
     assert!(&rt; !gets(&mut table, 9, &below_other)?);
     Ok(())

@@ -1,6 +1,6 @@
 //! Who holds claims.
 use crate::operations::Step;
-use conflicts::{ClaimTable, Owner, claims};
+use conflicts::{ClaimOwner, ClaimTable, claims};
 use refusals::Refusal;
 use std::alloc::Global;
 use std::process::Abort;
@@ -17,7 +17,7 @@ fn filled(alloc: Global) -> Result<ClaimTable, Refusal> {
         (9, Step::Set(0, "A\\B")),
     ];
     for (owner, step) in &added {
-        if !table.claim(Owner(*owner), &claims(&step.op(alloc)?))? {
+        if !table.claim(ClaimOwner(*owner), &claims(&step.op(alloc)?))? {
             return Err(Refusal::Conflict);
         }
     }
@@ -29,7 +29,7 @@ fn holders_are(
     rt: &impl Abort,
     alloc: Global,
     table: &ClaimTable,
-    asker: Option<Owner>,
+    asker: Option<ClaimOwner>,
     step: &Step,
     wanted: &[u64],
 ) -> Result<(), Refusal> {
@@ -48,7 +48,7 @@ fn holders_are_listed_once_in_the_order_of_their_claims(rt: HostRuntime) -> Resu
     let table = filled(alloc)?;
     let whole = Step::Delete(0, "A");
     holders_are(&rt, alloc, &table, None, &whole, &[9, 2])?;
-    holders_are(&rt, alloc, &table, Some(Owner(9)), &whole, &[2])?;
+    holders_are(&rt, alloc, &table, Some(ClaimOwner(9)), &whole, &[2])?;
     let deep = Step::Set(0, "A\\C\\D\\E\\F");
     holders_are(&rt, alloc, &table, None, &deep, &[2])?;
     holders_are(&rt, alloc, &table, None, &Step::Set(0, "A"), &[])?;
@@ -69,7 +69,7 @@ fn a_claim_is_held_where_no_other_s_conflicts_with_it(rt: HostRuntime) -> Result
     ];
     for (owner, step, wanted) in &asked {
         let op = step.op(alloc)?;
-        assert!(&rt; table.claim(Owner(*owner), &claims(&op))? == *wanted);
+        assert!(&rt; table.claim(ClaimOwner(*owner), &claims(&op))? == *wanted);
     }
     holders_are(&rt, alloc, &table, None, &Step::Delete(0, "A"), &[9, 2])?;
     holders_are(&rt, alloc, &table, None, &Step::Delete(0, "A\\B"), &[9])?;
@@ -81,10 +81,10 @@ fn dropped_claims_are_held_no_more(rt: HostRuntime) -> Result<(), Fail> {
     let alloc = rt.alloc();
     let mut table = filled(alloc)?;
     let root = Step::Create(0, "");
-    table.drop_of(Owner(9));
+    table.drop_of(ClaimOwner(9));
     holders_are(&rt, alloc, &table, None, &root, &[2, 5])?;
-    table.drop_of(Owner(2));
-    table.drop_of(Owner(5));
+    table.drop_of(ClaimOwner(2));
+    table.drop_of(ClaimOwner(5));
     holders_are(&rt, alloc, &table, None, &root, &[])?;
     Ok(())
 }

@@ -11,12 +11,12 @@ one_fewer : (most made : ℕ) → made < most → most - made ≡ suc (most - (m
 one_fewer most made below = omega (arith, below)
 
 -- a step that isn't told as `more` is the last
-pub last_step : (most made hive : ℕ) (old new : Script) (told : ReplyLine) → made < most → Asks old (event.FlusherStep hive) told new → told ≢ reply.StepMore → Flushes (most - made) old hive told new
-last_step most made hive old new told below asked other = subst (λ left. Flushes left old hive told new) (sym (one_fewer most made below)) (inl (asked, other))
+pub last_step : (most made hive : ℕ) (old new : Script) (reported : ReplyLine) → made < most → Asks old (event.FlusherStep hive) reported new → reported ≢ reply.StepMore → Flushes (most - made) old hive reported new
+last_step most made hive old new reported below asked other = subst (λ left. Flushes left old hive reported new) (sym (one_fewer most made below)) (inl (asked, other))
 
 -- one that is goes before others
-pub step_before : (most made hive : ℕ) (old mid new : Script) (told : ReplyLine) → made < most → Asks old (event.FlusherStep hive) reply.StepMore mid → Flushes (most - (made + 1)) mid hive told new → Flushes (most - made) old hive told new
-step_before most made hive old mid new told below asked on = subst (λ left. Flushes left old hive told new) (sym (one_fewer most made below)) (inr (mid, asked, on))
+pub step_before : (most made hive : ℕ) (old mid new : Script) (reported : ReplyLine) → made < most → Asks old (event.FlusherStep hive) reply.StepMore mid → Flushes (most - (made + 1)) mid hive reported new → Flushes (most - made) old hive reported new
+step_before most made hive old mid new reported below asked on = subst (λ left. Flushes left old hive reported new) (sym (one_fewer most made below)) (inr (mid, asked, on))
 
 -- none is left
 pub none_left : (most made hive : ℕ) (script : Script) → most - made ≡ 0 → Flushes (most - made) script hive reply.StepMore script

@@ -2,4 +2,4 @@ mod Flushing
 mod Lines
 mod Shutting
 mod TreeTexts
-mod Turning
+mod LineOutcomes

@@ -5,29 +5,29 @@ use Rattle.script_syntax.specs.declared.line.Line.{Line}
 use Rattle.script_syntax.specs.declared.line.Line.TheVariants.{Hives, At, Session, End, Plain, Begin, Inside, Commit, Rollback, Close, Outcome, Flush, Lab}
 use Rattle.script_syntax.specs.declared.reply.ReplyLine.{ReplyLine}
 use Rattle.script_runner.specs.Scripts.{Answers as AnswersOf}
-use Rattle.crash_lab.specs.Benches.{Bench}
-use Rattle.crash_lab.specs.Experiments.{AnswersLine, bench_line}
+use Rattle.crash_lab.specs.LabStates.{LabState}
+use Rattle.crash_lab.specs.Experiments.{AnswersLine, following_line}
 use Rattle.crash_lab.specs.declared.reply.LabReply.{LabReply}
-use Rattle.crash_lab.specs.declared.reply.LabReply.TheVariants.{Told}
+use Rattle.crash_lab.specs.declared.reply.LabReply.TheVariants.{OneLine}
 
 -- a line of other scripts is answered as theirs, and nothing is asked of the device
-pub answered_as_theirs : (old new : Bench) (line : Line) (told : ReplyLine) → AnswersOf old.script line told new.script → new.asked ≡ old.asked
-    → (bench_line (Some line) ≡ Some line) × AnswersLine old line (Told told) new
-answered_as_theirs old new (Hives count) told is asked = absurd is
-answered_as_theirs old new (At moment) told is asked = (refl, (is, asked))
-answered_as_theirs old new (Session number) told is asked = (refl, (is, asked))
-answered_as_theirs old new (End number) told is asked = (refl, (is, asked))
-answered_as_theirs old new (Plain request) told is asked = (refl, (is, asked))
-answered_as_theirs old new (Begin label id) told is asked = (refl, (is, asked))
-answered_as_theirs old new (Inside label request) told is asked = (refl, (is, asked))
-answered_as_theirs old new (Commit label) told is asked = (refl, (is, asked))
-answered_as_theirs old new (Rollback label) told is asked = (refl, (is, asked))
-answered_as_theirs old new (Close label) told is asked = (refl, (is, asked))
-answered_as_theirs old new (Outcome label) told is asked = (refl, (is, asked))
-answered_as_theirs old new Flush told is asked = (refl, (is, asked))
-answered_as_theirs old new (Lab line) told is asked = absurd is
+pub answered_as_theirs : (old new : LabState) (line : Line) (reported : ReplyLine) → AnswersOf old.script line reported new.script → new.asked ≡ old.asked
+    → (following_line (Some line) ≡ Some line) × AnswersLine old line (OneLine reported) new
+answered_as_theirs old new (Hives count) reported is asked = absurd is
+answered_as_theirs old new (At moment) reported is asked = (refl, (is, asked))
+answered_as_theirs old new (Session number) reported is asked = (refl, (is, asked))
+answered_as_theirs old new (End number) reported is asked = (refl, (is, asked))
+answered_as_theirs old new (Plain request) reported is asked = (refl, (is, asked))
+answered_as_theirs old new (Begin label id) reported is asked = (refl, (is, asked))
+answered_as_theirs old new (Inside label request) reported is asked = (refl, (is, asked))
+answered_as_theirs old new (Commit label) reported is asked = (refl, (is, asked))
+answered_as_theirs old new (Rollback label) reported is asked = (refl, (is, asked))
+answered_as_theirs old new (Close label) reported is asked = (refl, (is, asked))
+answered_as_theirs old new (Outcome label) reported is asked = (refl, (is, asked))
+answered_as_theirs old new Flush reported is asked = (refl, (is, asked))
+answered_as_theirs old new (Lab line) reported is asked = absurd is
 
 -- what is known behind a line, whichever it is, is so of its answer too
-pub also_kept : (none line : Type 0) (Answers : LabReply → Type 0) (kept : Type 0) (told : Option LabReply) → MatchOption told none (λ told. line × Answers told) → kept → MatchOption told none (λ told. line × (Answers told × kept))
+pub also_kept : (none line : Type 0) (Answers : LabReply → Type 0) (kept : Type 0) (reported : Option LabReply) → MatchOption reported none (λ reported. line × Answers reported) → kept → MatchOption reported none (λ reported. line × (Answers reported × kept))
 also_kept none line Answers kept None said is = said
-also_kept none line Answers kept (Some told) said is = (said.0, (said.1, is))
+also_kept none line Answers kept (Some reported) said is = (said.0, (said.1, is))

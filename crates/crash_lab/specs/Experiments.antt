@@ -19,44 +19,44 @@ use Rattle.script_runner.specs.Plays.{is_refusal}
 use Rattle.script_runner.specs.Running.{opened_text}
 use Rattle.script_runner.specs.Scripts.{Script, Answers, Asks, IsLabelled, script_at}
 use Rattle.tree_printer.specs.TreeTexts.{tree_text}
-use Rattle.crash_lab.specs.Benches.{Bench, IsKept, nothing_asked}
-use Rattle.crash_lab.specs.Crashes.{MayStayShut, OpensBehind}
+use Rattle.crash_lab.specs.LabStates.{LabState, CrashesAreSafe, nothing_asked}
+use Rattle.crash_lab.specs.Crashes.{MayNotReopen, OpensAfterCrash}
 use Rattle.crash_lab.specs.declared.reply.LabReply.{LabReply}
-use Rattle.crash_lab.specs.declared.reply.LabReply.TheVariants.{Told, Opened}
+use Rattle.crash_lab.specs.declared.reply.LabReply.TheVariants.{OneLine, Opened}
 
 -- `hives` stands on a script's first line alone; any other line may stand behind it
-abbrev pub bench_line : Option Line → Option Line
-bench_line None = None
-bench_line (Some (Hives count)) = None
-bench_line (Some line) = Some line
+abbrev pub following_line : Option Line → Option Line
+following_line None = None
+following_line (Some (Hives count)) = None
+following_line (Some line) = Some line
 
 -- the line that the bytes of any further line spell
 abbrev pub line_asked : List ℕ → Option Line
-line_asked bytes = bench_line (line_of bytes)
+line_asked bytes = following_line (line_of bytes)
 
 -- the script asks for what is told, and nothing is asked of the device
-abbrev pub Replies : (ReplyLine → Script → Type 0) → Bench → LabReply → Bench → Type 0
-Replies answers old (Told told) new = answers told new.script × (new.asked ≡ old.asked)
+abbrev pub Replies : (ReplyLine → Script → Type 0) → LabState → LabReply → LabState → Type 0
+Replies answers old (OneLine reported) new = answers reported new.script × (new.asked ≡ old.asked)
 Replies answers old (Opened number) new = ⊥
 
 -- the transaction of a label is committed, and not waited for
 abbrev pub Accepts : Script → List ℕ → ReplyLine → Script → Type 0
-Accepts old label told new = IsLabelled (old.labels label) (λ tx. Asks old (event.CommitAccept old.session tx old.moment) told new) old told new
+Accepts old label reported new = IsLabelled (old.labels label) (λ tx. Asks old (event.CommitAccept old.session tx old.moment) reported new) old reported new
 
 -- Steps of a hive's flush, so many at most: each but the last is told as `more`, and the last one, which is not, is the reply.
 abbrev pub Flushes : ℕ → Script → ℕ → ReplyLine → Script → Type 0
-Flushes zero old hive told new = (told ≡ reply.StepMore) × (new ≡ old)
-Flushes (suc left) old hive told new =
-    (Asks old (event.FlusherStep hive) told new × (told ≢ reply.StepMore))
-    ⊎ ((mid : Script) × Asks old (event.FlusherStep hive) reply.StepMore mid × Flushes left mid hive told new)
+Flushes zero old hive reported new = (reported ≡ reply.StepMore) × (new ≡ old)
+Flushes (suc left) old hive reported new =
+    (Asks old (event.FlusherStep hive) reported new × (reported ≢ reply.StepMore))
+    ⊎ ((mid : Script) × Asks old (event.FlusherStep hive) reply.StepMore mid × Flushes left mid hive reported new)
 
 -- more steps than a flush has
 abbrev pub most_steps : ℕ
 most_steps = 2 ^ 64 - 1
 
 -- a hive's flush, up to the step that is not told as `more`
-pub record IsFlushedWhole (old : Script) (hive : ℕ) (told : ReplyLine) (new : Script) : Type 0 where
-  pub steps : Flushes most_steps old hive told new
+pub record IsFlushedWhole (old : Script) (hive : ℕ) (reported : ReplyLine) (new : Script) : Type 0 where
+  pub steps : Flushes most_steps old hive reported new
 
 -- what a crash makes of what was not synced
 abbrev pub tear_of : CrashTear → Tear
@@ -66,40 +66,40 @@ tear_of crash.Torn = tear.Torn
 
 -- A store was opened behind a loss of power: session 0 is open and current, no label names anything, the moment is the one before,
 -- and nothing is asked of the new disk's device.
-pub record Reopens (at : Tear) (old : Bench) (number : ℕ) (new : Bench) : Type 0 where
-  pub opens : OpensBehind at old.files number new.script.machine
+pub record Reopens (at : Tear) (old : LabState) (number : ℕ) (new : LabState) : Type 0 where
+  pub opens : OpensAfterCrash at old.files number new.script.machine
   pub script_is : new.script ≡ record (script_at new.script.machine) { moment = old.script.moment }
   pub asked_is : new.asked ≡ nothing_asked
 
 -- the power goes: a store is opened on what is left, or none is, which changes nothing
-abbrev pub Crashes : Tear → Bench → LabReply → Bench → Type 0
+abbrev pub Crashes : Tear → LabState → LabReply → LabState → Type 0
 Crashes at old (Opened number) new = Reopens at old number new
-Crashes at old (Told (reply.Refused why)) new = MayStayShut at old.files why × (new ≡ old)
-Crashes at old (Told told) new = ⊥
+Crashes at old (OneLine (reply.Refused why)) new = MayNotReopen at old.files why × (new ≡ old)
+Crashes at old (OneLine reported) new = ⊥
 
 -- From old, a line that only a laboratory takes may be answered this, and leave new.
-abbrev pub Experiments : Bench → LabLine → LabReply → Bench → Type 0
-Experiments old (Accept label) told new = Replies (Accepts old.script label) old told new
-Experiments old JournalStep told new = Replies (Asks old.script event.JournalStep) old told new
-Experiments old (FlusherStep hive) told new = Replies (Asks old.script (event.FlusherStep hive)) old told new
-Experiments old TrimStep told new = Replies (Asks old.script event.TrimStep) old told new
-Experiments old (FlushWhole hive) told new = Replies (IsFlushedWhole old.script hive) old told new
-Experiments old (StopAt call) told new = (told ≡ Told reply.Done) × (new ≡ record old { asked = record old.asked { stop = Some call } })
-Experiments old (FailAt call) told new = (told ≡ Told reply.Done) × (new ≡ record old { asked = record old.asked { fail = Some call } })
-Experiments old (Crash at) told new = Crashes (tear_of at) old told new
+abbrev pub Experiments : LabState → LabLine → LabReply → LabState → Type 0
+Experiments old (Accept label) reported new = Replies (Accepts old.script label) old reported new
+Experiments old JournalStep reported new = Replies (Asks old.script event.JournalStep) old reported new
+Experiments old (FlusherStep hive) reported new = Replies (Asks old.script (event.FlusherStep hive)) old reported new
+Experiments old TrimStep reported new = Replies (Asks old.script event.TrimStep) old reported new
+Experiments old (FlushWhole hive) reported new = Replies (IsFlushedWhole old.script hive) old reported new
+Experiments old (StopAt call) reported new = (reported ≡ OneLine reply.Done) × (new ≡ record old { asked = record old.asked { stop = Some call } })
+Experiments old (FailAt call) reported new = (reported ≡ OneLine reply.Done) × (new ≡ record old { asked = record old.asked { fail = Some call } })
+Experiments old (Crash at) reported new = Crashes (tear_of at) old reported new
 
 -- the same of any line: those of other scripts are answered as theirs
-abbrev pub AnswersLine : Bench → Line → LabReply → Bench → Type 0
-AnswersLine old (Lab line) told new = Experiments old line told new
-AnswersLine old line told new = Replies (Answers old.script line) old told new
+abbrev pub AnswersLine : LabState → Line → LabReply → LabState → Type 0
+AnswersLine old (Lab line) reported new = Experiments old line reported new
+AnswersLine old line reported new = Replies (Answers old.script line) old reported new
 
 -- and what a loss of power would leave then is known
-abbrev pub Answered : Bench → Line → LabReply → Bench → Type 0
-Answered old line told new = AnswersLine old line told new × IsKept new
+abbrev pub Answered : LabState → Line → LabReply → LabState → Type 0
+Answered old line reported new = AnswersLine old line reported new × CrashesAreSafe new
 
 -- whether it is a refusal
 abbrev pub is_refused : LabReply → Bool
-is_refused (Told told) = is_refusal told
+is_refused (OneLine reported) = is_refusal reported
 is_refused (Opened number) = false
 
 -- the text of the trees of hives, the first of which has this number
@@ -108,6 +108,6 @@ trees_text hive [] = []
 trees_text hive (tree ∷ trees) = tree_text hive tree ++ trees_text (hive + 1) trees
 
 -- what is written, with the trees after the line
-abbrev pub told_text : LabReply → List TreeMap → List ℕ
-told_text (Told told) trees = reply_line told
-told_text (Opened number) trees = opened_text number ++ trees_text 0 trees
+abbrev pub lab_reply_text : LabReply → List TreeMap → List ℕ
+lab_reply_text (OneLine reported) trees = reply_line reported
+lab_reply_text (Opened number) trees = opened_text number ++ trees_text 0 trees

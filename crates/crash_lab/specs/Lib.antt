@@ -1,4 +1,4 @@
-pub mod Benches
+pub mod LabStates
 pub mod Crashes
 pub mod Experiments
 pub mod Runs

@@ -10,48 +10,48 @@ use Rattle.script_syntax.specs.declared.status.Status.TheVariants.{Wrong}
 use Rattle.store_model.specs.Machine.{trees_now}
 use Rattle.script_runner.specs.Plays.{Ends, EndsAs, IsWrong, WereRead, wrong_text}
 use Rattle.script_runner.specs.Scripts.{hives_asked}
-use Rattle.script_runner.specs.Turns.{TakesLine}
-use Rattle.script_runner.specs.declared.ending.Ending.{Ending}
-use Rattle.script_runner.specs.declared.ending.Ending.TheVariants.{Ended, Broken, OutOfMemory}
-use Rattle.crash_lab.specs.Benches.{Bench, IsNew}
-use Rattle.crash_lab.specs.Experiments.{Answered, is_refused, line_asked, told_text}
+use Rattle.script_runner.specs.OutcomeOfLine.{TakesLine}
+use Rattle.script_runner.specs.declared.end_of_script.EndOfScript.{EndOfScript}
+use Rattle.script_runner.specs.declared.end_of_script.EndOfScript.TheVariants.{Ended, Broken, OutOfMemory}
+use Rattle.crash_lab.specs.LabStates.{LabState, IsNew}
+use Rattle.crash_lab.specs.Experiments.{Answered, is_refused, line_asked, lab_reply_text}
 use Rattle.crash_lab.specs.declared.reply.LabReply.{LabReply}
-use Rattle.crash_lab.specs.declared.running.Turn.{Turn}
-use Rattle.crash_lab.specs.declared.running.Turn.TheVariants.{Over, Replied}
+use Rattle.crash_lab.specs.declared.lab_run.LabLineOutcome.{LabLineOutcome}
+use Rattle.crash_lab.specs.declared.lab_run.LabLineOutcome.TheVariants.{Over, Replied}
 
 -- From old, at the line of this number, the lines and the way that reading ended print this text, and end with this status: each
 -- line is answered in turn, up to one that is not understood.
-abbrev pub RunsOn : Bench → ℕ → List (List ℕ) → Option Ending → List ℕ → Status → Type 0
-RunsOn old number [] ending text status = EndsAs ending text status
-RunsOn old number (line ∷ lines) ending text status =
-    ((line_asked line ≡ None) × IsWrong number lines ending text status)
-    ⊎ ((asked : Line) × (told : LabReply) × (new : Bench) × (rest : List ℕ) × (later : Status) × (line_asked line ≡ Some asked) × Answered old asked told new
-    × RunsOn new (number + 1) lines ending rest later × (text ≡ told_text told (trees_now new.script.machine) ++ rest) × (status ≡ with_refusal (is_refused told) later))
+abbrev pub RunsOn : LabState → ℕ → List (List ℕ) → Option EndOfScript → List ℕ → Status → Type 0
+RunsOn old number [] end_of_script text status = EndsAs end_of_script text status
+RunsOn old number (line ∷ lines) end_of_script text status =
+    ((line_asked line ≡ None) × IsWrong number lines end_of_script text status)
+    ⊎ ((asked : Line) × (reported : LabReply) × (new : LabState) × (rest : List ℕ) × (later : Status) × (line_asked line ≡ Some asked) × Answered old asked reported new
+    × RunsOn new (number + 1) lines end_of_script rest later × (text ≡ lab_reply_text reported (trees_now new.script.machine) ++ rest) × (status ≡ with_refusal (is_refused reported) later))
 
 -- the first line says how many hives there are; a script without a line is wrong at line 1
-abbrev pub Runs : List (List ℕ) → Option Ending → List ℕ → Status → Type 0
+abbrev pub Runs : List (List ℕ) → Option EndOfScript → List ℕ → Status → Type 0
 Runs [] (Some Ended) text status = (text ≡ wrong_text 1) × (status ≡ Wrong)
 Runs [] (Some Broken) text status = Ends Broken text status
 Runs [] (Some OutOfMemory) text status = Ends OutOfMemory text status
 Runs [] None text status = ⊥
-Runs (line ∷ lines) ending text status =
-    ((hives_asked line ≡ None) × IsWrong 1 lines ending text status)
-    ⊎ ((hives : ℕ) × (bench : Bench) × (rest : List ℕ) × (hives_asked line ≡ Some hives) × IsNew hives bench × RunsOn bench 2 lines ending rest status
+Runs (line ∷ lines) end_of_script text status =
+    ((hives_asked line ≡ None) × IsWrong 1 lines end_of_script text status)
+    ⊎ ((hives : ℕ) × (lab_state : LabState) × (rest : List ℕ) × (hives_asked line ≡ Some hives) × IsNew hives lab_state × RunsOn lab_state 2 lines end_of_script rest status
     × (text ≡ reply_line reply.Done ++ rest))
 
 -- some lines were read, and what was written is what they print
 abbrev pub IsExperiment : Option (List ℕ) → Option (List ℕ) → Option (List ℕ) → Status → Type 0
 IsExperiment known before after status =
-    (lines : List (List ℕ)) × (ending : Option Ending) × (text : List ℕ) × WereRead known lines ending × Runs lines ending text status × Appends before after text
+    (lines : List (List ℕ)) × (end_of_script : Option EndOfScript) × (text : List ℕ) × WereRead known lines end_of_script × Runs lines end_of_script text status × Appends before after text
 
 -- the same from a script's later line on
-abbrev pub IsExperimentOn : Bench → ℕ → Option (List ℕ) → Option (List ℕ) → Option (List ℕ) → Status → Type 0
+abbrev pub IsExperimentOn : LabState → ℕ → Option (List ℕ) → Option (List ℕ) → Option (List ℕ) → Status → Type 0
 IsExperimentOn old number known before after status =
-    (lines : List (List ℕ)) × (ending : Option Ending) × (text : List ℕ) × WereRead known lines ending × RunsOn old number lines ending text status × Appends before after text
+    (lines : List (List ℕ)) × (end_of_script : Option EndOfScript) × (text : List ℕ) × WereRead known lines end_of_script × RunsOn old number lines end_of_script text status × Appends before after text
 
 -- one turn of a run: a line was answered, or the run is over
-abbrev pub Turns : Bench → ℕ → Option (List ℕ) → Option (List ℕ) → Turn → Bench → Option (List ℕ) → Option (List ℕ) → Type 0
-Turns old number known before (Over status) new rest after = IsExperimentOn old number known before after status
-Turns old number known before (Replied refused) new rest after =
-    (line : List ℕ) × (asked : Line) × (told : LabReply) × TakesLine known rest line × (line_asked line ≡ Some asked) × Answered old asked told new
-    × Appends before after (told_text told (trees_now new.script.machine)) × (refused ≡ is_refused told)
+abbrev pub OutcomeOfLine : LabState → ℕ → Option (List ℕ) → Option (List ℕ) → LabLineOutcome → LabState → Option (List ℕ) → Option (List ℕ) → Type 0
+OutcomeOfLine old number known before (Over status) new rest after = IsExperimentOn old number known before after status
+OutcomeOfLine old number known before (Replied refused) new rest after =
+    (line : List ℕ) × (asked : Line) × (reported : LabReply) × TakesLine known rest line × (line_asked line ≡ Some asked) × Answered old asked reported new
+    × Appends before after (lab_reply_text reported (trees_now new.script.machine)) × (refused ≡ is_refused reported)

@@ -1,6 +1,6 @@
 //! When the device of a laboratory's disk fails.
 ghost use Rattle.std.specs.Prelude.{◌≡◌, Some, IfOk};
-ghost use Rattle.crash_lab.specs.Benches.{nothing_asked};
+ghost use Rattle.crash_lab.specs.LabStates.{nothing_asked};
 
 use disk_model::Plan;
 use std::alloc::{AllocError, Global};

@@ -5,10 +5,10 @@
 //! and its trees are told. What it writes is stated in `specs/Experiments`.
 #![tactic(auto)]
 
-mod bench;
-mod crashing;
 mod device;
+mod lab_run;
+mod lab_state;
+mod power_loss;
 mod reply;
-mod running;
 
-pub use running::lab;
+pub use lab_run::lab;

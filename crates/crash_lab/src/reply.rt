@@ -1,7 +1,7 @@
 //! What a line of a laboratory is answered, and its text.
 ghost use Rattle.std.specs.Prelude.{◌≡◌, OnOk, IfOk};
 ghost use Rattle.std.specs.Io.KnownBytes.{Appends};
-ghost use Rattle.crash_lab.specs.Experiments.{is_refused, told_text, trees_text};
+ghost use Rattle.crash_lab.specs.Experiments.{is_refused, lab_reply_text, trees_text};
 
 use reg_tree::Trees;
 use script_runner::is_refusal;
@@ -14,9 +14,9 @@ use tree_printer::write_tree;
 #[derive(Drop)]
 pub(crate) enum LabReply {
     /// A reply of one line, as any script's.
-    Told {
+    OneLine {
         /// The reply.
-        told: ReplyLine,
+        reported: ReplyLine,
     },
     /// A store was opened behind a loss of power; its trees are told.
     Opened {
@@ -31,7 +31,7 @@ impl LabReply {
         ensures { result ≡ is_refused self.now }
     {
         match self {
-            LabReply::Told { told } => is_refusal(told),
+            LabReply::OneLine { reported } => is_refusal(reported),
             LabReply::Opened { .. } => false,
         }
     }
@@ -39,10 +39,10 @@ impl LabReply {
     /// Writes its text; these are the trees of the store that was opened.
     pub(crate) fn write<W: Write>(&self, trees: &Trees, writer: &mut W) -> io::Result<()>
         ensures { OnOk result (Appends (W.contents writer.old) (W.contents writer.new)
-            (told_text self.now trees.now)) }
+            (lab_reply_text self.now trees.now)) }
     {
         match self {
-            LabReply::Told { told } => told.write(writer),
+            LabReply::OneLine { reported } => reported.write(writer),
             LabReply::Opened { number } => {
                 writeln!(writer, "opened {number}")?;
                 write_trees(trees, writer)

@@ -5,7 +5,7 @@ use Rattle.crash_model.specs.Changes.{Rules, AreLegal, ops_on, replay}
 use Rattle.crash_model.specs.Promises.{Choice, Leaves, MayFollow, BeginsTrim, Answer, Answer.Idle, Answer.More, Answer.Done, Answer.NoMemory, Answer.DiskFault, Answer.Faulted, BeginsWrite, HiveSays}
 use Rattle.crash_model.specs.Recovery.{above}
 use Rattle.crash_model.specs.Life.{Life, IsLastNaming, opened_number, ops_in, tree_at}
-use Rattle.crash_model.specs.Kept.{HiveFits, EngineFits, State, IsKept}
+use Rattle.crash_model.specs.Invariant.{HiveFits, EngineFits, State, InvariantHolds}
 use Rattle.crash_model.specs.Steps.{pending_elements, AllStay, MayTrim}
 use Rattle.crash_model.specs.Calls.{JournalStep, TrimStep, FlusherStep, MemoryFits}
 use Rattle.crash_model.proofs.OnePrefix.{ops_split, ops_above}
@@ -47,60 +47,60 @@ module _ {T Op : Type 0} (r : Rules T Op) (most hives : ℕ) where
   }
 
   -- where a hive stands, what the journal spells above it is what it lacks of the durable elements
-  lacks : (s : State T Op) → IsKept r most hives s → (i : ℕ) → i < hives
+  lacks : (s : State T Op) → InvariantHolds r most hives s → (i : ℕ) → i < hives
       → ops_on i (above (s.files i).now.1 s.journal.now) ≡ ops_in s.life i (s.files i).now.1 s.durable
   lacks s kept i lt =
       ops_above s.life s.durable i (s.files i).now.1 (s.files i).now.1 s.journal.now.below s.journal.now.elements (kept.journal_fits s.journal.now (inl refl)) (kept.covered s.journal.now (inl refl) i lt) (omega arith)
       (kept.hive_fits i lt (s.files i).now (inl refl)).not_above
       ∙ ap (ops_in s.life i (s.files i).now.1) kept.ends
 
-  pub trim_test : (s : State T Op) → IsKept r most hives s
+  pub trim_test : (s : State T Op) → InvariantHolds r most hives s
       → MayTrim hives s ↔ ((i : ℕ) → i < hives → ops_in s.life i (s.files i).now.1 s.durable ≡ [])
   trim_test s kept = (λ may i lt. sym (lacks s kept i lt) ∙ may i lt, λ held i lt. lacks s kept i lt ∙ held i lt)
 
   -- what is pending may be handed to the journal
-  pub may_follow : (s : State T Op) → IsKept r most hives s → MayFollow most s.durable (pending_elements s) s.journal.now
+  pub may_follow : (s : State T Op) → InvariantHolds r most hives s → MayFollow most s.durable (pending_elements s) s.journal.now
   may_follow s kept = record {
     ends = kept.ends;
     room = omega (arith, length-drop (s.durable - opened_number s.life) s.life.accepted, kept.fits.from_opened, kept.fits.to_last, kept.fits.limit);
   }
 
-  same_state : (old new : State T Op) → IsKept r most hives old → new.life ≡ old.life → new.durable ≡ old.durable → new.journal ≡ old.journal
-      → AllStay hives old.files new.files → IsKept r most hives new
+  same_state : (old new : State T Op) → InvariantHolds r most hives old → new.life ≡ old.life → new.durable ≡ old.durable → new.journal ≡ old.journal
+      → AllStay hives old.files new.files → InvariantHolds r most hives new
   same_state old new kept a b c d = moved r most hives old new old.life old.durable old.journal a b c d kept
 
-  pub journal_step : (answer : Answer) (old new : State T Op) → IsKept r most hives old → JournalStep hives answer old new → IsKept r most hives new
+  pub journal_step : (answer : Answer) (old new : State T Op) → InvariantHolds r most hives old → JournalStep hives answer old new → InvariantHolds r most hives new
   journal_step Idle old new kept step = same_state old new kept step.life step.durable step.journal.2 step.files
   journal_step NoMemory old new kept step = same_state old new kept step.life step.durable step.journal.1 step.files
   journal_step Faulted old new kept step = same_state old new kept step.life step.durable step.journal step.files
   journal_step Done old new kept step = step_settle r most hives old new kept (record { life = step.life; journal = step.journal; durable = step.durable; files = step.files })
-  journal_step More old new kept step = elim (step.journal) as (λ z. IsKept r most hives new) [
+  journal_step More old new kept step = elim (step.journal) as (λ z. InvariantHolds r most hives new) [
     | inl b ↦ step_batch r most hives old new kept (record { life = step.life; durable = step.durable; journal = b; files = step.files })
     | inr b ↦ same_state old new kept step.life step.durable b.1 step.files
   ]
-  journal_step DiskFault old new kept step = elim (step.journal) as (λ z. IsKept r most hives new) [
+  journal_step DiskFault old new kept step = elim (step.journal) as (λ z. InvariantHolds r most hives new) [
     | inl b ↦ step_batch r most hives old new kept (record { life = step.life; durable = step.durable; journal = b; files = step.files })
     | inr b ↦ same_state old new kept step.life step.durable b step.files
   ]
 
-  begun_trim : (answer : Answer) (old new : State T Op) → IsKept r most hives old → TrimStep hives answer old new → new.durable ≡ old.durable
-      → BeginsTrim old.journal new.journal → IsKept r most hives new
+  begun_trim : (answer : Answer) (old new : State T Op) → InvariantHolds r most hives old → TrimStep hives answer old new → new.durable ≡ old.durable
+      → BeginsTrim old.journal new.journal → InvariantHolds r most hives new
   begun_trim answer old new kept step same b = let may = step.may b.0 in
-      step_trim r most hives old new kept (record { spells = may.0; may = may.1; life = step.life; durable = same; journal = b; files = step.files })
+      step_trim r most hives old new kept (record { decodes = may.0; may = may.1; life = step.life; durable = same; journal = b; files = step.files })
 
-  pub trim_step : (answer : Answer) (old new : State T Op) → IsKept r most hives old → TrimStep hives answer old new → IsKept r most hives new
+  pub trim_step : (answer : Answer) (old new : State T Op) → InvariantHolds r most hives old → TrimStep hives answer old new → InvariantHolds r most hives new
   trim_step Idle old new kept step = absurd step.journal
   trim_step NoMemory old new kept step = absurd step.journal
   trim_step Faulted old new kept step = same_state old new kept step.life step.durable step.journal step.files
   trim_step Done old new kept step = step_settle r most hives old new kept (record { life = step.life; journal = step.journal; durable = step.durable; files = step.files })
   trim_step More old new kept step = begun_trim More old new kept step step.durable step.journal
-  trim_step DiskFault old new kept step = elim (step.journal) as (λ z. IsKept r most hives new) [
+  trim_step DiskFault old new kept step = elim (step.journal) as (λ z. InvariantHolds r most hives new) [
     | inl b ↦ begun_trim DiskFault old new kept step step.durable b
     | inr b ↦ same_state old new kept step.life step.durable b step.files
   ]
 
   -- what a FlusherStep may make of its hive
-  hive_moves : (answer : Answer) (hive : ℕ) (memory : T × ℕ) (old new : State T Op) → IsKept r most hives old
+  hive_moves : (answer : Answer) (hive : ℕ) (memory : T × ℕ) (old new : State T Op) → InvariantHolds r most hives old
       → FlusherStep r hives answer hive memory old new → hive < hives
       → ((old.files hive).now.1 ≤ (new.files hive).now.1) × ((x : T × ℕ) → Leaves (new.files hive) x → HiveFits r old.life old.durable hive x × ((new.files hive).now.1 ≤ x.1))
   hive_moves answer hive memory old new kept step lt = by_answer answer step.file
@@ -133,8 +133,8 @@ module _ {T Op : Type 0} (r : Rules T Op) (most hives : ℕ) where
             (subst (HiveFits r old.life old.durable hive) (sym e) (kept.hive_fits hive lt b.0 (inr b.1)), omega (arith, ap (λ (c : Choice (T × ℕ)). c.now.1) b.2, ap (λ (y : T × ℕ). y.1) e)),
       )
 
-  pub flusher_step : (answer : Answer) (hive : ℕ) (memory : T × ℕ) (old new : State T Op) → IsKept r most hives old
-      → FlusherStep r hives answer hive memory old new → IsKept r most hives new
+  pub flusher_step : (answer : Answer) (hive : ℕ) (memory : T × ℕ) (old new : State T Op) → InvariantHolds r most hives old
+      → FlusherStep r hives answer hive memory old new → InvariantHolds r most hives new
   flusher_step answer hive memory old new kept step =
       subst (λ l. EngineFits r most hives l new.durable new.journal new.files) (sym step.life)
       (subst (λ d. EngineFits r most hives old.life d new.journal new.files) (sym step.durable)

@@ -4,10 +4,10 @@ use Rattle.std.proofs.lemmas.List.{length-append, length-drop, length-take}
 use Rattle.std.proofs.lemmas.Option.{none-some, same_Some}
 use Rattle.std.specs.List.{AllByRecursion}
 use Rattle.crash_model.specs.Changes.{Rules, Element, on_hive, ops_on, replay}
-use Rattle.crash_model.specs.Promises.{Spelled, nothing, Choice, Leaves, floor_of, floor, top}
+use Rattle.crash_model.specs.Promises.{Content, nothing, Choice, Leaves, floor_of, floor, top}
 use Rattle.crash_model.specs.Recovery.{above}
 use Rattle.crash_model.specs.Life.{Life, last_number, known_elements, elements_in, ops_in, tree_at, NamesHive}
-use Rattle.crash_model.specs.Kept.{JournalFits, HiveFits, EngineFits}
+use Rattle.crash_model.specs.Invariant.{JournalFits, HiveFits, EngineFits}
 use Rattle.crash_model.proofs.Lists.{first_nil, second_nil, le_or_le, seg_none, all_take, all_drop}
 use Rattle.crash_model.proofs.Replays.{replay_on}
 use Rattle.crash_model.proofs.OnePrefix.{part_split, ops_split, covered_from, ops_above, forward}
@@ -50,7 +50,7 @@ last_named hives e (f ∷ es) all = let l = last_named hives f es all.1 in (l.0,
     at i low zero h = absurd (omega (arith, low 0 (second_nil (on_hive i e) (ops_on i (f ∷ es)) h)))
     at i low (suc n) h = omega (arith, low n h)
 
-module _ {T Op : Type 0} (r : Rules T Op) (most hives : ℕ) (life : Life T Op) (durable : ℕ) (journal : Choice (Spelled Op)) (files : ℕ → Choice (T × ℕ)) (engine : EngineFits r most hives life durable journal files) where
+module _ {T Op : Type 0} (r : Rules T Op) (most hives : ℕ) (life : Life T Op) (durable : ℕ) (journal : Choice (Content Op)) (files : ℕ → Choice (T × ℕ)) (engine : EngineFits r most hives life durable journal files) where
   -- hives that go on: begun flushes, ended flushes
   pub keep_files : (new : ℕ → Choice (T × ℕ))
       → ((i : ℕ) → i < hives → (files i).now.1 ≤ (new i).now.1)
@@ -108,15 +108,15 @@ module _ {T Op : Type 0} (r : Rules T Op) (most hives : ℕ) (life : Life T Op) 
         piece = rw end rw same_floor (ap (λ (es : List (Element Op)). es ++ elements_in life durable (durable + m)) (old_fits.piece ∙ ap (elements_in life (floor durable journal.now)) engine.ends) ∙ sym (part_split life (floor durable journal.now) durable (durable + m) (omega (arith, engine.ends)) (omega arith)));
       }
 
-      by_choice : (P : Spelled Op → Type 0) → P journal.now
+      by_choice : (P : Content Op → Type 0) → P journal.now
           → P (record { below = floor durable journal.now; elements = journal.now.elements ++ elements_in life durable (durable + m) })
-          → (s : Spelled Op)
+          → (s : Content Op)
           → Leaves (record { now = journal.now; next = Some (record { below = floor durable journal.now; elements = journal.now.elements ++ elements_in life durable (durable + m) }) }) s → P s
       by_choice P a b s (inl p) = subst P (sym p) a
       by_choice P a b s (inr p) = subst P (same_Some _ _ p) b
 
   -- a batch ends
-  pub keep_durable : (s : Spelled Op) (e : Element Op) (es : List (Element Op)) → journal.next ≡ Some s → s.elements ≡ e ∷ es
+  pub keep_durable : (s : Content Op) (e : Element Op) (es : List (Element Op)) → journal.next ≡ Some s → s.elements ≡ e ∷ es
       → EngineFits r most hives life (top durable s) (record { now = s; next = None }) files
   keep_durable s e es is some = record {
     fits = record {
@@ -132,7 +132,7 @@ module _ {T Op : Type 0} (r : Rules T Op) (most hives : ℕ) (life : Life T Op) 
     hive_fits = each;
     rises = engine.rises;
     covered = λ x left i lt. subst (λ x. ops_in life i (files i).now.1 (floor (top durable s) x) ≡ []) (sym (only_leaves s x left)) (rw same_floor (engine.covered s (inr is) i lt));
-    carried = λ x left none. absurd (omega (arith, ap length (sym some ∙ ap (λ (y : Spelled Op). y.elements) (sym (only_leaves s x left)) ∙ none)));
+    carried = λ x left none. absurd (omega (arith, ap length (sym some ∙ ap (λ (y : Content Op). y.elements) (sym (only_leaves s x left)) ∙ none)));
   }
     where
       old_fits : JournalFits life durable s
@@ -204,13 +204,13 @@ module _ {T Op : Type 0} (r : Rules T Op) (most hives : ℕ) (life : Life T Op) 
               let n : length journal.now.elements ≡ suc (length es) = ap length some in
               omega (arith, far, f, n, not_above i lt, engine.ends)
 
-      by_choice : (P : Spelled Op → Type 0) → P journal.now → P nothing → (s : Spelled Op)
+      by_choice : (P : Content Op → Type 0) → P journal.now → P nothing → (s : Content Op)
           → Leaves (record { now = journal.now; next = Some nothing }) s → P s
       by_choice P a b s (inl p) = subst P (sym p) a
       by_choice P a b s (inr p) = subst P (same_Some _ _ p) b
 
   -- a trim ends
-  pub keep_trimmed : (s : Spelled Op) → journal.next ≡ Some s → s.elements ≡ []
+  pub keep_trimmed : (s : Content Op) → journal.next ≡ Some s → s.elements ≡ []
       → EngineFits r most hives life durable (record { now = s; next = None }) files
   keep_trimmed s is none = record {
     fits = engine.fits;
@@ -222,5 +222,5 @@ module _ {T Op : Type 0} (r : Rules T Op) (most hives : ℕ) (life : Life T Op) 
     carried = λ x left. engine.carried x (from x left);
   }
     where
-      from : (x : Spelled Op) → Leaves (record { now = s; next = None }) x → Leaves journal x
+      from : (x : Content Op) → Leaves (record { now = s; next = None }) x → Leaves journal x
       from x left = inr (is ∙ ap Some (sym (only_leaves s x left)))

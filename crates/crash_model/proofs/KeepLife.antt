@@ -4,10 +4,10 @@ use Rattle.std.proofs.lemmas.Bool.{cases_eq}
 use Rattle.std.proofs.lemmas.List.{append-nil, take-append-le, length-append, take_all}
 use Rattle.std.specs.List.{AllByRecursion}
 use Rattle.crash_model.specs.Changes.{Rules, Element, on_hive, ops_on, replay, applied}
-use Rattle.crash_model.specs.Promises.{Spelled, Choice, floor_of, floor, top, settled}
+use Rattle.crash_model.specs.Promises.{Content, Choice, floor_of, floor, top, settled}
 use Rattle.crash_model.specs.Recovery.{Recovers, IsLastNumber}
 use Rattle.crash_model.specs.Life.{Life, opened_number, last_number, known_elements, elements_in, ops_in, tree_at, NamesHive, with_accepted, opened_life, folded_life}
-use Rattle.crash_model.specs.Kept.{JournalFits, HiveFits, EngineFits}
+use Rattle.crash_model.specs.Invariant.{JournalFits, HiveFits, EngineFits}
 use Rattle.crash_model.proofs.Lists.{le_or_le, take_nil, drop_nil, seg_none, all_append}
 use Rattle.crash_model.proofs.Replays.{ops_on-append, replay_on, applied-append}
 use Rattle.crash_model.proofs.KeepFiles.{only_leaves}
@@ -22,7 +22,7 @@ pub tree_grows : {T Op : Type 0} (r : Rules T Op) (life : Life T Op) (e : Elemen
 tree_grows r life e n i a = ap (λ (es : List (List _)). applied r (ops_on i es) (life.trees i)) (take-append-le (n - opened_number life) life.accepted (e ∷ []) (omega (arith, a)))
 
 module _ {T Op : Type 0} (r : Rules T Op) (most hives : ℕ) where
-  pub keep_accept : (life : Life T Op) (durable : ℕ) (journal : Choice (Spelled Op)) (files : ℕ → Choice (T × ℕ))
+  pub keep_accept : (life : Life T Op) (durable : ℕ) (journal : Choice (Content Op)) (files : ℕ → Choice (T × ℕ))
       → EngineFits r most hives life durable journal files
       → (e : Element Op) → last_number life < most → NamesHive hives e
       → ((i : ℕ) → i < hives → replay r (on_hive i e) (tree_at r life (last_number life) i) ≡ Some (applied r (on_hive i e) (tree_at r life (last_number life) i)))
@@ -83,7 +83,7 @@ module _ {T Op : Type 0} (r : Rules T Op) (most hives : ℕ) where
           (replay_on r (ops_on i life.accepted) (on_hive i e) (life.trees i) (applied r (ops_on i life.accepted) (life.trees i)) (engine.fits.legal i lt)
           ∙ subst (λ t. replay r (on_hive i e) t ≡ Some (applied r (on_hive i e) t)) (now_is i) (legal i lt))
 
-  pub keep_fold : (life : Life T Op) (durable : ℕ) (journal : Choice (Spelled Op)) (files : ℕ → Choice (T × ℕ))
+  pub keep_fold : (life : Life T Op) (durable : ℕ) (journal : Choice (Content Op)) (files : ℕ → Choice (T × ℕ))
       → EngineFits r most hives life durable journal files → durable ≡ last_number life
       → EngineFits r most hives (folded_life r life) durable journal files
   keep_fold life durable journal files engine all = record {
@@ -142,7 +142,7 @@ module _ {T Op : Type 0} (r : Rules T Op) (most hives : ℕ) where
   carried_at below n numbers (e ∷ es) h none = absurd (omega (arith, ap length none))
 
   -- what was recovered begins a life
-  pub begin : (s : Spelled Op) (held : ℕ → T × ℕ) (n : ℕ) (trees : ℕ → T) → Recovers r most hives s held n trees
+  pub begin : (s : Content Op) (held : ℕ → T × ℕ) (n : ℕ) (trees : ℕ → T) → Recovers r most hives s held n trees
       → AllByRecursion (NamesHive hives) s.elements
       → EngineFits r most hives (opened_life n trees s) n (settled s) (λ i. settled (held i))
   begin s held n trees found named = record {
@@ -168,7 +168,7 @@ module _ {T Op : Type 0} (r : Rules T Op) (most hives : ℕ) where
     });
     rises = λ i lt x left. omega (arith, ap (λ (y : T × ℕ). y.1) (only_leaves (held i) x left));
     covered = λ x left i lt. subst (λ y. ops_in (opened_life n trees s) i (held i).1 (floor n y) ≡ []) (sym (only_leaves s x left)) (ap (ops_on i) (seg_none (s.elements ++ []) ((held i).1 - floor n s) (floor n s - floor n s) (omega arith)));
-    carried = λ x left none. carried_at s.below n (λ i. (held i).1) s.elements found.last (ap (λ (y : Spelled Op). y.elements) (sym (only_leaves s x left)) ∙ none);
+    carried = λ x left none. carried_at s.below n (λ i. (held i).1) s.elements found.last (ap (λ (y : Content Op). y.elements) (sym (only_leaves s x left)) ∙ none);
   }
     where
       end : floor n s + length s.elements ≡ n

@@ -3,10 +3,10 @@ use Rattle.std.proofs.Common.{◌≡◌, ◌⊎◌, inl, inr, ℕ, ◌+◌, ◌-
 use Rattle.std.proofs.lemmas.List.{drop-drop, take-append-drop}
 use Rattle.std.proofs.lemmas.Option.{same_Some}
 use Rattle.crash_model.specs.Changes.{Rules, Element, ops_on, replay, applied}
-use Rattle.crash_model.specs.Promises.{Spelled, Choice, Leaves, floor_of, top}
+use Rattle.crash_model.specs.Promises.{Content, Choice, Leaves, floor_of, top}
 use Rattle.crash_model.specs.Recovery.{above, Recovers, IsLastNumber}
 use Rattle.crash_model.specs.Life.{Life, opened_number, known_elements, elements_in, ops_in, tree_at}
-use Rattle.crash_model.specs.Kept.{IsPrefix, LifeFits, JournalFits, HiveFits, EngineFits}
+use Rattle.crash_model.specs.Invariant.{IsPrefix, LifeFits, JournalFits, HiveFits, EngineFits}
 use Rattle.crash_model.proofs.Lists.{seg_split, seg_past, drop_nil, second_nil, le_or_le}
 use Rattle.crash_model.proofs.Replays.{ops_on-append, replay_on, replay_middle}
 
@@ -74,8 +74,8 @@ is_last : {Op : Type 0} (hives durable below : ℕ) (numbers : ℕ → ℕ) (es 
 is_last hives durable below numbers [] some = let s = some refl in (s.0, s.1, omega (arith, s.2))
 is_last hives durable below numbers (e ∷ es) some = refl
 
-module _ {T Op : Type 0} (r : Rules T Op) (most hives : ℕ) (life : Life T Op) (durable : ℕ) (journal : Choice (Spelled Op)) (files : ℕ → Choice (T × ℕ)) (engine : EngineFits r most hives life durable journal files) where
-  pub one_prefix : (s : Spelled Op) → Leaves journal s → (held : ℕ → T × ℕ) → ((i : ℕ) → i < hives → Leaves (files i) (held i))
+module _ {T Op : Type 0} (r : Rules T Op) (most hives : ℕ) (life : Life T Op) (durable : ℕ) (journal : Choice (Content Op)) (files : ℕ → Choice (T × ℕ)) (engine : EngineFits r most hives life durable journal files) where
+  pub one_prefix : (s : Content Op) → Leaves journal s → (held : ℕ → T × ℕ) → ((i : ℕ) → i < hives → Leaves (files i) (held i))
       → IsPrefix r most hives life durable s held
   one_prefix s left held each = (
     top durable s,
@@ -112,6 +112,6 @@ same_last : {Op : Type 0} (hives below n m : ℕ) (numbers : ℕ → ℕ) (es : 
 same_last hives below n m numbers [] a b p q = omega (arith, a.2, b.2, p b.0 b.1, q a.0 a.1)
 same_last hives below n m numbers (e ∷ es) a b p q = a ∙ sym b
 
-pub only_one : {T Op : Type 0} (r : Rules T Op) (most hives : ℕ) (s : Spelled Op) (held : ℕ → T × ℕ) (n m : ℕ) (ts us : ℕ → T)
+pub only_one : {T Op : Type 0} (r : Rules T Op) (most hives : ℕ) (s : Content Op) (held : ℕ → T × ℕ) (n m : ℕ) (ts us : ℕ → T)
     → Recovers r most hives s held n ts → Recovers r most hives s held m us → (n ≡ m) × ((i : ℕ) → i < hives → ts i ≡ us i)
 only_one r most hives s held n m ts us a b = (same_last hives s.below n m (λ i. (held i).1) s.elements a.last b.last a.not_above b.not_above, λ i lt. same_Some (ts i) (us i) (sym (a.tree i lt) ∙ b.tree i lt))

@@ -3,10 +3,10 @@ use Rattle.std.proofs.Common.{◌≡◌, ◌⊎◌, inl, inr, ℕ, zero, suc, �
 use Rattle.std.proofs.lemmas.Option.{same_Some}
 use Rattle.std.specs.List.{AllByRecursion}
 use Rattle.crash_model.specs.Changes.{Element, on_hive, ops_on, replay, applied}
-use Rattle.crash_model.specs.Promises.{Choice, under_way, Leaves, Spelled, nothing, settled}
+use Rattle.crash_model.specs.Promises.{Choice, under_way, Leaves, Content, nothing, settled}
 use Rattle.crash_model.specs.Recovery.{above, IsLastNumber}
 use Rattle.crash_model.specs.Life.{Life, last_number, tree_at, with_accepted, NamesHive}
-use Rattle.crash_model.specs.Kept.{State, IsKept, IsPrefix, opened_state}
+use Rattle.crash_model.specs.Invariant.{State, InvariantHolds, IsPrefix, opened_state}
 use Rattle.crash_model.specs.WrongProtocols.{marks, Breaks, FlushesPending, FlushesUnderLess, TrimsAfterOne, TrimsByFirst, TrimsByMemory, BatchesSkipping, CountsEarly, EmptyBreaks, ReplayingAllBreaks}
 use Rattle.crash_model.proofs.Lists.{take_nil}
 use Rattle.crash_model.proofs.KeepSteps.{step_keeps, begun, fresh}
@@ -55,8 +55,8 @@ names_second m = (1, omega arith, m, [], refl)
 abbrev with_change : State (List ℕ) ℕ → Element ℕ → State (List ℕ) ℕ
 with_change s e = record { life = with_accepted s.life e; durable = s.durable; journal = s.journal; files = s.files }
 
-with_change_kept : (s : State (List ℕ) ℕ) (e : Element ℕ) → last_number s.life < 3 → NamesHive 2 e → IsKept marks 3 2 s
-    → IsKept marks 3 2 (with_change s e)
+with_change_kept : (s : State (List ℕ) ℕ) (e : Element ℕ) → last_number s.life < 3 → NamesHive 2 e → InvariantHolds marks 3 2 s
+    → InvariantHolds marks 3 2 (with_change s e)
 with_change_kept s e room names kept = step_keeps marks 3 2 s (with_change s e) kept (inl (record {
   element = e;
   room = room;
@@ -77,7 +77,7 @@ created = opened_state 0 (λ i. []) nothing (λ i. ([], 0))
 abbrev accepted_three : State (List ℕ) ℕ
 accepted_three = with_change (with_change (with_change created (change 0 1)) (change 1 2)) (change 0 3)
 
-accepted_three_kept : IsKept marks 3 2 accepted_three
+accepted_three_kept : InvariantHolds marks 3 2 accepted_three
 accepted_three_kept =
     with_change_kept (with_change (with_change created (change 0 1)) (change 1 2)) (change 0 3) (omega arith) (names_first 3)
     (with_change_kept (with_change created (change 0 1)) (change 1 2) (omega arith) (names_second 2)
@@ -88,7 +88,7 @@ abbrev opened_with : ℕ → List (Element ℕ) → (ℕ → List ℕ × ℕ) �
 opened_with n es held = opened_state n (λ i. applied marks (ops_on i (above (held i).1 (record { below = 0; elements = es }))) (held i).0) (record { below = 0; elements = es }) held
 
 opened_kept : (n : ℕ) (es : List (Element ℕ)) (held : ℕ → List ℕ × ℕ) → IsLastNumber 2 (λ i. (held i).1) 0 es n → n ≤ 3
-    → ((i : ℕ) → i < 2 → (held i).1 ≤ n) → AllByRecursion (NamesHive 2) es → IsKept marks 3 2 (opened_with n es held)
+    → ((i : ℕ) → i < 2 → (held i).1 ≤ n) → AllByRecursion (NamesHive 2) es → InvariantHolds marks 3 2 (opened_with n es held)
 opened_kept n es held last limit low named = begun marks 3 2 (record { below = 0; elements = es }) held n (λ i. applied marks (ops_on i (above (held i).1 (record { below = 0; elements = es }))) (held i).0) (record {
   last = last;
   limit = limit;
@@ -97,20 +97,20 @@ opened_kept n es held last limit low named = begun marks 3 2 (record { below = 0
   allowed = λ i lt. refl;
 }) named
 
-three_kept : (held : ℕ → List ℕ × ℕ) → (held 0).1 ≤ 3 → (held 1).1 ≤ 3 → IsKept marks 3 2 (opened_with 3 three held)
+three_kept : (held : ℕ → List ℕ × ℕ) → (held 0).1 ≤ 3 → (held 1).1 ≤ 3 → InvariantHolds marks 3 2 (opened_with 3 three held)
 three_kept held a b = opened_kept 3 three held refl (omega arith) (each_of_two (λ i. (held i).1 ≤ 3) a b) (names_first 1, (names_second 2, (names_first 3, tt)))
 
-late_three_kept : (held : ℕ → List ℕ × ℕ) → (held 0).1 ≤ 3 → (held 1).1 ≤ 3 → IsKept marks 3 2 (opened_with 3 late_three held)
+late_three_kept : (held : ℕ → List ℕ × ℕ) → (held 0).1 ≤ 3 → (held 1).1 ≤ 3 → InvariantHolds marks 3 2 (opened_with 3 late_three held)
 late_three_kept held a b = opened_kept 3 late_three held refl (omega arith) (each_of_two (λ i. (held i).1 ≤ 3) a b) (names_first 1, (names_second 2, (names_second 3, tt)))
 
 -- a prefix has trees of the right length
-same_length : (life : Life (List ℕ) ℕ) (durable : ℕ) (s : Spelled ℕ) (held : ℕ → List ℕ × ℕ) (p : IsPrefix marks 3 2 life durable s held) (m i : ℕ)
+same_length : (life : Life (List ℕ) ℕ) (durable : ℕ) (s : Content ℕ) (held : ℕ → List ℕ × ℕ) (p : IsPrefix marks 3 2 life durable s held) (m i : ℕ)
     → i < 2 → p.0 ≡ m
     → length (applied marks (ops_on i (above (held i).1 s)) (held i).0) ≡ length (tree_at marks life m i)
 same_length life durable s held p m i lt same = ap length (same_Some _ _ (sym (all_legal (ops_on i (above (held i).1 s)) (held i).0) ∙ p.3.tree i lt ∙ ap (λ n. Some (tree_at marks life n i)) same))
 
 -- the same store with another choice of the journal, or of the hives
-abbrev with_journal : State (List ℕ) ℕ → Choice (Spelled ℕ) → State (List ℕ) ℕ
+abbrev with_journal : State (List ℕ) ℕ → Choice (Content ℕ) → State (List ℕ) ℕ
 with_journal s journal = record { life = s.life; durable = s.durable; journal = journal; files = s.files }
 
 abbrev with_files : State (List ℕ) ℕ → (ℕ → Choice (List ℕ × ℕ)) → State (List ℕ) ℕ
@@ -200,7 +200,7 @@ before_flush = opened_with 3 late_three (pair (1 ∷ [], 3) ([], 0))
 abbrev by_memory : State (List ℕ) ℕ
 by_memory = with_files before_flush (pair (settled (1 ∷ [], 3)) (under_way ([], 0) (3 ∷ 2 ∷ [], 3)))
 
-by_memory_kept : IsKept marks 3 2 by_memory
+by_memory_kept : InvariantHolds marks 3 2 by_memory
 by_memory_kept = step_keeps marks 3 2 before_flush by_memory (late_three_kept (pair (1 ∷ [], 3) ([], 0)) (omega arith) (omega arith)) (inr (inr (inr (inr (inl (record {
   hive = 1;
   life = refl;
@@ -226,7 +226,7 @@ trims_by_memory = (
     broken p = let e : 0 ≡ 2 = same_length by_memory.life 3 nothing (pair (1 ∷ [], 3) ([], 0)) p 3 1 (omega arith) (omega (arith, p.1, p.2)) in omega (arith, e)
 
 -- A batch of changes 2 and 3 begins, and change 1 is pending. A crash leaves the batch: the number is 3, and change 1 is nowhere.
-abbrev skipping : Spelled ℕ
+abbrev skipping : Content ℕ
 skipping = record { below = 1; elements = change 1 2 ∷ change 0 3 ∷ [] }
 
 pub batches_skipping : Breaks (BatchesSkipping 2)
@@ -261,20 +261,20 @@ counts_early = (
 abbrev two_flushed : State (List ℕ) ℕ
 two_flushed = opened_with 2 (change 0 1 ∷ change 1 2 ∷ []) (λ i. (pair (1 ∷ []) (2 ∷ []) i, 2))
 
-abbrev three_spelled : Spelled ℕ
-three_spelled = record { below = 0; elements = change 0 1 ∷ change 1 2 ∷ [] ∷ [] }
+abbrev three_decoded : Content ℕ
+three_decoded = record { below = 0; elements = change 0 1 ∷ change 1 2 ∷ [] ∷ [] }
 
 abbrev empty_accepted : State (List ℕ) ℕ
 empty_accepted = with_change two_flushed []
 
 abbrev empty_on_its_way : State (List ℕ) ℕ
-empty_on_its_way = with_journal empty_accepted (under_way two_flushed.journal.now three_spelled)
+empty_on_its_way = with_journal empty_accepted (under_way two_flushed.journal.now three_decoded)
 
 abbrev empty_durable : State (List ℕ) ℕ
-empty_durable = record { life = empty_accepted.life; durable = 3; journal = settled three_spelled; files = two_flushed.files }
+empty_durable = record { life = empty_accepted.life; durable = 3; journal = settled three_decoded; files = two_flushed.files }
 
 abbrev empty_trimmed : State (List ℕ) ℕ
-empty_trimmed = with_journal empty_durable (under_way three_spelled nothing)
+empty_trimmed = with_journal empty_durable (under_way three_decoded nothing)
 
 pub empty_breaks : EmptyBreaks
 empty_breaks = (
@@ -287,8 +287,8 @@ empty_breaks = (
   (
     inl (inl (inr (inl (record { life = refl; durable = refl; journal = (1, omega arith, omega arith, refl, refl); files = λ j lt. refl })))),
     (
-      inl (inl (inr (inr (inl (record { life = refl; journal = (three_spelled, refl, refl); durable = refl; files = λ j lt. refl }))))),
-      (inl (inl (inr (inr (inr (inl (record { spells = (change 0 1, change 1 2 ∷ [] ∷ [], refl); may = λ i lt. refl; life = refl; durable = refl; journal = (refl, refl); files = λ j lt. refl })))))), tt),
+      inl (inl (inr (inr (inl (record { life = refl; journal = (three_decoded, refl, refl); durable = refl; files = λ j lt. refl }))))),
+      (inl (inl (inr (inr (inr (inl (record { decodes = (change 0 1, change 1 2 ∷ [] ∷ [], refl); may = λ i lt. refl; life = refl; durable = refl; journal = (refl, refl); files = λ j lt. refl })))))), tt),
     ),
   ),
   λ safe. broken (safe nothing (inr refl) (λ i. (pair (1 ∷ []) (2 ∷ []) i, 2)) (λ i lt. inl refl)),

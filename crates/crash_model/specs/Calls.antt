@@ -1,13 +1,13 @@
 -- What an engine makes of the promises of its journal and of its hives' files: one call each.
 use Rattle.std.specs.Prelude.{◌≡◌, ℕ, ◌+◌, ◌<◌, ◌≤◌, List, ◌∷◌, None}
 use Rattle.crash_model.specs.Changes.{Rules, Element}
-use Rattle.crash_model.specs.Promises.{Spelled, Choice, top, Answer, Answer.Idle, Answer.More, Answer.Done, Answer.NoMemory, Answer.DiskFault, Answer.Faulted, JournalSays, TrimSays, HiveSays}
-use Rattle.crash_model.specs.Kept.{HiveFits, State}
+use Rattle.crash_model.specs.Promises.{Content, Choice, top, Answer, Answer.Idle, Answer.More, Answer.Done, Answer.NoMemory, Answer.DiskFault, Answer.Faulted, JournalSays, TrimSays, HiveSays}
+use Rattle.crash_model.specs.Invariant.{HiveFits, State}
 use Rattle.crash_model.specs.Steps.{pending_elements, OthersStay, AllStay, MayTrim}
 
 -- The durable number after a call of the journal: at Done that up to which the journal carries, and else as
 -- it was.
-abbrev pub durable_after : {Op : Type 0} → Answer → ℕ → Choice (Spelled Op) → ℕ
+abbrev pub durable_after : {Op : Type 0} → Answer → ℕ → Choice (Content Op) → ℕ
 durable_after Done durable journal = top durable journal.now
 durable_after Idle durable journal = durable
 durable_after More durable journal = durable

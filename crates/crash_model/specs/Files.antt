@@ -2,14 +2,14 @@
 -- and the log of hive i. What bytes spell and hold is given from outside.
 use Rattle.std.specs.Prelude.{◌≡◌, ℕ, ◌+◌, ◌*◌, ◌<◌, ◌≤◌, List, [], ◌∷◌, length, IsTrue, Option, Some}
 use Rattle.crash_model.specs.Changes.{Rules, Element, ops_on, replay}
-use Rattle.crash_model.specs.Promises.{Leaves, Spelled}
+use Rattle.crash_model.specs.Promises.{Leaves, Content}
 use Rattle.crash_model.specs.Recovery.{above}
 use Rattle.crash_model.specs.Life.{last_number, tree_at}
-use Rattle.crash_model.specs.Kept.{State}
+use Rattle.crash_model.specs.Invariant.{State}
 
 -- A journal's bytes spell what a decoder makes of them.
-abbrev pub SpellsBy : {Op : Type 0} → (List ℕ → Option (Spelled Op)) → List ℕ → Spelled Op → Type 0
-SpellsBy spelled c s = spelled c ≡ Some s
+abbrev pub DecodesBy : {Op : Type 0} → (List ℕ → Option (Content Op)) → List ℕ → Content Op → Type 0
+DecodesBy decoded c s = decoded c ≡ Some s
 
 -- A hive's primary file and log hold together what a decoder makes of them.
 abbrev pub HoldsBy : {T : Type 0} → (List ℕ → List ℕ → Option (T × ℕ)) → List ℕ → List ℕ → T × ℕ → Type 0
@@ -23,7 +23,7 @@ IsLastNumberOf has hives below (e ∷ es) n = n ≡ below + length (e ∷ es)
 -- Hive i's files hold a tree and a number not above n, from which the journal leads legally to this tree,
 -- which is allowed after n.
 pub record HiveRecovers {T Op : Type 0} (rules : Rules T Op) (holds : T × ℕ
-    → Type 0) (journal : Spelled Op) (i n : ℕ) (tree : T) : Type 0 where
+    → Type 0) (journal : Content Op) (i n : ℕ) (tree : T) : Type 0 where
   pub held : T × ℕ
   pub holds_it : holds held
   pub not_above : held.1 ≤ n
@@ -32,11 +32,11 @@ pub record HiveRecovers {T Op : Type 0} (rules : Rules T Op) (holds : T × ℕ
 
 -- The files recover n and these trees: the journal's file spells something, n is its last number or else the
 -- number of some hive, within the limit, and each hive's files recover its tree.
-pub record FilesRecover {T Op : Type 0} (rules : Rules T Op) (spells : List ℕ → Spelled Op
+pub record FilesRecover {T Op : Type 0} (rules : Rules T Op) (decodes : List ℕ → Content Op
     → Type 0) (holds : List ℕ → List ℕ → T × ℕ → Type 0) (most hives : ℕ) (files : ℕ
     → List ℕ) (n : ℕ) (trees : ℕ → T) : Type 0 where
-  pub journal : Spelled Op
-  pub spelled : spells (files 0) journal
+  pub journal : Content Op
+  pub decoded : decodes (files 0) journal
   pub last : IsLastNumberOf (λ i k. (t : T)
       × holds (files (1 + 2 * i)) (files (2 + 2 * i)) (t, k)) hives journal.below journal.elements n
   pub limit : n ≤ most
@@ -44,15 +44,15 @@ pub record FilesRecover {T Op : Type 0} (rules : Rules T Op) (spells : List ℕ 
       → HiveRecovers rules (holds (files (1 + 2 * i)) (files (2 + 2 * i))) journal i n (trees i)
 
 -- The files spell and hold what a crash may leave of this state.
-pub record FilesLeft {T Op : Type 0} (spells : List ℕ → Spelled Op → Type 0)
+pub record FilesLeft {T Op : Type 0} (decodes : List ℕ → Content Op → Type 0)
     (holds : List ℕ → List ℕ → T × ℕ → Type 0) (hives : ℕ) (s : State T Op) (files : ℕ → List ℕ) : Type 0 where
-  pub journal : (j : Spelled Op) × Leaves s.journal j × spells (files 0) j
+  pub journal : (j : Content Op) × Leaves s.journal j × decodes (files 0) j
   pub each : (i : ℕ) → i < hives
       → (x : T × ℕ) × Leaves (s.files i) x × holds (files (1 + 2 * i)) (files (2 + 2 * i)) x
 
 -- The files stand for one prefix of the accepted changes: some n, not below the durable number and not above
 -- the last, is recovered from them, with each hive's tree after n.
-abbrev pub FilesPrefix : {T Op : Type 0} → Rules T Op → (List ℕ → Spelled Op → Type 0)
+abbrev pub FilesPrefix : {T Op : Type 0} → Rules T Op → (List ℕ → Content Op → Type 0)
     → (List ℕ → List ℕ → T × ℕ → Type 0) → ℕ → ℕ → State T Op → (ℕ → List ℕ) → Type 0
-FilesPrefix rules spells holds most hives s files = (n : ℕ) × (s.durable ≤ n) × (n ≤ last_number s.life)
-    × FilesRecover rules spells holds most hives files n (tree_at rules s.life n)
+FilesPrefix rules decodes holds most hives s files = (n : ℕ) × (s.durable ≤ n) × (n ≤ last_number s.life)
+    × FilesRecover rules decodes holds most hives files n (tree_at rules s.life n)

@@ -3,7 +3,7 @@ pub mod AllHives
 pub mod Promises
 pub mod Recovery
 pub mod Life
-pub mod Kept
+pub mod Invariant
 pub mod Steps
 pub mod Lives
 pub mod Calls

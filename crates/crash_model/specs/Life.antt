@@ -1,7 +1,7 @@
 -- One life: what was opened, and what was accepted since.
 use Rattle.std.specs.Prelude.{◌≡◌, ◌⊎◌, ℕ, ◌+◌, ◌-◌, ◌<◌, ◌≤◌, List, [], ◌∷◌, ◌++◌, length, take, drop}
 use Rattle.crash_model.specs.Changes.{Rules, Element, on_hive, ops_on, applied}
-use Rattle.crash_model.specs.Promises.{Spelled, floor}
+use Rattle.crash_model.specs.Promises.{Content, floor}
 
 -- A life has the trees that were opened, the number below the first element that the journal spelled then,
 -- those elements, and the elements accepted since; they are numbered from `base` + 1 on.
@@ -54,7 +54,7 @@ with_accepted life e = record {
 }
 
 -- The life that begins with these recovered trees at n, where the journal spells s.
-abbrev pub opened_life : {T Op : Type 0} → ℕ → (ℕ → T) → Spelled Op → Life T Op
+abbrev pub opened_life : {T Op : Type 0} → ℕ → (ℕ → T) → Content Op → Life T Op
 opened_life n trees s = record { trees = trees; base = floor n s; opened = s.elements; accepted = [] }
 
 -- The life as if it had been opened at its last number: what was accepted is counted among the opened

@@ -2,10 +2,10 @@
 use Rattle.std.specs.Prelude.{◌≡◌, ◌⊎◌, ℕ, ◌<◌, ◌≤◌, List, [], ◌∷◌}
 use Rattle.std.specs.List.{AllByRecursion}
 use Rattle.crash_model.specs.Changes.{Rules}
-use Rattle.crash_model.specs.Promises.{Leaves, settled, Spelled, Answer}
+use Rattle.crash_model.specs.Promises.{Leaves, settled, Content, Answer}
 use Rattle.crash_model.specs.Recovery.{Recovers}
 use Rattle.crash_model.specs.Life.{last_number, tree_at, opened_life}
-use Rattle.crash_model.specs.Kept.{State}
+use Rattle.crash_model.specs.Invariant.{State}
 use Rattle.crash_model.specs.Steps.{AllStay, Step}
 use Rattle.crash_model.specs.Memory.{Remembers, Absorbs, MemoryStep}
 
@@ -15,19 +15,19 @@ use Rattle.crash_model.specs.Memory.{Remembers, Absorbs, MemoryStep}
 pub record Reopens {T Op : Type 0} (rules : Rules T Op) (most hives : ℕ) (old new : State T Op) : Type 0 where
   pub n : ℕ
   pub trees : ℕ → T
-  pub spelled : Spelled Op
+  pub decoded : Content Op
   pub held : ℕ → T × ℕ
-  pub left : Leaves old.journal spelled
+  pub left : Leaves old.journal decoded
   pub each : (i : ℕ) → i < hives → Leaves (old.files i) (held i)
-  pub found : Recovers rules most hives spelled held n trees
-  pub life : new.life ≡ opened_life n trees spelled
+  pub found : Recovers rules most hives decoded held n trees
+  pub life : new.life ≡ opened_life n trees decoded
   pub durable : new.durable ≡ n
-  pub journal : new.journal ≡ settled spelled
+  pub journal : new.journal ≡ settled decoded
   pub files : AllStay hives (λ i. settled (held i)) new.files
 
 -- The new life begins at a number that is not below the old durable one and not above the last accepted one,
 -- with the old life's trees after that number.
-pub record GoesOn {T Op : Type 0} (rules : Rules T Op) (hives : ℕ) (old new : State T Op) : Type 0 where
+pub record LifeContinues {T Op : Type 0} (rules : Rules T Op) (hives : ℕ) (old new : State T Op) : Type 0 where
   pub no_loss : old.durable ≤ new.durable
   pub no_more : new.durable ≤ last_number old.life
   pub trees : (i : ℕ) → i < hives → new.life.trees i ≡ tree_at rules old.life new.durable i
@@ -44,10 +44,10 @@ Runs rules most hives s (t ∷ ts) = (Moves rules most hives s t ⊎ Reopens rul
     × Runs rules most hives t ts
 
 -- In such a list, each opening goes on from the state before it.
-abbrev pub OpeningsGoOn : {T Op : Type 0} → Rules T Op → ℕ → ℕ → State T Op → List (State T Op) → Type 0
-OpeningsGoOn rules most hives s [] = Unit {0}
-OpeningsGoOn rules most hives s (t ∷ ts) = (Moves rules most hives s t ⊎ GoesOn rules hives s t)
-    × OpeningsGoOn rules most hives t ts
+abbrev pub OpeningsContinue : {T Op : Type 0} → Rules T Op → ℕ → ℕ → State T Op → List (State T Op) → Type 0
+OpeningsContinue rules most hives s [] = Unit {0}
+OpeningsContinue rules most hives s (t ∷ ts) = (Moves rules most hives s t ⊎ LifeContinues rules hives s t)
+    × OpeningsContinue rules most hives t ts
 
 -- No durable number is lost: each is at most all later ones.
 abbrev pub OnlyRises : {T Op : Type 0} → List (State T Op) → Type 0

@@ -3,7 +3,7 @@ use Rattle.std.specs.Prelude.{◌≡◌, ◌⊎◌, ℕ, ◌<◌, ◌≤◌, Som
 use Rattle.crash_model.specs.Changes.{Rules, replay}
 use Rattle.crash_model.specs.Promises.{Choice, under_way, Answer, HiveSays}
 use Rattle.crash_model.specs.Life.{ops_in}
-use Rattle.crash_model.specs.Kept.{State}
+use Rattle.crash_model.specs.Invariant.{State}
 use Rattle.crash_model.specs.Steps.{OthersStay, AllStay}
 use Rattle.crash_model.specs.Calls.{MemoryFits}
 

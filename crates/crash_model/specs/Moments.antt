@@ -2,8 +2,8 @@
 -- moment of some boundary between two events.
 use Rattle.std.specs.Prelude.{◌⊎◌, ℕ, ◌+◌, ◌*◌, ◌<◌, ◌≤◌, List, [], ◌∷◌, Bool, IsTrue}
 use Rattle.crash_model.specs.Changes.{Rules}
-use Rattle.crash_model.specs.Promises.{Spelled, JournalOn, HiveOn}
-use Rattle.crash_model.specs.Kept.{State, IsKept}
+use Rattle.crash_model.specs.Promises.{Content, JournalOn, HiveOn}
+use Rattle.crash_model.specs.Invariant.{State, InvariantHolds}
 
 -- A boundary is an engine between two events: the number of device calls made so far, and the state.
 pub record Boundary (T Op : Type 0) : Type 0 where
@@ -17,11 +17,11 @@ LeavesBy test k f c = IsTrue (test k f c)
 -- All is in order at the boundary: the engine's invariant holds, and at the boundary's moment the promises of
 -- the journal and of each hive do, where `may_leave k f c` says that a crash at moment k may leave the bytes c
 -- of file f.
-pub record InOrder {T Op : Type 0} (rules : Rules T Op) (spells : List ℕ → Spelled Op → Type 0)
+pub record InOrder {T Op : Type 0} (rules : Rules T Op) (decodes : List ℕ → Content Op → Type 0)
     (holds : List ℕ → List ℕ → T × ℕ → Type 0) (most hives : ℕ) (may_leave : ℕ → ℕ → List ℕ → Type 0)
     (b : Boundary T Op) : Type 0 where
-  pub kept : IsKept rules most hives b.state
-  pub journal : JournalOn spells b.state.journal (may_leave b.clock 0)
+  pub kept : InvariantHolds rules most hives b.state
+  pub journal : JournalOn decodes b.state.journal (may_leave b.clock 0)
   pub files : (i : ℕ) → i < hives
       → HiveOn holds (b.state.files i) (may_leave b.clock (1 + 2 * i)) (may_leave b.clock (2 + 2 * i))
 

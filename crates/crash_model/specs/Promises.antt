@@ -22,12 +22,12 @@ abbrev pub under_way : {X : Type 0} → X → X → Choice X
 under_way now next = record { now = now; next = Some next }
 
 -- A journal spells elements that are numbered without gaps from below + 1 on, or none.
-pub record Spelled (Op : Type 0) : Type 0 where
+pub record Content (Op : Type 0) : Type 0 where
   pub below : ℕ
   pub elements : List (Element Op)
 
 -- A journal that spells no element has no place of its own: its `below` is 0, so that bytes spell one thing.
-abbrev pub nothing : {Op : Type 0} → Spelled Op
+abbrev pub nothing : {Op : Type 0} → Content Op
 nothing = record { below = 0; elements = [] }
 
 -- The place below elements that are numbered from `below` + 1 on; of none, the durable number.
@@ -36,12 +36,12 @@ floor_of durable below [] = durable
 floor_of durable below (e ∷ es) = below
 
 -- The place below what a journal spells.
-abbrev pub floor : {Op : Type 0} → ℕ → Spelled Op → ℕ
+abbrev pub floor : {Op : Type 0} → ℕ → Content Op → ℕ
 floor durable s = floor_of durable s.below s.elements
 
 -- The number up to which a journal carries: that of its last element, or the durable number where it spells
 -- none.
-abbrev pub top : {Op : Type 0} → ℕ → Spelled Op → ℕ
+abbrev pub top : {Op : Type 0} → ℕ → Content Op → ℕ
 top durable s = floor durable s + length s.elements
 
 -- What a step answers. NoMemory, DiskFault and Faulted are its three refusals: want of memory, a device that
@@ -64,13 +64,13 @@ IsUnderway {X = X} old new = ((x : X) × (old.next ≡ Some x)) × (new ≡ old)
 
 -- The journal begins a batch: behind what it spells, a front of the elements handed in, at least one, is on
 -- its way. `first` is the number of the first one handed in.
-abbrev pub BeginsBatch : {Op : Type 0} → ℕ → List (Element Op) → Choice (Spelled Op) → Choice (Spelled Op)
+abbrev pub BeginsBatch : {Op : Type 0} → ℕ → List (Element Op) → Choice (Content Op) → Choice (Content Op)
     → Type 0
 BeginsBatch first handed old new = (m : ℕ) × (1 ≤ m) × (m ≤ length handed) × (old.next ≡ None)
     × (new ≡ under_way old.now (record { below = floor (first - 1) old.now; elements = old.now.elements ++ take m handed }))
 
 -- The journal begins a trim: that it spells nothing is on its way.
-abbrev pub BeginsTrim : {Op : Type 0} → Choice (Spelled Op) → Choice (Spelled Op) → Type 0
+abbrev pub BeginsTrim : {Op : Type 0} → Choice (Content Op) → Choice (Content Op) → Type 0
 BeginsTrim old new = (old.next ≡ None) × (new ≡ under_way old.now nothing)
 
 -- A hive begins to write what it has in memory.
@@ -79,15 +79,15 @@ BeginsWrite memory old new = (old.next ≡ None) × (new ≡ under_way old.now m
 
 -- Elements that a batch may begin with, where nothing is on its way: what stands ends at the durable number,
 -- behind which they are numbered, and their numbers are at most `most`. What spells no element ends anywhere.
-pub record MayFollow {Op : Type 0} (most durable : ℕ) (handed : List (Element Op)) (now : Spelled Op) : Type 0 where
+pub record MayFollow {Op : Type 0} (most durable : ℕ) (handed : List (Element Op)) (now : Content Op) : Type 0 where
   pub ends : top durable now ≡ durable
   pub room : durable + length handed ≤ most
 
 -- What a batch step of the journal says. Idle: nothing was on its way or handed in. NoMemory: no batch was
 -- begun. More: one was begun, or goes on. Done: what was on its way stands. DiskFault: it may have been
 -- begun, and else nothing has changed. Faulted: nothing has changed.
-abbrev pub JournalSays : {Op : Type 0} → ℕ → List (Element Op) → Answer → Choice (Spelled Op)
-    → Choice (Spelled Op) → Type 0
+abbrev pub JournalSays : {Op : Type 0} → ℕ → List (Element Op) → Answer → Choice (Content Op)
+    → Choice (Content Op) → Type 0
 JournalSays first handed Idle old new = (old.next ≡ None) × (handed ≡ []) × (new ≡ old)
 JournalSays first handed NoMemory old new = (old.next ≡ None) × (new ≡ old)
 JournalSays first handed More old new = BeginsBatch first handed old new ⊎ IsUnderway old new
@@ -97,7 +97,7 @@ JournalSays first handed Faulted old new = new ≡ old
 
 -- What a trim step of the journal says. Its first call begins a trim and its second ends it; it is never
 -- idle, since its caller judges whether to trim, and takes no memory.
-abbrev pub TrimSays : {Op : Type 0} → Answer → Choice (Spelled Op) → Choice (Spelled Op) → Type 0
+abbrev pub TrimSays : {Op : Type 0} → Answer → Choice (Content Op) → Choice (Content Op) → Type 0
 TrimSays More old new = BeginsTrim old new
 TrimSays Done old new = Ends old new
 TrimSays DiskFault old new = BeginsTrim old new ⊎ (new ≡ old)
@@ -116,10 +116,10 @@ HiveSays memory NoMemory old new = (old.next ≡ None) × (new ≡ old)
 HiveSays memory Idle old new = ⊥
 
 -- At a moment: all bytes that a crash may leave of the journal's file spell what the choice leaves.
-abbrev pub JournalOn : {Op : Type 0} → (List ℕ → Spelled Op → Type 0) → Choice (Spelled Op)
+abbrev pub JournalOn : {Op : Type 0} → (List ℕ → Content Op → Type 0) → Choice (Content Op)
     → (List ℕ → Type 0) → Type 0
-JournalOn {Op = Op} spells journal leaves = (c : List ℕ) → leaves c → (s : Spelled Op) × Leaves journal s
-    × spells c s
+JournalOn {Op = Op} decodes journal leaves = (c : List ℕ) → leaves c → (s : Content Op) × Leaves journal s
+    × decodes c s
 
 -- At a moment: any two lists of bytes that a crash may leave of a hive's primary file and its log hold
 -- together what the choice leaves.

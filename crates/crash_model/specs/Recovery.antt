@@ -1,10 +1,10 @@
 -- What an opening makes of a journal and of what each hive holds.
 use Rattle.std.specs.Prelude.{◌≡◌, ℕ, ◌+◌, ◌-◌, ◌<◌, ◌≤◌, List, [], ◌∷◌, length, drop, IsTrue, Some}
 use Rattle.crash_model.specs.Changes.{Rules, Element, ops_on, replay}
-use Rattle.crash_model.specs.Promises.{Spelled}
+use Rattle.crash_model.specs.Promises.{Content}
 
 -- The spelled elements that are numbered above k.
-abbrev pub above : {Op : Type 0} → ℕ → Spelled Op → List (Element Op)
+abbrev pub above : {Op : Type 0} → ℕ → Content Op → List (Element Op)
 above k s = drop (k - s.below) s.elements
 
 -- n is the number of the last element, or the number of some hive where there is no element.
@@ -16,7 +16,7 @@ IsLastNumber hives numbers below (e ∷ es) n = n ≡ below + length (e ∷ es)
 -- greater one, each tree is the held one with the operations on its hive of the elements numbered above the
 -- hive's own number replayed in order, each legal, and each tree is allowed after n. Since no number is above
 -- n, the number of some hive is the greatest of all where the journal spells nothing.
-pub record Recovers {T Op : Type 0} (rules : Rules T Op) (most hives : ℕ) (journal : Spelled Op)
+pub record Recovers {T Op : Type 0} (rules : Rules T Op) (most hives : ℕ) (journal : Content Op)
     (held : ℕ → T × ℕ) (n : ℕ) (trees : ℕ → T) : Type 0 where
   pub last : IsLastNumber hives (λ i. (held i).1) journal.below journal.elements n
   pub limit : n ≤ most

@@ -4,7 +4,7 @@ use Rattle.crash_model.specs.Changes.{Rules, AreLegal, Element, on_hive, ops_on,
 use Rattle.crash_model.specs.Promises.{Choice, under_way, top, Ends, BeginsBatch, BeginsTrim}
 use Rattle.crash_model.specs.Recovery.{above}
 use Rattle.crash_model.specs.Life.{opened_number, last_number, ops_in, tree_at, NamesHive, with_accepted, folded_life}
-use Rattle.crash_model.specs.Kept.{State}
+use Rattle.crash_model.specs.Invariant.{State}
 
 -- The accepted elements that are not durable.
 abbrev pub pending_elements : {T Op : Type 0} → State T Op → List (Element Op)
@@ -52,7 +52,7 @@ pub record Batches {T Op : Type 0} (hives : ℕ) (old new : State T Op) : Type 0
 
 -- A batch or a trim ends; the durable number is then the last one spelled, where there is one, and else as it
 -- was.
-pub record Settles {T Op : Type 0} (hives : ℕ) (old new : State T Op) : Type 0 where
+pub record EndsJournalWrite {T Op : Type 0} (hives : ℕ) (old new : State T Op) : Type 0 where
   pub life : new.life ≡ old.life
   pub journal : Ends old.journal new.journal
   pub durable : new.durable ≡ top old.durable new.journal.now
@@ -60,7 +60,7 @@ pub record Settles {T Op : Type 0} (hives : ℕ) (old new : State T Op) : Type 0
 
 -- A trim begins, of a journal that spells something, where it may.
 pub record Trims {T Op : Type 0} (hives : ℕ) (old new : State T Op) : Type 0 where
-  pub spells : (e : Element Op) × (es : List (Element Op)) × (old.journal.now.elements ≡ e ∷ es)
+  pub decodes : (e : Element Op) × (es : List (Element Op)) × (old.journal.now.elements ≡ e ∷ es)
   pub may : MayTrim hives old
   pub life : new.life ≡ old.life
   pub durable : new.durable ≡ old.durable
@@ -78,7 +78,7 @@ pub record Flushes {T Op : Type 0} (rules : Rules T Op) (hives : ℕ) (old new :
   pub files : OthersStay hives hive old.files new.files
 
 -- A hive's flush ends.
-pub record Lands {T Op : Type 0} (hives : ℕ) (old new : State T Op) : Type 0 where
+pub record HiveFlushEnds {T Op : Type 0} (hives : ℕ) (old new : State T Op) : Type 0 where
   pub hive : ℕ
   pub life : new.life ≡ old.life
   pub durable : new.durable ≡ old.durable
@@ -98,5 +98,5 @@ pub record Folds {T Op : Type 0} (rules : Rules T Op) (hives : ℕ) (old new : S
 -- One step of the protocol is one of these seven.
 abbrev pub Step : {T Op : Type 0} → Rules T Op → ℕ → ℕ → State T Op → State T Op → Type 0
 Step rules most hives old new = Accepts rules most hives old new ⊎ Batches hives old new
-    ⊎ Settles hives old new ⊎ Trims hives old new ⊎ Flushes rules hives old new ⊎ Lands hives old new
+    ⊎ EndsJournalWrite hives old new ⊎ Trims hives old new ⊎ Flushes rules hives old new ⊎ HiveFlushEnds hives old new
     ⊎ Folds rules hives old new

@@ -1,10 +1,10 @@
 -- Nine protocols that are nearly right, and the small store on which each of them breaks.
 use Rattle.std.specs.Prelude.{◌≡◌, ℕ, ◌+◌, ◌<◌, List, [], ◌∷◌, ◌++◌, drop, true, Some}
 use Rattle.crash_model.specs.Changes.{Rules, Element, on_hive, ops_on, replay}
-use Rattle.crash_model.specs.Promises.{Leaves, Spelled, top, BeginsBatch, BeginsTrim}
+use Rattle.crash_model.specs.Promises.{Leaves, Content, top, BeginsBatch, BeginsTrim}
 use Rattle.crash_model.specs.Recovery.{above}
 use Rattle.crash_model.specs.Life.{last_number, ops_in, tree_at, with_accepted}
-use Rattle.crash_model.specs.Kept.{State, IsKept, IsSafe}
+use Rattle.crash_model.specs.Invariant.{State, InvariantHolds, IsSafe}
 use Rattle.crash_model.specs.Steps.{pending_elements, OthersStay, AllStay, BeginsFlush}
 use Rattle.crash_model.specs.Lives.{Runs}
 
@@ -16,7 +16,7 @@ marks = record { apply = λ o t. o ∷ t; legal = λ o t. true; allows = λ i n 
 -- A wrong step breaks the law: on a small store of two hives it leads from some state with the invariant to
 -- one in which a crash may leave what stands for no prefix.
 abbrev pub Breaks : (State (List ℕ) ℕ → State (List ℕ) ℕ → Type 0) → Type 0
-Breaks wrong = (old : State (List ℕ) ℕ) × (new : State (List ℕ) ℕ) × IsKept marks 3 2 old × wrong old new
+Breaks wrong = (old : State (List ℕ) ℕ) × (new : State (List ℕ) ℕ) × InvariantHolds marks 3 2 old × wrong old new
     × ¬ IsSafe marks 3 2 new
 
 -- Nothing but one hive's files has changed.
@@ -70,7 +70,7 @@ BatchesSkipping hives old new = OnlyJournal hives old new × (new.durable ≡ ol
 abbrev pub CountsEarly : {T Op : Type 0} → ℕ → State T Op → State T Op → Type 0
 CountsEarly {Op = Op} hives old new = OnlyJournal hives old new
     × BeginsBatch (old.durable + 1) (pending_elements old) old.journal new.journal
-    × ((s : Spelled Op) × (new.journal.next ≡ Some s) × (new.durable ≡ top old.durable s))
+    × ((s : Content Op) × (new.journal.next ≡ Some s) × (new.durable ≡ top old.durable s))
 
 -- An element with no operation is accepted.
 abbrev pub AcceptsEmpty : {T Op : Type 0} → ℕ → ℕ → State T Op → State T Op → Type 0
@@ -82,13 +82,13 @@ AcceptsEmpty most hives old new = (last_number old.life < most) × (new.life ≡
 abbrev pub EmptyBreaks : Type 0
 EmptyBreaks = (old : State (List ℕ) ℕ) × (new : State (List ℕ) ℕ) × (later : State (List ℕ) ℕ)
     × (between : List (State (List ℕ) ℕ))
-    × IsKept marks 3 2 old × AcceptsEmpty 3 2 old new × Runs marks 3 2 new (between ++ later ∷ [])
+    × InvariantHolds marks 3 2 old × AcceptsEmpty 3 2 old new × Runs marks 3 2 new (between ++ later ∷ [])
     × ¬ IsSafe marks 3 2 later
 
 -- In a state with the invariant, with nothing on its way, replaying all spelled elements on what the hives
 -- hold, their own among them, gives the trees after no number.
 abbrev pub ReplayingAllBreaks : Type 0
-ReplayingAllBreaks = (s : State (List ℕ) ℕ) × IsKept marks 3 2 s
+ReplayingAllBreaks = (s : State (List ℕ) ℕ) × InvariantHolds marks 3 2 s
     × ((n : ℕ) (trees : ℕ → List ℕ)
     → ((i : ℕ) → i < 2 → replay marks (ops_on i s.journal.now.elements) (s.files i).now.0 ≡ Some (trees i))
     → ¬ ((i : ℕ) → i < 2 → trees i ≡ tree_at marks s.life n i))

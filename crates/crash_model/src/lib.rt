@@ -15,7 +15,7 @@
 //! - `Changes`, `AllHives`: elements (accepted changes), and what replaying them makes of one tree or of all;
 //! - `Promises`: what the journal and the hive files promise of the disk, and what each of their calls says.
 //!   These are the words that their own contracts cite;
-//! - `Recovery`, `Life`, `Kept`: what an opening recovers, one life, and the invariant that an engine keeps;
+//! - `Recovery`, `Life`, `Invariant`: what an opening recovers, one life, and the invariant that an engine keeps;
 //! - `Steps`, `Lives`, `Calls`, `Memory`: the protocol, crashes and openings, one call each, and what a hive
 //!   has in memory;
 //! - `Files`, `Moments`: the same said of files, and of each moment of a run;
@@ -28,15 +28,15 @@ ghost use Rattle.std.specs.Prelude.{[], ◌≡◌, ◌≤◌, ◌<◌, ◌+◌, 
 ghost use Rattle.std.specs.List.{AllByRecursion};
 ghost use Rattle.crash_model.specs.Changes.{Rules, AreLegal, Element, on_hive, ops_on, replay, applied};
 ghost use Rattle.crash_model.specs.AllHives.{after_elements, run_element};
-ghost use Rattle.crash_model.specs.Promises.{Choice, Leaves, Spelled, nothing, Answer, MayFollow};
+ghost use Rattle.crash_model.specs.Promises.{Choice, Leaves, Content, nothing, Answer, MayFollow};
 ghost use Rattle.crash_model.specs.Recovery.{Recovers};
 ghost use Rattle.crash_model.specs.Life.{Life, NamesHive, IsLastNaming, last_number, tree_at, ops_in};
-ghost use Rattle.crash_model.specs.Kept.{State, IsKept, IsPrefix, IsSafe, opened_state};
+ghost use Rattle.crash_model.specs.Invariant.{State, InvariantHolds, IsPrefix, IsSafe, opened_state};
 ghost use Rattle.crash_model.specs.Steps.{pending_elements, MayTrim, Step};
-ghost use Rattle.crash_model.specs.Lives.{Reopens, GoesOn, Runs, OpeningsGoOn, OnlyRises};
+ghost use Rattle.crash_model.specs.Lives.{Reopens, LifeContinues, Runs, OpeningsContinue, OnlyRises};
 ghost use Rattle.crash_model.specs.Calls.{JournalStep, TrimStep, FlusherStep, MemoryFits};
 ghost use Rattle.crash_model.specs.Memory.{with_memory, IsOfMemory, Remembers, Absorbs, MemoryStep};
-ghost use Rattle.crash_model.specs.Files.{SpellsBy, HoldsBy, FilesRecover, FilesLeft, FilesPrefix};
+ghost use Rattle.crash_model.specs.Files.{DecodesBy, HoldsBy, FilesRecover, FilesLeft, FilesPrefix};
 ghost use Rattle.crash_model.specs.Moments.{Boundary, LeavesBy, InOrder, Trace, end_of, AtSome, LeftAt};
 ghost use Rattle.crash_model.specs.WrongProtocols.{marks, Breaks, FlushesPending, TrimsAfterOne, TrimsByFirst, TrimsByMemory, EmptyBreaks, ReplayingAllBreaks, FlushesUnderLess, BatchesSkipping, CountsEarly};
 
@@ -49,11 +49,11 @@ ghost use Rattle.crash_model.specs.WrongProtocols.{marks, Breaks, FlushesPending
 ///   other tree of a hive that is there. This needs no invariant.
 pub fn one_prefix<T, Op>()
     ensures exists { (r : Rules T Op) (most hives : ℕ) (state : State T Op) →
-        IsKept r most hives state →
-        (s : Spelled Op) → Leaves state.journal s → (held : ℕ → T × ℕ) →
+        InvariantHolds r most hives state →
+        (s : Content Op) → Leaves state.journal s → (held : ℕ → T × ℕ) →
         ((i : ℕ) → i < hives → Leaves (state.files i) (held i)) →
         IsPrefix r most hives state.life state.durable s held }
-    ensures only { (r : Rules T Op) (most hives : ℕ) (s : Spelled Op)
+    ensures only { (r : Rules T Op) (most hives : ℕ) (s : Content Op)
         (held : ℕ → T × ℕ) (n m : ℕ) (ts us : ℕ → T) →
         Recovers r most hives s held n ts → Recovers r most hives s held m us →
         (n ≡ m) × ((i : ℕ) → i < hives → ts i ≡ us i) }
@@ -73,22 +73,22 @@ pub fn one_prefix<T, Op>()
 ///   journal spells nothing, and each hive holds its tree and 0.
 pub fn kept<T, Op>()
     ensures step { (r : Rules T Op) (most hives : ℕ) (old new : State T Op) →
-        IsKept r most hives old → Step r most hives old new → IsKept r most hives new }
+        InvariantHolds r most hives old → Step r most hives old new → InvariantHolds r most hives new }
     ensures reopens { (r : Rules T Op) (most hives : ℕ) (old new : State T Op) →
-        IsKept r most hives old → Reopens r most hives old new →
-        IsKept r most hives new × GoesOn r hives old new }
+        InvariantHolds r most hives old → Reopens r most hives old new →
+        InvariantHolds r most hives new × LifeContinues r hives old new }
     ensures quiet { (r : Rules T Op) (most hives : ℕ) (old new : State T Op) →
-        IsKept r most hives old →
+        InvariantHolds r most hives old →
         old.durable ≡ last_number old.life → Reopens r most hives old new →
         (new.durable ≡ old.durable)
         × ((i : ℕ) → i < hives → new.life.trees i ≡ tree_at r old.life (last_number old.life) i) }
-    ensures begins { (r : Rules T Op) (most hives : ℕ) (spelled : Spelled Op)
-        (held : ℕ → T × ℕ) (n : ℕ) (trees : ℕ → T) → Recovers r most hives spelled held n trees →
-        AllByRecursion (NamesHive hives) spelled.elements →
-        IsKept r most hives (opened_state n trees spelled held) }
+    ensures begins { (r : Rules T Op) (most hives : ℕ) (decoded : Content Op)
+        (held : ℕ → T × ℕ) (n : ℕ) (trees : ℕ → T) → Recovers r most hives decoded held n trees →
+        AllByRecursion (NamesHive hives) decoded.elements →
+        InvariantHolds r most hives (opened_state n trees decoded held) }
     ensures created { (r : Rules T Op) (most hives : ℕ) → 0 < hives → (trees : ℕ → T) →
         ((i : ℕ) → i < hives → IsTrue (r.allows i 0 (trees i))) →
-        IsKept r most hives (opened_state 0 trees nothing (λ i. (trees i, 0))) }
+        InvariantHolds r most hives (opened_state 0 trees nothing (λ i. (trees i, 0))) }
 {}
 
 /// Over any list of moves of an engine, crashes and openings, in any order. A move is a step of the protocol, a
@@ -97,19 +97,19 @@ pub fn kept<T, Op>()
 ///
 /// - `keeps`: each state has the invariant;
 /// - `safe`: whatever a crash leaves in any state stands for one prefix;
-/// - `goes_on`: each life that opens begins at a number that is not below the durable one of the life before
+/// - `continues`: each life that opens begins at a number that is not below the durable one of the life before
 ///   it and not above its last one, with that life's trees after the number;
 /// - `rises`: no durable number is below an earlier one, so nothing that was durable is ever lost.
 pub fn lives<T, Op>()
-    ensures keeps { (r : Rules T Op) (most hives : ℕ) (s : State T Op) → IsKept r most hives s →
+    ensures keeps { (r : Rules T Op) (most hives : ℕ) (s : State T Op) → InvariantHolds r most hives s →
         (ts : List (State T Op)) → Runs r most hives s ts →
-        AllByRecursion (IsKept r most hives) (s ∷ ts) }
-    ensures safe { (r : Rules T Op) (most hives : ℕ) (s : State T Op) → IsKept r most hives s →
+        AllByRecursion (InvariantHolds r most hives) (s ∷ ts) }
+    ensures safe { (r : Rules T Op) (most hives : ℕ) (s : State T Op) → InvariantHolds r most hives s →
         (ts : List (State T Op)) → Runs r most hives s ts →
         AllByRecursion (IsSafe r most hives) (s ∷ ts) }
-    ensures goes_on { (r : Rules T Op) (most hives : ℕ) (s : State T Op) → IsKept r most hives s →
-        (ts : List (State T Op)) → Runs r most hives s ts → OpeningsGoOn r most hives s ts }
-    ensures rises { (r : Rules T Op) (most hives : ℕ) (s : State T Op) → IsKept r most hives s →
+    ensures continues { (r : Rules T Op) (most hives : ℕ) (s : State T Op) → InvariantHolds r most hives s →
+        (ts : List (State T Op)) → Runs r most hives s ts → OpeningsContinue r most hives s ts }
+    ensures rises { (r : Rules T Op) (most hives : ℕ) (s : State T Op) → InvariantHolds r most hives s →
         (ts : List (State T Op)) → Runs r most hives s ts → OnlyRises (s ∷ ts) }
 {}
 
@@ -129,16 +129,16 @@ pub fn lives<T, Op>()
 /// - `absorb`: what a hive has in memory goes on fitting as it absorbs the elements up to such a number.
 pub fn clauses_suffice<T, Op>()
     ensures journal { (r : Rules T Op) (most hives : ℕ) (answer : Answer) (old new : State T Op) →
-        IsKept r most hives old → JournalStep hives answer old new → IsKept r most hives new }
+        InvariantHolds r most hives old → JournalStep hives answer old new → InvariantHolds r most hives new }
     ensures trim { (r : Rules T Op) (most hives : ℕ) (answer : Answer) (old new : State T Op) →
-        IsKept r most hives old → TrimStep hives answer old new → IsKept r most hives new }
+        InvariantHolds r most hives old → TrimStep hives answer old new → InvariantHolds r most hives new }
     ensures flusher { (r : Rules T Op) (most hives : ℕ) (answer : Answer) (hive : ℕ)
-        (memory : T × ℕ) (old new : State T Op) → IsKept r most hives old →
-        FlusherStep r hives answer hive memory old new → IsKept r most hives new }
+        (memory : T × ℕ) (old new : State T Op) → InvariantHolds r most hives old →
+        FlusherStep r hives answer hive memory old new → InvariantHolds r most hives new }
     ensures may_follow { (r : Rules T Op) (most hives : ℕ) (s : State T Op) →
-        IsKept r most hives s →
+        InvariantHolds r most hives s →
         MayFollow most s.durable (pending_elements s) s.journal.now }
-    ensures trim_test { (r : Rules T Op) (most hives : ℕ) (s : State T Op) → IsKept r most hives s →
+    ensures trim_test { (r : Rules T Op) (most hives : ℕ) (s : State T Op) → InvariantHolds r most hives s →
         MayTrim hives s ↔ ((i : ℕ) → i < hives → ops_in s.life i (s.files i).now.1 s.durable ≡ []) }
     ensures last_naming { (life : Life T Op) (i hi m : ℕ) → IsLastNaming life i hi m →
         (k : ℕ) → (ops_in life i k hi ≡ []) ↔ (m ≤ k) }
@@ -163,13 +163,13 @@ pub fn memory_counts<T, Op>()
     ensures leaves { (file : Choice (T × ℕ)) (memory : T × ℕ) → IsOfMemory file memory →
         (x : T × ℕ) → Leaves file x → Leaves (with_memory file memory) x }
     ensures remembers { (r : Rules T Op) (most hives : ℕ)
-        (memory : ℕ → T × ℕ) (old new : State T Op) → IsKept r most hives old →
+        (memory : ℕ → T × ℕ) (old new : State T Op) → InvariantHolds r most hives old →
         Remembers r hives memory old new →
-        IsKept r most hives new }
+        InvariantHolds r most hives new }
     ensures absorbs { (r : Rules T Op) (most hives : ℕ) (old new : State T Op) →
-        IsKept r most hives old → Absorbs r hives old new → IsKept r most hives new }
+        InvariantHolds r most hives old → Absorbs r hives old new → InvariantHolds r most hives new }
     ensures flushes { (r : Rules T Op) (most hives : ℕ) (answer : Answer) (old new : State T Op) →
-        IsKept r most hives old → MemoryStep hives answer old new → IsKept r most hives new }
+        InvariantHolds r most hives old → MemoryStep hives answer old new → InvariantHolds r most hives new }
 {}
 
 /// What holds of all trees at once holds hive by hive.
@@ -194,16 +194,16 @@ pub fn hive_by_hive<T, Op>()
 ///   number between the durable and the last one, with the trees after it.
 /// - `only`: the same files recover no second number and no other trees.
 pub fn of_files<T, Op>()
-    ensures exists { (r : Rules T Op) (spelled : List ℕ → Option (Spelled Op))
+    ensures exists { (r : Rules T Op) (decoded : List ℕ → Option (Content Op))
         (held : List ℕ → List ℕ → Option (T × ℕ)) (most hives : ℕ) (s : State T Op) →
-        IsKept r most hives s → (files : ℕ → List ℕ) →
-        FilesLeft (SpellsBy spelled) (HoldsBy held) hives s files →
-        FilesPrefix r (SpellsBy spelled) (HoldsBy held) most hives s files }
-    ensures only { (r : Rules T Op) (spelled : List ℕ → Option (Spelled Op))
+        InvariantHolds r most hives s → (files : ℕ → List ℕ) →
+        FilesLeft (DecodesBy decoded) (HoldsBy held) hives s files →
+        FilesPrefix r (DecodesBy decoded) (HoldsBy held) most hives s files }
+    ensures only { (r : Rules T Op) (decoded : List ℕ → Option (Content Op))
         (held : List ℕ → List ℕ → Option (T × ℕ)) (most hives : ℕ)
         (files : ℕ → List ℕ) (n m : ℕ) (ts us : ℕ → T) →
-        FilesRecover r (SpellsBy spelled) (HoldsBy held) most hives files n ts →
-        FilesRecover r (SpellsBy spelled) (HoldsBy held) most hives files m us →
+        FilesRecover r (DecodesBy decoded) (HoldsBy held) most hives files n ts →
+        FilesRecover r (DecodesBy decoded) (HoldsBy held) most hives files m us →
         (n ≡ m) × ((i : ℕ) → i < hives → ts i ≡ us i) }
 {}
 
@@ -216,22 +216,22 @@ pub fn of_files<T, Op>()
 /// - `every`: they do so at every boundary of that moment, the last one among them, so that no event answered
 ///   before the crash is passed over.
 pub fn each_moment<T, Op>()
-    ensures some { (r : Rules T Op) (spelled : List ℕ → Option (Spelled Op))
+    ensures some { (r : Rules T Op) (decoded : List ℕ → Option (Content Op))
         (held : List ℕ → List ℕ → Option (T × ℕ)) (most hives : ℕ) (test : ℕ → ℕ → List ℕ → Bool)
         (b : Boundary T Op) (bs : List (Boundary T Op)) → Trace b bs →
-        AllByRecursion (InOrder r (SpellsBy spelled) (HoldsBy held) most hives (LeavesBy test))
+        AllByRecursion (InOrder r (DecodesBy decoded) (HoldsBy held) most hives (LeavesBy test))
         (b ∷ bs) →
         (files : ℕ → List ℕ) (k : ℕ) → b.clock ≤ k → k ≤ end_of b bs →
         LeftAt (LeavesBy test) k files →
         AtSome (λ c. (c.clock ≡ k)
-        × FilesPrefix r (SpellsBy spelled) (HoldsBy held) most hives c.state files) (b ∷ bs) }
-    ensures every { (r : Rules T Op) (spelled : List ℕ → Option (Spelled Op))
+        × FilesPrefix r (DecodesBy decoded) (HoldsBy held) most hives c.state files) (b ∷ bs) }
+    ensures every { (r : Rules T Op) (decoded : List ℕ → Option (Content Op))
         (held : List ℕ → List ℕ → Option (T × ℕ)) (most hives : ℕ) (test : ℕ → ℕ → List ℕ → Bool)
         (bs : List (Boundary T Op)) →
-        AllByRecursion (InOrder r (SpellsBy spelled) (HoldsBy held) most hives (LeavesBy test)) bs →
+        AllByRecursion (InOrder r (DecodesBy decoded) (HoldsBy held) most hives (LeavesBy test)) bs →
         (files : ℕ → List ℕ) (k : ℕ) → LeftAt (LeavesBy test) k files →
         AllByRecursion (λ c. c.clock ≡ k →
-        FilesPrefix r (SpellsBy spelled) (HoldsBy held) most hives c.state files) bs }
+        FilesPrefix r (DecodesBy decoded) (HoldsBy held) most hives c.state files) bs }
 {}
 
 /// Nine protocols that are nearly right break the law, each on a store of two hives with at most three

@@ -10,8 +10,8 @@ use Rattle.refusals.specs.declared.refusal.Refusal.{Refusal}
 use Rattle.refusals.specs.declared.refusal.Refusal.TheVariants.{DiskFault, NoMemory}
 use Rattle.commit_journal.specs.Store.{Store}
 use Rattle.script_runner.specs.Running.{IsOpenedOn, MayNotOpen, session_0}
-use Rattle.crash_sweep.specs.Findings.{IsFound, Opens, Tells}
-use Rattle.crash_sweep.specs.declared.finding.Bounds.{Bounds}
+use Rattle.crash_sweep.specs.Findings.{CrashGivesFinding, Opens, FindingIsRight}
+use Rattle.crash_sweep.specs.declared.finding.NumberRange.{NumberRange}
 use Rattle.crash_sweep.specs.declared.finding.Finding.{Finding}
 use Rattle.crash_sweep.specs.declared.finding.Finding.TheVariants.{Nothing}
 
@@ -20,8 +20,8 @@ abbrev AreLeft : Tear → (ℕ → FileState) → (ℕ → FileState) → Type 0
 AreLeft tear state left = (f : ℕ) → IsCrashOf tear (state f) (left f)
 
 -- a store opened at a number, of which a finding tells
-pub found_open : (tear : Tear) (bounds : Bounds) (state left : ℕ → FileState) (store : Store) (number : ℕ) (machine : Machine) (finding : Finding) → AreLeft tear state left
-    → IsOpenedOn (Unit {0}) (seen_in left) store number session_0 machine → ((files : ℕ → List ℕ) → Opens files number → Tells bounds files finding) → IsFound tear bounds state finding
+pub found_open : (tear : Tear) (bounds : NumberRange) (state left : ℕ → FileState) (store : Store) (number : ℕ) (machine : Machine) (finding : Finding) → AreLeft tear state left
+    → IsOpenedOn (Unit {0}) (seen_in left) store number session_0 machine → ((files : ℕ → List ℕ) → Opens files number → FindingIsRight bounds files finding) → CrashGivesFinding tear bounds state finding
 found_open tear bounds state left store number machine finding by opened tells = (left, by, tells (seen_in left) (store, opened.trees, opened.recovered tt))
 
 -- why nothing opens, where memory was not wanting
@@ -31,7 +31,7 @@ told files failed why fed (inr (inl broke)) = inl broke.0
 told files failed why fed (inr (inr none)) = inr none
 
 -- nothing opened, of which a finding tells
-pub found_nothing : (E : Type 0) (tear : Tear) (bounds : Bounds) (state left : ℕ → FileState) (failed : Type 0) (why : Refusal) (result : Result Finding E) → AreLeft tear state left
-    → MayNotOpen failed (Unit {0}) (seen_in left) why → IfOk result (λ finding. (finding ≡ Nothing why) × (why ≢ NoMemory)) → IfOk result (IsFound tear bounds state)
+pub found_nothing : (E : Type 0) (tear : Tear) (bounds : NumberRange) (state left : ℕ → FileState) (failed : Type 0) (why : Refusal) (result : Result Finding E) → AreLeft tear state left
+    → MayNotOpen failed (Unit {0}) (seen_in left) why → IfOk result (λ finding. (finding ≡ Nothing why) × (why ≢ NoMemory)) → IfOk result (CrashGivesFinding tear bounds state)
 found_nothing E tear bounds state left failed why result by none said =
-    IfOk-weaker result _ _ (λ finding is. (left, by, subst (Tells bounds (seen_in left)) (sym is.0) (told (seen_in left) failed why is.1 none))) said
+    IfOk-weaker result _ _ (λ finding is. (left, by, subst (FindingIsRight bounds (seen_in left)) (sym is.0) (told (seen_in left) failed why is.1 none))) said

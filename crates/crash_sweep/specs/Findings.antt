@@ -7,7 +7,7 @@ use Rattle.disk_model.specs.declared.tear.Tear.{Tear}
 use Rattle.reg_tree.specs.Maps.{TreeMap}
 use Rattle.commit_journal.specs.Store.{Store}
 use Rattle.recovery.specs.Recovered.{IsNoStore, IsRecovered, seen_in}
-use Rattle.crash_sweep.specs.declared.finding.Bounds.{Bounds}
+use Rattle.crash_sweep.specs.declared.finding.NumberRange.{NumberRange}
 use Rattle.crash_sweep.specs.declared.finding.Finding.{Finding}
 use Rattle.crash_sweep.specs.declared.finding.Finding.TheVariants.{Within, Outside, OtherTrees, Nothing}
 
@@ -16,12 +16,12 @@ abbrev pub Opens : (ℕ → List ℕ) → ℕ → Type 0
 Opens files number = (store : Store) × (trees : List TreeMap) × IsRecovered files store number trees
 
 -- a finding says which number files recover, and whether that is within bounds; or why they recover nothing
-abbrev pub Tells : Bounds → (ℕ → List ℕ) → Finding → Type 0
-Tells bounds files (Within number) = Opens files number × (bounds.low ≤ number) × (number ≤ bounds.high)
-Tells bounds files (Outside number) = Opens files number × ((number < bounds.low) ⊎ (bounds.high < number))
-Tells bounds files (OtherTrees number) = Opens files number × (bounds.low ≤ number) × (number ≤ bounds.high)
-Tells bounds files (Nothing why) = (why ≡ DiskFault) ⊎ IsNoStore (Unit {0}) files why
+abbrev pub FindingIsRight : NumberRange → (ℕ → List ℕ) → Finding → Type 0
+FindingIsRight bounds files (Within number) = Opens files number × (bounds.low ≤ number) × (number ≤ bounds.high)
+FindingIsRight bounds files (Outside number) = Opens files number × ((number < bounds.low) ⊎ (bounds.high < number))
+FindingIsRight bounds files (OtherTrees number) = Opens files number × (bounds.low ≤ number) × (number ≤ bounds.high)
+FindingIsRight bounds files (Nothing why) = (why ≡ DiskFault) ⊎ IsNoStore (Unit {0}) files why
 
 -- a power cut with this tear, of files in these states, leaves files of which a finding tells
-abbrev pub IsFound : Tear → Bounds → (ℕ → FileState) → Finding → Type 0
-IsFound tear bounds state finding = (left : ℕ → FileState) × ((f : ℕ) → IsCrashOf tear (state f) (left f)) × Tells bounds (seen_in left) finding
+abbrev pub CrashGivesFinding : Tear → NumberRange → (ℕ → FileState) → Finding → Type 0
+CrashGivesFinding tear bounds state finding = (left : ℕ → FileState) × ((f : ℕ) → IsCrashOf tear (state f) (left f)) × FindingIsRight bounds (seen_in left) finding

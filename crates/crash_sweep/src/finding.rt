@@ -2,10 +2,10 @@
 ghost use Rattle.std.specs.Prelude.{◌≡◌, ◌≢◌, ℕ, List, IfOk};
 ghost use Rattle.refusals.specs.declared.refusal.Refusal.TheVariants.{NoMemory};
 ghost use Rattle.disk_model.specs.declared.tear.Tear.TheVariants.{Old, New, Torn};
-ghost use Rattle.crash_sweep.specs.Findings.{IsFound, Opens, Tells};
+ghost use Rattle.crash_sweep.specs.Findings.{CrashGivesFinding, Opens, FindingIsRight};
 
-use crate::history::History;
-use crate::watched::Change;
+use crate::history::TreeHistory;
+use crate::watched_disk::FileChange;
 use disk_model::{Disk, MemDisk, Plan, Tear};
 use refusals::Refusal;
 use reg_tree::Trees;
@@ -15,7 +15,7 @@ use std::sync::Arc;
 
 /// The numbers between which what opens has to be, themselves among them.
 #[derive(Clone, Copy, Debug, PartialEq, Eq)]
-pub(crate) struct Bounds {
+pub(crate) struct NumberRange {
     /// The last change that was acknowledged before the cut.
     pub low: u64,
     /// The last change that was accepted before the cut.
@@ -56,7 +56,7 @@ impl Finding {
 
 /// What opens behind a cut with each tear.
 #[derive(Clone, Copy, Debug, PartialEq, Eq)]
-pub(crate) struct Found {
+pub(crate) struct TearFindings {
     /// With what was synced last.
     pub old: Finding,
     /// With all that was written.
@@ -65,7 +65,7 @@ pub(crate) struct Found {
     pub torn: Finding,
 }
 
-impl Found {
+impl TearFindings {
     /// The findings, in the order in which a row tells them.
     pub(crate) fn each(&self) -> [Finding; 3] {
         [self.old, self.new, self.torn]
@@ -74,30 +74,30 @@ impl Found {
 
 /// One cut of the power: behind which device call, what opens with each tear, and the bounds.
 #[derive(Clone, Copy, Debug, PartialEq, Eq)]
-pub(crate) struct Row {
+pub(crate) struct SweepRow {
     /// What the call did.
-    pub change: Change,
+    pub change: FileChange,
     /// What opens.
-    pub found: Found,
+    pub found: TearFindings,
     /// Between which numbers that has to be.
-    pub bounds: Bounds,
+    pub bounds: NumberRange,
 }
 
 /// What opens of a disk behind a cut with each tear. Refused for want of memory alone.
-pub(crate) fn found_with_each(
+pub(crate) fn findings_per_tear(
     alloc: Global,
     disk: &MemDisk,
-    history: &History,
-    bounds: Bounds,
-) -> Result<Found, AllocError>
-    ensures old { IfOk result (λ found. IsFound Old bounds
+    history: &TreeHistory,
+    bounds: NumberRange,
+) -> Result<TearFindings, AllocError>
+    ensures old { IfOk result (λ found. CrashGivesFinding Old bounds
         (⟦<MemDisk as Disk>⟧.state_at disk.now (⟦<MemDisk as Disk>⟧.clock disk.now)) found.old) }
-    ensures new { IfOk result (λ found. IsFound New bounds
+    ensures new { IfOk result (λ found. CrashGivesFinding New bounds
         (⟦<MemDisk as Disk>⟧.state_at disk.now (⟦<MemDisk as Disk>⟧.clock disk.now)) found.new) }
-    ensures torn { IfOk result (λ found. IsFound Torn bounds
+    ensures torn { IfOk result (λ found. CrashGivesFinding Torn bounds
         (⟦<MemDisk as Disk>⟧.state_at disk.now (⟦<MemDisk as Disk>⟧.clock disk.now)) found.torn) }
 {
-    Ok(Found {
+    Ok(TearFindings {
         old: opening_behind(alloc, disk, Tear::Old, history, bounds)?,
         new: opening_behind(alloc, disk, Tear::New, history, bounds)?,
         torn: opening_behind(alloc, disk, Tear::Torn, history, bounds)?,
@@ -109,10 +109,10 @@ fn opening_behind(
     alloc: Global,
     disk: &MemDisk,
     tear: Tear,
-    history: &History,
-    bounds: Bounds,
+    history: &TreeHistory,
+    bounds: NumberRange,
 ) -> Result<Finding, AllocError>
-    ensures { IfOk result (IsFound tear bounds
+    ensures { IfOk result (CrashGivesFinding tear bounds
         (⟦<MemDisk as Disk>⟧.state_at disk.now (⟦<MemDisk as Disk>⟧.clock disk.now))) }
 {
     let left = disk.crashed(tear, Arc::new(alloc, Plan::new())?)?;
@@ -123,8 +123,8 @@ fn opening_behind(
 }
 
 // what is found where files recover this number and these trees
-fn finding_of(number: u64, trees: &Trees, history: &History, bounds: Bounds) -> Finding
-    ensures { (files : ℕ → List ℕ) → Opens files number → Tells bounds files result }
+fn finding_of(number: u64, trees: &Trees, history: &TreeHistory, bounds: NumberRange) -> Finding
+    ensures { (files : ℕ → List ℕ) → Opens files number → FindingIsRight bounds files result }
 {
     if number < bounds.low {
         return Finding::Outside { number };

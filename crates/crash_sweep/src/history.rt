@@ -5,16 +5,16 @@ use std::alloc::{AllocError, Global};
 
 /// The trees after each number of accepted changes, none among them. Those after one change share with those before it all that stays.
 #[derive(Drop)]
-pub(crate) struct History {
+pub(crate) struct TreeHistory {
     after: Vec<Trees>,
 }
 
-impl History {
+impl TreeHistory {
     /// A history in which nothing was accepted yet.
-    pub(crate) fn new(alloc: Global, first: &Trees) -> Result<History, AllocError> {
+    pub(crate) fn new(alloc: Global, first: &Trees) -> Result<TreeHistory, AllocError> {
         let mut after = Vec::new(alloc);
         after.push(first.try_clone(alloc)?)?;
-        Ok(History { after })
+        Ok(TreeHistory { after })
     }
 
     /// Keeps the trees after the change of this number, where they aren't kept.

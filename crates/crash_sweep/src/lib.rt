@@ -6,12 +6,12 @@
 #![tactic(auto)]
 
 mod finding;
-mod halt;
 mod history;
 mod same_trees;
-mod stepping;
-mod sweeping;
+mod sweep_error;
+mod sweep_loop;
+mod sweep_steps;
 mod table;
-mod watched;
+mod watched_disk;
 
-pub use sweeping::sweep;
+pub use sweep_loop::sweep;

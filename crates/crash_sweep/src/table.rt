@@ -1,6 +1,6 @@
 //! The table of a sweep: a row for each cut, in which neighbours that tell the same are one.
-use crate::finding::{Bounds, Finding, Row};
-use crate::watched::{Change, ChangeKind};
+use crate::finding::{Finding, NumberRange, SweepRow};
+use crate::watched_disk::{ChangeKind, FileChange};
 use file_disk::FileName;
 use std::io;
 use std::io::Write;
@@ -10,7 +10,7 @@ const TEARS: u64 = 3;
 
 /// A table that is being written: the rows that wait to be written as one, and how many were added.
 #[derive(Drop)]
-pub(crate) struct Table {
+pub(crate) struct SweepTable {
     waiting: Option<Rows>,
     cuts: u64,
     outside: u64,
@@ -21,13 +21,13 @@ pub(crate) struct Table {
 struct Rows {
     first: u64,
     last: u64,
-    row: Row,
+    row: SweepRow,
 }
 
-impl Table {
+impl SweepTable {
     /// A table without a row.
-    pub(crate) fn new() -> Table {
-        Table {
+    pub(crate) fn new() -> SweepTable {
+        SweepTable {
             waiting: None,
             cuts: 0,
             outside: 0,
@@ -35,7 +35,7 @@ impl Table {
     }
 
     /// Adds the row of the cut behind the next call, and writes those that wait where it tells something else than they do.
-    pub(crate) fn add<W: Write>(&mut self, row: Row, writer: &mut W) -> io::Result<()> {
+    pub(crate) fn add<W: Write>(&mut self, row: SweepRow, writer: &mut W) -> io::Result<()> {
         self.cuts = self.cuts.saturating_add(1);
         for finding in &row.found.each() {
             if !finding.is_within() {
@@ -98,13 +98,13 @@ impl Rows {
         for finding in &self.row.found.each() {
             write_finding(writer, *finding)?;
         }
-        let Bounds { low, high } = self.row.bounds;
+        let NumberRange { low, high } = self.row.bounds;
         writeln!(writer, "  {low} to {high}")
     }
 }
 
 // writes what a call did, by the name that the file has in the folder of a store
-fn write_change<W: Write>(writer: &mut W, change: Change) -> io::Result<()> {
+fn write_change<W: Write>(writer: &mut W, change: FileChange) -> io::Result<()> {
     let verb = match change.kind {
         ChangeKind::Write => "write",
         ChangeKind::Cut => "cut",

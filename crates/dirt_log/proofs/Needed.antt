@@ -7,8 +7,8 @@ use Rattle.base_block.specs.Layout.{block_at}
 use Rattle.base_block.specs.Judgements.{IsLog}
 use Rattle.dirty_vector.specs.Marks.{is_marked_in_bitmap, marked_below, marked_count}
 use Rattle.dirty_vector.specs.Pages.{Pages, is_dirty, dirty_count}
-use Rattle.dirt_log.specs.LogText.{bitmap_end, pages_at}
-use Rattle.dirt_log.specs.WholeLog.{IsWhole, HasBitmap, HasPages, IsCovered, block_of, bitmap_in, pages_in, page_bytes_in, log_end, repaired}
+use Rattle.dirt_log.specs.LogEncoding.{bitmap_end, pages_at}
+use Rattle.dirt_log.specs.WholeLog.{LogIsWhole, HasBitmap, HasPages, IsCovered, block_of, bitmap_in, pages_in, page_bytes_in, log_end, repaired}
 use Rattle.dirt_log.proofs.Replaced.{repaired_same, repaired_by, dirty_counts}
 
 -- a part of what stands in front
@@ -58,7 +58,7 @@ same_pages log n start len within = (
   (λ has some. (long_same n (start + len) log (within some)).1 (has some)),
 )
 
-pub whole_same : (log : List ℕ) (n : ℕ) → log_end log ≤ n → IsWhole (take n log) ↔ IsWhole log
+pub whole_same : (log : List ℕ) (n : ℕ) → log_end log ≤ n → LogIsWhole (take n log) ↔ LogIsWhole log
 whole_same log n h =
     let ends = end_of log n h in
     let size = (block_of log).bins_size in

@@ -12,7 +12,7 @@ use Rattle.std.specs.Prelude.{codes}
 use Rattle.base_block.specs.Layout.{zeros}
 use Rattle.dirty_vector.specs.Marks.{marked_count}
 use Rattle.dirty_vector.specs.Pages.{Pages, is_dirty, dirty_count, bitmap_byte, bitmap_of, NoneFrom, IsNextDirty, IsNthDirty}
-use Rattle.dirt_log.specs.LogText.{bitmap_end, pages_at, page_of, dirty_bytes, pages_from, head_text, text_behind}
+use Rattle.dirt_log.specs.LogEncoding.{bitmap_end, pages_at, page_of, dirty_bytes, pages_from, head_bytes, bytes_behind}
 
 pub length_page : (image : List ℕ) (page : ℕ) → 512 * (page + 1) ≤ length image → length (page_of image page) ≡ 512
 length_page image page h = length-take-le 512 (drop (512 * page) image) (omega (arith, length-drop (512 * page) image))
@@ -141,18 +141,18 @@ pub length-bitmap : (mark : ℕ → Bool) (n : ℕ) → length (bitmap_of mark n
 unfolding bitmap_of
 length-bitmap mark n = length-map-range_with_len (bitmap_byte mark) 0 n
 
-pub length_head : (v : Pages) (sector : List ℕ) → length sector ≡ 512 → length (head_text v sector) ≡ pages_at v.bins_size
-unfolding head_text
+pub length_head : (v : Pages) (sector : List ℕ) → length sector ≡ 512 → length (head_bytes v sector) ≡ pages_at v.bins_size
+unfolding head_bytes
 length_head v sector whole =
     let size = v.bins_size in
     let bitmap = bitmap_of (is_dirty v) (size / 4096) in
     let gap = zeros (pages_at size - bitmap_end size) in
     omega (arith, length-append (sector ++ codes "DIRT" ++ bitmap) gap, length-append (sector ++ codes "DIRT") bitmap, length-append sector (codes "DIRT"), whole, length-zeros (pages_at size - bitmap_end size), length-bitmap (is_dirty v) (size / 4096))
 
-pub length_log : (image : List ℕ) (v : Pages) (sector : List ℕ) → length image ≡ v.bins_size → length sector ≡ 512 → length (text_behind image v sector) ≡ pages_at v.bins_size + 512 * dirty_count v
-unfolding text_behind
+pub length_log : (image : List ℕ) (v : Pages) (sector : List ℕ) → length image ≡ v.bins_size → length sector ≡ 512 → length (bytes_behind image v sector) ≡ pages_at v.bins_size + 512 * dirty_count v
+unfolding bytes_behind
 length_log image v sector sizes whole =
-    omega (arith, length-append (head_text v sector) (pages_from image v 0), length_head v sector whole, length_pages image v sizes)
+    omega (arith, length-append (head_bytes v sector) (pages_from image v 0), length_head v sector whole, length_pages image v sizes)
 
 -- ---- pieces
 
@@ -183,8 +183,8 @@ pub head_laid : (v : Pages) (sector letters b0 b1 b2 b3 b4 : List ℕ) (size pag
     → take (512 + length letters) b2 ≡ take 512 b1 ++ letters
     → take (bitmap_end v.bins_size) b3 ≡ take 516 b2 ++ bitmap_of (is_dirty v) (v.bins_size / 4096)
     → take pages b4 ≡ take (516 + size / 4096) b3 ++ zeros (pages - (516 + size / 4096))
-    → take (pages_at v.bins_size) b4 ≡ head_text v sector
-unfolding head_text
+    → take (pages_at v.bins_size) b4 ≡ head_bytes v sector
+unfolding head_bytes
 head_laid v sector letters b0 b1 b2 b3 b4 size pages whole are is at e1 e2 e3 e4 =
     let bitmap = bitmap_of (is_dirty v) (v.bins_size / 4096) in
     let first : take 512 b1 ≡ sector = ap (λ (n : ℕ). take n b1) (sym whole ∙ sym (zero_more (length sector))) ∙ e1 in
@@ -203,43 +203,43 @@ head_laid v sector letters b0 b1 b2 b3 b4 size pages whole are is at e1 e2 e3 e4
 -- ---- pieces of the text
 
 -- a later piece begins among the pages
-pub later_piece : (image : List ℕ) (v : Pages) (sector : List ℕ) (start k : ℕ) → length sector ≡ 512 → pages_at v.bins_size ≤ start → 512 * k ≡ start - pages_at v.bins_size
-    → drop start (text_behind image v sector) ≡ drop (512 * k) (pages_from image v 0)
-unfolding text_behind
-later_piece image v sector start k whole past skip =
+pub later_chunk : (image : List ℕ) (v : Pages) (sector : List ℕ) (start k : ℕ) → length sector ≡ 512 → pages_at v.bins_size ≤ start → 512 * k ≡ start - pages_at v.bins_size
+    → drop start (bytes_behind image v sector) ≡ drop (512 * k) (pages_from image v 0)
+unfolding bytes_behind
+later_chunk image v sector start k whole past skip =
     let e : start ≡ pages_at v.bins_size + 512 * k = omega (arith, past, skip) in
-    ap (λ (n : ℕ). drop n (head_text v sector ++ pages_from image v 0)) e
-    ∙ sym (drop-drop (512 * k) (pages_at v.bins_size) (head_text v sector ++ pages_from image v 0))
-    ∙ ap (drop (512 * k)) (drop_at (head_text v sector) (pages_from image v 0) (pages_at v.bins_size) (length_head v sector whole))
+    ap (λ (n : ℕ). drop n (head_bytes v sector ++ pages_from image v 0)) e
+    ∙ sym (drop-drop (512 * k) (pages_at v.bins_size) (head_bytes v sector ++ pages_from image v 0))
+    ∙ ap (drop (512 * k)) (drop_at (head_bytes v sector) (pages_from image v 0) (pages_at v.bins_size) (length_head v sector whole))
 
 -- how many bytes a piece has
-pub piece_count : (buffer whole : List ℕ) (result : ℕ) → length buffer ≡ 65536 → result ≤ 65536 → take result buffer ≡ take 65536 whole → result ≡ length (take 65536 whole)
-piece_count buffer whole result room within bytes = sym (length-take-le result buffer (omega (arith, room, within))) ∙ ap length bytes
+pub chunk_count : (buffer whole : List ℕ) (result : ℕ) → length buffer ≡ 65536 → result ≤ 65536 → take result buffer ≡ take 65536 whole → result ≡ length (take 65536 whole)
+chunk_count buffer whole result room within bytes = sym (length-take-le result buffer (omega (arith, room, within))) ∙ ap length bytes
 
-pub first_piece : (image : List ℕ) (v : Pages) (sector text buffer new : List ℕ) (index head result : ℕ) → text_behind image v sector ≡ text → index ≡ 0 → head ≡ pages_at v.bins_size
-    → take (pages_at v.bins_size) buffer ≡ head_text v sector → take result new ≡ take 65536 (take head buffer ++ pages_from image v 0) → take result new ≡ take 65536 (drop (65536 * index) text)
-unfolding text_behind
-first_piece image v sector text buffer new index head result is zeroth at laid bytes =
+pub first_chunk : (image : List ℕ) (v : Pages) (sector encoding buffer new : List ℕ) (index head result : ℕ) → bytes_behind image v sector ≡ encoding → index ≡ 0 → head ≡ pages_at v.bins_size
+    → take (pages_at v.bins_size) buffer ≡ head_bytes v sector → take result new ≡ take 65536 (take head buffer ++ pages_from image v 0) → take result new ≡ take 65536 (drop (65536 * index) encoding)
+unfolding bytes_behind
+first_chunk image v sector encoding buffer new index head result is zeroth at laid bytes =
     let e : 65536 * index ≡ 0 = omega (arith, zeroth) in
     bytes
     ∙ ap (λ (n : ℕ). take 65536 (take n buffer ++ pages_from image v 0)) at
     ∙ ap (λ (xs : List ℕ). take 65536 (xs ++ pages_from image v 0)) laid
     ∙ ap (take 65536) is
-    ∙ ap (λ (n : ℕ). take 65536 (drop n text)) (sym e)
+    ∙ ap (λ (n : ℕ). take 65536 (drop n encoding)) (sym e)
 
 -- the offset of a piece among the pages is that of whole pages
 pub skipped_pages : (size index head skipped : ℕ) → size ≤ 67108864 → index ≢ 0 → head ≡ pages_at size → skipped ≡ (65536 * index - head) / 512 → (pages_at size ≤ 65536 * index) × (512 * skipped ≡ 65536 * index - pages_at size)
 skipped_pages size index head skipped small later at is = (omega (arith, small, later), omega (arith, small, later, at, is))
 
-pub some_piece : (image : List ℕ) (v : Pages) (sector text new : List ℕ) (start k page result : ℕ) → text_behind image v sector ≡ text → length image ≡ v.bins_size → length sector ≡ 512
-    → (pages_at v.bins_size ≤ start) × (512 * k ≡ start - pages_at v.bins_size) → IsNthDirty v k page → take result new ≡ take 65536 (pages_from image v page) → take result new ≡ take 65536 (drop start text)
-some_piece image v sector text new start k page result is sizes whole place nth bytes =
+pub some_chunk : (image : List ℕ) (v : Pages) (sector encoding new : List ℕ) (start k page result : ℕ) → bytes_behind image v sector ≡ encoding → length image ≡ v.bins_size → length sector ≡ 512
+    → (pages_at v.bins_size ≤ start) × (512 * k ≡ start - pages_at v.bins_size) → IsNthDirty v k page → take result new ≡ take 65536 (pages_from image v page) → take result new ≡ take 65536 (drop start encoding)
+some_chunk image v sector encoding new start k page result is sizes whole place nth bytes =
     bytes
-    ∙ ap (take 65536) (sym (pages_nth image v k page sizes nth) ∙ sym (later_piece image v sector start k whole place.0 place.1))
+    ∙ ap (take 65536) (sym (pages_nth image v k page sizes nth) ∙ sym (later_chunk image v sector start k whole place.0 place.1))
     ∙ ap (λ (xs : List ℕ). take 65536 (drop start xs)) is
 
-pub no_piece : (image : List ℕ) (v : Pages) (sector text : List ℕ) (start k : ℕ) → text_behind image v sector ≡ text → length image ≡ v.bins_size → length sector ≡ 512
-    → (pages_at v.bins_size ≤ start) × (512 * k ≡ start - pages_at v.bins_size) → dirty_count v ≤ k → [] ≡ take 65536 (drop start text)
-no_piece image v sector text start k is sizes whole place few =
-    ap (take 65536) (sym (pages_few image v k sizes few) ∙ sym (later_piece image v sector start k whole place.0 place.1))
+pub no_chunk : (image : List ℕ) (v : Pages) (sector encoding : List ℕ) (start k : ℕ) → bytes_behind image v sector ≡ encoding → length image ≡ v.bins_size → length sector ≡ 512
+    → (pages_at v.bins_size ≤ start) × (512 * k ≡ start - pages_at v.bins_size) → dirty_count v ≤ k → [] ≡ take 65536 (drop start encoding)
+no_chunk image v sector encoding start k is sizes whole place few =
+    ap (take 65536) (sym (pages_few image v k sizes few) ∙ sym (later_chunk image v sector start k whole place.0 place.1))
     ∙ ap (λ (xs : List ℕ). take 65536 (drop start xs)) is

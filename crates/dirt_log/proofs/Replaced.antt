@@ -8,7 +8,7 @@ use Rattle.std.proofs.Math.ListN.{get_or-append}
 use borrow.Rule.Slice.PartMut.{put_mid}
 use Rattle.dirty_vector.specs.Marks.{marked_count}
 use Rattle.dirty_vector.specs.Pages.{Pages, is_dirty, dirty_count, NoneFrom, IsNextDirty}
-use Rattle.dirt_log.specs.LogText.{page_of, pages_from}
+use Rattle.dirt_log.specs.LogEncoding.{page_of, pages_from}
 use Rattle.dirt_log.proofs.PageBytes.{length_page, pages_nth, pages_next}
 use Rattle.dirt_log.specs.WholeLog.{IsCovered, repaired_byte, repaired}
 

@@ -8,8 +8,8 @@ use Rattle.base_block.specs.declared.block.BaseBlock.{BaseBlock}
 use Rattle.base_block.specs.Judgements.{IsUsable, IsLog}
 use Rattle.dirty_vector.specs.Marks.{is_marked_in_bitmap, marked_below}
 use Rattle.dirty_vector.specs.Pages.{Pages, is_bins_size, dirty_count, read_pages}
-use Rattle.dirt_log.specs.LogText.{pages_at}
-use Rattle.dirt_log.specs.WholeLog.{IsWhole, HasBitmap, HasPages, block_of, pages_in, page_bytes_in}
+use Rattle.dirt_log.specs.LogEncoding.{pages_at}
+use Rattle.dirt_log.specs.WholeLog.{LogIsWhole, HasBitmap, HasPages, block_of, pages_in, page_bytes_in}
 
 -- the bins size of a block that may be used is one
 pub good_size : (b : BaseBlock) → IsUsable b → is_bins_size b.bins_size ≡ true
@@ -50,7 +50,7 @@ marked_is bytes bitmap base v is log at (inr e) = absurd cc
 
 -- all parts make a whole log
 pub made_whole : (bytes : List ℕ) (base : BaseBlock) (v : Pages) (start len : ℕ) → base ≡ block_of bytes → IsLog base → HasBitmap bytes base.bins_size → v ≡ pages_in bytes
-    → start ≡ pages_at base.bins_size → len ≡ 512 * dirty_count v → HasPages bytes start len → IsWhole bytes
+    → start ≡ pages_at base.bins_size → len ≡ 512 * dirty_count v → HasPages bytes start len → LogIsWhole bytes
 made_whole bytes base v start len is log bitmap marked at size pages =
     record {
       block = subst (λ (b : BaseBlock). IsLog b) is log;
@@ -60,7 +60,7 @@ made_whole bytes base v start len is log bitmap marked at size pages =
     }
 
 -- a whole log has its pages
-pub has_pages : (bytes : List ℕ) (base : BaseBlock) (v : Pages) (start len : ℕ) → base ≡ block_of bytes → v ≡ pages_in bytes → start ≡ pages_at base.bins_size → len ≡ 512 * dirty_count v → IsWhole bytes → HasPages bytes start len
+pub has_pages : (bytes : List ℕ) (base : BaseBlock) (v : Pages) (start len : ℕ) → base ≡ block_of bytes → v ≡ pages_in bytes → start ≡ pages_at base.bins_size → len ≡ 512 * dirty_count v → LogIsWhole bytes → HasPages bytes start len
 has_pages bytes base v start len is marked at size whole =
     subst (λ (n : ℕ). HasPages bytes n len) (sym (at ∙ ap (λ (b : BaseBlock). pages_at b.bins_size) is))
     (subst (λ (n : ℕ). HasPages bytes (pages_at (block_of bytes).bins_size) n) (sym (size ∙ ap (λ (u : Pages). 512 * dirty_count u) marked)) whole.pages)

@@ -1,3 +1,3 @@
-pub mod LogText
+pub mod LogEncoding
 pub mod WholeLog
-pub mod Held
+pub mod FileContents

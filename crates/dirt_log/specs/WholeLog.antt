@@ -9,7 +9,7 @@ use Rattle.base_block.specs.Layout.{block_at}
 use Rattle.base_block.specs.Judgements.{IsUsable, IsLog, IsLogVersion}
 use Rattle.dirty_vector.specs.Marks.{is_marked_in_bitmap, marked_count, marked_below}
 use Rattle.dirty_vector.specs.Pages.{Pages, is_dirty, dirty_count}
-use Rattle.dirt_log.specs.LogText.{bitmap_end, pages_at}
+use Rattle.dirt_log.specs.LogEncoding.{bitmap_end, pages_at}
 
 -- the refusal of a log that isn't whole
 abbrev pub not_whole : Refusal
@@ -43,7 +43,7 @@ HasPages bytes start len = len ≢ 0 → start + len ≤ length bytes
 
 -- a whole log: a clean block of a log that may be used, `DIRT`, the bitmap, and each page that it marks. What
 -- follows is unread. A log that marks no page is whole with its bitmap.
-pub record IsWhole (bytes : List ℕ) : Type 0 where
+pub record LogIsWhole (bytes : List ℕ) : Type 0 where
   pub block : IsLog (block_of bytes)
   pub bitmap : HasBitmap bytes (block_of bytes).bins_size
   pub pages : HasPages bytes (pages_at (block_of bytes).bins_size) (512 * dirty_count (pages_in bytes))
@@ -77,11 +77,11 @@ pub record IsLoggable (b : BaseBlock) (v : Pages) : Type 0 where
   pub size : b.bins_size ≡ v.bins_size
 
 -- a log's text is whole, and has this block, these pages and their bytes
-pub record ReadsAs (text : List ℕ) (b : BaseBlock) (v : Pages) (pages : List ℕ) : Type 0 where
-  pub whole : IsWhole text
-  pub base : block_of text ≡ b
-  pub marked : pages_in text ≡ v
-  pub bytes : page_bytes_in text ≡ pages
+pub record LogDecodesTo (encoding : List ℕ) (b : BaseBlock) (v : Pages) (pages : List ℕ) : Type 0 where
+  pub whole : LogIsWhole encoding
+  pub base : block_of encoding ≡ b
+  pub marked : pages_in encoding ≡ v
+  pub bytes : page_bytes_in encoding ≡ pages
 
 -- the block of a log as it is read
 abbrev pub block_as_read : BaseBlock → BaseBlock

@@ -6,14 +6,14 @@
 //! is read only where the primary file isn't clean.
 #![tactic(auto)]
 
-mod fronts;
-mod held;
+mod file_contents;
 mod pages;
-mod reading;
+mod prefixes;
+mod reader;
 mod repair;
 mod steps;
 
-pub use fronts::{front_is_read, front_is_repaired};
-pub use held::{clean_primary_stands, log_repairs};
-pub use reading::{DirtLog, read};
-pub use steps::{LogSteps, PIECE_BYTES, write_steps};
+pub use file_contents::{clean_primary_decides, log_repairs};
+pub use prefixes::{log_prefix_decides, repair_prefix_decides};
+pub use reader::{DirtLog, read};
+pub use steps::{CHUNK_BYTES, LogSteps, write_steps};

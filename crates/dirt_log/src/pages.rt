@@ -2,7 +2,7 @@
 
 ghost use Rattle.refusals.specs.declared.limits.TheConstants.{MOST_BINS_BYTES};
 ghost use Rattle.std.specs.Prelude.{◌≡◌, ◌≤◌, ◌+◌, ◌*◌, length};
-ghost use Rattle.dirt_log.specs.LogText.{page_of, pages_at};
+ghost use Rattle.dirt_log.specs.LogEncoding.{page_of, pages_at};
 
 use dirty_vector::PAGE_BYTES;
 

@@ -6,7 +6,7 @@ ghost use Rattle.dirty_vector.specs.Pages.{dirty_count};
 ghost use Rattle.dirt_log.specs.WholeLog.{not_whole, IsCovered, repaired};
 
 use crate::pages::page_bytes;
-use crate::reading::DirtLog;
+use crate::reader::DirtLog;
 use dirty_vector::{DirtyVector, PAGE_BYTES};
 use refusals::{Cause, Refusal};
 

@@ -1,8 +1,8 @@
 //! Writing a log in pieces.
 
 ghost use Rattle.std.specs.Prelude.{◌≡◌, ◌≤◌, ◌+◌, ◌-◌, ◌/◌, ◌*◌, ◌%◌, ◌++◌, take, drop, length};
-ghost use Rattle.dirt_log.specs.LogText.{pages_from, head_text, log_text, bitmap_end, pages_at};
-ghost use Rattle.dirt_log.specs.WholeLog.{IsLoggable, ReadsAs, block_as_read};
+ghost use Rattle.dirt_log.specs.LogEncoding.{pages_from, head_bytes, log_bytes, bitmap_end, pages_at};
+ghost use Rattle.dirt_log.specs.WholeLog.{IsLoggable, LogDecodesTo, block_as_read};
 ghost use Rattle.base_block.specs.Layout.{zeros};
 ghost use Rattle.dirty_vector.specs.Pages.{is_dirty, bitmap_of};
 
@@ -14,9 +14,9 @@ use dirty_vector::{DirtyVector, PAGE_BYTES};
 use std::marker::Model;
 
 /// The most bytes in a piece of a log.
-pub const PIECE_BYTES: usize = 65_536;
+pub const CHUNK_BYTES: usize = 65_536;
 
-const _: () = prove!(PIECE_BYTES == 65_536);
+const _: () = prove!(CHUNK_BYTES == 65_536);
 
 /// The text of a log, which is given in pieces and held by nobody. Contracts see it as the list of its
 /// bytes.
@@ -35,9 +35,9 @@ impl<'a> Model for LogSteps<'a> {
 
     ghost coded = { coded_list coded_ℕ };
 
-    ghost use Rattle.dirt_log.specs.LogText.{text_behind};
+    ghost use Rattle.dirt_log.specs.LogEncoding.{bytes_behind};
 
-    ghost view = { λ a. text_behind a.image.now a.vector.now a.sector };
+    ghost view = { λ a. bytes_behind a.image.now a.vector.now a.sector };
 
     ghost invariant = { λ a. (length a.image.now ≡ a.vector.now.bins_size)
         × (length a.sector ≡ 512) };
@@ -48,13 +48,13 @@ impl<'a> Model for LogSteps<'a> {
 /// memory.
 pub fn write_steps<'a>(image: &'a [u8], vector: &'a DirtyVector, base: &BaseBlock) -> LogSteps<'a>
     requires { length image.now ≡ vector.now.bins_size }
-    ensures text { result ≡ log_text image.now vector.now base.now }
+    ensures encoding { result ≡ log_bytes image.now vector.now base.now }
     // What is written is read again.
     ensures again { IsLoggable base.now vector.now →
-        ReadsAs result (block_as_read base.now) vector.now (pages_from image.now vector.now 0) }
+        LogDecodesTo result (block_as_read base.now) vector.now (pages_from image.now vector.now 0) }
 {
     // a law: it does nothing
-    vector.bitmap_reads_again();
+    vector.bitmap_round_trip();
     let block = BaseBlock {
         file_type: FileType::LOG,
         ..*base
@@ -77,7 +77,7 @@ impl LogSteps<'_> {
 
     /// Lays the piece of a number, from 0 on, at the front of a buffer: how many bytes it has. Each piece
     /// but the last is full, and past the last there is none.
-    pub fn piece(&self, index: u32, buffer: &mut [u8]) -> usize
+    pub fn chunk(&self, index: u32, buffer: &mut [u8]) -> usize
         requires { length buffer.old ≡ 65536 }
         ensures bytes { take result buffer.new ≡ take 65536 (drop (65536 * index) self.now) }
         ensures count { result ≡ length (take 65536 (drop (65536 * index) self.now)) }
@@ -87,7 +87,7 @@ impl LogSteps<'_> {
             put_head(self.vector, &self.sector, buffer);
             return put_pages(self.image, self.vector, 0, head, buffer);
         }
-        let skipped = (PIECE_BYTES * index as usize - head) / PAGE_BYTES;
+        let skipped = (CHUNK_BYTES * index as usize - head) / PAGE_BYTES;
         match self.vector.nth_dirty(skipped) {
             Some(page) => put_pages(self.image, self.vector, page, 0, buffer),
             None => 0,
@@ -107,7 +107,7 @@ fn put_pages(image: &[u8], vector: &DirtyVector, from: usize, at: usize, buffer:
 {
     let mut end = at;
     let mut page = from;
-    while end < PIECE_BYTES {
+    while end < CHUNK_BYTES {
         match vector.next_dirty(page) {
             None => return end,
             Some(next) => {
@@ -124,7 +124,7 @@ fn put_pages(image: &[u8], vector: &DirtyVector, from: usize, at: usize, buffer:
 fn put_head(vector: &DirtyVector, sector: &[u8], buffer: &mut [u8])
     requires room { length buffer.old ≡ 65536 }
     requires sector { length sector.now ≡ 512 }
-    ensures { take (pages_at vector.now.bins_size) buffer.new ≡ head_text vector.now sector.now }
+    ensures { take (pages_at vector.now.bins_size) buffer.new ≡ head_bytes vector.now sector.now }
 {
     let bins_size = vector.bins_size();
     put(buffer, 0, sector);

@@ -1,7 +1,7 @@
 //! Dirty pages, base blocks, images and logs, made from sizes and ranges. What contracts say of them is left out, so
 //! that tests compare what they answer.
 use base_block::{BaseBlock, SequenceNumber};
-use dirt_log::{LogSteps, PIECE_BYTES, write_steps};
+use dirt_log::{CHUNK_BYTES, LogSteps, write_steps};
 use dirty_vector::DirtyVector;
 use refusals::{Cause, Refusal};
 use std::alloc::{AllocError, Global};
@@ -80,19 +80,19 @@ pub fn steps_of<'a>(
 pub fn joined(alloc: Global, steps: &LogSteps<'_>) -> Result<Vec<u8>, AllocError> {
     let mut log = Vec::new(alloc);
     for index in 0..2000 {
-        let piece = one_piece(alloc, steps, index)?;
-        if piece.is_empty() {
+        let chunk = one_chunk(alloc, steps, index)?;
+        if chunk.is_empty() {
             break;
         }
-        log.extend_from_slice(&piece)?;
+        log.extend_from_slice(&chunk)?;
     }
     Ok(log)
 }
 
 /// The bytes of a log's piece.
-pub fn one_piece(alloc: Global, steps: &LogSteps<'_>, index: u32) -> Result<Vec<u8>, AllocError> {
-    let mut buffer = vec![in alloc; 0xaa; PIECE_BYTES]?;
-    let count = steps.piece(index, &mut buffer);
+pub fn one_chunk(alloc: Global, steps: &LogSteps<'_>, index: u32) -> Result<Vec<u8>, AllocError> {
+    let mut buffer = vec![in alloc; 0xaa; CHUNK_BYTES]?;
+    let count = steps.chunk(index, &mut buffer);
     buffer.truncate(count);
     Ok(buffer)
 }

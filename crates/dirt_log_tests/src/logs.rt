@@ -1,9 +1,9 @@
 //! Logs: what one is made of, and what is read and repaired by it.
 use crate::fixtures::{
-    BAD_LOG, Span, block_of, fill_page, filled, joined, marked, numbered, one_piece, steps_of,
+    BAD_LOG, Span, block_of, fill_page, filled, joined, marked, numbered, one_chunk, steps_of,
 };
 use base_block::{BaseBlock, SequenceNumber};
-use dirt_log::{LogSteps, PIECE_BYTES, clean_primary_stands, read};
+use dirt_log::{CHUNK_BYTES, LogSteps, clean_primary_decides, read};
 use refusals::Refusal;
 use std::alloc::{AllocError, Global};
 use std::test::Fail;
@@ -108,7 +108,7 @@ fn short(alloc: Global) -> Result<Vec<u8>, AllocError> {
 
 // the law says nothing when it is run
 fn law() {
-    clean_primary_stands();
+    clean_primary_decides();
 }
 
 #[test]
@@ -230,10 +230,10 @@ fn pages_begin_behind_the_bitmap(rt: HostRuntime) {
 }
 
 // whether the pieces of a log have these lengths
-fn has_pieces(alloc: Global, steps: &LogSteps<'_>, lengths: &[usize]) -> Result<bool, AllocError> {
+fn has_chunks(alloc: Global, steps: &LogSteps<'_>, lengths: &[usize]) -> Result<bool, AllocError> {
     let mut index = 0u32;
     for length in lengths {
-        if one_piece(alloc, steps, index)?.len() != *length {
+        if one_chunk(alloc, steps, index)?.len() != *length {
             return Ok(false);
         }
         index = index.wrapping_add(1);
@@ -245,7 +245,7 @@ fn has_pieces(alloc: Global, steps: &LogSteps<'_>, lengths: &[usize]) -> Result<
 fn is_cut_in(alloc: Global, image: &[u8], span: Span, lengths: &[usize]) -> Result<bool, Refusal> {
     let vector = marked(alloc, image.len(), &[span])?;
     let steps = steps_of(image, &vector, &block_of(image.len())?)?;
-    Ok(has_pieces(alloc, &steps, lengths)?)
+    Ok(has_chunks(alloc, &steps, lengths)?)
 }
 
 const LARGEST: usize = 67_108_864;
@@ -273,22 +273,22 @@ const MEBIBYTE: usize = 1_048_576;
 
 // the pieces of a log of all pages of a mebibyte
 const MEBIBYTE_PIECES: [usize; 18] = [
-    PIECE_BYTES,
-    PIECE_BYTES,
-    PIECE_BYTES,
-    PIECE_BYTES,
-    PIECE_BYTES,
-    PIECE_BYTES,
-    PIECE_BYTES,
-    PIECE_BYTES,
-    PIECE_BYTES,
-    PIECE_BYTES,
-    PIECE_BYTES,
-    PIECE_BYTES,
-    PIECE_BYTES,
-    PIECE_BYTES,
-    PIECE_BYTES,
-    PIECE_BYTES,
+    CHUNK_BYTES,
+    CHUNK_BYTES,
+    CHUNK_BYTES,
+    CHUNK_BYTES,
+    CHUNK_BYTES,
+    CHUNK_BYTES,
+    CHUNK_BYTES,
+    CHUNK_BYTES,
+    CHUNK_BYTES,
+    CHUNK_BYTES,
+    CHUNK_BYTES,
+    CHUNK_BYTES,
+    CHUNK_BYTES,
+    CHUNK_BYTES,
+    CHUNK_BYTES,
+    CHUNK_BYTES,
     1024,
     0,
 ];

@@ -11,7 +11,7 @@ use Rattle.std.proofs.Math.Nat.{add-zero}
 use Rattle.std.proofs.lemmas.List.FromFn.{fill_by_all, length-map-range_with_len, get_or-map-range_with_len}
 use Rattle.dirty_vector.specs.Marks.{is_marked, is_marked_in_bitmap, marked_count, marked_below, IsNthMark}
 use Rattle.dirty_vector.specs.Pages.{Pages, is_dirty, dirty_count, is_bins_size, Touches, clean_pages, fresh_pages, read_pages, bit_of, bitmap_byte, bitmap_of, NoneFrom, IsNextDirty, IsNthDirty, IsFirstRun}
-use Rattle.dirty_vector.specs.Kept.{pages_of, IsKept, IsBlank}
+use Rattle.dirty_vector.specs.MarkWords.{pages_of, AreMarkWords, IsBlank}
 use Rattle.std.specs.Prelude.{Option, Some, None, MatchOption, replicate}
 use Rattle.dirty_vector.proofs.Bytes.{none_marked}
 use Rattle.dirty_vector.proofs.Words.{same_count}
@@ -115,13 +115,13 @@ count_past mark n (suc m) le none = elim (cases_eq n (suc m)) [
 ]
 
 -- in words that keep a set, a page is dirty exactly when it is marked
-pub dirty_is_marked : (size : ℕ) (words : List ℕ) → IsKept size words → (page : ℕ) → is_dirty (pages_of size words) page ≡ is_marked words page
+pub dirty_is_marked : (size : ℕ) (words : List ℕ) → AreMarkWords size words → (page : ℕ) → is_dirty (pages_of size words) page ≡ is_marked words page
 dirty_is_marked size words kept page = contains_below (is_marked words) (size / 512) page ∙ elim (cases_lt page (size / 512)) [
   | inl lt ↦ ap (λ (b : Bool). b && is_marked words page) (lt-ltb page (size / 512) lt)
   | inr le ↦ ap (λ (b : Bool). b && is_marked words page) (le-ltb page (size / 512) le) ∙ sym (kept.inside page le)
 ]
 
-pub count_kept : (size : ℕ) (words : List ℕ) → IsKept size words → marked_count (is_marked words) (64 * length words) ≡ set.len (marked_below (is_marked words) (size / 512))
+pub count_kept : (size : ℕ) (words : List ℕ) → AreMarkWords size words → marked_count (is_marked words) (64 * length words) ≡ set.len (marked_below (is_marked words) (size / 512))
 count_kept size words kept = count_past (is_marked words) (size / 512) (64 * length words) (omega (arith, kept.room)) kept.inside ∙ sym (len_below (is_marked words) (size / 512))
 
 -- ---- a range of bytes
@@ -170,18 +170,18 @@ pub made_clean : (size : ℕ) (old words : List ℕ) (v : Pages) → pages_of si
 made_clean size old words v is zeros = ap (λ (d : set.FinSet nat_cmp). pages size d) (none_below (is_marked words) (size / 512) (none_marked words zeros)) ∙ ap (λ (u : Pages). clean_pages u.bins_size) is
 
 -- the same words are those of larger bins data
-pub kept_larger : (size larger : ℕ) (words : List ℕ) → IsKept size words → is_bins_size larger ≡ true → size ≤ larger → IsKept larger words
+pub kept_larger : (size larger : ℕ) (words : List ℕ) → AreMarkWords size words → is_bins_size larger ≡ true → size ≤ larger → AreMarkWords larger words
 kept_larger size larger words kept good more =
     let most : larger ≤ 67108864 = leb-true larger 67108864 (and_parts (eqb (larger % 4096) 0 && leb 4096 larger) (leb larger 67108864) good).1 in
     record { good = good; room = omega (arith, kept.long); long = kept.long; inside = λ page past. kept.inside page (omega arith) }
 
-pub same_in_larger : (size larger : ℕ) (words : List ℕ) (v : Pages) → IsKept size words → pages_of size words ≡ v → is_bins_size larger ≡ true → v.bins_size ≤ larger → (page : ℕ) → is_dirty (pages_of larger words) page ≡ is_dirty v page
+pub same_in_larger : (size larger : ℕ) (words : List ℕ) (v : Pages) → AreMarkWords size words → pages_of size words ≡ v → is_bins_size larger ≡ true → v.bins_size ≤ larger → (page : ℕ) → is_dirty (pages_of larger words) page ≡ is_dirty v page
 same_in_larger size larger words v kept is good more page =
     let size_is : v.bins_size ≡ size = ap (λ (u : Pages). u.bins_size) (sym is) in
     dirty_is_marked larger words (kept_larger size larger words kept good (omega (arith, size_is))) page ∙ sym (dirty_is_marked size words kept page) ∙ ap (λ (u : Pages). is_dirty u page) is
 
 -- what marking the pages of a range leaves
-pub marked_range : (size : ℕ) (old new : List ℕ) (start end : ℕ) → IsKept size old → start < end → end ≤ size
+pub marked_range : (size : ℕ) (old new : List ℕ) (start end : ℕ) → AreMarkWords size old → start < end → end ≤ size
     → ((page : ℕ) → is_marked new page ≡ (is_marked old page || (leb (start / 512) page && leb page ((end - 1) / 512))))
     → (page : ℕ) → IsTrue (is_dirty (pages_of size new) page) ↔ (IsTrue (is_dirty (pages_of size old) page) ⊎ Touches start end page)
 marked_range size old new start end kept some inside all page =
@@ -205,20 +205,20 @@ marked_range size old new start end kept some inside all page =
 
 -- ---- runs
 
-as_marked : (size : ℕ) (words : List ℕ) (v : Pages) → IsKept size words → pages_of size words ≡ v → (page : ℕ) → is_dirty v page ≡ is_marked words page
+as_marked : (size : ℕ) (words : List ℕ) (v : Pages) → AreMarkWords size words → pages_of size words ≡ v → (page : ℕ) → is_dirty v page ≡ is_marked words page
 as_marked size words v kept is page = ap (λ (u : Pages). is_dirty u page) (sym is) ∙ dirty_is_marked size words kept page
 
-pub none_past : (size : ℕ) (words : List ℕ) (v : Pages) (from : ℕ) → IsKept size words → pages_of size words ≡ v → size / 512 ≤ from → NoneFrom v from
+pub none_past : (size : ℕ) (words : List ℕ) (v : Pages) (from : ℕ) → AreMarkWords size words → pages_of size words ≡ v → size / 512 ≤ from → NoneFrom v from
 none_past size words v from kept is past page h = as_marked size words v kept is page ∙ kept.inside page (omega (arith, past, h))
 
-pub none_more : (size : ℕ) (words : List ℕ) (v : Pages) (from : ℕ) → IsKept size words → pages_of size words ≡ v
+pub none_more : (size : ℕ) (words : List ℕ) (v : Pages) (from : ℕ) → AreMarkWords size words → pages_of size words ≡ v
     → ((page : ℕ) → from ≤ page → page < size / 512 → is_marked words page ≡ false) → NoneFrom v from
 none_more size words v from kept is clean page h = as_marked size words v kept is page ∙ elim (cases_lt page (size / 512)) [
   | inl lt ↦ clean page h lt
   | inr le ↦ kept.inside page le
 ]
 
-pub first_run : (size : ℕ) (words : List ℕ) (v : Pages) (from start end : ℕ) → IsKept size words → pages_of size words ≡ v
+pub first_run : (size : ℕ) (words : List ℕ) (v : Pages) (from start end : ℕ) → AreMarkWords size words → pages_of size words ≡ v
     → from ≤ start → start < size / 512 → ((page : ℕ) → from ≤ page → page < start → is_marked words page ≡ false) → is_marked words start ≡ true
     → start ≤ end → end ≤ size / 512 → ((page : ℕ) → start ≤ page → page < end → is_marked words page ≡ true) → (end < size / 512 → is_marked words end ≡ false)
     → IsFirstRun v from start end
@@ -237,7 +237,7 @@ first_run size words v from start end kept is after inside clean on later within
       ended = as_marked size words v kept is end ∙ stop;
     }
 
-pub next_kept : (size : ℕ) (words : List ℕ) (v : Pages) (from next : ℕ) → IsKept size words → pages_of size words ≡ v
+pub next_kept : (size : ℕ) (words : List ℕ) (v : Pages) (from next : ℕ) → AreMarkWords size words → pages_of size words ≡ v
     → from ≤ next → next < size / 512 → ((page : ℕ) → from ≤ page → page < next → is_marked words page ≡ false) → is_marked words next ≡ true → IsNextDirty v from next
 next_kept size words v from next kept is after inside clean on = (
   after,
@@ -247,13 +247,13 @@ next_kept size words v from next kept is after inside clean on = (
 )
 
 -- the marked pages are the dirty ones
-pub dirty_counted : (size : ℕ) (words : List ℕ) (v : Pages) → IsKept size words → pages_of size words ≡ v → marked_count (is_marked words) (64 * length words) ≡ dirty_count v
+pub dirty_counted : (size : ℕ) (words : List ℕ) (v : Pages) → AreMarkWords size words → pages_of size words ≡ v → marked_count (is_marked words) (64 * length words) ≡ dirty_count v
 dirty_counted size words v kept is =
     count_past (is_marked words) (size / 512) (64 * length words) (omega (arith, kept.room)) kept.inside
     ∙ same_count (is_marked words) (is_dirty v) (size / 512) (λ p h. sym (as_marked size words v kept is p))
     ∙ ap (λ (u : Pages). marked_count (is_dirty v) (u.bins_size / 512)) is
 
-pub nth_kept : (size : ℕ) (words : List ℕ) (v : Pages) (n : ℕ) (result : Option ℕ) → IsKept size words → pages_of size words ≡ v
+pub nth_kept : (size : ℕ) (words : List ℕ) (v : Pages) (n : ℕ) (result : Option ℕ) → AreMarkWords size words → pages_of size words ≡ v
     → MatchOption result (marked_count (is_marked words) (64 * length words) ≤ n) (IsNthMark words n) → MatchOption result (dirty_count v ≤ n) (IsNthDirty v n)
 nth_kept size words v n None kept is few = omega (arith, dirty_counted size words v kept is, few)
 nth_kept size words v n (Some page) kept is nth =
@@ -312,7 +312,7 @@ marked_again mark n page inside =
     ∙ marks_of_byte mark k j (omega arith))
     ∙ bit_test (mark (8 * k + j)) ∙ ap mark whole
 
-pub bitmap_again : (size : ℕ) (words : List ℕ) (v : Pages) → IsKept size words → pages_of size words ≡ v → read_pages v.bins_size (bitmap_of (is_dirty v) (v.bins_size / 4096)) ≡ done v
+pub bitmap_again : (size : ℕ) (words : List ℕ) (v : Pages) → AreMarkWords size words → pages_of size words ≡ v → read_pages v.bins_size (bitmap_of (is_dirty v) (v.bins_size / 4096)) ≡ done v
 bitmap_again size words v kept is =
     let size_is : v.bins_size ≡ size = ap (λ (u : Pages). u.bins_size) (sym is) in
     let good : is_bins_size v.bins_size ≡ true = ap is_bins_size size_is ∙ kept.good in

@@ -1,4 +1,4 @@
 pub mod Marks
 pub mod Pages
-pub mod Kept
+pub mod MarkWords
 pub mod Runs

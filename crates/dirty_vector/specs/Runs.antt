@@ -5,13 +5,13 @@ use Rattle.dirty_vector.specs.declared.runs.Runs.{Runs}
 use Rattle.dirty_vector.specs.Pages.{Pages, NoneFrom, IsFirstRun}
 
 -- the iterator goes over these dirty pages, and is at this page
-abbrev pub IsAt : Runs → Pages → ℕ → Type 0
-IsAt runs v page = (runs.vector.now ≡ v) × (runs.from ≡ page)
+abbrev pub IteratorIsAt : Runs → Pages → ℕ → Type 0
+IteratorIsAt runs v page = (runs.vector.now ≡ v) × (runs.from ≡ page)
 
 -- a step: the first run from where the iterator is, which it then stands behind; or none is left
 abbrev pub NextRun : Runs → Option (Range ℕ) → Runs → Type 0
 NextRun old None new = NoneFrom old.vector.now old.from
-NextRun old (Some run) new = IsFirstRun old.vector.now old.from run.start run.end × IsAt new old.vector.now run.end
+NextRun old (Some run) new = IsFirstRun old.vector.now old.from run.start run.end × IteratorIsAt new old.vector.now run.end
 
 -- how many runs are left at most
 abbrev pub most_runs : Runs → ℕ

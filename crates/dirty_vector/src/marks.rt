@@ -79,7 +79,7 @@ pub(crate) fn nth_mark(words: &[u64], index: usize) -> Option<usize>
     ensures { MatchOption result (marked_count (is_marked words.now)
         (64 * length words.now) ≤ index) (IsNthMark words.now index) }
 {
-    let (start, mut left) = pass_words(words, index);
+    let (start, mut left) = skip_words(words, index);
     for page in start..WORD_BITS * words.len() {
         if is_page_marked(words, page) {
             if left == 0 {
@@ -93,7 +93,7 @@ pub(crate) fn nth_mark(words: &[u64], index: usize) -> Option<usize>
 
 // Passes whole words with at most `index` marks together: the first page behind them, and how many marks
 // are left to pass.
-fn pass_words(words: &[u64], index: usize) -> (usize, usize)
+fn skip_words(words: &[u64], index: usize) -> (usize, usize)
     requires { length words.now < 2 ^ 32 }
     ensures within { result.0 ≤ 64 * length words.now }
     ensures left { marked_count (is_marked words.now) result.0 + result.1 ≡ index }

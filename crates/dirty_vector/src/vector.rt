@@ -3,7 +3,7 @@
 ghost use Rattle.std.specs.Prelude.{◌≡◌, ℕ, ◌/◌, ◌%◌, ◌≤◌, ◌↔◌, ◌⊎◌, Bool, true, false, IsTrue, IfOk, IfErr, MatchOption, length, Ok};
 ghost use Rattle.std.specs.FinSet as set;
 ghost use Rattle.refusals.specs.Answers.{IsOrNoMemory, RefusedFor};
-ghost use Rattle.dirty_vector.specs.Kept.{IsBlank};
+ghost use Rattle.dirty_vector.specs.MarkWords.{IsBlank};
 ghost use Rattle.dirty_vector.specs.Marks.{is_marked_in_bitmap, marked_below};
 ghost use Rattle.dirty_vector.specs.Pages.{is_dirty, dirty_count, is_bins_size, Touches, NoneFrom, IsNextDirty, IsNthDirty, IsFirstRun, clean_pages, fresh_pages, read_pages, bitmap_of};
 
@@ -47,15 +47,15 @@ impl Model for DirtyVector {
 
     ghost coded = { pages_code };
 
-    ghost use Rattle.dirty_vector.specs.Kept.{pages_of, IsKept};
+    ghost use Rattle.dirty_vector.specs.MarkWords.{pages_of, AreMarkWords};
 
     ghost view = { λ a. pages_of a.bins_size a.words.items };
 
-    ghost invariant = { λ a. IsKept a.bins_size a.words.items };
+    ghost invariant = { λ a. AreMarkWords a.bins_size a.words.items };
 }
 
 impl DirtyVector {
-    ghost use Rattle.dirty_vector.specs.Runs.{IsAt};
+    ghost use Rattle.dirty_vector.specs.Runs.{IteratorIsAt};
 
     /// A vector of bins data of a size, with no dirty page. Refused with `TooLarge` where the size isn't
     /// a multiple of 4,096 from 4,096 to the limit, and else only for want of memory.
@@ -172,7 +172,7 @@ impl DirtyVector {
 
     /// The runs of adjacent dirty pages, in rising order.
     pub fn runs(&self) -> Runs<'_>
-        ensures { IsAt result self.now 0 }
+        ensures { IteratorIsAt result self.now 0 }
     {
         Runs {
             vector: self,
@@ -190,7 +190,7 @@ impl DirtyVector {
     }
 
     /// A law: the bitmap of a vector reads as the vector.
-    pub fn bitmap_reads_again(&self)
+    pub fn bitmap_round_trip(&self)
         ensures { read_pages self.now.bins_size
             (bitmap_of (is_dirty self.now) (self.now.bins_size / 4096)) ≡ Ok self.now }
     {

@@ -3,28 +3,28 @@ use Rattle.std.proofs.Common.{◌≡◌, ◌⊎◌, inl, inr, ℕ, zero, suc, �
 use Rattle.std.specs.Prelude.{Some, if◌then◌else◌, ◌==◌, ◌&&◌, nat_le, nat_lt, bit_xor}
 use Rattle.std.proofs.lemmas.Bool.Decides.{nat_tests}
 use Rattle.std.proofs.lemmas.List.{same_lists, get_or-take, get_or_default, take_all}
-use Rattle.disk_model.specs.FileState.{Range, FileState, IsSound}
+use Rattle.disk_model.specs.FileState.{WrittenRange, FileState, IsSound}
 use Rattle.disk_model.specs.Sector.{word_at, xor_of_words, stored, sum_of, HasRightSum, last_sector, IsHonest}
-use Rattle.disk_model.specs.Shown.{shown, IsWhole}
+use Rattle.disk_model.specs.ReadGives.{shown, ReadGivesLastWrites}
 use Rattle.disk_model.specs.Tear.{ends_newest, torn_byte, LeftBy, IsCrashOf, AllWholeSectors, WritesWholeSectors}
 use Rattle.disk_model.specs.declared.tear.Tear.{Tear}
 use Rattle.disk_model.specs.declared.tear.Tear.TheVariants.{Old, New, Torn}
 use Rattle.disk_model.proofs.Left.{uncovered, covered}
 
 -- no range has a byte of the first sector
-record NoSector (ranges : List Range) (synced : List ℕ) : Type 0 where
+record NoSector (ranges : List WrittenRange) (synced : List ℕ) : Type 0 where
   shows : (p : ℕ) → p < 512 → shown ranges synced p ≡ get_or synced p 0
   ends : (p : ℕ) → p < 512 → ends_newest ranges p ≡ false
 
 -- the newest range that has one is this sector
-record HasSector (ranges : List Range) (synced sector : List ℕ) : Type 0 where
+record HasSector (ranges : List WrittenRange) (synced sector : List ℕ) : Type 0 where
   last : last_sector ranges ≡ Some sector
   size : length sector ≡ 512
   right : HasRightSum sector
   shows : (p : ℕ) → p < 512 → shown ranges synced p ≡ get_or sector p 0
   ends : (p : ℕ) → p < 512 → ends_newest ranges p ≡ (p + 1 == 512)
 
-first_sector : (ranges : List Range) (synced : List ℕ) → AllWholeSectors ranges → NoSector ranges synced ⊎ ((sector : List ℕ) × HasSector ranges synced sector)
+first_sector : (ranges : List WrittenRange) (synced : List ℕ) → AllWholeSectors ranges → NoSector ranges synced ⊎ ((sector : List ℕ) × HasSector ranges synced sector)
 first_sector [] synced all = inl (record { shows = λ p below. refl; ends = λ p below. refl })
 first_sector (range ∷ ranges) synced (inl far, all) = further (first_sector ranges synced all)
   where
@@ -97,7 +97,7 @@ torn_tells sector torn right same last wrong =
     let equal : word_at torn 508 ≡ word_at sector 508 = wrong.sum ∙ sums ∙ sym right.sum in
     omega (arith, equal, same 508 (omega arith), same 509 (omega arith), same 510 (omega arith), last)
 
-module _ (file : FileState) (sound : IsSound file) (whole : IsWhole file) (sectors : WritesWholeSectors file) where
+module _ (file : FileState) (sound : IsSound file) (whole : ReadGivesLastWrites file) (sectors : WritesWholeSectors file) where
   honest_of : (bytes : List ℕ) → 512 ≤ length bytes → ((p : ℕ) → p < 512 → get_or bytes p 0 ≡ torn_byte file.ranges file.seen p) ⊎ ((p : ℕ) → p < 512 → get_or bytes p 0 ≡ get_or file.seen p 0) → IsHonest file bytes
   honest_of bytes size is = by_sector is (first_sector file.ranges file.synced sectors.1)
     where
@@ -146,5 +146,5 @@ module _ (file : FileState) (sound : IsSound file) (whole : IsWhole file) (secto
       let long : 512 ≤ length file.seen = omega (arith, sectors.0, sound.left.no_shorter) in
       honest_of bytes (omega (arith, torn.size)) (inl (λ p below. torn.each p (omega arith)))
 
-pub honest_of_crash : (tear : Tear) (old new : FileState) → IsSound old → IsWhole old → IsCrashOf tear old new → WritesWholeSectors old → IsHonest old new.seen
+pub honest_of_crash : (tear : Tear) (old new : FileState) → IsSound old → ReadGivesLastWrites old → IsCrashOf tear old new → WritesWholeSectors old → IsHonest old new.seen
 honest_of_crash tear old new sound whole crash sectors = subst (λ (s : FileState). IsHonest old s.seen) (sym crash.2) (honest_left old sound whole sectors tear crash.0 crash.1)

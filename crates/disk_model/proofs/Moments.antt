@@ -5,16 +5,16 @@ use Rattle.disk_model.specs.Call.{Passes}
 use Rattle.disk_model.specs.MemFile.{state_of}
 use Rattle.disk_model.specs.MemDisk.{earlier, states}
 use Rattle.disk_model.specs.declared.mem_file.MemFile.{MemFile}
-use Rattle.disk_model.specs.declared.past.Past.{Past, Begun}
+use Rattle.disk_model.specs.declared.history.DiskHistory.{DiskHistory, Begun}
 
 -- at the present moment a file's state is that of the files as they are
-pub states_now : (past : Past) (files : List MemFile) (f : ℕ) → states past files (length (earlier past)) f ≡ state_of files f
+pub states_now : (past : DiskHistory) (files : List MemFile) (f : ℕ) → states past files (length (earlier past)) f ≡ state_of files f
 unfolding states
 states_now past files f =
     let here : length (earlier past) - length (earlier past) ≡ 0 = omega arith in
     ap (λ (i : ℕ). state_of (get_or (files ∷ earlier past) i []) f) here
 
-pub states_earlier : (past later : Past) (files changed : List MemFile) (k f : ℕ) → earlier later ≡ files ∷ earlier past → k ≤ length (earlier past)
+pub states_earlier : (past later : DiskHistory) (files changed : List MemFile) (k f : ℕ) → earlier later ≡ files ∷ earlier past → k ≤ length (earlier past)
     → states later changed k f ≡ states past files k f
 unfolding states
 states_earlier past later files changed k f is le =
@@ -23,7 +23,7 @@ states_earlier past later files changed k f is le =
     ∙ ap (λ (i : ℕ). state_of (get_or (changed ∷ files ∷ earlier past) i []) f) back
     ∙ rw add-one
 
-pub passes : (past later : Past) (files changed : List MemFile) → earlier later ≡ files ∷ earlier past
+pub passes : (past later : DiskHistory) (files changed : List MemFile) → earlier later ≡ files ∷ earlier past
     → Passes (states past files) (states later changed) (length (earlier past)) (length (earlier later))
 passes past later files changed is = record {
   clock = omega (arith, ap length is);
@@ -38,7 +38,7 @@ states_begun files k f none =
     ap (λ (i : ℕ). state_of (get_or (files ∷ []) i []) f) first ∙ ap (λ (l : List MemFile). state_of l f) none
 
 -- other files of the same states
-pub states_same : (past : Past) (files changed : List MemFile) → ((f : ℕ) → state_of changed f ≡ state_of files f) → (k f : ℕ) → states past changed k f ≡ states past files k f
+pub states_same : (past : DiskHistory) (files changed : List MemFile) → ((f : ℕ) → state_of changed f ≡ state_of files f) → (k f : ℕ) → states past changed k f ≡ states past files k f
 unfolding states
 states_same past files changed same k f = by_index (length (earlier past) - k)
   where

@@ -3,7 +3,7 @@ use Rattle.std.proofs.Common.{◌≡◌, ◌≢◌, ℕ, ◌+◌, ◌<◌, ◌�
 use Rattle.std.specs.Prelude.{◌==◌, nat_lt}
 use Rattle.std.proofs.lemmas.Bool.Decides.{nat_tests}
 use Rattle.disk_model.specs.Plan.{fate_of}
-use Rattle.disk_model.specs.declared.plan.Marks.{Marks}
+use Rattle.disk_model.specs.declared.plan.FailurePoints.{FailurePoints}
 use Rattle.disk_model.specs.declared.plan.Fate.{Fate}
 use Rattle.disk_model.specs.declared.plan.Fate.TheVariants.{Succeeds, Stops, Fails}
 
@@ -14,13 +14,13 @@ changes_in (true ∷ calls) = changes_in calls + 1
 changes_in (false ∷ calls) = changes_in calls
 
 -- what becomes of calls in turn, each by whether it is a change, after so many calls and changes
-abbrev fates : Marks → ℕ → ℕ → List Bool → List Fate
+abbrev fates : FailurePoints → ℕ → ℕ → List Bool → List Fate
 fates marks calls changes [] = []
 fates marks calls changes (true ∷ rest) = fate_of marks (record { call = calls + 1; changes_before = changes; is_change = true }) ∷ fates marks (calls + 1) (changes + 1) rest
 fates marks calls changes (false ∷ rest) = fate_of marks (record { call = calls + 1; changes_before = changes; is_change = false }) ∷ fates marks (calls + 1) changes rest
 
 -- a stop at the change of this number, and no other failure
-abbrev stop_on : ℕ → Marks
+abbrev stop_on : ℕ → FailurePoints
 stop_on n = record { stop_on = n; fail_on = 0 }
 
 after_stop : (n calls changes : ℕ) (is_change : Bool) → 0 < n → n ≤ changes → fate_of (stop_on n) (record { call = calls + 1; changes_before = changes; is_change = is_change }) ≡ Fails
@@ -70,7 +70,7 @@ stops_at_kth n calls changes (true ∷ front) back is = same_cons _ _ _ _ (befor
 stops_at_kth n calls changes (false ∷ front) back is = same_cons _ _ _ _ (read_before n calls changes (omega arith)) (stops_at_kth n (calls + 1) changes front back is)
 
 -- a failure of the call of this number, and no stop
-abbrev fail_on : ℕ → Marks
+abbrev fail_on : ℕ → FailurePoints
 fail_on n = record { stop_on = 0; fail_on = n }
 
 spared : (n call changes : ℕ) (is_change : Bool) → call ≢ n → fate_of (fail_on n) (record { call = call; changes_before = changes; is_change = is_change }) ≡ Succeeds

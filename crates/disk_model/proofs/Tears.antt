@@ -3,7 +3,7 @@ use Rattle.std.proofs.Common.{◌≡◌, ⊎_elim, ℕ, zero, suc, ◌+◌, ◌<
 use Rattle.std.proofs.lemmas.Bool.{cases_lt}
 use Rattle.disk_model.specs.FileState.{FileState, at_rest}
 use Rattle.disk_model.specs.MemFile.{file_state, state_of}
-use Rattle.disk_model.specs.Shown.{IsWhole}
+use Rattle.disk_model.specs.ReadGives.{ReadGivesLastWrites}
 use Rattle.disk_model.specs.Tear.{IsCrashOf}
 use Rattle.disk_model.specs.declared.mem_file.MemFile.{MemFile}
 use Rattle.disk_model.specs.declared.tear.Tear.{Tear}
@@ -55,10 +55,10 @@ module _ (tear : Tear) (files after : List MemFile) where
           subst (λ (s : FileState). IsCrashOf tear s (state_of after f)) (sym (state_of_past files f (omega arith)))
           (subst (IsCrashOf tear (at_rest [])) (sym (state_of_past after f (omega arith))) (crash_of_none tear))
 
-whole-at_rest : (bytes : List ℕ) → IsWhole (at_rest bytes)
+whole-at_rest : (bytes : List ℕ) → ReadGivesLastWrites (at_rest bytes)
 whole-at_rest bytes p below = refl
 
-pub whole-state_of : (files : List MemFile) (f : ℕ) → IsWhole (state_of files f)
+pub whole-state_of : (files : List MemFile) (f : ℕ) → ReadGivesLastWrites (state_of files f)
 whole-state_of [] f = whole-at_rest []
 whole-state_of (file ∷ files) zero = file.whole
 whole-state_of (file ∷ files) (suc f) = whole-state_of files f

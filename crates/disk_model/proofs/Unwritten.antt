@@ -6,7 +6,7 @@ use Rattle.disk_model.specs.FileState.{FileState, at_rest, Leaves, IsSound, Sync
 use Rattle.disk_model.specs.Call.{Passes, KeepsOthers, Extends}
 use Rattle.disk_model.specs.Crash.{HonestSince, LeavesAll, LeavesHonest, ShowsHonest}
 use Rattle.disk_model.specs.Sector.{IsHonest}
-use Rattle.disk_model.specs.Unwritten.{IsSyncedOrSame, OnlyReads, OnlySyncs}
+use Rattle.disk_model.specs.ReadOnly.{IsSyncedOrSame, OnlyReads, OnlySyncs}
 use Rattle.disk_model.proofs.Crashes.{extends_none, extends_over}
 use Rattle.disk_model.proofs.Leaves.{left_at_rest}
 
@@ -44,8 +44,8 @@ passed : (old new : ℕ → ℕ → FileState) (before now : ℕ) → Passes old
 passed old new before now time = record { later = omega (arith, time.clock); past = time.past }
 
 -- each file at the last moment
-pub still : {old new : ℕ → ℕ → FileState} {before now : ℕ} → OnlyReads old new before now → (f : ℕ) → new now f ≡ old before f
-still {now = now} reads f = reads.same now f reads.time.later (omega arith)
+pub no_change : {old new : ℕ → ℕ → FileState} {before now : ℕ} → OnlyReads old new before now → (f : ℕ) → new now f ≡ old before f
+no_change {now = now} reads f = reads.same now f reads.time.later (omega arith)
 
 pub synced_still : {old new : ℕ → ℕ → FileState} {before now : ℕ} → OnlySyncs old new before now → (f : ℕ) → IsSyncedOrSame (old before f) (new now f)
 synced_still {now = now} syncs f = syncs.each now f syncs.time.later (omega arith)
@@ -68,7 +68,7 @@ reads_on old mid new start before now first second = record {
   time = extends_over old mid new start before now first.time second.time;
   same = λ k f from upto. ⊎_elim
       (λ (lt : k < before). second.time.past k f (omega arith) ∙ first.same k f from (omega arith))
-      (λ (le : before ≤ k). second.same k f le upto ∙ still first f)
+      (λ (le : before ≤ k). second.same k f le upto ∙ no_change first f)
       (cases_lt k before);
 }
 

@@ -18,7 +18,7 @@ abbrev pub CountsFailure : {T E : Type 0} → Result T E → ℕ → ℕ → Typ
 CountsFailure result old new = MatchResult result (λ _. new ≡ old) (λ _. new ≡ old + 1)
 
 -- so many bytes of the file from this offset on stand at the buffer's front: as many as there are, and as there is place for
-pub record Reads (offset : ℕ) (seen old_buffer new_buffer : List ℕ) (count : ℕ) : Type 0 where
+pub record ReadGives (offset : ℕ) (seen old_buffer new_buffer : List ℕ) (count : ℕ) : Type 0 where
   pub all : count ≡ min (length seen - offset) (length old_buffer)
   pub bytes : take count new_buffer ≡ take count (drop offset seen)
 

@@ -2,7 +2,7 @@
 use Rattle.std.specs.Prelude.{◌≡◌, ◌⊎◌, ℕ, ◌+◌, ◌-◌, ◌<◌, ◌≤◌, min, max, List, [], ◌∷◌, ◌++◌, length, take, drop, replicate, slice_index}
 
 -- the bytes of one write, and the offset of the first of them
-pub record Range : Type 0 where
+pub record WrittenRange : Type 0 where
   pub from : ℕ
   pub bytes : List ℕ
 
@@ -12,7 +12,7 @@ pub record FileState : Type 0 where
   -- what a read gives
   pub seen : List ℕ
   -- what has been written since that sync, also by writes that failed, the newest first
-  pub ranges : List Range
+  pub ranges : List WrittenRange
   -- the least and the greatest length since that sync, also by cuts and writes that failed
   pub least : ℕ
   pub greatest : ℕ
@@ -22,11 +22,11 @@ abbrev pub at_rest : List ℕ → FileState
 at_rest bytes = record { synced = bytes; seen = bytes; ranges = []; least = length bytes; greatest = length bytes }
 
 -- the range has a byte at this offset
-abbrev pub Covers : Range → ℕ → Type 0
+abbrev pub Covers : WrittenRange → ℕ → Type 0
 Covers range p = (range.from ≤ p) × (p < range.from + length range.bytes)
 
 -- one of the ranges has a byte at this offset
-abbrev pub IsWritten : List Range → ℕ → Type 0
+abbrev pub IsWritten : List WrittenRange → ℕ → Type 0
 IsWritten [] p = ⊥
 IsWritten (range ∷ ranges) p = Covers range p ⊎ IsWritten ranges p
 

@@ -7,8 +7,8 @@ pub mod MemSound
 pub mod Plan
 pub mod Room
 pub mod Sector
-pub mod Shown
+pub mod ReadGives
 pub mod StoreFiles
 pub mod Tear
-pub mod Unwritten
-pub mod Written
+pub mod ReadOnly
+pub mod PendingWrites

@@ -3,18 +3,18 @@ use Rattle.std.specs.Prelude.{ℕ, ◌+◌, ◌-◌, List, [], ◌∷◌, length
 use Rattle.disk_model.specs.FileState.{FileState}
 use Rattle.disk_model.specs.MemFile.{state_of}
 use Rattle.disk_model.specs.declared.mem_file.MemFile.{MemFile}
-use Rattle.disk_model.specs.declared.past.Past.{Past, Begun, Then'}
+use Rattle.disk_model.specs.declared.history.DiskHistory.{DiskHistory, Begun, Then'}
 
 -- the files at each earlier moment, the latest first
-abbrev pub earlier : Past → List (List MemFile)
+abbrev pub earlier : DiskHistory → List (List MemFile)
 earlier Begun = []
 earlier (Then' shape before files has_failed) = files.value.items ∷ earlier before
 
 -- how many calls have failed
-abbrev pub failed_calls : Past → ℕ
+abbrev pub failed_calls : DiskHistory → ℕ
 failed_calls Begun = 0
 failed_calls (Then' shape before files has_failed) = cond has_failed (failed_calls before + 1) (failed_calls before)
 
 -- the state of each file at each moment, of which the present is the last
-unfoldable pub states : Past → List MemFile → ℕ → ℕ → FileState
+unfoldable pub states : DiskHistory → List MemFile → ℕ → ℕ → FileState
 states past files k f = state_of (slice_index_or (files ∷ earlier past) (length (earlier past) - k) []) f

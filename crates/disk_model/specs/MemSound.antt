@@ -4,7 +4,7 @@ use Rattle.disk_model.specs.FileState.{IsSound, at_rest}
 use Rattle.disk_model.specs.MemFile.{state_of}
 use Rattle.disk_model.specs.MemDisk.{earlier, states}
 use Rattle.disk_model.specs.declared.mem_file.MemFile.{MemFile}
-use Rattle.disk_model.specs.declared.past.Past.{Past}
+use Rattle.disk_model.specs.declared.history.DiskHistory.{DiskHistory}
 use Rattle.std.proofs.Common.{arith}
 
 pub sound-at_rest : (bytes : List ℕ) → IsSound (at_rest bytes)
@@ -15,6 +15,6 @@ sound-state_of [] f = sound-at_rest []
 sound-state_of (file ∷ files) zero = file.sound
 sound-state_of (file ∷ files) (suc f) = sound-state_of files f
 
-pub sound-states : (past : Past) (files : List MemFile) (k f : ℕ) → IsSound (states past files k f)
+pub sound-states : (past : DiskHistory) (files : List MemFile) (k f : ℕ) → IsSound (states past files k f)
 unfolding states
 sound-states past files k f = sound-state_of (slice_index_or (files ∷ earlier past) (length (earlier past) - k) []) f

@@ -1,6 +1,6 @@
 -- The first sector of a registry file, the base block (regf format, base block): 512 bytes, of which the last four are the sum.
 use Rattle.std.specs.Prelude.{◌≡◌, ◌⊎◌, ℕ, zero, suc, ◌+◌, ◌*◌, ◌≤◌, List, [], ◌∷◌, length, take, slice_index, bit_xor, if◌then◌else◌, ◌==◌, ◌&&◌, nat_le, Option, Some, None}
-use Rattle.disk_model.specs.FileState.{Range, FileState}
+use Rattle.disk_model.specs.FileState.{WrittenRange, FileState}
 
 -- the word of 32 bits at an offset, the lowest byte first
 abbrev pub word_at : List ℕ → ℕ → ℕ
@@ -25,7 +25,7 @@ pub record HasRightSum (sector : List ℕ) : Type 0 where
   pub sum : word_at sector 508 ≡ sum_of sector
 
 -- the first sector that was handed to a write last, of ranges with the newest first
-abbrev pub last_sector : List Range → Option (List ℕ)
+abbrev pub last_sector : List WrittenRange → Option (List ℕ)
 last_sector [] = None
 last_sector (range ∷ ranges) = if (range.from == 0) && nat_le 512 (length range.bytes) then Some (take 512 range.bytes) else last_sector ranges
 

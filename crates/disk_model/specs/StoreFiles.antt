@@ -15,9 +15,9 @@ abbrev pub IsJournal : ℕ → Type 0
 IsJournal f = f ≡ journal_file
 
 -- the primary file of some hive: the files that have a first sector
-abbrev pub IsPrimary : ℕ → Type 0
-IsPrimary f = (i : ℕ) × (f ≡ primary_file i)
+abbrev pub IsPrimaryFile : ℕ → Type 0
+IsPrimaryFile f = (i : ℕ) × (f ≡ primary_file i)
 
 -- one of the two files of hive i
-abbrev pub IsOfHive : ℕ → ℕ → Type 0
-IsOfHive i f = (f ≡ primary_file i) ⊎ (f ≡ log_file i)
+abbrev pub IsFileOfHive : ℕ → ℕ → Type 0
+IsFileOfHive i f = (f ≡ primary_file i) ⊎ (f ≡ log_file i)

@@ -1,7 +1,7 @@
 //! The disk as everything above sees it. What it promises is what a crash may leave, and nothing about when it fails.
 ghost use Rattle.std.specs.Prelude.{◌≡◌, ℕ, ◌<◌, ◌≤◌, length, IfOk, OnOk, OnErr};
 ghost use Rattle.disk_model.specs.FileState.{FileState, Writes, MayWrite, Cuts, MayCut, Syncs, IsSound};
-ghost use Rattle.disk_model.specs.Call.{Passes, KeepsOthers, CountsFailure, Reads};
+ghost use Rattle.disk_model.specs.Call.{Passes, KeepsOthers, CountsFailure, ReadGives};
 ghost use Rattle.refusals.specs.declared.refusal.Refusal.TheVariants.{DiskFault};
 
 use refusals::Refusal;
@@ -65,7 +65,7 @@ pub trait Disk {
     fn read(&mut self, file: u32, offset: u64, buffer: &mut [u8]) -> Result<usize, Failed>
         ensures count { IfOk result (λ n. n ≤ length buffer.old) }
         ensures read { IfOk result (λ n. faithful self.new →
-            Reads offset (state_at self.old (clock self.old) file).seen buffer.old buffer.new n) }
+            ReadGives offset (state_at self.old (clock self.old) file).seen buffer.old buffer.new n) }
         ensures same { (f : ℕ) → state_at self.new (clock self.new) f
             ≡ state_at self.old (clock self.old) f }
         ensures time { Passes (state_at self.old) (state_at self.new) (clock self.old)

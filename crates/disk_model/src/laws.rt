@@ -3,15 +3,15 @@ ghost use Rattle.std.specs.Prelude.{◌≡◌, ◌+◌, ◌≤◌, ℕ, List};
 ghost use Rattle.disk_model.specs.FileState.{FileState, IsSound, at_rest};
 ghost use Rattle.disk_model.specs.Call.{Passes, KeepsOthers, Extends, OneCall};
 ghost use Rattle.disk_model.specs.Crash.{HonestSince, LeavesAll, LeavesHonest, ShowsHonest};
-ghost use Rattle.disk_model.specs.StoreFiles.{IsPrimary};
-ghost use Rattle.disk_model.specs.Unwritten.{OnlySyncs};
+ghost use Rattle.disk_model.specs.StoreFiles.{IsPrimaryFile};
+ghost use Rattle.disk_model.specs.ReadOnly.{OnlySyncs};
 
 /// A law: what a read gives of a store's files is what a crash might have left of them with honest first sectors. So a life
 /// that ends in a fault, and is followed by another without a crash, ends like one that a crash ended.
 pub fn shown_files_are_left()
     ensures { (state : ℕ → FileState) → ((f : ℕ) → IsSound (state f)) →
-        ShowsHonest IsPrimary state →
-        LeavesHonest IsPrimary state (λ f. (state f).seen) }
+        ShowsHonest IsPrimaryFile state →
+        LeavesHonest IsPrimaryFile state (λ f. (state f).seen) }
 {}
 
 /// Laws of a part that makes at most one device call on files of its own.
@@ -35,7 +35,7 @@ pub fn one_call()
 /// - `left`: another crash leaves just the same.
 pub fn left_files_rest()
     ensures sound { (files : ℕ → List ℕ) (f : ℕ) → IsSound (at_rest (files f)) }
-    ensures honest { (files : ℕ → List ℕ) → ShowsHonest IsPrimary (λ f. at_rest (files f)) }
+    ensures honest { (files : ℕ → List ℕ) → ShowsHonest IsPrimaryFile (λ f. at_rest (files f)) }
     ensures left { (files others : ℕ → List ℕ) → LeavesAll (λ f. at_rest (files f)) others →
         others ≡ files }
 {}
@@ -46,10 +46,10 @@ pub fn left_files_rest()
 /// - `honest`: at each such moment what a read gives still has honest first sectors.
 pub fn syncs_leave_what_was()
     ensures left { (old new : ℕ → ℕ → FileState) (start now : ℕ) → OnlySyncs old new start now →
-        ShowsHonest IsPrimary (old start) → ((f : ℕ) → IsSound (old start f)) →
-        (files : ℕ → List ℕ) → HonestSince IsPrimary new now start files →
-        LeavesHonest IsPrimary (old start) files }
+        ShowsHonest IsPrimaryFile (old start) → ((f : ℕ) → IsSound (old start f)) →
+        (files : ℕ → List ℕ) → HonestSince IsPrimaryFile new now start files →
+        LeavesHonest IsPrimaryFile (old start) files }
     ensures honest { (old new : ℕ → ℕ → FileState) (start now : ℕ) → OnlySyncs old new start now →
-        ShowsHonest IsPrimary (old start) → (k : ℕ) → start ≤ k → k ≤ now →
-        ShowsHonest IsPrimary (new k) }
+        ShowsHonest IsPrimaryFile (old start) → (k : ℕ) → start ≤ k → k ≤ now →
+        ShowsHonest IsPrimaryFile (new k) }
 {}

@@ -14,14 +14,14 @@
 #![tactic(auto)]
 
 mod disk;
+mod history;
 pub mod laws;
 mod mem_disk;
 mod mem_file;
-mod past;
+mod pending_write;
 mod plan;
 mod progress;
 mod tear;
-mod written;
 
 pub use disk::{Disk, Failed};
 pub use mem_disk::{FILES, MemDisk};

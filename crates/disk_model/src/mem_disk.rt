@@ -3,12 +3,12 @@ ghost use Rattle.std.specs.Prelude.{◌≡◌, ℕ, ◌≤◌, [], length, IfOk,
 ghost use Rattle.disk_model.specs.FileState.{Writes, MayWrite, Cuts, MayCut, Syncs, at_rest, Leaves};
 ghost use Rattle.disk_model.specs.Sector.{IsHonest};
 ghost use Rattle.disk_model.specs.Tear.{IsCrashOf, WritesWholeSectors};
-ghost use Rattle.disk_model.specs.Call.{KeepsOthers, Reads};
-ghost use Rattle.disk_model.specs.MemFile.{state_of, HasRoom};
+ghost use Rattle.disk_model.specs.Call.{KeepsOthers, ReadGives};
+ghost use Rattle.disk_model.specs.MemFile.{state_of, FileHasRoom};
 ghost use Rattle.std.specs.List.{AllWithin};
 
+use crate::history::DiskHistory;
 use crate::mem_file::MemFile;
-use crate::past::Past;
 use crate::plan::{Fate, Plan};
 use crate::{Disk, Failed, Tear};
 use std::alloc::{AllocError, Global};
@@ -22,7 +22,7 @@ pub const FILES: u32 = 64;
 #[derive(Drop)]
 pub struct MemDisk {
     files: Vec<MemFile>,
-    past: Past,
+    past: DiskHistory,
     plan: Arc<Plan>,
 }
 
@@ -37,7 +37,7 @@ impl MemDisk {
     {
         MemDisk {
             files: Vec::new(alloc),
-            past: Past::Begun,
+            past: DiskHistory::Begun,
             plan,
         }
     }
@@ -76,7 +76,7 @@ impl MemDisk {
     {
         Ok(MemDisk {
             files: files_after(&self.files, tear)?,
-            past: Past::Begun,
+            past: DiskHistory::Begun,
             plan,
         })
     }
@@ -117,7 +117,7 @@ fn reserve(
     requires { count ≤ length files.old.items }
     ensures same { (f : ℕ) → state_of files.new.items f ≡ state_of files.old.items f }
     ensures as_many { length files.new.items ≡ length files.old.items }
-    ensures room { OnOk result (AllWithin (HasRoom bytes calls) files.new.items 0 count) }
+    ensures room { OnOk result (AllWithin (FileHasRoom bytes calls) files.new.items 0 count) }
 {
     for number in 0..count {
         files[number].reserve(bytes, calls)?;
@@ -281,7 +281,7 @@ fn bytes_of(files: &Vec<MemFile>, file: u32) -> &[u8]
 
 fn read(seen: &[u8], offset: u64, buffer: &mut [u8]) -> usize
     ensures count { result ≤ length buffer.old }
-    ensures bytes { Reads offset seen.now buffer.old buffer.new result }
+    ensures bytes { ReadGives offset seen.now buffer.old buffer.new result }
 {
     let offset = offset as usize;
     if offset >= seen.len() {

@@ -1,11 +1,11 @@
 //! One file in memory, with what a crash needs to know of it.
 ghost use Rattle.std.specs.Prelude.{◌≡◌, ◌+◌, [], ◌++◌, ◌<◌, ◌≤◌, max, length, take, drop, map, slice_index, ℕ, OnOk, OnErr, IfOk};
 ghost use Rattle.disk_model.specs.FileState.{at_rest, put, resized, Covers, Writes, Cuts, Syncs, IsSound};
-ghost use Rattle.disk_model.specs.Shown.{IsWhole};
-ghost use Rattle.disk_model.specs.Written.{file_of, range_of, IsApart};
+ghost use Rattle.disk_model.specs.ReadGives.{ReadGivesLastWrites};
+ghost use Rattle.disk_model.specs.PendingWrites.{file_of, range_of, IsApart};
 
+use crate::pending_write::PendingWrite;
 use crate::tear::{Tear, torn};
-use crate::written::Written;
 use std::alloc::{AllocError, Global};
 use std::snapshot::Snapshot;
 
@@ -15,15 +15,15 @@ pub(crate) struct MemFile {
     pub seen: Vec<u8>,
     pub synced: Vec<u8>,
     /// The oldest first.
-    pub written: Vec<Written>,
+    pub written: Vec<PendingWrite>,
     pub least: usize,
     pub greatest: usize,
     ghost sound: { IsSound (file_of synced.items seen.items written.items least greatest) },
-    ghost whole: { IsWhole (file_of synced.items seen.items written.items least greatest) },
+    ghost whole: { ReadGivesLastWrites (file_of synced.items seen.items written.items least greatest) },
 }
 
 impl MemFile {
-    ghost use Rattle.disk_model.specs.MemFile.{file_state, HasRoom};
+    ghost use Rattle.disk_model.specs.MemFile.{file_state, FileHasRoom};
     ghost use Rattle.disk_model.specs.Tear.{IsCrashOf};
 
     /// A file that was never written.
@@ -42,7 +42,7 @@ impl MemFile {
     /// Takes the memory that it needs to get so many bytes longer, and for so many writes before the next sync.
     pub fn reserve(&mut self, bytes: usize, writes: usize) -> Result<(), AllocError>
         ensures same { file_state self.new ≡ file_state self.old }
-        ensures room { OnOk result (HasRoom bytes writes self.new) }
+        ensures room { OnOk result (FileHasRoom bytes writes self.new) }
     {
         let len = self.seen.len().checked_add(bytes).ok_or(AllocError)?;
         self.seen.reserve(bytes)?;
@@ -86,7 +86,7 @@ impl MemFile {
         self.written.reserve(1)?;
         overwrite(&mut self.seen, offset, bytes)?;
         self.greatest = self.greatest.max(self.seen.len());
-        self.written.push_reserved(Written {
+        self.written.push_reserved(PendingWrite {
             offset,
             len: bytes.len(),
             after: Snapshot::of(&self.seen),
@@ -163,7 +163,7 @@ fn paste(file: &mut Vec<u8>, offset: usize, bytes: &[u8])
 fn catch_up(
     synced: &mut Vec<u8>,
     seen: &[u8],
-    written: &[Written],
+    written: &[PendingWrite],
     least: usize,
 ) -> Result<(), AllocError>
     requires { IsApart (map range_of written.now) least synced.old.items seen.now }
@@ -180,7 +180,7 @@ fn catch_up(
 }
 
 /// Copies the bytes of one write, as far as they are still there.
-fn copy_range(synced: &mut [u8], seen: &[u8], write: &Written)
+fn copy_range(synced: &mut [u8], seen: &[u8], write: &PendingWrite)
     requires { length synced.old ≡ length seen.now }
     ensures inside { (p : ℕ) → p < length seen.now → Covers (range_of write.now) p →
         slice_index synced.new p ≡ slice_index seen.now p }

@@ -16,7 +16,7 @@ pub(crate) enum Fate {
 
 /// One call, by its place among all calls.
 #[derive(Clone, Copy)]
-pub(crate) struct Turn {
+pub(crate) struct PlannedCall {
     /// Which of all calls it is; the first is 1.
     pub call: u64,
     /// How many writes, cuts and syncs were before it.
@@ -27,15 +27,15 @@ pub(crate) struct Turn {
 
 /// Which calls are to be hit. 0 is none.
 #[derive(Clone, Copy)]
-pub(crate) struct Marks {
+pub(crate) struct FailurePoints {
     /// Which of the writes, cuts and syncs stops the disk.
     pub stop_on: u64,
     /// Which of all calls fails alone.
     pub fail_on: u64,
 }
 
-impl Marks {
-    pub fn fate(self, turn: Turn) -> Fate
+impl FailurePoints {
+    pub fn fate(self, turn: PlannedCall) -> Fate
         requires { turn.changes_before + 1 < 2 ^ 64 }
         ensures { result ≡ fate_of self turn }
     {
@@ -100,12 +100,12 @@ impl Plan {
         } else {
             self.changes.load(Ordering::SeqCst)
         };
-        let turn = Turn {
+        let turn = PlannedCall {
             call: self.calls.fetch_add(1, Ordering::SeqCst).saturating_add(1),
             changes_before: changes.min(u64::MAX - 1),
             is_change,
         };
-        let marks = Marks {
+        let marks = FailurePoints {
             stop_on: self.stop_on.load(Ordering::SeqCst),
             fail_on: self.fail_on.load(Ordering::SeqCst),
         };

@@ -1,9 +1,9 @@
 //! What a crash leaves of a file in memory.
 ghost use Rattle.std.specs.Prelude.{◌≡◌, ℕ, ◌+◌, ◌-◌, ◌<◌, length, map, reverse, slice_index, ◌==◌, if◌then◌else◌, ◌&&◌, nat_le, nat_lt, IfOk};
 ghost use Rattle.disk_model.specs.Tear.{torn_byte};
-ghost use Rattle.disk_model.specs.Written.{range_of};
+ghost use Rattle.disk_model.specs.PendingWrites.{range_of};
 
-use crate::written::Written;
+use crate::pending_write::PendingWrite;
 use std::alloc::{AllocError, Global};
 
 /// Which of the contents that a crash may leave it leaves.
@@ -18,7 +18,11 @@ pub enum Tear {
 }
 
 /// What a read gives, with the last byte of each write inverted.
-pub(crate) fn torn(alloc: Global, seen: &[u8], written: &[Written]) -> Result<Vec<u8>, AllocError>
+pub(crate) fn torn(
+    alloc: Global,
+    seen: &[u8],
+    written: &[PendingWrite],
+) -> Result<Vec<u8>, AllocError>
     ensures size { IfOk result (λ v. length v.items ≡ length seen.now) }
     ensures each { IfOk result (λ v. (p : ℕ) → p < length seen.now →
         slice_index v.items p ≡ torn_byte (reverse (map range_of written.now)) seen.now p) }
@@ -31,7 +35,7 @@ pub(crate) fn torn(alloc: Global, seen: &[u8], written: &[Written]) -> Result<Ve
 }
 
 /// Puts back the bytes of one write, with the last of them inverted.
-fn invert_end(bytes: &mut [u8], seen: &[u8], write: &Written)
+fn invert_end(bytes: &mut [u8], seen: &[u8], write: &PendingWrite)
     requires { length bytes.old ≡ length seen.now }
     ensures { (p : ℕ) → p < length seen.now → slice_index bytes.new p ≡
         (if nat_le write.now.offset p && nat_lt p (write.now.offset + write.now.len)

@@ -6,11 +6,11 @@ use Rattle.std.proofs.lemmas.Bool.{true≢false}
 use Rattle.refusals.specs.declared.refusal.Refusal.{Refusal}
 use Rattle.reg_tree.specs.declared.element.Element.{Element}
 use Rattle.crash_model.specs.Changes as law
-use Rattle.crash_model.specs.Promises.{Choice, Spelled, nothing, settled, top, under_way, Ends, BeginsTrim, JournalSays, TrimSays, HiveSays}
+use Rattle.crash_model.specs.Promises.{Choice, Content, nothing, settled, top, under_way, Ends, BeginsTrim, JournalSays, TrimSays, HiveSays}
 use Rattle.crash_model.specs.Memory.{IsOfMemory}
 use Rattle.reg_tree.specs.Maps.{TreeMap}
 use Rattle.store_model.specs.Machine.{Machine, last_number}
-use Rattle.store_model.specs.Steps.{EndsTrim, is_calm}
+use Rattle.store_model.specs.Steps.{EndsTrim, is_not_step}
 use Rattle.store_model.specs.declared.event.Event.{Event}
 use Rattle.store_model.specs.declared.event.Event.TheVariants as event
 use Rattle.store_model.specs.declared.event.Reply.{Reply}
@@ -19,25 +19,25 @@ use Rattle.change_codec.specs.ModelChanges.{TimedOp}
 use Rattle.crash_model.specs.StepAnswers.{Says}
 use Rattle.disk_model.specs.declared.progress.Progress.{Progress}
 use Rattle.disk_model.specs.declared.progress.Progress.TheVariants as progress
-use Rattle.commit_journal.specs.Journals.{changes_of, choice_of, steps_in, steps_left, value_in}
+use Rattle.commit_journal.specs.Journals.{changes_of, choice_of, steps_in, steps_left, view_in_phase}
 use Rattle.commit_journal.specs.Journals as journals
 use Rattle.commit_journal.specs.OnDisk as phase
-use Rattle.commit_journal.specs.declared.standing.Standing.{Standing}
+use Rattle.commit_journal.specs.declared.extent.Extent.{Extent}
 use Rattle.commit_journal.specs.declared.journal.Phase.{Phase}
-use Rattle.commit_journal.specs.declared.journal.Phase.TheVariants.{Quiet, BodyWritten, BodySynced, GateWritten, TrimWritten, Broken}
+use Rattle.commit_journal.specs.declared.journal.Phase.TheVariants.{AtRest, BodyWritten, BodySynced, GateWritten, TrimWritten, Broken}
 use Rattle.commit_journal.specs.declared.journal.Journal.{Journal}
 use Rattle.engine_invariant.specs.States.{HiveView, IsConsistent}
 use Rattle.engine_invariant.specs.Answers.{reply_to, after_step, MayTrim}
-use Rattle.engine_invariant.specs.Progress.{FlushView, FlushesOn, flush_of, HasPending, HasTrimmed, IsMade, IsTrimming, NearsDurable}
+use Rattle.engine_invariant.specs.Progress.{FlushView, FlushesOn, flush_of, HasPending, HasTrimmed, IsNotRefused, IsTrimming, NearsDurable}
 use Rattle.transactions.specs.Stores.{StoreView}
 use Rattle.engine_invariant.specs.Prefixes.{view_of}
 use Rattle.engine_invariant.specs.Idle.{IsTrimmed}
-use Rattle.hive_flush.specs.HiveStates.{dirty_pages, files_of, memory_of}
+use Rattle.hive_flush.specs.HiveStates.{dirty_pages, file_choice, memory_of}
 use Rattle.hive_flush.specs.HiveStates as states
 use Rattle.hive_flush.specs.declared.hive.HiveFile.{HiveFile}
-use Rattle.engine.specs.Events.{ComesOn}
+use Rattle.engine.specs.Events.{StepAdvances}
 use Rattle.engine.specs.Parts.{IsSound}
-use Rattle.commit_journal.specs.declared.naming.Naming.{Naming}
+use Rattle.commit_journal.specs.declared.last_changes.LastChangePerHive.{LastChangePerHive}
 use Rattle.engine.specs.declared.parts.Parts.{Parts}
 use Rattle.engine.proofs.Idling.{told_some}
 use Rattle.engine.proofs.Sound.{same_hive}
@@ -46,39 +46,39 @@ use Rattle.engine_invariant.proofs.HiveLists.{get_same, viewed}
 -- The laws that are used
 
 abbrev pub Settles : Type 0
-Settles = (machine : Machine) (base : ℕ) (opened : List Element) (old new : Choice (Spelled TimedOp)) (hives : List HiveView) → IsConsistent machine base opened old hives → (IsTrimming old → ⊥) → Ends old new → machine.durable < top machine.durable new.now
+Settles = (machine : Machine) (base : ℕ) (opened : List Element) (old new : Choice (Content TimedOp)) (hives : List HiveView) → IsConsistent machine base opened old hives → (IsTrimming old → ⊥) → Ends old new → machine.durable < top machine.durable new.now
 
 abbrev pub Frees : Type 0
-Frees = (machine : Machine) (base : ℕ) (opened : List Element) (old new : Choice (Spelled TimedOp)) (hives : List HiveView) → IsConsistent machine base opened old hives → IsTrimming old → Ends old new → EndsTrim machine progress.Done (after_step machine old new (Ok progress.Done))
+Frees = (machine : Machine) (base : ℕ) (opened : List Element) (old new : Choice (Content TimedOp)) (hives : List HiveView) → IsConsistent machine base opened old hives → IsTrimming old → Ends old new → EndsTrim machine progress.Done (after_step machine old new (Ok progress.Done))
 
 -- Steps that aren't made
 
-not_made : (answer : Reply) (why : Refusal) → answer ≡ reply.Refused why → IsMade answer → ⊥
+not_made : (answer : Reply) (why : Refusal) → answer ≡ reply.Refused why → IsNotRefused answer → ⊥
 not_made answer why e (p, told) = apart (sym e ∙ told)
   where
     apart : reply.Refused why ≡ reply.Stepped p → ⊥
     apart same = cc
 
-pub refused_comes_on : {D : Type 0} (e : Event) (come : Result Progress Refusal) (why : Refusal) (old new : Parts D) → come ≡ Err why → ComesOn e (reply_to come) old new
+pub refused_comes_on : {D : Type 0} (e : Event) (come : Result Progress Refusal) (why : Refusal) (old new : Parts D) → come ≡ Err why → StepAdvances e (reply_to come) old new
 refused_comes_on e come why old new is = record {
-  nears = λ _ made _. absurd (not_made (reply_to come) why (ap reply_to is) made);
+  nears_durable = λ _ made _. absurd (not_made (reply_to come) why (ap reply_to is) made);
   begins_trim = λ _ made _ _. absurd (not_made (reply_to come) why (ap reply_to is) made);
   ends_trim = λ _ made _. absurd (not_made (reply_to come) why (ap reply_to is) made);
   flushes = λ _ _ _ _ made _ _ _. absurd (not_made (reply_to come) why (ap reply_to is) made);
 }
 
-pub calm_comes_on : {D : Type 0} (e : Event) (answer : Reply) (old new : Parts D) → is_calm e ≡ true → ComesOn e answer old new
-calm_comes_on e answer old new calm = record {
-  nears = λ is _ _. absurd (true≢false (sym calm ∙ ap is_calm is));
-  begins_trim = λ is _ _ _. absurd (true≢false (sym calm ∙ ap is_calm is));
-  ends_trim = λ is _ _. absurd (elim (is) [ inl j ↦ true≢false (sym calm ∙ ap is_calm j) | inr t ↦ true≢false (sym calm ∙ ap is_calm t) ]);
-  flushes = λ i was then is _ _ _ _. absurd (true≢false (sym calm ∙ ap is_calm is));
+pub non_step_advances : {D : Type 0} (e : Event) (answer : Reply) (old new : Parts D) → is_not_step e ≡ true → StepAdvances e answer old new
+non_step_advances e answer old new non_step = record {
+  nears_durable = λ is _ _. absurd (true≢false (sym non_step ∙ ap is_not_step is));
+  begins_trim = λ is _ _ _. absurd (true≢false (sym non_step ∙ ap is_not_step is));
+  ends_trim = λ is _ _. absurd (elim (is) [ inl j ↦ true≢false (sym non_step ∙ ap is_not_step j) | inr t ↦ true≢false (sym non_step ∙ ap is_not_step t) ]);
+  flushes = λ i was then is _ _ _ _. absurd (true≢false (sym non_step ∙ ap is_not_step is));
 }
 
 -- What a journal's phase says
 
-few_in : (now : Standing) (p : Phase) → steps_in (value_in now p).phase ≤ 5
-few_in now Quiet = omega arith
+few_in : (now : Extent) (p : Phase) → steps_in (view_in_phase now p).phase ≤ 5
+few_in now AtRest = omega arith
 few_in now (BodyWritten batch) = omega arith
 few_in now (BodySynced batch) = omega arith
 few_in now (GateWritten batch) = omega arith
@@ -86,11 +86,11 @@ few_in now TrimWritten = omega arith
 few_in now (Broken ahead) = omega arith
 
 few_left : (journal : Journal) → steps_left journal ≤ 5
-few_left journal = few_in journal.stands journal.phase
+few_left journal = few_in journal.on_device journal.phase
 
 -- what is on its way is nothing in a trim alone, where the device hasn't failed
-trims_in : (now : Standing) (p : Phase) → ((value_in now p).phase ≡ phase.Phase.Broken → ⊥) → (value_in now p).choice.next ≡ Some nothing → (value_in now p).phase ≡ phase.Phase.TrimWritten
-trims_in now Quiet broken e = absurd (none-some nothing e)
+trims_in : (now : Extent) (p : Phase) → ((view_in_phase now p).phase ≡ phase.Phase.Broken → ⊥) → (view_in_phase now p).choice.next ≡ Some nothing → (view_in_phase now p).phase ≡ phase.Phase.TrimWritten
+trims_in now AtRest broken e = absurd (none-some nothing e)
 trims_in now (BodyWritten batch) broken e = absurd (told_some batch.ahead batch.some e)
 trims_in now (BodySynced batch) broken e = absurd (told_some batch.ahead batch.some e)
 trims_in now (GateWritten batch) broken e = absurd (told_some batch.ahead batch.some e)
@@ -98,7 +98,7 @@ trims_in now TrimWritten broken e = refl
 trims_in now (Broken ahead) broken e = absurd (broken refl)
 
 trims_at : (journal : Journal) → (journals.IsBroken journal → ⊥) → IsTrimming (choice_of journal) → journals.IsTrimming journal
-trims_at journal broken e = trims_in journal.stands journal.phase broken e
+trims_at journal broken e = trims_in journal.on_device journal.phase broken e
 
 -- A step of the journal or of a trim
 
@@ -111,7 +111,7 @@ module _ (m : Machine) (base : ℕ) (opened : List Element) (old new : Journal) 
   fewer t last rises one = record { few = few_left old; nearer = inr (omega (arith, one)); falls = omega (arith, one, last, rises) }
 
   -- a batch that stands
-  stands : Settles → HasPending m → journals.NowStands old new → (t : Machine) → last_number t ≡ last_number m → t.durable ≡ top m.durable (choice_of new).now → Nears t
+  stands : Settles → HasPending m → journals.BatchIsDurable old new → (t : Machine) → last_number t ≡ last_number m → t.durable ≡ top m.durable (choice_of new).now → Nears t
   stands law some (one, ends) t last durable =
       let up : m.durable < top m.durable (choice_of new).now = law m base opened (choice_of old) (choice_of new) hives kept (λ trims. let is = ap steps_in (trims_at old works trims) in omega (arith, is, one)) ends in
       record { few = few_left old; nearer = inl (omega (arith, up, durable)); falls = omega (arith, up, durable, last, one, some, few_left new) }
@@ -119,10 +119,10 @@ module _ (m : Machine) (base : ℕ) (opened : List Element) (old new : Journal) 
   -- nothing that was on its way stands, where a step isn't the last one
   not_ended : {X : Type 0} → ((choice_of old).next ≡ None) ⊎ (choice_of new ≡ choice_of old) → Ends (choice_of old) (choice_of new) → X
   not_ended (inl none) (x, was, is) = absurd (none-some x (sym none ∙ was))
-  not_ended (inr same) (x, was, is) = absurd (none-some x (sym (ap (λ (c : Choice (Spelled TimedOp)). c.next) is) ∙ ap (λ (c : Choice (Spelled TimedOp)). c.next) same ∙ was))
+  not_ended (inr same) (x, was, is) = absurd (none-some x (sym (ap (λ (c : Choice (Content TimedOp)). c.next) is) ∙ ap (λ (c : Choice (Content TimedOp)). c.next) same ∙ was))
 
-  nears_by : Settles → HasPending m → (first : ℕ) (handed : List (law.Element TimedOp)) (come : Result Progress Refusal) → Says (JournalSays first handed) come (choice_of old) (choice_of new) → OnOk come (journals.ComesNearer old new)
-      → m.durable ≤ (after_step m (choice_of old) (choice_of new) come).durable → IsMade (reply_to come) → Nears (after_step m (choice_of old) (choice_of new) come)
+  nears_by : Settles → HasPending m → (first : ℕ) (handed : List (law.Element TimedOp)) (come : Result Progress Refusal) → Says (JournalSays first handed) come (choice_of old) (choice_of new) → OnOk come (journals.MakesProgress old new)
+      → m.durable ≤ (after_step m (choice_of old) (choice_of new) come).durable → IsNotRefused (reply_to come) → Nears (after_step m (choice_of old) (choice_of new) come)
   nears_by law some first handed (Err why) says nearer rises made = absurd (not_made (reply.Refused why) why refl made)
   nears_by law some first handed (Ok progress.Idle) says nearer rises made = elim (nearer) [
     | inl one ↦ fewer m refl rises one
@@ -142,9 +142,9 @@ module _ (m : Machine) (base : ℕ) (opened : List Element) (old new : Journal) 
   trimmed_by law come done (x, was, is) trims =
       let frees = law m base opened (choice_of old) (choice_of new) hives kept trims (x, was, is) in
       subst (λ r. HasTrimmed m (reply_to r) (after_step m (choice_of old) (choice_of new) r) (choice_of new)) (sym done)
-      (record { told = refl; frees = frees; spells = is ∙ ap (λ (s : Spelled TimedOp). settled s) (same_Some x nothing (sym was ∙ trims)) })
+      (record { told = refl; frees = frees; decodes = is ∙ ap (λ (s : Content TimedOp). settled s) (same_Some x nothing (sym was ∙ trims)) })
 
-  made_done : (come : Result Progress Refusal) → OnOk come (come ≡ Ok progress.Done) → IsMade (reply_to come) → come ≡ Ok progress.Done
+  made_done : (come : Result Progress Refusal) → OnOk come (come ≡ Ok progress.Done) → IsNotRefused (reply_to come) → come ≡ Ok progress.Done
   made_done (Ok p) done made = done
   made_done (Err why) done made = absurd (not_made (reply.Refused why) why refl made)
 
@@ -153,25 +153,25 @@ pub nearer_where : (X Y : Type 0) (come : Result Progress Refusal) (count : ℕ)
 nearer_where X Y (Ok p) count nearer some = nearer (inl some)
 nearer_where X Y (Err why) count nearer some = tt
 
-module _ {D : Type 0} (s : Parts D) (sound : IsSound s) (free : s.store.machine.faulted ≡ false) (new : Journal) (disk : D) (store : StoreView) (naming : Naming) (come : Result Progress Refusal)
+module _ {D : Type 0} (s : Parts D) (sound : IsSound s) (free : s.store.machine.faulted ≡ false) (new : Journal) (disk : D) (store : StoreView) (last_changes : LastChangePerHive) (come : Result Progress Refusal)
     (told : store.machine ≡ after_step s.store.machine (choice_of s.journal) (choice_of new) come) (frees : Frees) (ends : journals.IsTrimming s.journal → OnOk come (come ≡ Ok progress.Done)) where
   works : journals.IsBroken s.journal → ⊥
   works = sound.holds.journal_works free
 
-  ends_trim : Ends (choice_of s.journal) (choice_of new) ⊎ (come ≡ Ok progress.Done → ⊥) → IsMade (reply_to come) → IsTrimming (choice_of s.journal) → HasTrimmed s.store.machine (reply_to come) store.machine (choice_of new)
+  ends_trim : Ends (choice_of s.journal) (choice_of new) ⊎ (come ≡ Ok progress.Done → ⊥) → IsNotRefused (reply_to come) → IsTrimming (choice_of s.journal) → HasTrimmed s.store.machine (reply_to come) store.machine (choice_of new)
   ends_trim said made trims =
-      let done = made_done s.store.machine s.base (changes_of s.spelled.value) s.journal new (map view_of s.hives.items) sound.holds.kept works come (ends (trims_at s.journal works trims)) made in
+      let done = made_done s.store.machine s.base (changes_of s.decoded.value) s.journal new (map view_of s.hives.items) sound.holds.kept works come (ends (trims_at s.journal works trims)) made in
       subst (λ (t : Machine). HasTrimmed s.store.machine (reply_to come) t (choice_of new)) (sym told)
       (elim (said) [
-        | inl ended ↦ trimmed_by s.store.machine s.base (changes_of s.spelled.value) s.journal new (map view_of s.hives.items) sound.holds.kept works frees come done ended trims
+        | inl ended ↦ trimmed_by s.store.machine s.base (changes_of s.decoded.value) s.journal new (map view_of s.hives.items) sound.holds.kept works frees come done ended trims
         | inr not ↦ absurd (not done)
       ])
 
-  pub journal_comes_on : Settles → (first : ℕ) (handed : List (law.Element TimedOp)) → Says (JournalSays first handed) come (choice_of s.journal) (choice_of new) → (HasPending s.store.machine → OnOk come (journals.ComesNearer s.journal new))
-      → s.store.machine.durable ≤ (after_step s.store.machine (choice_of s.journal) (choice_of new) come).durable → ComesOn event.JournalStep (reply_to come) s (record s { disk = disk; journal = new; store = store; naming = naming })
+  pub journal_comes_on : Settles → (first : ℕ) (handed : List (law.Element TimedOp)) → Says (JournalSays first handed) come (choice_of s.journal) (choice_of new) → (HasPending s.store.machine → OnOk come (journals.MakesProgress s.journal new))
+      → s.store.machine.durable ≤ (after_step s.store.machine (choice_of s.journal) (choice_of new) come).durable → StepAdvances event.JournalStep (reply_to come) s (record s { disk = disk; journal = new; store = store; last_changes = last_changes })
   journal_comes_on settles first handed says nearer rises = record {
-    nears = λ _ made some. subst (λ (t : Machine). NearsDurable s.store.machine (steps_left s.journal) t (steps_left new)) (sym told)
-        (nears_by s.store.machine s.base (changes_of s.spelled.value) s.journal new (map view_of s.hives.items) sound.holds.kept works settles some first handed come says (nearer some) rises made);
+    nears_durable = λ _ made some. subst (λ (t : Machine). NearsDurable s.store.machine (steps_left s.journal) t (steps_left new)) (sym told)
+        (nears_by s.store.machine s.base (changes_of s.decoded.value) s.journal new (map view_of s.hives.items) sound.holds.kept works settles some first handed come says (nearer some) rises made);
     begins_trim = λ is _ _ _. absurd (not_trim is);
     ends_trim = λ _ made trims. ends_trim (said come says) made trims;
     flushes = λ i was then is _ _ _ _. absurd (not_flush i is);
@@ -189,11 +189,11 @@ module _ {D : Type 0} (s : Parts D) (sound : IsSound s) (free : s.store.machine.
       said (Ok progress.More) other = inr (λ e. cc)
       said (Err why) other = inr (λ e. cc)
 
-  pub trim_comes_on : MayTrim s.store.machine s.base (changes_of s.spelled.value) (choice_of s.journal) (map view_of s.hives.items) → Says TrimSays come (choice_of s.journal) (choice_of new)
-      → ComesOn event.TrimStep (reply_to come) s (record s { disk = disk; journal = new; store = store; naming = naming })
+  pub trim_comes_on : MayTrim s.store.machine s.base (changes_of s.decoded.value) (choice_of s.journal) (map view_of s.hives.items) → Says TrimSays come (choice_of s.journal) (choice_of new)
+      → StepAdvances event.TrimStep (reply_to come) s (record s { disk = disk; journal = new; store = store; last_changes = last_changes })
   trim_comes_on may says = record {
-    nears = λ is _ _. absurd (not_journal is);
-    begins_trim = λ _ made busy no_trim. begins come says made no_trim;
+    nears_durable = λ is _ _. absurd (not_journal is);
+    begins_trim = λ _ made not_idle no_trim. begins come says made no_trim;
     ends_trim = λ _ made trims. ends_trim (said come says) made trims;
     flushes = λ i was then is _ _ _ _. absurd (not_flush i is);
   }
@@ -207,7 +207,7 @@ module _ {D : Type 0} (s : Parts D) (sound : IsSound s) (free : s.store.machine.
       rests : (IsTrimming (choice_of s.journal) → ⊥) → (choice_of s.journal).next ≡ None
       rests no_trim = elim (may) [ inl trims ↦ absurd (no_trim trims) | inr begins ↦ begins.0 ]
 
-      begins : (r : Result Progress Refusal) → Says TrimSays r (choice_of s.journal) (choice_of new) → IsMade (reply_to r) → (IsTrimming (choice_of s.journal) → ⊥) → (reply_to r ≡ reply.Stepped progress.More) × BeginsTrim (choice_of s.journal) (choice_of new)
+      begins : (r : Result Progress Refusal) → Says TrimSays r (choice_of s.journal) (choice_of new) → IsNotRefused (reply_to r) → (IsTrimming (choice_of s.journal) → ⊥) → (reply_to r ≡ reply.Stepped progress.More) × BeginsTrim (choice_of s.journal) (choice_of new)
       begins (Ok progress.Idle) none made no_trim = absurd none
       begins (Ok progress.More) began made no_trim = (refl, began)
       begins (Ok progress.Done) ended made no_trim = absurd (none-some ended.0 (sym (rests no_trim) ∙ ended.1))
@@ -220,12 +220,12 @@ module _ {D : Type 0} (s : Parts D) (sound : IsSound s) (free : s.store.machine.
       said (Err why) other = inr (λ e. cc)
 
 -- a trim that may not be made is none that is halfway
-pub idle_comes_on : {D : Type 0} (s : Parts D) → IsTrimmed s.store.machine s.base (changes_of s.spelled.value) (choice_of s.journal) (map view_of s.hives.items) → ComesOn event.TrimStep (reply_to (Ok progress.Idle)) s s
+pub idle_comes_on : {D : Type 0} (s : Parts D) → IsTrimmed s.store.machine s.base (changes_of s.decoded.value) (choice_of s.journal) (map view_of s.hives.items) → StepAdvances event.TrimStep (reply_to (Ok progress.Idle)) s s
 idle_comes_on s none = record {
-  nears = λ is _ _. absurd (not_journal is);
-  begins_trim = λ _ _ busy _. absurd (busy refl);
+  nears_durable = λ is _ _. absurd (not_journal is);
+  begins_trim = λ _ _ not_idle _. absurd (not_idle refl);
   ends_trim = λ _ _ trims. absurd (none.no_trim trims);
-  flushes = λ i was then is _ busy _ _. absurd (busy refl);
+  flushes = λ i was then is _ not_idle _ _. absurd (not_idle refl);
 }
   where
     not_journal : event.TrimStep ≡ event.JournalStep → ⊥
@@ -238,13 +238,13 @@ abbrev pub StepsOn : ℕ → Reply → HiveFile → HiveFile → Type 0
 StepsOn number answer was then = FlushesOn number answer (view_of was) (view_of then) (flush_of was) (flush_of then)
 
 pub flush_comes_on : {D : Type 0} (hive : ℕ) (answer : Reply) (old new : Parts D)
-    → ((was then : HiveFile) → IsMade answer → (answer ≡ reply.Stepped progress.Idle → ⊥) → slice_get old.hives.items hive ≡ Some was → slice_get new.hives.items hive ≡ Some then → StepsOn old.store.machine.durable answer was then)
-    → ComesOn (event.FlusherStep hive) answer old new
+    → ((was then : HiveFile) → IsNotRefused answer → (answer ≡ reply.Stepped progress.Idle → ⊥) → slice_get old.hives.items hive ≡ Some was → slice_get new.hives.items hive ≡ Some then → StepsOn old.store.machine.durable answer was then)
+    → StepAdvances (event.FlusherStep hive) answer old new
 flush_comes_on hive answer old new steps = record {
-  nears = λ is _ _. absurd (not_journal is);
+  nears_durable = λ is _ _. absurd (not_journal is);
   begins_trim = λ is _ _ _. absurd (not_trim is);
   ends_trim = λ is _ _. absurd (elim (is) [ inl j ↦ not_journal j | inr t ↦ not_trim t ]);
-  flushes = λ i was then is made busy at there. let same = same_place i is in steps was then made busy (subst (λ n. slice_get old.hives.items n ≡ Some was) (sym same) at) (subst (λ n. slice_get new.hives.items n ≡ Some then) (sym same) there);
+  flushes = λ i was then is made not_idle at there. let same = same_place i is in steps was then made not_idle (subst (λ n. slice_get old.hives.items n ≡ Some was) (sym same) at) (subst (λ n. slice_get new.hives.items n ≡ Some then) (sym same) there);
 }
   where
     not_journal : event.FlusherStep hive ≡ event.JournalStep → ⊥
@@ -257,16 +257,16 @@ flush_comes_on hive answer old new steps = record {
     same_place i is = cc
 
 -- of one hive
-pub writes_on : (was then : HiveFile) (come : Result Progress Refusal) → Says (HiveSays (memory_of was)) come (files_of was) (files_of then) → memory_of then ≡ memory_of was → IsOfMemory (files_of was) (memory_of was)
-    → ((files_of was).next ≡ None → states.steps_left was ≤ 2 * dirty_pages was + 7) → (come ≡ Ok progress.More → states.steps_left then < states.steps_left was) → (come ≡ Ok progress.More → 0 < states.steps_left then)
-    → (come ≡ Ok progress.More → dirty_pages then ≡ dirty_pages was) → IsMade (reply_to come) → StepsOn (memory_of was).1 (reply_to come) was then
+pub writes_on : (was then : HiveFile) (come : Result Progress Refusal) → Says (HiveSays (memory_of was)) come (file_choice was) (file_choice then) → memory_of then ≡ memory_of was → IsOfMemory (file_choice was) (memory_of was)
+    → ((file_choice was).next ≡ None → states.steps_left was ≤ 2 * dirty_pages was + 7) → (come ≡ Ok progress.More → states.steps_left then < states.steps_left was) → (come ≡ Ok progress.More → 0 < states.steps_left then)
+    → (come ≡ Ok progress.More → dirty_pages then ≡ dirty_pages was) → IsNotRefused (reply_to come) → StepsOn (memory_of was).1 (reply_to come) was then
 writes_on was then (Err why) says memory own few falls left pages made = absurd (not_made (reply.Refused why) why refl made)
 writes_on was then (Ok progress.Idle) says memory own few falls left pages made = absurd says
 writes_on was then (Ok progress.More) says memory own few falls left pages made = elim (says) [
   | inl begins ↦ inl (record {
     rests = begins.0;
     told = refl;
-    files = begins.1 ∙ ap (λ (x : TreeMap × ℕ). under_way (files_of was).now x) (sym memory);
+    files = begins.1 ∙ ap (λ (x : TreeMap × ℕ). under_way (file_choice was).now x) (sym memory);
     takes = ap (λ (x : TreeMap × ℕ). x.1) memory;
     few = omega (arith, few begins.0, falls refl, pages refl);
     some = left refl;
@@ -274,20 +274,20 @@ writes_on was then (Ok progress.More) says memory own few falls left pages made 
   | inr goes ↦ inr (inl (record {
     was = own_next (goes.0.0) goes.0.1 own;
     told = refl;
-    hive = ap (λ (c : Choice (TreeMap × ℕ)). let v : HiveView = record { files = c; memory = memory_of then } in v) goes.1 ∙ ap (λ (x : TreeMap × ℕ). let v : HiveView = record { files = files_of was; memory = x } in v) memory;
+    hive = ap (λ (c : Choice (TreeMap × ℕ)). let v : HiveView = record { files = c; memory = memory_of then } in v) goes.1 ∙ ap (λ (x : TreeMap × ℕ). let v : HiveView = record { files = file_choice was; memory = x } in v) memory;
     pages = pages refl;
     falls = falls refl;
     some = left refl;
   }))
 ]
   where
-    own_next : (x : TreeMap × ℕ) → (files_of was).next ≡ Some x → IsOfMemory (files_of was) (memory_of was) → (files_of was).next ≡ Some (memory_of was)
+    own_next : (x : TreeMap × ℕ) → (file_choice was).next ≡ Some x → IsOfMemory (file_choice was) (memory_of was) → (file_choice was).next ≡ Some (memory_of was)
     own_next x e (inl none) = absurd (none-some x (sym none ∙ e))
     own_next x e (inr its) = its
 writes_on was then (Ok progress.Done) (x, e, is) memory own few falls left pages made =
     inr (inr (record { was = own_next own; told = refl; files = is ∙ ap (λ (y : TreeMap × ℕ). settled y) (same_Some x (memory_of was) (sym e ∙ own_next own)); memory = memory }))
   where
-    own_next : IsOfMemory (files_of was) (memory_of was) → (files_of was).next ≡ Some (memory_of was)
+    own_next : IsOfMemory (file_choice was) (memory_of was) → (file_choice was).next ≡ Some (memory_of was)
     own_next (inl none) = absurd (none-some x (sym none ∙ e))
     own_next (inr its) = its
 
@@ -300,10 +300,10 @@ writes_at hives k answer old new was then is at there lt on =
 
 -- what a hive takes into memory
 pub takes_at : (hives : List HiveFile) (k : ℕ) (old new was then : HiveFile) → slice_get hives k ≡ Some old → slice_get hives k ≡ Some was → slice_get (slice_set hives k new) k ≡ Some then → k < length hives
-    → (result : Result (Unit {0}) Refusal) (upto durable : ℕ) (tree : TreeMap) → files_of new ≡ files_of old → OnOk result (memory_of new ≡ (tree, upto)) → upto ≡ durable → (files_of then ≡ files_of was) × OnOk result ((memory_of then).1 ≡ durable)
+    → (result : Result (Unit {0}) Refusal) (upto durable : ℕ) (tree : TreeMap) → file_choice new ≡ file_choice old → OnOk result (memory_of new ≡ (tree, upto)) → upto ≡ durable → (file_choice then ≡ file_choice was) × OnOk result ((memory_of then).1 ≡ durable)
 takes_at hives k old new was then is at there lt result upto durable tree files memory same =
-    subst (λ (h : HiveFile). (files_of then ≡ files_of h) × OnOk result ((memory_of then).1 ≡ durable)) (same_hive hives k old was is at)
-    (subst (λ (h : HiveFile). (files_of h ≡ files_of old) × OnOk result ((memory_of h).1 ≡ durable)) (same_Some new then (sym (get_same hives k new lt) ∙ there))
+    subst (λ (h : HiveFile). (file_choice then ≡ file_choice h) × OnOk result ((memory_of then).1 ≡ durable)) (same_hive hives k old was is at)
+    (subst (λ (h : HiveFile). (file_choice h ≡ file_choice old) × OnOk result ((memory_of h).1 ≡ durable)) (same_Some new then (sym (get_same hives k new lt) ∙ there))
     (files, told result memory))
   where
     told : (r : Result (Unit {0}) Refusal) → OnOk r (memory_of new ≡ (tree, upto)) → OnOk r ((memory_of new).1 ≡ durable)
@@ -311,7 +311,7 @@ takes_at hives k old new was then is at there lt result upto durable tree files 
     told (Err why) e = tt
 
 -- a hive that was at rest has taken in what is durable before
-pub from_rest : (number : ℕ) (answer : Reply) (was mid then : HiveFile) → (files_of was).next ≡ None → files_of mid ≡ files_of was → (memory_of mid).1 ≡ number → StepsOn (memory_of mid).1 answer mid then → StepsOn number answer was then
+pub from_rest : (number : ℕ) (answer : Reply) (was mid then : HiveFile) → (file_choice was).next ≡ None → file_choice mid ≡ file_choice was → (memory_of mid).1 ≡ number → StepsOn (memory_of mid).1 answer mid then → StepsOn number answer was then
 from_rest number answer was mid then rests same taken (inl begins) = inl (record {
   rests = rests;
   told = begins.told;
@@ -324,9 +324,9 @@ from_rest number answer was mid then rests same taken (inr (inl on)) = absurd (n
 from_rest number answer was mid then rests same taken (inr (inr ends)) = absurd (none-some (memory_of mid) (sym rests ∙ sym (ap (λ (c : Choice (TreeMap × ℕ)). c.next) same) ∙ ends.was))
 
 -- where something is on its way to the files nothing begins
-pub from_busy : (number other : ℕ) (answer : Reply) (was then : HiveFile) → ((files_of was).next ≡ None → ⊥) → StepsOn other answer was then → StepsOn number answer was then
-from_busy number other answer was then busy (inl begins) = absurd (busy begins.rests)
-from_busy number other answer was then busy (inr on) = inr on
+pub from_busy : (number other : ℕ) (answer : Reply) (was then : HiveFile) → ((file_choice was).next ≡ None → ⊥) → StepsOn other answer was then → StepsOn number answer was then
+from_busy number other answer was then not_idle (inl begins) = absurd (not_idle begins.rests)
+from_busy number other answer was then not_idle (inr on) = inr on
 
 -- What is seen of hives
 

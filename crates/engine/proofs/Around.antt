@@ -5,7 +5,7 @@ use Rattle.std.proofs.lemmas.Bool.{cases_lt}
 use Rattle.std.proofs.lemmas.List.{length-map}
 use Rattle.reg_tree.specs.declared.element.Element.{Element}
 use Rattle.store_model.specs.Machine.{Machine}
-use Rattle.engine_invariant.specs.Idle.{IsFlushed}
+use Rattle.engine_invariant.specs.Idle.{HiveIsFlushed}
 use Rattle.engine_invariant.specs.States.{HiveView}
 use Rattle.engine.specs.Work.{AreFlushed, IsNextAround}
 
@@ -23,7 +23,7 @@ module _ (m : Machine) (base : ℕ) (opened : List Element) (hives : List HiveVi
 
   module _ (behind : (j : ℕ) → j < count → after < j → next ≤ j) (before : (j : ℕ) → j < next → j ≤ after) (from : (j : ℕ) → j < count → next ≤ j → after < j) where
     -- one behind
-    pub found_behind : (i : ℕ) → (next ≤ i) × (i < count) × (IsFlushed m base opened hives i → ⊥) × AreFlushed m base opened hives next i → IsNextAround m base opened hives after i
+    pub found_behind : (i : ℕ) → (next ≤ i) × (i < count) × (HiveIsFlushed m base opened hives i → ⊥) × AreFlushed m base opened hives next i → IsNextAround m base opened hives after i
     found_behind i (low, high, works, flushed) = record {
       there = omega (arith, many, high);
       works = works;
@@ -34,7 +34,7 @@ module _ (m : Machine) (base : ℕ) (opened : List Element) (hives : List HiveVi
     }
 
     -- one up to there, where there is none behind
-    pub found_around : next ≤ count → AreFlushed m base opened hives next count → (i : ℕ) → (i < next) × (IsFlushed m base opened hives i → ⊥) × AreFlushed m base opened hives 0 i → IsNextAround m base opened hives after i
+    pub found_around : next ≤ count → AreFlushed m base opened hives next count → (i : ℕ) → (i < next) × (HiveIsFlushed m base opened hives i → ⊥) × AreFlushed m base opened hives 0 i → IsNextAround m base opened hives after i
     found_around within rest i (low, works, flushed) = record {
       there = omega (arith, many, low, within);
       works = works;

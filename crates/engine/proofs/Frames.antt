@@ -7,7 +7,7 @@ use Rattle.refusals.specs.declared.refusal.Refusal.TheVariants.{DiskFault, Fault
 use Rattle.disk_model.specs.FileState.{FileState}
 use Rattle.disk_model.specs.Call.{OneCall, HasFailed}
 use Rattle.store_model.specs.Machine.{Machine}
-use Rattle.crash_model.specs.Promises.{Answer, Choice, Spelled, TrimSays}
+use Rattle.crash_model.specs.Promises.{Answer, Choice, Content, TrimSays}
 use Rattle.change_codec.specs.ModelChanges.{TimedOp}
 use Rattle.store_model.specs.Steps.{Step, is_step}
 use Rattle.store_model.specs.declared.event.Event.{Event}
@@ -23,7 +23,7 @@ use Rattle.engine_invariant.specs.Answers.{reply_to}
 use Rattle.engine_invariant.specs.Prefixes.{AnyFile, AreOnDisk}
 use Rattle.engine_invariant.specs.Engines.{NeedsNoDevice}
 use Rattle.engine.specs.Parts.{IsSound}
-use Rattle.engine.specs.Events.{GoesOn}
+use Rattle.engine.specs.Events.{PartsStep}
 use Rattle.engine.specs.declared.parts.Parts.{Parts}
 use Rattle.engine.proofs.Idling.{told_idle}
 
@@ -58,7 +58,7 @@ told_refused (Err other) why told =
 pub quiet_by : {D : Type 0} (event : Event) (come : Result Progress Refusal) (old new : D) → is_step event ≡ true → (come ≡ Ok progress.Idle → new ≡ old) → ((why : Refusal) → come ≡ Err why → (why ≡ DiskFault → ⊥) → new ≡ old)
     → NeedsNoDevice event (reply_to come) → new ≡ old
 quiet_by event come old new steps idle refused needs = elim (needs) [
-  | inl calm ↦ absurd (true≢false (sym steps ∙ calm))
+  | inl non_step ↦ absurd (true≢false (sym steps ∙ non_step))
   | inr rest ↦ elim (rest) [
     | inl told ↦ idle ((told_idle come).0 told)
     | inr told ↦ refused told.0 (told_refused come told.0 told.1) told.2
@@ -68,37 +68,37 @@ quiet_by event come old new steps idle refused needs = elim (needs) [
 -- a step of the journal or of a trim
 pub refused_still : {X D : Type 0} (says : Answer → X → X → Type 0) (come : Result Progress Refusal) (a b : X) (old new : D) → Says says come a b → ((come ≡ Err Faulted) ⊎ ((come ≡ Err NoMemory) ⊎ (come ≡ Ok progress.Idle)) → new ≡ old)
     → (why : Refusal) → come ≡ Err why → (why ≡ DiskFault → ⊥) → new ≡ old
-refused_still says (Err NoMemory) a b old new said still why is other = still (inr (inl refl))
-refused_still says (Err Faulted) a b old new said still why is other = still (inl refl)
-refused_still says (Err DiskFault) a b old new said still why is other = let same : why ≡ DiskFault = cc in absurd (other same)
-refused_still says (Err _) a b old new said still why is other = absurd said
-refused_still says (Ok p) a b old new said still why is other = absurd (apart is)
+refused_still says (Err NoMemory) a b old new said no_change why is other = no_change (inr (inl refl))
+refused_still says (Err Faulted) a b old new said no_change why is other = no_change (inl refl)
+refused_still says (Err DiskFault) a b old new said no_change why is other = let same : why ≡ DiskFault = cc in absurd (other same)
+refused_still says (Err _) a b old new said no_change why is other = absurd said
+refused_still says (Ok p) a b old new said no_change why is other = absurd (apart is)
   where
     apart : ◌≡◌ {A = Result Progress Refusal} (Ok p) (Err why) → ⊥
     apart same = cc
 
 -- a step of a trim, which is never idle or refused for want of memory
-pub trim_still : {D : Type 0} (come : Result Progress Refusal) (a b : Choice (Spelled TimedOp)) (old new : D) → Says TrimSays come a b → (come ≡ Err Faulted → new ≡ old) → (come ≡ Err Faulted) ⊎ ((come ≡ Err NoMemory) ⊎ (come ≡ Ok progress.Idle)) → new ≡ old
-trim_still come a b old new said still (inl faulted) = still faulted
-trim_still come a b old new said still (inr (inl hungry)) = absurd (subst (λ r. Says TrimSays r a b) hungry said)
-trim_still come a b old new said still (inr (inr idle)) = absurd (subst (λ r. Says TrimSays r a b) idle said)
+pub trim_still : {D : Type 0} (come : Result Progress Refusal) (a b : Choice (Content TimedOp)) (old new : D) → Says TrimSays come a b → (come ≡ Err Faulted → new ≡ old) → (come ≡ Err Faulted) ⊎ ((come ≡ Err NoMemory) ⊎ (come ≡ Ok progress.Idle)) → new ≡ old
+trim_still come a b old new said no_change (inl faulted) = no_change faulted
+trim_still come a b old new said no_change (inr (inl hungry)) = absurd (subst (λ r. Says TrimSays r a b) hungry said)
+trim_still come a b old new said no_change (inr (inr idle)) = absurd (subst (λ r. Says TrimSays r a b) idle said)
 
 -- a step of a hive's flush
 pub flush_still : {D : Type 0} (come : Result Progress Refusal) (old new : D) → IfErr come (λ w. (w ≡ DiskFault) ⊎ (w ≡ Faulted)) → (come ≡ Err Faulted → new ≡ old) → (why : Refusal) → come ≡ Err why → (why ≡ DiskFault → ⊥) → new ≡ old
-flush_still (Ok p) old new refused still why is other = absurd (apart is)
+flush_still (Ok p) old new refused no_change why is other = absurd (apart is)
   where
     apart : ◌≡◌ {A = Result Progress Refusal} (Ok p) (Err why) → ⊥
     apart same = cc
-flush_still (Err w) old new refused still why is other =
+flush_still (Err w) old new refused no_change why is other =
     let same : w ≡ why = cc in
     elim (refused) [
       | inl failed ↦ absurd (other (sym same ∙ failed))
-      | inr faulted ↦ still (subst (λ x. ◌≡◌ {A = Result Progress Refusal} (Err w) (Err x)) faulted refl)
+      | inr faulted ↦ no_change (subst (λ x. ◌≡◌ {A = Result Progress Refusal} (Err w) (Err x)) faulted refl)
     ]
 
 module _ {D : Type 0} (states : D → ℕ → ℕ → FileState) (clock failures : D → ℕ) (is_faithful : D → Type 0) (event : Event) (answer : Reply) where
   -- nothing has changed
-  pub stays : (parts : Parts D) → IsSound parts → Step parts.store.machine event answer parts.store.machine → (answer ≡ Refused DiskFault → ⊥) → GoesOn states clock failures is_faithful event answer parts parts
+  pub stays : (parts : Parts D) → IsSound parts → Step parts.store.machine event answer parts.store.machine → (answer ≡ Refused DiskFault → ⊥) → PartsStep states clock failures is_faithful event answer parts parts
   stays parts sound step fine = record {
     step = step;
     sound = sound;
@@ -117,7 +117,7 @@ module _ {D : Type 0} (states : D → ℕ → ℕ → FileState) (clock failures
   -- a hive has taken something in before
   pub behind : (old mid new : Parts D) → mid ≡ record old { hives = mid.hives } → ((state : ℕ → FileState) → AreOnDisk old.journal old.hives.items state → AreOnDisk mid.journal mid.hives.items state)
       → ((i : ℕ) → (event ≡ FlusherStep i → ⊥) → slice_get mid.hives.items i ≡ slice_get old.hives.items i)
-      → GoesOn states clock failures is_faithful event answer mid new → GoesOn states clock failures is_faithful event answer old new
+      → PartsStep states clock failures is_faithful event answer mid new → PartsStep states clock failures is_faithful event answer old new
   behind old mid new rest moves others on =
       let disk : mid.disk ≡ old.disk = ap (λ (p : Parts D). p.disk) rest in
       let machine : mid.store.machine ≡ old.store.machine = ap (λ (p : Parts D). p.store.machine) rest in
@@ -132,12 +132,12 @@ module _ {D : Type 0} (states : D → ℕ → ℕ → FileState) (clock failures
         failed = λ e. subst (λ (d : D). failures d < failures new.disk) disk (on.failed e);
         works = λ other. on.works other ∙ ap failures disk;
         faithful = λ f. subst is_faithful disk (on.faithful f);
-        life = (on.life.0 ∙ ap (λ (p : Parts D). p.base) rest, on.life.1 ∙ ap (λ (p : Parts D). (changes_of p.spelled.value)) rest);
+        life = (on.life.0 ∙ ap (λ (p : Parts D). p.base) rest, on.life.1 ∙ ap (λ (p : Parts D). (changes_of p.decoded.value)) rest);
         journal_stays = λ nj nt. on.journal_stays nj nt ∙ journal;
         hives_stay = λ i no. on.hives_stay i no ∙ others i no;
       }
 
 -- a step that was refused for want of memory
-pub hungry : {D : Type 0} (states : D → ℕ → ℕ → FileState) (clock failures : D → ℕ) (is_faithful : D → Type 0) (hive : ℕ) (parts : Parts D) (why : Refusal) → IsSound parts → why ≡ NoMemory → GoesOn states clock failures is_faithful (FlusherStep hive) (reply_to (Err why)) parts parts
+pub hungry : {D : Type 0} (states : D → ℕ → ℕ → FileState) (clock failures : D → ℕ) (is_faithful : D → Type 0) (hive : ℕ) (parts : Parts D) (why : Refusal) → IsSound parts → why ≡ NoMemory → PartsStep states clock failures is_faithful (FlusherStep hive) (reply_to (Err why)) parts parts
 hungry states clock failures is_faithful hive parts why sound is =
-    subst (λ w. GoesOn states clock failures is_faithful (FlusherStep hive) (reply_to (Err w)) parts parts) (sym is) (stays states clock failures is_faithful (FlusherStep hive) (Refused NoMemory) parts sound (inl (inr refl, refl)) (λ e. cc))
+    subst (λ w. PartsStep states clock failures is_faithful (FlusherStep hive) (reply_to (Err w)) parts parts) (sym is) (stays states clock failures is_faithful (FlusherStep hive) (Refused NoMemory) parts sound (inl (inr refl, refl)) (λ e. cc))

@@ -1,10 +1,10 @@
 mod Sound
 mod Namings
-mod AtHand
+mod RetainedChanges
 mod Idling
 mod Around
 mod Frames
-mod Calm
+mod NonSteps
 mod OnDisk
 mod Journaling
 mod Taking

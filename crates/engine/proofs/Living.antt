@@ -8,7 +8,7 @@ use Rattle.disk_model.specs.Sector.{IsHonest}
 use Rattle.disk_model.specs.Crash.{LeavesHonest}
 use Rattle.disk_model.proofs.Leaves.{left_at_rest}
 use Rattle.disk_model.proofs.Sectors.{honest_at_rest}
-use Rattle.disk_model.specs.Unwritten.{IsSyncedOrSame}
+use Rattle.disk_model.specs.ReadOnly.{IsSyncedOrSame}
 use Rattle.commit_journal.specs.Store.{Store, IsStore}
 use Rattle.store_model.specs.Machine.{Machine, bounds_of, last_number, opened_machine}
 use Rattle.store_model.specs.Steps.{Run}
@@ -19,7 +19,7 @@ use Rattle.engine_invariant.specs.Engines.{EngineView}
 use Rattle.engine_invariant.specs.Runs.{AnswersInTurn, IsBoundary, RunsSafely}
 use Rattle.engine_invariant.proofs.Bridge.{all_long}
 use Rattle.recovery.specs.Recovered.{IsRecovered, seen_in}
-use Rattle.engine.specs.Lives.{Life, Life.Unopened, Life.Opened, IsSafe, IsLife, IsNext, AreLives, OpensFrom, EachGoesOn, FirstOpensAt, ReadsSafely, end_of, faulted_in}
+use Rattle.engine.specs.Lives.{Life, Life.NeverOpened, Life.Opened, IsSafe, IsLife, IsNext, AreLives, OpensFrom, EachLifeContinues, FirstOpensAt, ReadsSafely, end_of, faulted_in}
 use Rattle.engine.proofs.OpenedStays.{run_stays}
 
 abbrev pub OneRecovered : Type 0
@@ -112,12 +112,12 @@ module _ (one : OneRecovered) (store : Store) (is : IsStore store) where
   left_of n life next many on files left =
       subst (λ k. LeavesHonest (IsPrimaryOf k) (end_of life) files) (sym many) (next_left store.hives life next on files (subst (λ k. LeavesHonest (IsPrimaryOf k) next files) many left))
 
-  pub go_on : (m : Machine) (state : ℕ → FileState) (lives : List Life) → length m.opened ≡ store.hives → IsSafe store m state → ReadsSafely store.hives state → AreLives store state lives → EachGoesOn m lives
+  pub go_on : (m : Machine) (state : ℕ → FileState) (lives : List Life) → length m.opened ≡ store.hives → IsSafe store m state → ReadsSafely store.hives state → AreLives store state lives → EachLifeContinues m lives
   go_on m state [] many safe seen rest = tt
-  go_on m state (Unopened end ∷ lives) many safe seen (kept, (next, on, rest)) =
+  go_on m state (NeverOpened end ∷ lives) many safe seen (kept, (next, on, rest)) =
       go_on m next lives many
-      (λ files left. safe files (subst (λ n. LeavesHonest (IsPrimaryOf n) state files) (sym many) (before store.hives state end seen kept files (next_left store.hives (Unopened end) next on files (subst (λ n. LeavesHonest (IsPrimaryOf n) next files) many left)))))
-      (next_seen store.hives (Unopened end) next (λ e. seen_after store.hives state end seen kept) on) rest
+      (λ files left. safe files (subst (λ n. LeavesHonest (IsPrimaryOf n) state files) (sym many) (before store.hives state end seen kept files (next_left store.hives (NeverOpened end) next on files (subst (λ n. LeavesHonest (IsPrimaryOf n) next files) many left)))))
+      (next_seen store.hives (NeverOpened end) next (λ e. seen_after store.hives state end seen kept) on) rest
   go_on m state (Opened number trees last end ∷ lives) many safe seen ((found, come, left, reads), (next, on, rest)) =
       let long : length last.opened ≡ store.hives = run_stays (record (opened_machine (bounds_of trees) trees number [] 0) { room = come.room; faulted = come.broken }) last come.events come.replies come.run ∙ found.many in (
         opens_from m state number trees many safe seen found,
@@ -143,15 +143,15 @@ repaired store state end number room failed trees found stays reads = (
 
 -- A store that was made
 
-first_at : (trees : List TreeMap) (lives : List Life) → EachGoesOn (opened_machine (bounds_of trees) trees 0 [] 0) lives → FirstOpensAt 0 trees lives
+first_at : (trees : List TreeMap) (lives : List Life) → EachLifeContinues (opened_machine (bounds_of trees) trees 0 [] 0) lives → FirstOpensAt 0 trees lives
 first_at trees [] on = tt
-first_at trees (Unopened end ∷ lives) on = first_at trees lives on
+first_at trees (NeverOpened end ∷ lives) on = first_at trees lives on
 first_at trees (Opened number found last end ∷ lives) (from, on) =
     let zero : number ≡ 0 = omega (arith, from.high) in
     (zero, from.trees_are ∙ ap (trees_after (opened_machine (bounds_of trees) trees 0 [] 0)) zero ∙ ap (λ (l : List Element). after_elements trees l) (none_taken 0))
 
 pub opens_as_made : OneRecovered → (store : Store) (trees : List TreeMap) (state : ℕ → FileState) (lives : List Life) → ((files : ℕ → List ℕ) → LeavesHonest (IsPrimaryOf (length trees)) state files → IsRecovered files store 0 trees)
-    → ReadsSafely (length trees) state → AreLives store state lives → FirstOpensAt 0 trees lives × EachGoesOn (opened_machine (bounds_of trees) trees 0 [] 0) lives
+    → ReadsSafely (length trees) state → AreLives store state lives → FirstOpensAt 0 trees lives × EachLifeContinues (opened_machine (bounds_of trees) trees 0 [] 0) lives
 opens_as_made one store trees state lives made seen rest =
     let found = made (seen_in state) seen in
     let safe = repaired store state state 0 0 false trees found (λ files left. made files (subst (λ n. LeavesHonest (IsPrimaryOf n) state files) (sym found.many) left)) (λ works. subst (λ n. ReadsSafely n state) found.many seen) in

@@ -8,7 +8,7 @@ use Rattle.crash_model.specs.Life.{Life, known_elements, elements_in, opened_num
 use Rattle.crash_model.proofs.Lists.{seg_split}
 use Rattle.crash_model.proofs.OnePrefix.{part_accepted}
 use Rattle.store_model.specs.Machine.{Machine, last_number, pending}
-use Rattle.store_model.specs.Kept.{Stays, Grows}
+use Rattle.store_model.specs.Invariant.{JournalStateStays, AcceptsOneChange}
 use Rattle.reg_tree.specs.Maps.{TreeMap}
 use Rattle.engine_invariant.specs.States.{life_of}
 use Rattle.engine_invariant.specs.Answers.{after_flush}
@@ -16,8 +16,8 @@ use Rattle.disk_model.specs.declared.progress.Progress.{Progress}
 use Rattle.refusals.specs.declared.refusal.Refusal.{Refusal}
 use Rattle.refusals.specs.declared.refusal.Refusal.TheVariants.{DiskFault}
 use Rattle.change_codec.specs.ModelChanges.{TimedOp, timed_element, timed_elements}
-use Rattle.commit_journal.specs.Naming.{AreLastIn}
-use Rattle.engine.specs.Naming.{AreLastNaming}
+use Rattle.commit_journal.specs.LastChangePerHive.{AreLastIn}
+use Rattle.engine.specs.LastChangePerHive.{AreLastNaming}
 
 -- Among the changes that an engine knows
 
@@ -86,7 +86,7 @@ naming_settles m t base opened old new begun since there up within same last cou
         ∙ take-map timed_element (t.durable - m.durable) (drop (m.durable - m.before) m.accepted)
 
 -- an event that makes no step
-pub known_stays : (m t : Machine) (base : ℕ) (opened : List Element) (hi : ℕ) → m.before ≡ base + length opened → hi ≤ last_number m → Stays m t ⊎ Grows m t
+pub known_stays : (m t : Machine) (base : ℕ) (opened : List Element) (hi : ℕ) → m.before ≡ base + length opened → hi ≤ last_number m → JournalStateStays m t ⊎ AcceptsOneChange m t
     → take (hi - base) (known_elements (life_of t base opened)) ≡ take (hi - base) (known_elements (life_of m base opened))
 known_stays m t base opened hi begun there (inl s) = ap (λ (l : List Element). take (hi - base) (timed_elements opened ++ timed_elements l)) s.accepted
 known_stays m t base opened hi begun there (inr g) =
@@ -96,12 +96,12 @@ known_stays m t base opened hi begun there (inr g) =
     ∙ take-append-le (hi - base) (timed_elements opened ++ timed_elements m.accepted) (timed_element g.element ∷ [])
     (omega (arith, begun, there, length-append (timed_elements opened) (timed_elements m.accepted), length-map opened timed_element, length-map m.accepted timed_element))
 
-durable_stays : (m t : Machine) → Stays m t ⊎ Grows m t → t.durable ≡ m.durable
+durable_stays : (m t : Machine) → JournalStateStays m t ⊎ AcceptsOneChange m t → t.durable ≡ m.durable
 durable_stays m t (inl s) = s.durable
 durable_stays m t (inr g) = g.durable
 
-pub naming_calm : (m t : Machine) (base : ℕ) (opened : List Element) (numbers : List ℕ) → m.before ≡ base + length opened → m.before ≤ m.durable → m.durable ≤ last_number m → Stays m t ⊎ Grows m t → AreLastNaming m base opened numbers → AreLastNaming t base opened numbers
-naming_calm m t base opened numbers begun since there how last =
+pub last_changes_at_non_step : (m t : Machine) (base : ℕ) (opened : List Element) (numbers : List ℕ) → m.before ≡ base + length opened → m.before ≤ m.durable → m.durable ≤ last_number m → JournalStateStays m t ⊎ AcceptsOneChange m t → AreLastNaming m base opened numbers → AreLastNaming t base opened numbers
+last_changes_at_non_step m t base opened numbers begun since there how last =
     naming_stays m t base opened numbers (ap (λ d. take (d - base) (known_elements (life_of t base opened))) (durable_stays m t how) ∙ known_stays m t base opened m.durable begun there how) last
 
 -- a step of a flush

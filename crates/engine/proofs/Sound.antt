@@ -7,9 +7,9 @@ use Rattle.std.proofs.lemmas.Bool.{true≢false}
 use Rattle.refusals.specs.declared.refusal.Refusal.{Refusal}
 use Rattle.refusals.specs.declared.refusal.Refusal.TheVariants as refusal
 use Rattle.reg_tree.specs.declared.element.Element.{Element}
-use Rattle.crash_model.specs.Promises.{Choice, Spelled, top}
+use Rattle.crash_model.specs.Promises.{Choice, Content, top}
 use Rattle.store_model.specs.Machine.{Machine, last_number}
-use Rattle.store_model.specs.Kept.{Stays, Grows}
+use Rattle.store_model.specs.Invariant.{JournalStateStays, AcceptsOneChange}
 use Rattle.transactions.specs.Stores.{StoreView}
 use Rattle.change_codec.specs.ModelChanges.{TimedOp}
 use Rattle.disk_model.specs.declared.progress.Progress.{Progress}
@@ -18,19 +18,19 @@ use Rattle.commit_journal.specs.Store.{Store, room_of}
 use Rattle.commit_journal.specs.Journals.{choice_of, store_of}
 use Rattle.commit_journal.specs.Journals as journals
 use Rattle.commit_journal.specs.declared.journal.Journal.{Journal}
-use Rattle.hive_flush.specs.HiveStates.{IsWhole, IsBroken, place_of}
+use Rattle.hive_flush.specs.HiveStates.{HiveIsRepaired, IsBroken, hive_number}
 use Rattle.hive_flush.specs.HiveStates as states
 use Rattle.hive_flush.specs.declared.hive.HiveFile.{HiveFile}
 use Rattle.engine_invariant.specs.States.{HiveView, IsConsistent}
 use Rattle.engine_invariant.specs.Answers.{after_step, after_flush, refused_by}
 use Rattle.engine_invariant.specs.Prefixes.{ArePlaced, view_of}
 use Rattle.engine_invariant.proofs.HiveLists.{each_hive}
-use Rattle.engine.specs.Parts.{AreSound, settled_by}
+use Rattle.engine.specs.Parts.{AreSound, after_mark_durable}
 
 -- an event that makes no step
-pub calm_sound : (s t : StoreView) (base : ℕ) (opened : List Element) (journal : Journal) (hives : List HiveFile) → AreSound s base opened journal hives
-    → IsConsistent t.machine base opened (choice_of journal) (map view_of hives) → Stays s.machine t.machine ⊎ Grows s.machine t.machine → AreSound t base opened journal hives
-calm_sound s t base opened journal hives a kept how = record {
+pub non_step_sound : (s t : StoreView) (base : ℕ) (opened : List Element) (journal : Journal) (hives : List HiveFile) → AreSound s base opened journal hives
+    → IsConsistent t.machine base opened (choice_of journal) (map view_of hives) → JournalStateStays s.machine t.machine ⊎ AcceptsOneChange s.machine t.machine → AreSound t base opened journal hives
+non_step_sound s t base opened journal hives a kept how = record {
   kept = kept;
   placed = a.placed;
   many = a.many;
@@ -39,7 +39,7 @@ calm_sound s t base opened journal hives a kept how = record {
   hives_work = λ free. a.hives_work (sym (faulted how) ∙ free);
 }
   where
-    faulted : Stays s.machine t.machine ⊎ Grows s.machine t.machine → t.machine.faulted ≡ s.machine.faulted
+    faulted : JournalStateStays s.machine t.machine ⊎ AcceptsOneChange s.machine t.machine → t.machine.faulted ≡ s.machine.faulted
     faulted (inl x) = x.faulted
     faulted (inr x) = x.faulted
 
@@ -55,13 +55,13 @@ told_sound s t base opened journal hives same a = record {
 }
 
 -- a machine told by the room that was used
-pub settled_is : (m : Machine) (old new : Choice (Spelled TimedOp)) (used : ℕ) (result : Result Progress Refusal) → used ≡ 65 + room_of old.now.elements → settled_by m new.now used result ≡ after_step m old new result
+pub settled_is : (m : Machine) (old new : Choice (Content TimedOp)) (used : ℕ) (result : Result Progress Refusal) → used ≡ 65 + room_of old.now.elements → after_mark_durable m new.now used result ≡ after_step m old new result
 settled_is m old new used (Ok progress.Done) e = let f : used - (65 + room_of new.now.elements) ≡ room_of old.now.elements - room_of new.now.elements = omega (arith, e) in ap (λ n. record m { durable = top m.durable new.now; room = m.room - n }) f
 settled_is m old new used (Ok progress.Idle) e = refl
 settled_is m old new used (Ok progress.More) e = refl
 settled_is m old new used (Err why) e = refl
 
-pub done_known : (m : Machine) (base : ℕ) (opened : List Element) (old new : Choice (Spelled TimedOp)) (hives : List HiveView) (result : Result Progress Refusal) → IsConsistent (after_step m old new result) base opened new hives
+pub done_known : (m : Machine) (base : ℕ) (opened : List Element) (old new : Choice (Content TimedOp)) (hives : List HiveView) (result : Result Progress Refusal) → IsConsistent (after_step m old new result) base opened new hives
     → result ≡ Ok progress.Done → top m.durable new.now ≤ last_number m
 done_known m base opened old new hives (Ok progress.Done) i e = i.kept.within.known
 done_known m base opened old new hives (Ok progress.Idle) i e = absurd cc
@@ -70,13 +70,13 @@ done_known m base opened old new hives (Err why) i e = absurd cc
 
 -- only a device that failed faults a store
 refused_faults : (m : Machine) (why : Refusal) → m.faulted ≡ false → (refused_by m why).faulted ≡ false → why ≡ refusal.DiskFault → ⊥
-refused_faults m why free still e = true≢false (sym (ap (λ r. (refused_by m r).faulted) e) ∙ still)
+refused_faults m why free no_change e = true≢false (sym (ap (λ r. (refused_by m r).faulted) e) ∙ no_change)
 
-step_faults : (m : Machine) (old new : Choice (Spelled TimedOp)) (result : Result Progress Refusal) → m.faulted ≡ false → (after_step m old new result).faulted ≡ false → result ≡ Err refusal.DiskFault → ⊥
-step_faults m old new result free still e = true≢false (sym (ap (λ r. (after_step m old new r).faulted) e) ∙ still)
+step_faults : (m : Machine) (old new : Choice (Content TimedOp)) (result : Result Progress Refusal) → m.faulted ≡ false → (after_step m old new result).faulted ≡ false → result ≡ Err refusal.DiskFault → ⊥
+step_faults m old new result free no_change e = true≢false (sym (ap (λ r. (after_step m old new r).faulted) e) ∙ no_change)
 
 flush_faults : (m : Machine) (result : Result Progress Refusal) → (after_flush m result).faulted ≡ false → result ≡ Err refusal.DiskFault → ⊥
-flush_faults m result still e = true≢false (sym (ap (λ r. (after_flush m r).faulted) e) ∙ still)
+flush_faults m result no_change e = true≢false (sym (ap (λ r. (after_flush m r).faulted) e) ∙ no_change)
 
 pub refused_accepted : (m : Machine) (why : Refusal) → (refused_by m why).accepted ≡ m.accepted
 refused_accepted m refusal.DiskFault = refl
@@ -86,7 +86,7 @@ refused_before : (m : Machine) (why : Refusal) → (refused_by m why).before ≡
 refused_before m refusal.DiskFault = refl
 refused_before m _ = refl
 
-pub step_before : (m : Machine) (old new : Choice (Spelled TimedOp)) (result : Result Progress Refusal) → (after_step m old new result).before ≡ m.before
+pub step_before : (m : Machine) (old new : Choice (Content TimedOp)) (result : Result Progress Refusal) → (after_step m old new result).before ≡ m.before
 step_before m old new (Ok progress.Done) = refl
 step_before m old new (Ok progress.Idle) = refl
 step_before m old new (Ok progress.More) = refl
@@ -105,8 +105,8 @@ journal_sound s t base opened old new hives result a free kept same broken is = 
   placed = subst (λ (x : Store). ArePlaced x hives) (sym same) a.placed;
   many = a.many ∙ ap (λ (x : Store). x.hives) (sym same);
   whole = a.whole;
-  journal_works = λ still bad. elim (broken bad) [ inl b ↦ a.journal_works free b | inr f ↦ step_faults s.machine (choice_of old) (choice_of new) result free (ap (λ (m : Machine). m.faulted) (sym is) ∙ still) f ];
-  hives_work = λ still. a.hives_work free;
+  journal_works = λ no_change bad. elim (broken bad) [ inl b ↦ a.journal_works free b | inr f ↦ step_faults s.machine (choice_of old) (choice_of new) result free (ap (λ (m : Machine). m.faulted) (sym is) ∙ no_change) f ];
+  hives_work = λ no_change. a.hives_work free;
 }
 
 -- One hive of a list
@@ -116,26 +116,26 @@ at_place hives k h lt e = slice_get_read hives (length hives) k h refl lt e
 
 -- a hive that has taken something in, or made a step
 pub hive_sound : (s t : StoreView) (base : ℕ) (opened : List Element) (journal : Journal) (hives : List HiveFile) (k : ℕ) (old new : HiveFile) → AreSound s base opened journal hives → slice_get hives k ≡ Some old
-    → IsConsistent t.machine base opened (choice_of journal) (slice_set (map view_of hives) k (view_of new)) → place_of new ≡ place_of old → states.store_of new ≡ states.store_of old → IsWhole new
+    → IsConsistent t.machine base opened (choice_of journal) (slice_set (map view_of hives) k (view_of new)) → hive_number new ≡ hive_number old → states.store_of new ≡ states.store_of old → HiveIsRepaired new
     → (t.machine.faulted ≡ false → (s.machine.faulted ≡ false) × ¬ (IsBroken new)) → AreSound t base opened journal (slice_set hives k new)
 hive_sound s t base opened journal hives k old new a is kept place owner whole works = record {
   kept = subst (λ (v : List HiveView). IsConsistent t.machine base opened (choice_of journal) v) (sym (map-set view_of hives k new)) kept;
   placed = record {
-    place = each_hive hives k old new is (λ j h. place_of h ≡ j) (place ∙ a.placed.place k old is) (λ j h ne at. a.placed.place j h at);
+    place = each_hive hives k old new is (λ j h. hive_number h ≡ j) (place ∙ a.placed.place k old is) (λ j h ne at. a.placed.place j h at);
     owner = each_hive hives k old new is (λ j h. states.store_of h ≡ (store_of journal).id) (owner ∙ a.placed.owner k old is) (λ j h ne at. a.placed.owner j h at);
   };
   many = length-set hives k new ∙ a.many;
-  whole = each_hive hives k old new is (λ j h. IsWhole h) whole (λ j h ne at. a.whole j h at);
-  journal_works = λ still. a.journal_works (works still).0;
-  hives_work = λ still. each_hive hives k old new is (λ j h. ¬ (IsBroken h)) (works still).1 (λ j h ne at. a.hives_work (works still).0 j h at);
+  whole = each_hive hives k old new is (λ j h. HiveIsRepaired h) whole (λ j h ne at. a.whole j h at);
+  journal_works = λ no_change. a.journal_works (works no_change).0;
+  hives_work = λ no_change. each_hive hives k old new is (λ j h. ¬ (IsBroken h)) (works no_change).1 (λ j h ne at. a.hives_work (works no_change).0 j h at);
 }
 
 pub flush_sound : (s t : StoreView) (base : ℕ) (opened : List Element) (journal : Journal) (hives : List HiveFile) (k : ℕ) (old new : HiveFile) (result : Result Progress Refusal) → AreSound s base opened journal hives → s.machine.faulted ≡ false → slice_get hives k ≡ Some old
-    → IsConsistent (after_flush s.machine result) base opened (choice_of journal) (slice_set (map view_of hives) k (view_of new)) → place_of new ≡ place_of old → states.store_of new ≡ states.store_of old → IsWhole new
+    → IsConsistent (after_flush s.machine result) base opened (choice_of journal) (slice_set (map view_of hives) k (view_of new)) → hive_number new ≡ hive_number old → states.store_of new ≡ states.store_of old → HiveIsRepaired new
     → (IsBroken new → IsBroken old ⊎ (result ≡ Err refusal.DiskFault)) → t.machine ≡ after_flush s.machine result → AreSound t base opened journal (slice_set hives k new)
 flush_sound s t base opened journal hives k old new result a free is kept place owner whole broken told =
     hive_sound s t base opened journal hives k old new a is (subst (λ (m : Machine). IsConsistent m base opened (choice_of journal) (slice_set (map view_of hives) k (view_of new))) (sym told) kept) place owner whole
-    (λ still. (free, λ bad. elim (broken bad) [ inl b ↦ a.hives_work free k old is b | inr f ↦ flush_faults s.machine result (ap (λ (m : Machine). m.faulted) (sym told) ∙ still) f ]))
+    (λ no_change. (free, λ bad. elim (broken bad) [ inl b ↦ a.hives_work free k old is b | inr f ↦ flush_faults s.machine result (ap (λ (m : Machine). m.faulted) (sym told) ∙ no_change) f ]))
 
 pub same_hive : (hives : List HiveFile) (k : ℕ) (a b : HiveFile) → slice_get hives k ≡ Some a → slice_get hives k ≡ Some b → a ≡ b
 same_hive hives k a b x y = same_Some a b (sym x ∙ y)

@@ -8,7 +8,7 @@ use Rattle.refusals.specs.declared.refusal.Refusal.TheVariants.{Faulted, NoMemor
 use Rattle.reg_tree.specs.Maps.{TreeMap}
 use Rattle.reg_tree.specs.declared.element.Element.{Element}
 use Rattle.crash_model.specs.Changes.{AreLegal, applied, ops_on}
-use Rattle.crash_model.specs.Promises.{Choice, Spelled, HiveSays}
+use Rattle.crash_model.specs.Promises.{Choice, Content, HiveSays}
 use Rattle.crash_model.specs.Life.{ops_in}
 use Rattle.crash_model.proofs.Lists.{le_or_le}
 use Rattle.crash_model.proofs.OnePrefix.{ops_split}
@@ -21,13 +21,13 @@ use Rattle.crash_model.specs.StepAnswers.{Says}
 use Rattle.disk_model.specs.declared.progress.Progress.{Progress}
 use Rattle.commit_journal.specs.Journals.{choice_of}
 use Rattle.commit_journal.specs.declared.journal.Journal.{Journal}
-use Rattle.hive_flush.specs.HiveStates.{IsBroken, IsWhole, AreLegalOn, led_to, files_of, memory_of, place_of}
+use Rattle.hive_flush.specs.HiveStates.{IsBroken, HiveIsRepaired, ChangesAreLegalOn, tree_after_changes, file_choice, memory_of, hive_number}
 use Rattle.hive_flush.specs.HiveStates as states
 use Rattle.hive_flush.specs.declared.hive.HiveFile.{HiveFile}
 use Rattle.engine_invariant.specs.States.{HiveView, IsConsistent, life_of}
 use Rattle.engine_invariant.specs.Answers.{reply_to, after_flush, opened_above, accepted_above, absorbed}
 use Rattle.engine_invariant.specs.Prefixes.{view_of}
-use Rattle.engine.specs.AtHand.{AreAtHand}
+use Rattle.engine.specs.RetainedChanges.{RetainsWhatHivesLack}
 use Rattle.engine.specs.Parts.{AreSound}
 use Rattle.engine_invariant.proofs.HiveLists.{view_at}
 use Rattle.engine.proofs.Sound.{hive_sound}
@@ -35,24 +35,24 @@ use Rattle.engine.proofs.Sound.{hive_sound}
 -- The laws that are used
 
 abbrev pub Lacks : Type 0
-Lacks = (machine : Machine) (base : ℕ) (opened : List Element) (journal : Choice (Spelled TimedOp)) (hives : List HiveView) (i : ℕ) (old : HiveView) → IsConsistent machine base opened journal hives → slice_get hives i ≡ Some old
-    → (old.memory.1 ≤ machine.durable) × AreLegalOn i (opened_above base opened old.memory.1 ++ accepted_above machine old.memory.1) old.memory.0
+Lacks = (machine : Machine) (base : ℕ) (opened : List Element) (journal : Choice (Content TimedOp)) (hives : List HiveView) (i : ℕ) (old : HiveView) → IsConsistent machine base opened journal hives → slice_get hives i ≡ Some old
+    → (old.memory.1 ≤ machine.durable) × ChangesAreLegalOn i (opened_above base opened old.memory.1 ++ accepted_above machine old.memory.1) old.memory.0
 
 abbrev pub Above : Type 0
-Above = (machine : Machine) (base : ℕ) (opened : List Element) (journal : Choice (Spelled TimedOp)) (hives : List HiveView) (i number : ℕ) → IsConsistent machine base opened journal hives
+Above = (machine : Machine) (base : ℕ) (opened : List Element) (journal : Choice (Content TimedOp)) (hives : List HiveView) (i number : ℕ) → IsConsistent machine base opened journal hives
     → ops_in (life_of machine base opened) i number machine.durable ≡ ops_on i (timed_elements (opened_above base opened number ++ accepted_above machine number))
 
 abbrev pub Takes : Type 0
-Takes = (machine : Machine) (base : ℕ) (opened : List Element) (journal : Choice (Spelled TimedOp)) (hives : List HiveView) (i : ℕ) (old : HiveView) → IsConsistent machine base opened journal hives → slice_get hives i ≡ Some old → old.files.next ≡ None
+Takes = (machine : Machine) (base : ℕ) (opened : List Element) (journal : Choice (Content TimedOp)) (hives : List HiveView) (i : ℕ) (old : HiveView) → IsConsistent machine base opened journal hives → slice_get hives i ≡ Some old → old.files.next ≡ None
     → IsConsistent machine base opened journal (slice_set hives i (record { files = old.files; memory = absorbed machine base opened i old.memory }))
 
 abbrev pub Flush : Type 0
-Flush = (machine : Machine) (base : ℕ) (opened : List Element) (journal : Choice (Spelled TimedOp)) (hives : List HiveView) (i : ℕ) (old new : HiveView) (result : Result Progress Refusal) → IsConsistent machine base opened journal hives → machine.faulted ≡ false
+Flush = (machine : Machine) (base : ℕ) (opened : List Element) (journal : Choice (Content TimedOp)) (hives : List HiveView) (i : ℕ) (old new : HiveView) (result : Result Progress Refusal) → IsConsistent machine base opened journal hives → machine.faulted ≡ false
     → slice_get hives i ≡ Some old → new.memory ≡ old.memory → ¬ (result ≡ Err Faulted) → Says (HiveSays old.memory) result old.files new.files
     → Step machine (event.FlusherStep i) (reply_to result) (after_flush machine result) × IsConsistent (after_flush machine result) base opened journal (slice_set hives i new)
 
 module _ (s : StoreView) (base : ℕ) (opened : List Element) (journal : Journal) (hives : List HiveFile) (a : AreSound s base opened journal hives) (free : s.machine.faulted ≡ false) (k : ℕ) (old : HiveFile) (is : slice_get hives k ≡ Some old) where
-  pub flush_goes : Flush → (new : HiveFile) (result : Result Progress Refusal) → memory_of new ≡ memory_of old → ((result ≡ Err Faulted) ↔ IsBroken old) → Says (HiveSays (memory_of old)) result (files_of old) (files_of new)
+  pub flush_goes : Flush → (new : HiveFile) (result : Result Progress Refusal) → memory_of new ≡ memory_of old → ((result ≡ Err Faulted) ↔ IsBroken old) → Says (HiveSays (memory_of old)) result (file_choice old) (file_choice new)
       → Step s.machine (event.FlusherStep k) (reply_to result) (after_flush s.machine result) × IsConsistent (after_flush s.machine result) base opened (choice_of journal) (slice_set (map view_of hives) k (view_of new))
   flush_goes law new result same broken says = law s.machine base opened (choice_of journal) (map view_of hives) k (view_of old) (view_of new) result a.kept free (view_at hives k old is) same (λ f. a.hives_work free k old is (broken.0 f)) says
 
@@ -63,10 +63,10 @@ module _ (s : StoreView) (base : ℕ) (opened : List Element) (journal : Journal
   lacked = opened_above base opened (memory_of old).1 ++ accepted_above s.machine (memory_of old).1
 
   -- what is handed to the hive has the operations that it lacks
-  pub handed_ops : Above → (at_hand : List Element) → AreAtHand s base opened at_hand hives → (gone : ℕ) → gone ≤ s.machine.durable → ops_in (life_of s.machine base opened) k (memory_of old).1 gone ≡ [] → (memory_of old).1 ≤ s.machine.durable → (es : List Element)
+  pub handed_ops : Above → (retained : List Element) → RetainsWhatHivesLack s base opened retained hives → (gone : ℕ) → gone ≤ s.machine.durable → ops_in (life_of s.machine base opened) k (memory_of old).1 gone ≡ [] → (memory_of old).1 ≤ s.machine.durable → (es : List Element)
       → es ≡ opened_above base opened (max (memory_of old).1 gone) ++ accepted_above s.machine (max (memory_of old).1 gone)
       → ops_on k (timed_elements es) ≡ ops_on k (timed_elements (opened_above base opened (memory_of old).1 ++ accepted_above s.machine (memory_of old).1))
-  handed_ops law at_hand hand gone high none low es are =
+  handed_ops law retained hand gone high none low es are =
       ap (λ (l : List Element). ops_on k (timed_elements l)) are ∙ sym (law s.machine base opened (choice_of journal) (map view_of hives) k (max (memory_of old).1 gone) a.kept)
       ∙ above (le_or_le gone (memory_of old).1) ∙ law s.machine base opened (choice_of journal) (map view_of hives) k (memory_of old).1 a.kept
     where
@@ -75,23 +75,23 @@ module _ (s : StoreView) (base : ℕ) (opened : List Element) (journal : Journal
       above (inr le) = (let e : max (memory_of old).1 gone ≡ gone = omega (arith, le) in ap (λ n. ops_in (life_of s.machine base opened) k n s.machine.durable) e)
           ∙ sym (ops_split (life_of s.machine base opened) k (memory_of old).1 gone s.machine.durable le high ∙ ap (λ (os : List TimedOp). os ++ ops_in (life_of s.machine base opened) k gone s.machine.durable) none)
 
-  pub lawful : Lacks → (es : List Element) → ops_on k (timed_elements es) ≡ ops_on k (timed_elements (opened_above base opened (memory_of old).1 ++ accepted_above s.machine (memory_of old).1)) → AreLegalOn (place_of old) es (memory_of old).0
-  lawful law es e = subst (λ n. AreLegalOn n es (memory_of old).0) (sym (a.placed.place k old is)) (subst (λ (os : List TimedOp). AreLegal tree_rules os (memory_of old).0) (sym e)
+  pub lawful : Lacks → (es : List Element) → ops_on k (timed_elements es) ≡ ops_on k (timed_elements (opened_above base opened (memory_of old).1 ++ accepted_above s.machine (memory_of old).1)) → ChangesAreLegalOn (hive_number old) es (memory_of old).0
+  lawful law es e = subst (λ n. ChangesAreLegalOn n es (memory_of old).0) (sym (a.placed.place k old is)) (subst (λ (os : List TimedOp). AreLegal tree_rules os (memory_of old).0) (sym e)
       (law s.machine base opened (choice_of journal) (map view_of hives) k (view_of old) a.kept (view_at hives k old is)).1)
 
   -- what was taken in, or nothing
-  pub taken : Takes → Flush → (new : HiveFile) (es : List Element) (durable : ℕ) (result : Result (Unit {0}) Refusal) → files_of new ≡ files_of old → (files_of old).next ≡ None → durable ≡ s.machine.durable
-      → ops_on k (timed_elements es) ≡ ops_on k (timed_elements (opened_above base opened (memory_of old).1 ++ accepted_above s.machine (memory_of old).1)) → OnOk result (memory_of new ≡ (led_to (place_of old) es (memory_of old).0, durable)) → OnErr result (new ≡ old)
-      → place_of new ≡ place_of old → states.store_of new ≡ states.store_of old → IsWhole new → (IsBroken new → IsBroken old) → AreSound s base opened journal (slice_set hives k new)
+  pub taken : Takes → Flush → (new : HiveFile) (es : List Element) (durable : ℕ) (result : Result (Unit {0}) Refusal) → file_choice new ≡ file_choice old → (file_choice old).next ≡ None → durable ≡ s.machine.durable
+      → ops_on k (timed_elements es) ≡ ops_on k (timed_elements (opened_above base opened (memory_of old).1 ++ accepted_above s.machine (memory_of old).1)) → OnOk result (memory_of new ≡ (tree_after_changes (hive_number old) es (memory_of old).0, durable)) → OnErr result (new ≡ old)
+      → hive_number new ≡ hive_number old → states.store_of new ≡ states.store_of old → HiveIsRepaired new → (IsBroken new → IsBroken old) → AreSound s base opened journal (slice_set hives k new)
   taken takes flush new es durable result files idle d e ok err place owner whole sound =
       hive_sound s s base opened journal hives k old new a is (kept result ok err) place owner whole (λ _. (free, λ bad. a.hives_work free k old is (sound bad)))
     where
-      kept : (r : Result (Unit {0}) Refusal) → OnOk r (memory_of new ≡ (led_to (place_of old) es (memory_of old).0, durable)) → OnErr r (new ≡ old) → IsConsistent s.machine base opened (choice_of journal) (slice_set (map view_of hives) k (view_of new))
+      kept : (r : Result (Unit {0}) Refusal) → OnOk r (memory_of new ≡ (tree_after_changes (hive_number old) es (memory_of old).0, durable)) → OnErr r (new ≡ old) → IsConsistent s.machine base opened (choice_of journal) (slice_set (map view_of hives) k (view_of new))
       kept (Ok u) o f =
-          let told : memory_of new ≡ absorbed s.machine base opened k (memory_of old) = o ∙ ap (λ n. (led_to n es (memory_of old).0, durable)) (a.placed.place k old is)
-          ∙ ap (λ (os : List TimedOp). (applied tree_rules os (memory_of old).0, durable)) e ∙ ap (λ n. (led_to k (opened_above base opened (memory_of old).1 ++ accepted_above s.machine (memory_of old).1) (memory_of old).0, n)) d in
-          let view : view_of new ≡ record { files = files_of old; memory = absorbed s.machine base opened k (memory_of old) } = ap (λ (c : Choice (TreeMap × ℕ)). let v : HiveView = record { files = c; memory = memory_of new } in v) files
-          ∙ ap (λ (x : TreeMap × ℕ). let v : HiveView = record { files = files_of old; memory = x } in v) told in
+          let told : memory_of new ≡ absorbed s.machine base opened k (memory_of old) = o ∙ ap (λ n. (tree_after_changes n es (memory_of old).0, durable)) (a.placed.place k old is)
+          ∙ ap (λ (os : List TimedOp). (applied tree_rules os (memory_of old).0, durable)) e ∙ ap (λ n. (tree_after_changes k (opened_above base opened (memory_of old).1 ++ accepted_above s.machine (memory_of old).1) (memory_of old).0, n)) d in
+          let view : view_of new ≡ record { files = file_choice old; memory = absorbed s.machine base opened k (memory_of old) } = ap (λ (c : Choice (TreeMap × ℕ)). let v : HiveView = record { files = c; memory = memory_of new } in v) files
+          ∙ ap (λ (x : TreeMap × ℕ). let v : HiveView = record { files = file_choice old; memory = x } in v) told in
           subst (λ (v : HiveView). IsConsistent s.machine base opened (choice_of journal) (slice_set (map view_of hives) k v)) (sym view)
           (takes s.machine base opened (choice_of journal) (map view_of hives) k (view_of old) a.kept (view_at hives k old is) idle)
       kept (Err w) o f =
@@ -116,20 +116,20 @@ accepted_is m number from durable f d le since =
     ap (λ n. take n (drop (from - m.before) m.accepted)) long ∙ ap (λ n. take ((m.durable - m.before) - (number - m.before)) (drop n m.accepted)) skip
     ∙ sym (drop-take (number - m.before) ((m.durable - m.before) - (number - m.before)) m.accepted) ∙ ap (λ n. drop (number - m.before) (take n m.accepted)) whole
 
-pub handed_is : (m : Machine) (base : ℕ) (spelled opened : List Element) (mem gone number at_hand from durable first len skip : ℕ) (open_list acc_list : List Element) → m.before ≡ base + length spelled → m.before ≤ m.durable → base ≤ gone → gone ≤ m.durable → mem ≤ m.durable
-    → opened ≡ drop (gone - base) spelled → at_hand ≡ max m.before gone → number ≡ mem → from ≡ max number at_hand → durable ≡ m.durable → len ≡ length opened → first ≡ m.before - length opened → skip ≡ min (number - first) len → open_list ≡ opened → acc_list ≡ drop (from - m.before) m.accepted
-    → take (length open_list - skip) (drop skip open_list) ++ take (durable - from) acc_list ≡ opened_above base spelled (max mem gone) ++ accepted_above m (max mem gone)
-handed_is m base spelled opened mem gone number at_hand from durable first len skip open_list acc_list begun since low high up are hand n f d l fi sk o ac =
+pub handed_is : (m : Machine) (base : ℕ) (decoded opened : List Element) (mem gone number retained from durable first len skip : ℕ) (open_list acc_list : List Element) → m.before ≡ base + length decoded → m.before ≤ m.durable → base ≤ gone → gone ≤ m.durable → mem ≤ m.durable
+    → opened ≡ drop (gone - base) decoded → retained ≡ max m.before gone → number ≡ mem → from ≡ max number retained → durable ≡ m.durable → len ≡ length opened → first ≡ m.before - length opened → skip ≡ min (number - first) len → open_list ≡ opened → acc_list ≡ drop (from - m.before) m.accepted
+    → take (length open_list - skip) (drop skip open_list) ++ take (durable - from) acc_list ≡ opened_above base decoded (max mem gone) ++ accepted_above m (max mem gone)
+handed_is m base decoded opened mem gone number retained from durable first len skip open_list acc_list begun since low high up are hand n f d l fi sk o ac =
     let skip_is : skip ≡ min (mem - first) (length opened) = omega (arith, n, l, sk) in
     let from_is : from ≡ max (max mem gone) m.before = omega (arith, n, f, hand) in
     ap (λ (x : List Element). x ++ take (durable - from) acc_list) (
     ap (λ (x : List Element). take (length x - skip) (drop skip x)) o ∙ ap (λ x. take (length opened - x) (drop x opened)) skip_is ∙ opened_is (mem - first) opened
-    ∙ ap (drop (mem - first)) are ∙ drop-drop (mem - first) (gone - base) spelled ∙ at (le_or_le gone m.before))
-    ∙ ap (λ (x : List Element). opened_above base spelled (max mem gone) ++ x) (ap (take (durable - from)) ac ∙ accepted_is m (max mem gone) from durable from_is d (omega (arith, up, high)) since)
+    ∙ ap (drop (mem - first)) are ∙ drop-drop (mem - first) (gone - base) decoded ∙ at (le_or_le gone m.before))
+    ∙ ap (λ (x : List Element). opened_above base decoded (max mem gone) ++ x) (ap (take (durable - from)) ac ∙ accepted_is m (max mem gone) from durable from_is d (omega (arith, up, high)) since)
   where
-    long : length opened ≡ length spelled - (gone - base)
-    long = ap length are ∙ length-drop (gone - base) spelled
+    long : length opened ≡ length decoded - (gone - base)
+    long = ap length are ∙ length-drop (gone - base) decoded
 
-    at : (gone ≤ m.before) ⊎ (m.before ≤ gone) → drop ((gone - base) + (mem - first)) spelled ≡ drop (max mem gone - base) spelled
-    at (inl le) = let e : (gone - base) + (mem - first) ≡ max mem gone - base = omega (arith, long, fi, le, begun, low) in ap (λ x. drop x spelled) e
-    at (inr ge) = drop_of_length-le spelled (omega (arith, ge, begun)) ∙ sym (drop_of_length-le spelled (omega (arith, ge, begun)))
+    at : (gone ≤ m.before) ⊎ (m.before ≤ gone) → drop ((gone - base) + (mem - first)) decoded ≡ drop (max mem gone - base) decoded
+    at (inl le) = let e : (gone - base) + (mem - first) ≡ max mem gone - base = omega (arith, long, fi, le, begun, low) in ap (λ x. drop x decoded) e
+    at (inr ge) = drop_of_length-le decoded (omega (arith, ge, begun)) ∙ sym (drop_of_length-le decoded (omega (arith, ge, begun)))

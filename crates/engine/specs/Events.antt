@@ -14,7 +14,7 @@ use Rattle.commit_journal.specs.Journals.{changes_of, choice_of, steps_left, sto
 use Rattle.hive_flush.specs.declared.hive.HiveFile.{HiveFile}
 use Rattle.engine_invariant.specs.Engines.{EngineView, NeedsNoDevice}
 use Rattle.engine_invariant.specs.Prefixes.{AnyFile, AreOnDisk, view_of}
-use Rattle.engine_invariant.specs.Progress.{FlushesOn, flush_of, HasPending, HasTrimmed, IsMade, IsTrimming, NearsDurable}
+use Rattle.engine_invariant.specs.Progress.{FlushesOn, flush_of, HasPending, HasTrimmed, IsNotRefused, IsTrimming, NearsDurable}
 use Rattle.engine.specs.Parts.{IsSound}
 use Rattle.engine.specs.declared.parts.Parts.{Parts}
 
@@ -23,7 +23,7 @@ abbrev pub parts_view : {D : Type 0} → (D → ℕ) → (D → ℕ) → Parts D
 parts_view clock failures parts = record {
   machine = parts.store.machine;
   base = parts.base;
-  opened = changes_of parts.spelled.value;
+  opened = changes_of parts.decoded.value;
   journal = choice_of parts.journal;
   hives = map view_of parts.hives.items;
   left = steps_left parts.journal;
@@ -37,7 +37,7 @@ parts_view clock failures parts = record {
 -- is faithful. The files are of the same store. The device has failed where the answer says so, and at no other answer. What the
 -- journal spelled at the opening stays; the journal changes in a step of it or of a trim alone, and a hive in a step of its flush. The
 -- disk stays where the answer is told without it.
-pub record GoesOn {D : Type 0} (states : D → ℕ → ℕ → FileState) (clock failures : D → ℕ) (is_faithful : D → Type 0)
+pub record PartsStep {D : Type 0} (states : D → ℕ → ℕ → FileState) (clock failures : D → ℕ) (is_faithful : D → Type 0)
     (event : Event) (answer : Reply) (old new : Parts D) : Type 0 where
   pub step : Step old.store.machine event answer new.store.machine
   pub sound : IsSound new
@@ -49,19 +49,19 @@ pub record GoesOn {D : Type 0} (states : D → ℕ → ℕ → FileState) (clock
   pub failed : answer ≡ Refused DiskFault → failures old.disk < failures new.disk
   pub works : ¬ (answer ≡ Refused DiskFault) → failures new.disk ≡ failures old.disk
   pub faithful : is_faithful new.disk → is_faithful old.disk
-  pub life : (new.base ≡ old.base) × (changes_of new.spelled.value ≡ changes_of old.spelled.value)
+  pub life : (new.base ≡ old.base) × (changes_of new.decoded.value ≡ changes_of old.decoded.value)
   pub journal_stays : ¬ (event ≡ events.JournalStep) → ¬ (event ≡ events.TrimStep) → new.journal ≡ old.journal
   pub hives_stay : (i : ℕ) → ¬ (event ≡ events.FlusherStep i) → slice_get new.hives.items i ≡ slice_get old.hives.items i
 
 -- How far a step that isn't refused brings an engine's parts. One of the journal brings what waits nearer to being durable. One of
 -- a trim, where none is halfway and there is something to do, begins one; and the next step of either ends it. One of a hive's flush
 -- begins a flush of what is durable, goes on with it, or ends it.
-pub record ComesOn {D : Type 0} (event : Event) (answer : Reply) (old new : Parts D) : Type 0 where
-  pub nears : event ≡ events.JournalStep → IsMade answer → HasPending old.store.machine
+pub record StepAdvances {D : Type 0} (event : Event) (answer : Reply) (old new : Parts D) : Type 0 where
+  pub nears_durable : event ≡ events.JournalStep → IsNotRefused answer → HasPending old.store.machine
       → NearsDurable old.store.machine (steps_left old.journal) new.store.machine (steps_left new.journal)
-  pub begins_trim : event ≡ events.TrimStep → IsMade answer → ¬ (answer ≡ Stepped Idle) → ¬ (IsTrimming (choice_of old.journal))
+  pub begins_trim : event ≡ events.TrimStep → IsNotRefused answer → ¬ (answer ≡ Stepped Idle) → ¬ (IsTrimming (choice_of old.journal))
       → (answer ≡ Stepped More) × BeginsTrim (choice_of old.journal) (choice_of new.journal)
-  pub ends_trim : (event ≡ events.JournalStep) ⊎ (event ≡ events.TrimStep) → IsMade answer → IsTrimming (choice_of old.journal)
+  pub ends_trim : (event ≡ events.JournalStep) ⊎ (event ≡ events.TrimStep) → IsNotRefused answer → IsTrimming (choice_of old.journal)
       → HasTrimmed old.store.machine answer new.store.machine (choice_of new.journal)
-  pub flushes : (i : ℕ) (was is : HiveFile) → event ≡ events.FlusherStep i → IsMade answer → ¬ (answer ≡ Stepped Idle) → slice_get old.hives.items i ≡ Some was
+  pub flushes : (i : ℕ) (was is : HiveFile) → event ≡ events.FlusherStep i → IsNotRefused answer → ¬ (answer ≡ Stepped Idle) → slice_get old.hives.items i ≡ Some was
       → slice_get new.hives.items i ≡ Some is → FlushesOn old.store.machine.durable answer (view_of was) (view_of is) (flush_of was) (flush_of is)

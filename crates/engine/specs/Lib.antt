@@ -1,5 +1,5 @@
-pub mod Naming
-pub mod AtHand
+pub mod LastChangePerHive
+pub mod RetainedChanges
 pub mod Work
 pub mod Parts
 pub mod Events

@@ -3,7 +3,7 @@ use Rattle.std.specs.Prelude.{◌≡◌, ◌⊎◌, ℕ, ◌≤◌, ⊤, Bool, t
 use Rattle.reg_tree.specs.Maps.{TreeMap}
 use Rattle.disk_model.specs.FileState.{FileState, at_rest}
 use Rattle.disk_model.specs.Crash.{LeavesHonest}
-use Rattle.disk_model.specs.Unwritten.{IsSyncedOrSame}
+use Rattle.disk_model.specs.ReadOnly.{IsSyncedOrSame}
 use Rattle.store_model.specs.Machine.{Machine, bounds_of, last_number, opened_machine}
 use Rattle.store_model.specs.Steps.{Run}
 use Rattle.store_model.specs.declared.event.Event.{Event}
@@ -15,21 +15,21 @@ use Rattle.recovery.specs.Recovered.{IsRecovered, seen_in}
 -- A life of a store, up to some moment at which the files are in this state: it hasn't opened, since an opening was refused or was on
 -- its way; or it has, at a number and trees, and its machine has come so far.
 pub data Life : Type 0 where
-  Unopened : (ℕ → FileState) → Life
+  NeverOpened : (ℕ → FileState) → Life
   Opened : ℕ → List TreeMap → Machine → (ℕ → FileState) → Life
 
 abbrev pub end_of : Life → ℕ → FileState
-end_of (Unopened end) = end
+end_of (NeverOpened end) = end
 end_of (Opened number trees last end) = end
 
 -- whether the device failed in a life that opened
 abbrev pub faulted_in : Life → Bool
-faulted_in (Unopened end) = false
+faulted_in (NeverOpened end) = false
 faulted_in (Opened number trees last end) = last.faulted
 
 -- A machine that was opened at a number and trees, with some room, and faulted if the device failed in a repair, has come to this
 -- one by events.
-pub record HasCome (number : ℕ) (trees : List TreeMap) (last : Machine) : Type 0 where
+pub record ReachedFromOpening (number : ℕ) (trees : List TreeMap) (last : Machine) : Type 0 where
   pub room : ℕ
   pub broken : Bool
   pub events : List Event
@@ -48,9 +48,9 @@ ReadsSafely hives state = LeavesHonest (IsPrimaryOf hives) state (seen_in state)
 -- the files recover, as they are read; and then what a crash leaves is a prefix of what it accepted since, and so is what a read gives
 -- as long as the device hasn't failed.
 abbrev pub IsLife : Store → (ℕ → FileState) → Life → Type 0
-IsLife store state (Unopened end) = (f : ℕ) → IsSyncedOrSame (state f) (end f)
+IsLife store state (NeverOpened end) = (f : ℕ) → IsSyncedOrSame (state f) (end f)
 IsLife store state (Opened number trees last end) =
-    IsRecovered (seen_in state) store number trees × HasCome number trees last × IsSafe store last end × (last.faulted ≡ false → ReadsSafely (length last.opened) end)
+    IsRecovered (seen_in state) store number trees × ReachedFromOpening number trees last × IsSafe store last end × (last.faulted ≡ false → ReadsSafely (length last.opened) end)
 
 -- Where a life has ended the next one begins: behind a crash on whatever that left, with honest first sectors; or, without one, on the
 -- files as they are. If the device failed in the life, what a read gives of them has honest first sectors then.
@@ -72,11 +72,11 @@ pub record OpensFrom (machine : Machine) (number : ℕ) (trees : List TreeMap) :
 -- The first of some lives that opens does so at this number and these trees.
 abbrev pub FirstOpensAt : ℕ → List TreeMap → List Life → Type 0
 FirstOpensAt number trees [] = ⊤
-FirstOpensAt number trees (Unopened end ∷ lives) = FirstOpensAt number trees lives
+FirstOpensAt number trees (NeverOpened end ∷ lives) = FirstOpensAt number trees lives
 FirstOpensAt number trees (Opened at found last end ∷ lives) = (at ≡ number) × (found ≡ trees)
 
 -- Each life that opens goes on from the last one before it that did.
-abbrev pub EachGoesOn : Machine → List Life → Type 0
-EachGoesOn machine [] = ⊤
-EachGoesOn machine (Unopened end ∷ lives) = EachGoesOn machine lives
-EachGoesOn machine (Opened number trees last end ∷ lives) = OpensFrom machine number trees × EachGoesOn last lives
+abbrev pub EachLifeContinues : Machine → List Life → Type 0
+EachLifeContinues machine [] = ⊤
+EachLifeContinues machine (NeverOpened end ∷ lives) = EachLifeContinues machine lives
+EachLifeContinues machine (Opened number trees last end ∷ lives) = OpensFrom machine number trees × EachLifeContinues last lives

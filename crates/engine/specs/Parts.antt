@@ -2,7 +2,7 @@
 use Rattle.std.specs.Prelude.{◌≡◌, ℕ, ◌+◌, ◌-◌, false, Result, Ok, Err, List, length, map, slice_get, Some}
 use Rattle.reg_tree.specs.declared.element.Element.{Element}
 use Rattle.refusals.specs.declared.refusal.Refusal.{Refusal}
-use Rattle.crash_model.specs.Promises.{Spelled, top}
+use Rattle.crash_model.specs.Promises.{Content, top}
 use Rattle.change_codec.specs.ModelChanges.{TimedOp}
 use Rattle.disk_model.specs.declared.progress.Progress.{Progress}
 use Rattle.disk_model.specs.declared.progress.Progress.TheVariants as progress
@@ -13,12 +13,12 @@ use Rattle.transactions.specs.Stores.{StoreView}
 use Rattle.commit_journal.specs.Journals.{changes_of, choice_of, store_of}
 use Rattle.commit_journal.specs.Journals as journals
 use Rattle.commit_journal.specs.declared.journal.Journal.{Journal}
-use Rattle.hive_flush.specs.HiveStates.{IsWhole, IsBroken}
+use Rattle.hive_flush.specs.HiveStates.{HiveIsRepaired, IsBroken}
 use Rattle.hive_flush.specs.declared.hive.HiveFile.{HiveFile}
 use Rattle.engine_invariant.specs.States.{IsConsistent}
 use Rattle.engine_invariant.specs.Prefixes.{ArePlaced, view_of}
-use Rattle.engine.specs.AtHand.{AreAtHand}
-use Rattle.engine.specs.Naming.{AreLastNaming}
+use Rattle.engine.specs.RetainedChanges.{RetainsWhatHivesLack}
+use Rattle.engine.specs.LastChangePerHive.{AreLastNaming}
 use Rattle.engine.specs.declared.parts.Parts.{Parts}
 
 -- The store in memory, the journal and the hives of an engine: all that an engine keeps; each hive has its place in the store,
@@ -27,22 +27,22 @@ pub record AreSound (store : StoreView) (base : ℕ) (opened : List Element) (jo
   pub kept : IsConsistent store.machine base opened (choice_of journal) (map view_of hives)
   pub placed : ArePlaced (store_of journal) hives
   pub many : length hives ≡ (store_of journal).hives
-  pub whole : (i : ℕ) (hive : HiveFile) → slice_get hives i ≡ Some hive → IsWhole hive
+  pub whole : (i : ℕ) (hive : HiveFile) → slice_get hives i ≡ Some hive → HiveIsRepaired hive
   pub journal_works : store.machine.faulted ≡ false → ¬ (journals.IsBroken journal)
   pub hives_work : store.machine.faulted ≡ false → (i : ℕ) (hive : HiveFile) → slice_get hives i ≡ Some hive → ¬ (IsBroken hive)
 
 -- An engine's parts are sound; of each hive it is known which durable change names it last; and each change that is pending or
 -- that a hive lacks is at hand.
 pub record IsSound {D : Type 0} (parts : Parts D) : Type 0 where
-  pub holds : AreSound parts.store parts.base (changes_of parts.spelled.value) parts.journal parts.hives.items
-  pub naming : AreLastNaming parts.store.machine parts.base (changes_of parts.spelled.value) parts.naming.last.items
-  pub named : length parts.naming.last.items ≡ length parts.hives.items
-  pub at_hand : AreAtHand parts.store parts.base (changes_of parts.spelled.value) parts.opened.items parts.hives.items
+  pub holds : AreSound parts.store parts.base (changes_of parts.decoded.value) parts.journal parts.hives.items
+  pub last_changes : AreLastNaming parts.store.machine parts.base (changes_of parts.decoded.value) parts.last_changes.last.items
+  pub named : length parts.last_changes.last.items ≡ length parts.hives.items
+  pub retained : RetainsWhatHivesLack parts.store parts.base (changes_of parts.decoded.value) parts.opened.items parts.hives.items
 
 -- The machine after a step of the journal or of a trim, behind which the journal spells this, and before which it had used so
 -- much room: once it is done, what the journal carries is durable, and the room that it no longer uses is free.
-abbrev pub settled_by : Machine → Spelled TimedOp → ℕ → Result Progress Refusal → Machine
-settled_by machine now used (Ok progress.Done) = record machine { durable = top machine.durable now; room = machine.room - (used - (65 + room_of now.elements)) }
-settled_by machine now used (Ok progress.Idle) = machine
-settled_by machine now used (Ok progress.More) = machine
-settled_by machine now used (Err why) = refused_by machine why
+abbrev pub after_mark_durable : Machine → Content TimedOp → ℕ → Result Progress Refusal → Machine
+after_mark_durable machine now used (Ok progress.Done) = record machine { durable = top machine.durable now; room = machine.room - (used - (65 + room_of now.elements)) }
+after_mark_durable machine now used (Ok progress.Idle) = machine
+after_mark_durable machine now used (Ok progress.More) = machine
+after_mark_durable machine now used (Err why) = refused_by machine why

@@ -7,13 +7,13 @@ use Rattle.reg_tree.specs.Maps.{TreeMap}
 use Rattle.reg_tree.specs.contracts.element.Element as element
 use Rattle.reg_tree.specs.contracts.op.Op as op
 use Rattle.reg_tree.specs.declared.element.Element.{Element}
-use Rattle.crash_model.specs.Promises.{Choice, Spelled}
+use Rattle.crash_model.specs.Promises.{Choice, Content}
 use Rattle.change_codec.specs.ModelChanges.{TimedOp}
 use Rattle.store_model.specs.Machine.{Machine}
 use Rattle.store_model.specs.Codes.{trees_code}
 use Rattle.store_model.specs.contracts.event.Event as event
 use Rattle.store_model.specs.declared.event.Event.{Event}
-use Rattle.transactions.specs.Prepared.{will_show}
+use Rattle.transactions.specs.Prepared.{change_to_accept}
 use Rattle.transactions.specs.declared.prepared.Prepared.{Prepared}
 use Rattle.transactions.specs.Stores.{machine_code}
 use Rattle.commit_journal.specs.Store.{Store}
@@ -27,7 +27,7 @@ pub record Awaiting : Type 0 where
   pub next : Option (Element × List TreeMap)
 
 abbrev pub awaiting_of : Prepared → Awaiting
-awaiting_of prepared = record { event = prepared.event.value; next = will_show prepared }
+awaiting_of prepared = record { event = prepared.event.value; next = change_to_accept prepared }
 
 -- the machine; the disk; the store that the files are of; the changes that the journal spelled at the opening, and the number
 -- below the first of them; what surely stands and what is on its way of the journal and of each hive, and the hive's memory; how
@@ -39,7 +39,7 @@ pub record Shown (D : Type 0) : Type 0 where
   pub store : Store
   pub base : ℕ
   pub opened : List Element
-  pub journal : Choice (Spelled TimedOp)
+  pub journal : Choice (Content TimedOp)
   pub hives : List HiveView
   pub left : ℕ
   pub flushes : List FlushView
@@ -65,8 +65,8 @@ held_code = coded× (finite.code (coded_list (coded_list coded_ℕ)) row_code) c
 abbrev pub choice_code : {X : Type 0} → Coded X → Coded (Choice X)
 choice_code {X = X} code = code_by (X × Option X) (coded× code (coded_option code)) (λ c. (c.now, c.next)) (λ p. record { now = p.0; next = p.1 }) (λ _. refl)
 
-abbrev pub spelled_code : Coded (Spelled TimedOp)
-spelled_code = code_by (ℕ × List (List (ℕ × TimedOp))) (coded× coded_ℕ (coded_list (coded_list (coded× coded_ℕ (coded× coded_ℕ op.the_row.coded)))))
+abbrev pub content_code : Coded (Content TimedOp)
+content_code = code_by (ℕ × List (List (ℕ × TimedOp))) (coded× coded_ℕ (coded_list (coded_list (coded× coded_ℕ (coded× coded_ℕ op.the_row.coded)))))
     (λ s. (s.below, s.elements)) (λ p. record { below = p.0; elements = p.1 }) (λ _. refl)
 
 abbrev pub hive_code : Coded HiveView
@@ -80,7 +80,7 @@ awaiting_code = code_by (Event × Option (Element × List TreeMap)) (coded× eve
 
 abbrev pub shown_code : {D : Type 0} → Coded D → Coded (Shown D)
 shown_code {D = D} code =
-    code_by (Machine × (D × ((List ℕ × ℕ) × (ℕ × (List Element × (Choice (Spelled TimedOp) × (List HiveView × (ℕ × (List FlushView × Option Awaiting)))))))))
-    (coded× machine_code (coded× code (coded× (coded× (coded_list coded_ℕ) coded_ℕ) (coded× coded_ℕ (coded× (coded_list element.the_row.coded) (coded× (choice_code spelled_code) (coded× (coded_list hive_code) (coded× coded_ℕ (coded× (coded_list flush_code) (coded_option awaiting_code))))))))))
+    code_by (Machine × (D × ((List ℕ × ℕ) × (ℕ × (List Element × (Choice (Content TimedOp) × (List HiveView × (ℕ × (List FlushView × Option Awaiting)))))))))
+    (coded× machine_code (coded× code (coded× (coded× (coded_list coded_ℕ) coded_ℕ) (coded× coded_ℕ (coded× (coded_list element.the_row.coded) (coded× (choice_code content_code) (coded× (coded_list hive_code) (coded× coded_ℕ (coded× (coded_list flush_code) (coded_option awaiting_code))))))))))
     (λ s. (s.machine, (s.disk, ((s.store.id, s.store.hives), (s.base, (s.opened, (s.journal, (s.hives, (s.left, (s.flushes, s.prepared))))))))))
     (λ p. record { machine = p.0; disk = p.1.0; store = record { id = p.1.1.0.0; hives = p.1.1.0.1 }; base = p.1.1.1.0; opened = p.1.1.1.1.0; journal = p.1.1.1.1.1.0; hives = p.1.1.1.1.1.1.0; left = p.1.1.1.1.1.1.1.0; flushes = p.1.1.1.1.1.1.1.1.0; prepared = p.1.1.1.1.1.1.1.1.1 }) (λ _. refl)

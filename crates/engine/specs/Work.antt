@@ -2,7 +2,7 @@
 use Rattle.std.specs.Prelude.{◌≡◌, ◌⊎◌, ℕ, ◌<◌, ◌≤◌, false, List, length, slice_get, Some, None}
 use Rattle.reg_tree.specs.declared.element.Element.{Element}
 use Rattle.store_model.specs.Machine.{Machine}
-use Rattle.engine_invariant.specs.Idle.{IsFlushed}
+use Rattle.engine_invariant.specs.Idle.{HiveIsFlushed}
 use Rattle.engine_invariant.specs.States.{HiveView}
 
 -- no flush of a hive is on its way
@@ -15,7 +15,7 @@ IsReadable machine hives = (machine.faulted ≡ false) ⊎ AreAtRest hives
 
 -- none of the hives in these places has
 abbrev pub AreFlushed : Machine → ℕ → List Element → List HiveView → ℕ → ℕ → Type 0
-AreFlushed machine base opened hives from to = (i : ℕ) → from ≤ i → i < to → IsFlushed machine base opened hives i
+AreFlushed machine base opened hives from to = (i : ℕ) → from ≤ i → i < to → HiveIsFlushed machine base opened hives i
 
 -- Going round all places from behind `after` on, j comes before i.
 abbrev pub ComesBefore : ℕ → ℕ → ℕ → Type 0
@@ -24,5 +24,5 @@ ComesBefore after j i = ((after < j) × (j < i)) ⊎ ((i ≤ after) × ((after <
 -- Hive i has, and is the first of those that one meets going round from behind `after` on.
 pub record IsNextAround (machine : Machine) (base : ℕ) (opened : List Element) (hives : List HiveView) (after i : ℕ) : Type 0 where
   pub there : i < length hives
-  pub works : ¬ (IsFlushed machine base opened hives i)
-  pub first : (j : ℕ) → j < length hives → ComesBefore after j i → IsFlushed machine base opened hives j
+  pub works : ¬ (HiveIsFlushed machine base opened hives i)
+  pub first : (j : ℕ) → j < length hives → ComesBefore after j i → HiveIsFlushed machine base opened hives j

@@ -7,7 +7,7 @@ ghost use Rattle.store_model.specs.Machine.{bounds_of, last_number, opened_machi
 ghost use Rattle.commit_journal.specs.Store.{room_of};
 ghost use Rattle.commit_journal.specs.Journals.{changes_of, choice_of};
 ghost use Rattle.commit_journal.specs.Journals as journals;
-ghost use Rattle.recovery.specs.Shown.{IsWhole, store_of};
+ghost use Rattle.recovery.specs.Shown.{StoreIsRepaired, store_of};
 ghost use Rattle.engine_invariant.specs.Engines.{EngineAnswers, NeedsNoDevice};
 ghost use Rattle.engine_invariant.specs.Idle.{IsTrimmed};
 ghost use Rattle.engine_invariant.specs.Progress.{HasPending};
@@ -15,12 +15,12 @@ ghost use Rattle.store_model.specs.Steps.{Step, Run};
 ghost use Rattle.store_model.specs.declared.event.Reply.TheVariants as reply;
 ghost use Rattle.engine_invariant.specs.Prefixes.{AnyFile, IsPrefix, IsPrimaryOf, IsSafeAt, Recover, view_of};
 ghost use Rattle.recovery.specs.Recovered.{seen_in};
-ghost use Rattle.engine_invariant.specs.Runs.{AnswersInTurn, IsHeld, RunsSafely};
+ghost use Rattle.engine_invariant.specs.Runs.{AnswersInTurn, ReceiptIsDurable, RunsSafely};
 ghost use Rattle.std.specs.List.{AllByRecursion};
-ghost use Rattle.commit_journal.specs.Naming.{HasCounted};
+ghost use Rattle.commit_journal.specs.LastChangePerHive.{HasCounted};
 ghost use Rattle.engine.specs.Shown.{engine_view};
 ghost use Rattle.engine.specs.Work.{AreFlushed, IsNextAround, IsReadable};
-ghost use Rattle.transactions.specs.Prepared.{Foretells, Shows, may_accept, told_by};
+ghost use Rattle.transactions.specs.Prepared.{Predicts, AcceptsJust, may_accept, change_and_trees};
 ghost use Rattle.std.specs.Option.{option_map};
 
 use crate::parts::Parts;
@@ -29,7 +29,7 @@ use engine_invariant::laws::{
     crashes_leave_prefixes, openings_begin, quiet_ends_recover, receipts_are_durable,
 };
 use hive_flush::laws::reads_are_honest;
-use recovery::{Found, Opened};
+use recovery::{Opened, RecoveredStore};
 use refusals::Refusal;
 use reg_tree::Trees;
 use std::alloc::{AllocError, Global};
@@ -79,7 +79,7 @@ impl<D: Disk> Model for Engine<D> {
       disk = inside.parts.disk;
       store = store_of inside.parts.journal;
       base = inside.parts.base;
-      opened = changes_of inside.parts.spelled.value;
+      opened = changes_of inside.parts.decoded.value;
       journal = choice_of inside.parts.journal;
       hives = map view_of inside.parts.hives.items;
       left = steps_left inside.parts.journal;
@@ -101,7 +101,7 @@ impl<D: Disk> Engine<D> {
     ///
     /// Refused for want of memory alone; the opened store is handed back then.
     pub fn new(alloc: Global, opened: Opened<D>) -> Result<Engine<D>, (Refusal, Opened<D>)>
-        requires whole { IsWhole opened }
+        requires whole { StoreIsRepaired opened }
         ensures machine { IfOk result (λ engine. engine.machine
             ≡ record (opened_machine (bounds_of opened.found.trees) opened.found.trees
             opened.found.number [] 0)
@@ -109,7 +109,7 @@ impl<D: Disk> Engine<D> {
         ensures disk { IfOk result (λ engine. engine.disk ≡ opened.disk) }
         ensures store { IfOk result (λ engine. engine.store ≡ store_of opened) }
         ensures prepared { IfOk result (λ engine. engine.prepared ≡ None) }
-        ensures goes_on { IfOk result (λ engine. (engine.base ≡ opened.found.base)
+        ensures continues { IfOk result (λ engine. (engine.base ≡ opened.found.base)
             × (engine.opened ≡ changes_of opened.found.journal)
             × (engine.journal ≡ choice_of opened.found.journal)
             × (engine.hives ≡ map view_of opened.found.hives.items)) }
@@ -120,17 +120,17 @@ impl<D: Disk> Engine<D> {
         let Ok(store) = begun(alloc, &found) else {
             return Err((Refusal::NoMemory, Opened::from_parts(disk, found)));
         };
-        let spelled = Snapshot::of(&found.journal);
+        let decoded = Snapshot::of(&found.journal);
         let parts = Parts {
             alloc,
             disk,
             journal: found.journal,
             hives: found.hives,
             store,
-            spelled,
+            decoded,
             base: found.base,
             opened: found.opened,
-            naming: found.naming,
+            last_changes: found.last_changes,
         };
         Ok(Engine {
             parts,
@@ -175,9 +175,9 @@ impl<D: Disk> Engine<D> {
     pub fn prepare(&mut self, event: Event) -> Result<Option<Next>, Refusal>
         requires accepts { may_accept event ≡ true }
         ensures prepared { IfOk result (λ next. self.new.prepared
-            ≡ Some (record { event = event; next = option_map told_by next })) }
-        ensures foretold { IfOk result (λ next.
-            Foretells self.new.machine event (option_map told_by next)) }
+            ≡ Some (record { event = event; next = option_map change_and_trees next })) }
+        ensures predicted { IfOk result (λ next.
+            Predicts self.new.machine event (option_map change_and_trees next)) }
         ensures refused { IfErr result (λ why. (why ≡ NoMemory) × (self.new.prepared ≡ None)) }
         ensures same { self.new ≡ record self.old { prepared = self.new.prepared } }
     {
@@ -197,8 +197,8 @@ impl<D: Disk> Engine<D> {
         ensures step { IfSome self.old.prepared (λ awaiting.
             Step self.old.machine awaiting.event result self.new.machine) }
         ensures shown { IfSome self.old.prepared (λ awaiting.
-            Shows awaiting.next self.old.machine self.new.machine) }
-        ensures fed { ¬ (result ≡ reply.Refused NoMemory) }
+            AcceptsJust awaiting.next self.old.machine self.new.machine) }
+        ensures never_no_memory { ¬ (result ≡ reply.Refused NoMemory) }
         ensures same { self.new ≡ record self.old {
           machine = self.new.machine;
           prepared = None;
@@ -232,7 +232,7 @@ impl<D: Disk> Engine<D> {
             (engine_view D.clock D.failures self.old) events.items replies.items
             (engine_view D.clock D.failures self.new)) }
         ensures receipts { IfOk result (λ replies.
-            AllByRecursion (IsHeld self.new.machine.durable) replies.items) }
+            AllByRecursion (ReceiptIsDurable self.new.machine.durable) replies.items) }
         ensures err { OnErr result (self.new ≡ self.old) }
         ensures dropped { OnOk result (self.new.prepared ≡ None) }
         ensures store { self.new.store ≡ self.old.store }
@@ -329,7 +329,7 @@ impl<D: Disk> Engine<D> {
             self.now.hives }
         ensures faulted { self.now.machine.faulted ≡ true → result ≡ false }
     {
-        match self.parts.working() {
+        match self.parts.check_not_faulted() {
             Ok(()) => self.parts.may_trim(),
             Err(_) => false,
         }
@@ -359,11 +359,11 @@ impl<D: Disk> Engine<D> {
 }
 
 // the store in memory of what was found
-fn begun(alloc: Global, found: &Found) -> Result<Store, AllocError>
+fn begun(alloc: Global, found: &RecoveredStore) -> Result<Store, AllocError>
     ensures machine { IfOk result (λ it. it.machine
         ≡ record (opened_machine (bounds_of found.now.trees) found.now.trees found.now.number [] 0)
         { room = 65 + room_of (choice_of found.now.journal).now.elements }) }
-    ensures at_hand { IfOk result (λ it. it.at_hand ≡ found.now.number) }
+    ensures retained { IfOk result (λ it. it.retained ≡ found.now.number) }
 {
     let trees = found.trees.try_clone(alloc)?;
     Store::new(alloc, trees, found.number, found.journal.used())

@@ -2,21 +2,21 @@
 ghost use Rattle.std.specs.Prelude.{◌≡◌, ◌↔◌, ◌-◌, ◌<◌, ◌≤◌, ℕ, drop, false, length, map, min, slice_get, None, Some, IfErr, Ok, OnOk};
 ghost use Rattle.refusals.specs.declared.refusal.Refusal.TheVariants.{NoMemory};
 ghost use Rattle.disk_model.specs.FileState.{FileState};
-ghost use Rattle.hive_flush.specs.HiveStates.{files_of, memory_of};
+ghost use Rattle.hive_flush.specs.HiveStates.{file_choice, memory_of};
 ghost use Rattle.hive_flush.specs.declared.hive.HiveFile.{HiveFile};
 ghost use Rattle.commit_journal.specs.Journals.{changes_of};
 ghost use Rattle.engine_invariant.specs.Answers.{reply_to};
-ghost use Rattle.engine_invariant.specs.Idle.{HasAll, IsFlushed};
+ghost use Rattle.engine_invariant.specs.Idle.{HasAll, HiveIsFlushed};
 ghost use Rattle.engine_invariant.specs.Prefixes.{AreOnDisk, view_of};
-ghost use Rattle.engine_invariant.specs.Progress.{FlushesOn, IsMade, flush_of};
+ghost use Rattle.engine_invariant.specs.Progress.{FlushesOn, IsNotRefused, flush_of};
 ghost use Rattle.disk_model.specs.declared.progress.Progress.TheVariants as Progress;
-ghost use Rattle.engine.specs.AtHand.{HaveUpTo};
-ghost use Rattle.engine.specs.Events.{ComesOn, GoesOn};
+ghost use Rattle.engine.specs.RetainedChanges.{HaveUpTo};
+ghost use Rattle.engine.specs.Events.{StepAdvances, PartsStep};
 ghost use Rattle.engine.specs.Parts.{IsSound};
 ghost use Rattle.store_model.specs.declared.event.Event.TheVariants as Event;
 
 use crate::parts::Parts;
-use change_codec::ChangeText;
+use change_codec::EncodedChange;
 use disk_model::{Disk, Progress};
 use engine_invariant::laws::hive_steps_keep;
 use hive_flush::HiveFile;
@@ -26,39 +26,39 @@ impl<D: Disk> Parts<D> {
     /// A step of a hive's flush: the next call of one that is on its way, or the first of one of what the hive lacks.
     pub fn flusher_step(&mut self, hive: u8) -> Result<Progress, Refusal>
         requires sound { IsSound self.old }
-        ensures goes_on { GoesOn D.state_at D.clock D.failures D.faithful
+        ensures continues { PartsStep D.state_at D.clock D.failures D.faithful
             (Event.FlusherStep hive) (reply_to result) self.old self.new }
-        ensures comes_on { ComesOn (Event.FlusherStep hive) (reply_to result) self.old self.new }
+        ensures advances { StepAdvances (Event.FlusherStep hive) (reply_to result) self.old self.new }
         ensures idle { self.old.store.machine.faulted ≡ false → (result ≡ Ok Progress.Idle) ↔
-            IsFlushed self.old.store.machine self.old.base (changes_of self.old.spelled.value)
+            HiveIsFlushed self.old.store.machine self.old.base (changes_of self.old.decoded.value)
             (map view_of self.old.hives.items) hive }
     {
-        self.working()?;
+        self.check_not_faulted()?;
         let place = usize::from(hive);
         if place >= self.hives.len() {
             return Err(Refusal::NotFound);
         }
         if self.hives[place].is_at_rest() {
-            return self.begin(place);
+            return self.begin_flush(place);
         }
         self.flush(place)
     }
 
     // the first step of a flush of a hive at rest, where its files lack a durable change
-    fn begin(&mut self, place: usize) -> Result<Progress, Refusal>
+    fn begin_flush(&mut self, place: usize) -> Result<Progress, Refusal>
         requires sound { IsSound self.old }
         requires works { self.old.store.machine.faulted ≡ false }
         requires there { place < length self.old.hives.items }
         requires rest { (hive : HiveFile) → slice_get self.old.hives.items place ≡ Some hive →
-            (files_of hive).next ≡ None }
-        ensures goes_on { GoesOn D.state_at D.clock D.failures D.faithful
+            (file_choice hive).next ≡ None }
+        ensures continues { PartsStep D.state_at D.clock D.failures D.faithful
             (Event.FlusherStep place) (reply_to result) self.old self.new }
-        ensures comes_on { ComesOn (Event.FlusherStep place) (reply_to result) self.old self.new }
+        ensures advances { StepAdvances (Event.FlusherStep place) (reply_to result) self.old self.new }
         ensures idle { (hive : HiveFile) → slice_get self.old.hives.items place ≡ Some hive →
             (result ≡ Ok Progress.Idle) ↔ HasAll self.old.store.machine self.old.base
-            (changes_of self.old.spelled.value) place (view_of hive) }
+            (changes_of self.old.decoded.value) place (view_of hive) }
     {
-        if self.hives[place].applied() >= self.naming.last[place] {
+        if self.hives[place].applied() >= self.last_changes.last[place] {
             return Ok(Progress::Idle);
         }
         self.absorb(place)?;
@@ -71,7 +71,7 @@ impl<D: Disk> Parts<D> {
         requires works { self.old.store.machine.faulted ≡ false }
         requires there { place < length self.old.hives.items }
         requires rest { (hive : HiveFile) → slice_get self.old.hives.items place ≡ Some hive →
-            (files_of hive).next ≡ None }
+            (file_choice hive).next ≡ None }
         ensures sound { IsSound self.new }
         ensures on_disk { (state : ℕ → FileState) →
             AreOnDisk self.old.journal self.old.hives.items state →
@@ -82,16 +82,16 @@ impl<D: Disk> Parts<D> {
             slice_get self.new.hives.items i ≡ slice_get self.old.hives.items i }
         ensures taken { (was is : HiveFile) →
             slice_get self.old.hives.items place ≡ Some was →
-            slice_get self.new.hives.items place ≡ Some is → (files_of is ≡ files_of was)
+            slice_get self.new.hives.items place ≡ Some is → (file_choice is ≡ file_choice was)
             × OnOk result ((memory_of is).1 ≡ self.old.store.machine.durable) }
         ensures refused { IfErr result (λ why. why ≡ NoMemory) }
     {
         hive_steps_keep();
         let durable = self.store.durable();
         let before = self.store.before();
-        let at_hand = self.store.at_hand();
+        let retained = self.store.retained();
         let number = self.hives[place].number();
-        let from = number.max(at_hand);
+        let from = number.max(retained);
         let first = before - self.opened.len() as u64;
         let skipped = (number.saturating_sub(first) as usize).min(self.opened.len());
         let accepted = &self.store.above(from)[..(durable - from) as usize];
@@ -103,18 +103,18 @@ impl<D: Disk> Parts<D> {
         requires sound { IsSound self.old }
         requires works { self.old.store.machine.faulted ≡ false }
         requires there { place < length self.old.hives.items }
-        ensures goes_on { GoesOn D.state_at D.clock D.failures D.faithful
+        ensures continues { PartsStep D.state_at D.clock D.failures D.faithful
             (Event.FlusherStep place) (reply_to result) self.old self.new }
         ensures flushes { (was is : HiveFile) →
             slice_get self.old.hives.items place ≡ Some was →
-            slice_get self.new.hives.items place ≡ Some is → IsMade (reply_to result) →
+            slice_get self.new.hives.items place ≡ Some is → IsNotRefused (reply_to result) →
             FlushesOn (memory_of was).1 (reply_to result) (view_of was) (view_of is)
             (flush_of was) (flush_of is) }
-        ensures busy { ¬ (result ≡ Ok Progress.Idle) }
+        ensures not_idle { ¬ (result ≡ Ok Progress.Idle) }
     {
-        match self.write(place) {
+        match self.flush_call(place) {
             Ok(Progress::Done) => {
-                self.let_go();
+                self.discard_flushed();
                 Ok(Progress::Done)
             }
             come => come,
@@ -122,27 +122,27 @@ impl<D: Disk> Parts<D> {
     }
 
     // one call of a hive's flush
-    fn write(&mut self, place: usize) -> Result<Progress, Refusal>
+    fn flush_call(&mut self, place: usize) -> Result<Progress, Refusal>
         requires sound { IsSound self.old }
         requires works { self.old.store.machine.faulted ≡ false }
         requires there { place < length self.old.hives.items }
-        ensures goes_on { GoesOn D.state_at D.clock D.failures D.faithful
+        ensures continues { PartsStep D.state_at D.clock D.failures D.faithful
             (Event.FlusherStep place) (reply_to result) self.old self.new }
         ensures flushes { (was is : HiveFile) →
             slice_get self.old.hives.items place ≡ Some was →
-            slice_get self.new.hives.items place ≡ Some is → IsMade (reply_to result) →
+            slice_get self.new.hives.items place ≡ Some is → IsNotRefused (reply_to result) →
             FlushesOn (memory_of was).1 (reply_to result) (view_of was) (view_of is)
             (flush_of was) (flush_of is) }
-        ensures busy { ¬ (result ≡ Ok Progress.Idle) }
+        ensures not_idle { ¬ (result ≡ Ok Progress.Idle) }
     {
         hive_steps_keep();
         let come = self.hives[place].step(&mut self.disk);
-        self.mark(come);
+        self.note_fault(come);
         come
     }
 
     /// Lets go of the durable changes that no hive lacks.
-    pub fn let_go(&mut self)
+    pub fn discard_flushed(&mut self)
         requires sound { IsSound self.old }
         ensures sound { IsSound self.new }
         ensures machine { self.new.store.machine ≡ self.old.store.machine }
@@ -152,15 +152,15 @@ impl<D: Disk> Parts<D> {
         } }
     {
         let durable = self.store.durable();
-        let held = held_by_all(&self.hives, &self.naming.last, durable);
-        self.store.let_go(held);
+        let held = flushed_by_all(&self.hives, &self.last_changes.last, durable);
+        self.store.discard_flushed(held);
         let before = self.store.before();
         keep_last(&mut self.opened, before.saturating_sub(held) as usize);
     }
 }
 
 // keeps so many changes, the last ones, or all where there are no more
-fn keep_last(changes: &mut Vec<ChangeText>, most: usize)
+fn keep_last(changes: &mut Vec<EncodedChange>, most: usize)
     ensures { changes.new.items ≡ drop (length changes.old.items
         - min (length changes.old.items) most) changes.old.items }
 {
@@ -171,7 +171,7 @@ fn keep_last(changes: &mut Vec<ChangeText>, most: usize)
 }
 
 // the greatest number up to which no hive can lack a durable change, as far as its number tells
-fn held_by_all(hives: &[HiveFile], last: &[u64], durable: u64) -> u64
+fn flushed_by_all(hives: &[HiveFile], last: &[u64], durable: u64) -> u64
     requires many { length last.now ≡ length hives.now }
     ensures high { result ≤ durable }
     ensures held { HaveUpTo result last.now hives.now }

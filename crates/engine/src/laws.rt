@@ -11,7 +11,7 @@ ghost use Rattle.engine_invariant.specs.Engines.{EngineView};
 ghost use Rattle.engine_invariant.specs.Prefixes.{IsPrimaryOf, IsSafeAt};
 ghost use Rattle.engine_invariant.specs.Runs.{IsBoundary, RunsSafely};
 ghost use Rattle.recovery.specs.Recovered.{IsRecovered, seen_in};
-ghost use Rattle.engine.specs.Lives.{AreLives, EachGoesOn, FirstOpensAt, IsLife, IsSafe, Life, Life.Opened, Life.Unopened, ReadsSafely};
+ghost use Rattle.engine.specs.Lives.{AreLives, EachLifeContinues, FirstOpensAt, IsLife, IsSafe, Life, Life.Opened, Life.NeverOpened, ReadsSafely};
 
 use engine_invariant::laws::safe_runs_go_on;
 use recovery::laws::one_is_recovered;
@@ -25,7 +25,7 @@ use recovery::laws::one_is_recovered;
 pub fn lives_go_on()
     ensures { (store : Store) (machine : Machine) (state : ℕ → FileState) (lives : List Life) →
         IsStore store → length machine.opened ≡ store.hives → IsSafe store machine state →
-        ReadsSafely store.hives state → AreLives store state lives → EachGoesOn machine lives }
+        ReadsSafely store.hives state → AreLives store state lives → EachLifeContinues machine lives }
 {
     one_is_recovered();
 }
@@ -37,7 +37,7 @@ pub fn made_stores_open_as_made()
         ((files : ℕ → List ℕ) → LeavesHonest (IsPrimaryOf (length trees)) state files →
         IsRecovered files store 0 trees) → ReadsSafely (length trees) state →
         AreLives store state lives →
-        FirstOpensAt 0 trees lives × EachGoesOn (opened_machine (bounds_of trees) trees 0 [] 0) lives }
+        FirstOpensAt 0 trees lives × EachLifeContinues (opened_machine (bounds_of trees) trees 0 [] 0) lives }
 {
     one_is_recovered();
 }

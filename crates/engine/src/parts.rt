@@ -1,8 +1,8 @@
 //! The parts of an engine.
 ghost use Rattle.std.specs.Prelude.{◌≡◌};
 
-use change_codec::ChangeText;
-use commit_journal::{Journal, Naming};
+use change_codec::EncodedChange;
+use commit_journal::{Journal, LastChangePerHive};
 use hive_flush::HiveFile;
 use std::alloc::Global;
 use std::snapshot::Snapshot;
@@ -23,13 +23,13 @@ pub(crate) struct Parts<D> {
     pub store: Store,
     /// The journal as it was opened, with the changes that it spelled, which are numbered from `base` + 1 on: known to contracts
     /// alone.
-    pub spelled: Snapshot<Journal>,
+    pub decoded: Snapshot<Journal>,
     /// The number below the first of them.
     pub base: u64,
     /// Those of them that are at hand: the last ones.
-    pub opened: Vec<ChangeText>,
+    pub opened: Vec<EncodedChange>,
     /// Of each hive the last durable change that names it.
-    pub naming: Naming,
+    pub last_changes: LastChangePerHive,
 }
 
 impl<D> Parts<D> {

@@ -3,29 +3,30 @@ ghost use Rattle.std.specs.Prelude.{◌≡◌, ◌↔◌, ◌-◌, ◌<◌, ◌�
 ghost use Rattle.refusals.specs.declared.refusal.Refusal.TheVariants.{Faulted, NoMemory};
 ghost use Rattle.crash_model.specs.Promises.{top};
 ghost use Rattle.store_model.specs.Machine.{last_number, pending};
-ghost use Rattle.store_model.specs.Steps.{Step, is_calm};
+ghost use Rattle.store_model.specs.Steps.{Step, is_not_step};
 ghost use Rattle.store_model.specs.declared.event.Reply.TheVariants as reply;
-ghost use Rattle.transactions.specs.Prepared.{Foretells, IsPrepared, Shows, may_accept, will_show};
+ghost use Rattle.transactions.specs.Prepared.{Predicts, IsPrepared, AcceptsJust, may_accept, change_to_accept};
 ghost use Rattle.commit_journal.specs.Journals.{changes_of, choice_of};
-ghost use Rattle.hive_flush.specs.HiveStates.{files_of};
+ghost use Rattle.hive_flush.specs.HiveStates.{file_choice};
 ghost use Rattle.disk_model.specs.declared.progress.Progress.TheVariants as Progress;
 ghost use Rattle.hive_flush.specs.declared.hive.HiveFile.{HiveFile};
 ghost use Rattle.engine_invariant.specs.Answers.{MayTrim, after_flush, reply_to};
-ghost use Rattle.engine_invariant.specs.Idle.{IdlesExactly, IsSettled, IsTrimmed};
+ghost use Rattle.engine_invariant.specs.Idle.{IdlesExactly, JournalIsIdle, IsTrimmed};
 ghost use Rattle.engine_invariant.specs.Prefixes.{view_of};
-ghost use Rattle.engine.specs.Events.{ComesOn, GoesOn};
-ghost use Rattle.commit_journal.specs.Naming.{HasCounted};
-ghost use Rattle.engine.specs.Parts.{IsSound, settled_by};
+ghost use Rattle.engine.specs.Events.{StepAdvances, PartsStep};
+ghost use Rattle.commit_journal.specs.LastChangePerHive.{HasCounted};
+ghost use Rattle.engine.specs.Parts.{IsSound, after_mark_durable};
 
 use crate::parts::Parts;
 use disk_model::{Disk, Progress};
 use engine_invariant::laws::{
-    ended_steps_tell, events_keep, journal_steps_keep, pending_may_be_handed, receipts_are_durable,
+    ended_steps_effects, events_keep, journal_steps_keep, pending_may_be_handed,
+    receipts_are_durable,
 };
 use hive_flush::HiveFile;
 use refusals::Refusal;
 use std::alloc::AllocError;
-use store_model::laws::{steps_alone_fail, steps_alone_settle};
+use store_model::laws::{only_steps_fail, only_steps_make_durable};
 use store_model::{Event, Reply};
 use transactions::Prepared;
 
@@ -33,35 +34,35 @@ impl<D: Disk> Parts<D> {
     /// Any event: a step of the machine, with at most one call of the device.
     pub fn event(&mut self, event: Event) -> Reply
         requires sound { IsSound self.old }
-        ensures goes_on { GoesOn D.state_at D.clock D.failures D.faithful
+        ensures continues { PartsStep D.state_at D.clock D.failures D.faithful
             event result self.old self.new }
-        ensures comes_on { ComesOn event result self.old self.new }
+        ensures advances { StepAdvances event result self.old self.new }
         ensures idle { self.old.store.machine.faulted ≡ false → IdlesExactly event result
-            self.old.store.machine self.old.base (changes_of self.old.spelled.value)
+            self.old.store.machine self.old.base (changes_of self.old.decoded.value)
             (choice_of self.old.journal) (map view_of self.old.hives.items) }
     {
         match event {
-            Event::JournalStep => replied(self.journal_step()),
-            Event::FlusherStep { hive } => replied(self.flusher_step(hive)),
-            Event::TrimStep => replied(self.trim_step()),
-            calm => self.calm_event(calm),
+            Event::JournalStep => reply_of_step(self.journal_step()),
+            Event::FlusherStep { hive } => reply_of_step(self.flusher_step(hive)),
+            Event::TrimStep => reply_of_step(self.trim_step()),
+            non_step => self.store_event(non_step),
         }
     }
 
     // a calm event, which makes no step
-    fn calm_event(&mut self, event: Event) -> Reply
-        requires calm { is_calm event ≡ true }
+    fn store_event(&mut self, event: Event) -> Reply
+        requires non_step { is_not_step event ≡ true }
         requires sound { IsSound self.old }
-        ensures goes_on { GoesOn D.state_at D.clock D.failures D.faithful
+        ensures continues { PartsStep D.state_at D.clock D.failures D.faithful
             event result self.old self.new }
-        ensures comes_on { ComesOn event result self.old self.new }
+        ensures advances { StepAdvances event result self.old self.new }
         ensures idle { IdlesExactly event result
-            self.old.store.machine self.old.base (changes_of self.old.spelled.value)
+            self.old.store.machine self.old.base (changes_of self.old.decoded.value)
             (choice_of self.old.journal) (map view_of self.old.hives.items) }
     {
         events_keep();
-        steps_alone_fail();
-        steps_alone_settle();
+        only_steps_fail();
+        only_steps_make_durable();
         self.store.event(event)
     }
 
@@ -71,8 +72,8 @@ impl<D: Disk> Parts<D> {
         requires accepts { may_accept event ≡ true }
         ensures prepared { IfOk result (λ prepared. (prepared.event.value ≡ event)
             × IsPrepared self.new.store prepared) }
-        ensures foretold { IfOk result (λ prepared.
-            Foretells self.new.store.machine event (will_show prepared)) }
+        ensures predicted { IfOk result (λ prepared.
+            Predicts self.new.store.machine event (change_to_accept prepared)) }
         ensures sound { IsSound self.new }
         ensures machine { self.new.store.machine ≡ self.old.store.machine }
         ensures rest { self.new ≡ record self.old { store = self.new.store } }
@@ -85,18 +86,18 @@ impl<D: Disk> Parts<D> {
         requires sound { IsSound self.old }
         requires prepared { IsPrepared self.old.store prepared }
         ensures step { Step self.old.store.machine prepared.event.value result self.new.store.machine }
-        ensures shown { Shows (will_show prepared) self.old.store.machine self.new.store.machine }
-        ensures fed { ¬ (result ≡ reply.Refused NoMemory) }
+        ensures shown { AcceptsJust (change_to_accept prepared) self.old.store.machine self.new.store.machine }
+        ensures never_no_memory { ¬ (result ≡ reply.Refused NoMemory) }
         ensures sound { IsSound self.new }
         ensures rest { self.new ≡ record self.old { store = self.new.store } }
     {
         events_keep();
-        steps_alone_settle();
+        only_steps_make_durable();
         self.store.finish(prepared)
     }
 
     /// Refuses each step once the device has failed.
-    pub fn working(&self) -> Result<(), Refusal>
+    pub fn check_not_faulted(&self) -> Result<(), Refusal>
         ensures works { OnOk result (self.now.store.machine.faulted ≡ false) }
         ensures faulted { IfErr result (λ why.
             (self.now.store.machine.faulted ≡ true) × (why ≡ Faulted)) }
@@ -110,46 +111,46 @@ impl<D: Disk> Parts<D> {
     // a step of the journal: the next call of what is on its way, or the first of a batch of what is pending
     fn journal_step(&mut self) -> Result<Progress, Refusal>
         requires sound { IsSound self.old }
-        ensures goes_on { GoesOn D.state_at D.clock D.failures D.faithful
+        ensures continues { PartsStep D.state_at D.clock D.failures D.faithful
             Event.JournalStep (reply_to result) self.old self.new }
-        ensures comes_on { ComesOn Event.JournalStep (reply_to result) self.old self.new }
+        ensures advances { StepAdvances Event.JournalStep (reply_to result) self.old self.new }
         ensures idle { self.old.store.machine.faulted ≡ false →
-            (result ≡ Ok Progress.Idle) ↔ IsSettled self.old.store.machine
+            (result ≡ Ok Progress.Idle) ↔ JournalIsIdle self.old.store.machine
             (choice_of self.old.journal) }
     {
-        self.working()?;
+        self.check_not_faulted()?;
         pending_may_be_handed();
         journal_steps_keep();
-        ended_steps_tell();
+        ended_steps_effects();
         receipts_are_durable();
         let durable = self.store.durable();
         let used = self.journal.used();
         let pending = self.store.above(durable);
         let come = self.journal.step(&mut self.disk, durable + 1, pending);
-        self.settle(come, used);
+        self.mark_durable(come, used);
         come
     }
 
     // a step of a trim: its second call, or its first where the hives have all that the journal spells
     fn trim_step(&mut self) -> Result<Progress, Refusal>
         requires sound { IsSound self.old }
-        ensures goes_on { GoesOn D.state_at D.clock D.failures D.faithful
+        ensures continues { PartsStep D.state_at D.clock D.failures D.faithful
             Event.TrimStep (reply_to result) self.old self.new }
-        ensures comes_on { ComesOn Event.TrimStep (reply_to result) self.old self.new }
+        ensures advances { StepAdvances Event.TrimStep (reply_to result) self.old self.new }
         ensures idle { self.old.store.machine.faulted ≡ false → (result ≡ Ok Progress.Idle) ↔
-            IsTrimmed self.old.store.machine self.old.base (changes_of self.old.spelled.value)
+            IsTrimmed self.old.store.machine self.old.base (changes_of self.old.decoded.value)
             (choice_of self.old.journal) (map view_of self.old.hives.items) }
     {
-        self.working()?;
+        self.check_not_faulted()?;
         journal_steps_keep();
-        ended_steps_tell();
+        ended_steps_effects();
         receipts_are_durable();
         if !self.may_trim() {
             return Ok(Progress::Idle);
         }
         let used = self.journal.used();
         let come = self.journal.trim_step(&mut self.disk);
-        self.settle(come, used);
+        self.mark_durable(come, used);
         come
     }
 
@@ -158,10 +159,10 @@ impl<D: Disk> Parts<D> {
         requires sound { IsSound self.now }
         requires works { self.now.store.machine.faulted ≡ false }
         ensures yes { result ≡ true → MayTrim self.now.store.machine self.now.base
-            (changes_of self.now.spelled.value) (choice_of self.now.journal)
+            (changes_of self.now.decoded.value) (choice_of self.now.journal)
             (map view_of self.now.hives.items) }
         ensures no { result ≡ false → IsTrimmed self.now.store.machine self.now.base
-            (changes_of self.now.spelled.value) (choice_of self.now.journal)
+            (changes_of self.now.decoded.value) (choice_of self.now.journal)
             (map view_of self.now.hives.items) }
     {
         if self.journal.is_trimming() {
@@ -170,28 +171,28 @@ impl<D: Disk> Parts<D> {
         if self.journal.is_halfway() || self.journal.last_number() == 0 {
             return false;
         }
-        all_have(&self.hives, &self.naming.last)
+        all_have(&self.hives, &self.last_changes.last)
     }
 
     // takes in what a step of the journal or of a trim has come to, before which the journal had used so much room
-    fn settle(&mut self, come: Result<Progress, Refusal>, used: u64)
+    fn mark_durable(&mut self, come: Result<Progress, Refusal>, used: u64)
         requires works { self.old.store.machine.faulted ≡ false }
         requires room { used ≤ self.old.store.machine.room }
         requires known { come ≡ Ok Progress.Done →
             top self.old.store.machine.durable (choice_of self.old.journal).now
             ≤ last_number self.old.store.machine }
         requires opened { self.old.store.machine.before ≤ self.old.store.machine.durable }
-        requires at_hand { self.old.store.at_hand ≤ self.old.store.machine.durable }
+        requires retained { self.old.store.retained ≤ self.old.store.machine.durable }
         ensures machine { self.new.store.machine
-            ≡ settled_by self.old.store.machine (choice_of self.old.journal).now used come }
+            ≡ after_mark_durable self.old.store.machine (choice_of self.old.journal).now used come }
         ensures rest { self.new ≡ record self.old {
           store = self.new.store;
-          naming = self.new.naming;
+          last_changes = self.new.last_changes;
         } }
-        ensures at_hand { self.new.store.at_hand ≡ self.old.store.at_hand }
-        ensures naming { HasCounted self.old.naming.last.items self.old.store.machine.durable
+        ensures retained { self.new.store.retained ≡ self.old.store.retained }
+        ensures last_changes { HasCounted self.old.last_changes.last.items self.old.store.machine.durable
             (take (self.new.store.machine.durable - self.old.store.machine.durable)
-            (pending self.old.store.machine)) self.new.naming.last.items }
+            (pending self.old.store.machine)) self.new.last_changes.last.items }
     {
         match come {
             Ok(Progress::Done) => {
@@ -201,20 +202,20 @@ impl<D: Disk> Parts<D> {
                 if last > 0 {
                     let count = last.saturating_sub(durable) as usize;
                     let settled = &self.store.above(durable)[..count];
-                    self.naming.count_in(durable, settled);
-                    self.store.settle(last);
+                    self.last_changes.count_in(durable, settled);
+                    self.store.mark_durable(last);
                 }
             }
-            _ => self.mark(come),
+            _ => self.note_fault(come),
         }
     }
 
     /// Takes in what a step has come to that settles nothing: where the device has failed in it the store is faulted.
-    pub fn mark(&mut self, come: Result<Progress, Refusal>)
+    pub fn note_fault(&mut self, come: Result<Progress, Refusal>)
         requires works { self.old.store.machine.faulted ≡ false }
         ensures machine { self.new.store.machine ≡ after_flush self.old.store.machine come }
         ensures rest { self.new ≡ record self.old { store = self.new.store } }
-        ensures at_hand { self.new.store.at_hand ≡ self.old.store.at_hand }
+        ensures retained { self.new.store.retained ≡ self.old.store.retained }
     {
         if let Err(Refusal::DiskFault) = come {
             self.store.fail();
@@ -226,10 +227,10 @@ impl<D: Disk> Parts<D> {
 fn all_have(hives: &[HiveFile], last: &[u64]) -> bool
     requires many { length last.now ≡ length hives.now }
     ensures all { result ≡ true → (i m : ℕ) (hive : HiveFile) → slice_get hives.now i ≡ Some hive →
-        slice_get last.now i ≡ Some m → m ≤ (files_of hive).now.1 }
+        slice_get last.now i ≡ Some m → m ≤ (file_choice hive).now.1 }
     ensures some { result ≡ false → (i : ℕ) × (m : ℕ) × (hive : HiveFile) ×
         (slice_get hives.now i ≡ Some hive) × (slice_get last.now i ≡ Some m) ×
-        ((files_of hive).now.1 < m) }
+        ((file_choice hive).now.1 < m) }
 {
     for (place, hive) in hives.iter().enumerate() {
         if hive.applied() < last[place] {
@@ -240,7 +241,7 @@ fn all_have(hives: &[HiveFile], last: &[u64]) -> bool
 }
 
 // what a step is answered: how far it has come, or why it was refused
-fn replied(come: Result<Progress, Refusal>) -> Reply
+fn reply_of_step(come: Result<Progress, Refusal>) -> Reply
     ensures { result ≡ reply_to come }
 {
     match come {

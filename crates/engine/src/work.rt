@@ -1,7 +1,7 @@
 //! What an engine has to do: which of its steps aren't idle. No question takes memory.
 ghost use Rattle.std.specs.Prelude.{◌≡◌, ◌↔◌, ℕ, ◌<◌, ◌≤◌, false, true, length, map, IfNone, IfSome};
 ghost use Rattle.commit_journal.specs.Journals.{changes_of};
-ghost use Rattle.engine_invariant.specs.Idle.{IsFlushed};
+ghost use Rattle.engine_invariant.specs.Idle.{HiveIsFlushed};
 ghost use Rattle.engine_invariant.specs.Prefixes.{view_of};
 ghost use Rattle.engine_invariant.specs.Progress.{HasPending};
 ghost use Rattle.engine.specs.Parts.{IsSound};
@@ -21,9 +21,9 @@ impl<D> Parts<D> {
     pub fn hive_with_work(&self, after: u8) -> Option<u8>
         requires sound { IsSound self.now }
         ensures some { IfSome result (λ hive. IsNextAround self.now.store.machine self.now.base
-            (changes_of self.now.spelled.value) (map view_of self.now.hives.items) after hive) }
+            (changes_of self.now.decoded.value) (map view_of self.now.hives.items) after hive) }
         ensures none { IfNone result (AreFlushed self.now.store.machine self.now.base
-            (changes_of self.now.spelled.value) (map view_of self.now.hives.items)
+            (changes_of self.now.decoded.value) (map view_of self.now.hives.items)
             0 (length (map view_of self.now.hives.items))) }
     {
         let count = self.journal.hives();
@@ -39,12 +39,12 @@ impl<D> Parts<D> {
         requires sound { IsSound self.now }
         requires there { to ≤ length self.now.hives.items }
         ensures some { IfSome result (λ hive. (from ≤ hive) × (hive < to)
-            × ¬ (IsFlushed self.now.store.machine self.now.base
-            (changes_of self.now.spelled.value) (map view_of self.now.hives.items) hive)
-            × AreFlushed self.now.store.machine self.now.base (changes_of self.now.spelled.value)
+            × ¬ (HiveIsFlushed self.now.store.machine self.now.base
+            (changes_of self.now.decoded.value) (map view_of self.now.hives.items) hive)
+            × AreFlushed self.now.store.machine self.now.base (changes_of self.now.decoded.value)
             (map view_of self.now.hives.items) from hive) }
         ensures none { IfNone result (AreFlushed self.now.store.machine self.now.base
-            (changes_of self.now.spelled.value) (map view_of self.now.hives.items) from to) }
+            (changes_of self.now.decoded.value) (map view_of self.now.hives.items) from to) }
     {
         for hive in from..to {
             if self.has_work(usize::from(hive)) {
@@ -58,13 +58,13 @@ impl<D> Parts<D> {
     fn has_work(&self, place: usize) -> bool
         requires sound { IsSound self.now }
         requires there { place < length self.now.hives.items }
-        ensures { (result ≡ false) ↔ IsFlushed self.now.store.machine self.now.base
-            (changes_of self.now.spelled.value) (map view_of self.now.hives.items) place }
+        ensures { (result ≡ false) ↔ HiveIsFlushed self.now.store.machine self.now.base
+            (changes_of self.now.decoded.value) (map view_of self.now.hives.items) place }
     {
         if !self.hives[place].is_at_rest() {
             return true;
         }
-        self.hives[place].applied() < self.naming.last[place]
+        self.hives[place].applied() < self.last_changes.last[place]
     }
 }
 

@@ -5,15 +5,15 @@ use Rattle.refusals.specs.declared.limits.TheConstants.{GREATEST_NUMBER, MOST_JO
 use Rattle.reg_tree.specs.Maps.{TreeMap}
 use Rattle.reg_tree.specs.declared.element.Element.{Element}
 use Rattle.reg_tree.specs.declared.op.Op.{Op}
-use Rattle.crash_model.specs.Promises.{Choice, Spelled, nothing, floor}
+use Rattle.crash_model.specs.Promises.{Choice, Content, nothing, floor}
 use Rattle.crash_model.specs.Life.{Life, NamesHive, tree_at, with_accepted}
 use Rattle.crash_model.specs.Life as life
-use Rattle.crash_model.specs.Kept as law
+use Rattle.crash_model.specs.Invariant as law
 use Rattle.crash_model.proofs.HiveByHive.{legal_at}
 use Rattle.crash_model.proofs.KeepSteps.{moved, step_accept}
 use Rattle.store_model.specs.Machine.{Machine, trees_now, last_number, pending}
-use Rattle.store_model.specs.Steps.{Step, is_calm}
-use Rattle.store_model.specs.Kept.{IsKept, AreLegalChanges, Stays, Grows}
+use Rattle.store_model.specs.Steps.{Step, is_not_step}
+use Rattle.store_model.specs.Invariant.{InvariantHolds, AreLegalChanges, JournalStateStays, AcceptsOneChange}
 use Rattle.store_model.specs.declared.event.Event.{Event}
 use Rattle.store_model.specs.declared.event.Reply.{Reply}
 use Rattle.change_codec.specs.ModelChanges.{TimedOp, tree_rules, timed, timed_element, timed_elements}
@@ -25,10 +25,10 @@ use Rattle.engine_invariant.proofs.Room.{one_more_room, first_stay}
 -- The machine's laws that are used
 
 abbrev pub Keeps : Type 0
-Keeps = (old new : Machine) (event : Event) (reply : Reply) → IsKept old → Step old event reply new → IsKept new
+Keeps = (old new : Machine) (event : Event) (reply : Reply) → InvariantHolds old → Step old event reply new → InvariantHolds new
 
 abbrev pub Settle : Type 0
-Settle = (old new : Machine) (event : Event) (reply : Reply) → IsKept old → is_calm event ≡ true → Step old event reply new → Stays old new ⊎ Grows old new
+Settle = (old new : Machine) (event : Event) (reply : Reply) → InvariantHolds old → is_not_step event ≡ true → Step old event reply new → JournalStateStays old new ⊎ AcceptsOneChange old new
 
 life_is : (base : ℕ) (opened : List Element) (old new : Machine) → new.opened ≡ old.opened → new.accepted ≡ old.accepted → life_of new base opened ≡ life_of old base opened
 life_is base opened old new a b =
@@ -39,15 +39,15 @@ names_some : (ts : List TreeMap) (ops : List Op) (moment : ℕ) → AreLegalChan
 names_some ts [] moment l some = absurd (omega (arith, some))
 names_some ts (op ∷ ops) moment l some = names ts op ops moment l
 
-module _ (base : ℕ) (opened : List Element) (journal : Choice (Spelled TimedOp)) (hives : List HiveView) where
-  law_keeps : (old new : Machine) → old.before ≡ base + length opened → Stays old new ⊎ Grows old new → law.IsKept tree_rules GREATEST_NUMBER (length old.opened) (state_of old base opened journal hives)
-      → law.IsKept tree_rules GREATEST_NUMBER (length new.opened) (state_of new base opened journal hives)
+module _ (base : ℕ) (opened : List Element) (journal : Choice (Content TimedOp)) (hives : List HiveView) where
+  law_keeps : (old new : Machine) → old.before ≡ base + length opened → JournalStateStays old new ⊎ AcceptsOneChange old new → law.InvariantHolds tree_rules GREATEST_NUMBER (length old.opened) (state_of old base opened journal hives)
+      → law.InvariantHolds tree_rules GREATEST_NUMBER (length new.opened) (state_of new base opened journal hives)
   law_keeps old new begun (inl s) kept =
-      subst (λ (ts : List TreeMap). law.IsKept tree_rules GREATEST_NUMBER (length ts) (state_of new base opened journal hives)) (sym s.opened)
+      subst (λ (ts : List TreeMap). law.InvariantHolds tree_rules GREATEST_NUMBER (length ts) (state_of new base opened journal hives)) (sym s.opened)
       (moved tree_rules GREATEST_NUMBER (length old.opened) (state_of old base opened journal hives) (state_of new base opened journal hives) (life_of old base opened) old.durable journal
       (life_is base opened old new s.opened s.accepted) s.durable refl (λ j lt. refl) kept)
   law_keeps old new begun (inr g) kept =
-      subst (λ (ts : List TreeMap). law.IsKept tree_rules GREATEST_NUMBER (length ts) (state_of new base opened journal hives)) (sym g.opened)
+      subst (λ (ts : List TreeMap). law.InvariantHolds tree_rules GREATEST_NUMBER (length ts) (state_of new base opened journal hives)) (sym g.opened)
       (step_accept tree_rules GREATEST_NUMBER (length old.opened) (state_of old base opened journal hives) (state_of new base opened journal hives) kept (record {
         element = timed_element g.element;
         room = omega (arith, g.number, last_is old base opened begun);
@@ -68,23 +68,23 @@ module _ (base : ℕ) (opened : List Element) (journal : Choice (Spelled TimedOp
       grown = ap (λ (ts : List TreeMap). let l : Life TreeMap TimedOp = record { trees = tree_of ts; base = base; opened = timed_elements opened; accepted = timed_elements new.accepted } in l) g.opened
           ∙ ap (λ (es : List (List (ℕ × TimedOp))). let l : Life TreeMap TimedOp = record { trees = tree_of old.opened; base = base; opened = timed_elements opened; accepted = es } in l) (ap timed_elements g.accepted ∙ map-append timed_element old.accepted (g.element ∷ []))
 
-  opened_is : (old new : Machine) → Stays old new ⊎ Grows old new → new.opened ≡ old.opened
+  opened_is : (old new : Machine) → JournalStateStays old new ⊎ AcceptsOneChange old new → new.opened ≡ old.opened
   opened_is old new (inl s) = s.opened
   opened_is old new (inr g) = g.opened
 
-  before_is : (old new : Machine) → Stays old new ⊎ Grows old new → new.before ≡ old.before
+  before_is : (old new : Machine) → JournalStateStays old new ⊎ AcceptsOneChange old new → new.before ≡ old.before
   before_is old new (inl s) = s.before
   before_is old new (inr g) = g.before
 
   -- what is pending stays, but for one change more
-  pending_same : (old new : Machine) → Stays old new → pending new ≡ pending old
+  pending_same : (old new : Machine) → JournalStateStays old new → pending new ≡ pending old
   pending_same old new s = ap (λ n. drop (n - new.before) new.accepted) s.durable ∙ ap (λ n. drop (old.durable - n) new.accepted) s.before ∙ ap (drop (old.durable - old.before)) s.accepted
 
-  pending_more : (old new : Machine) → old.durable ≤ last_number old → (g : Grows old new) → pending new ≡ pending old ++ g.element ∷ []
+  pending_more : (old new : Machine) → old.durable ≤ last_number old → (g : AcceptsOneChange old new) → pending new ≡ pending old ++ g.element ∷ []
   pending_more old new known g = ap (λ n. drop (n - new.before) new.accepted) g.durable ∙ ap (λ n. drop (old.durable - n) new.accepted) g.before ∙ ap (drop (old.durable - old.before)) g.accepted
       ∙ drop-append-le (old.durable - old.before) old.accepted (g.element ∷ []) (omega (arith, known))
 
-  onward_is : (old new : Machine) → old.durable ≤ last_number old → Stays old new ⊎ Grows old new → (now next : Spelled TimedOp) → (next ≡ nothing) ⊎ IsBatch old now next → (next ≡ nothing) ⊎ IsBatch new now next
+  onward_is : (old new : Machine) → old.durable ≤ last_number old → JournalStateStays old new ⊎ AcceptsOneChange old new → (now next : Content TimedOp) → (next ≡ nothing) ⊎ IsBatch old now next → (next ≡ nothing) ⊎ IsBatch new now next
   onward_is old new known c now next (inl e) = inl e
   onward_is old new known (inl s) now next (inr (count, some, few, is)) =
       inr (
@@ -104,19 +104,19 @@ module _ (base : ℕ) (opened : List Element) (journal : Choice (Spelled TimedOp
             ∙ ap (λ (l : List _). record { below = floor new.durable now; elements = now.elements ++ l }) (sym (ap (λ (l : List Element). take count (timed_elements l)) more ∙ first_stay count (pending old) g.element few)),
       )
 
-  room_is : (old new : Machine) → old.durable ≤ last_number old → Stays old new ⊎ Grows old new → (used : ℕ) → old.room ≡ used + room_of (timed_elements (pending old)) → new.room ≡ used + room_of (timed_elements (pending new))
+  room_is : (old new : Machine) → old.durable ≤ last_number old → JournalStateStays old new ⊎ AcceptsOneChange old new → (used : ℕ) → old.room ≡ used + room_of (timed_elements (pending old)) → new.room ≡ used + room_of (timed_elements (pending new))
   room_is old new known (inl s) used e = s.room ∙ e ∙ ap (λ (l : List Element). used + room_of (timed_elements l)) (sym (pending_same old new s))
   room_is old new known (inr g) used e =
       let more = ap (λ (l : List Element). room_of (timed_elements l)) (pending_more old new known g) in
       let one = one_more_room (pending old) g.element in
       omega (arith, g.room, e, more, one)
 
-  fits_on : (old new : Machine) → Stays old new ⊎ Grows old new → (0 < length (pending old) → old.room ≤ MOST_JOURNAL_BYTES) → 0 < length (pending new) → new.room ≤ MOST_JOURNAL_BYTES
+  fits_on : (old new : Machine) → JournalStateStays old new ⊎ AcceptsOneChange old new → (0 < length (pending old) → old.room ≤ MOST_JOURNAL_BYTES) → 0 < length (pending new) → new.room ≤ MOST_JOURNAL_BYTES
   fits_on old new (inl s) fit some = let was = fit (omega (arith, some, ap (λ (es : List Element). length es) (pending_same old new s))) in omega (arith, was, s.room)
   fits_on old new (inr g) fit some = g.fits
 
-  pub calm_keeps : Settle → Keeps → (old new : Machine) → IsConsistent old base opened journal hives → (e : Event) (r : Reply) → is_calm e ≡ true → Step old e r new → IsConsistent new base opened journal hives
-  calm_keeps settle keeps old new i e r quiet step =
+  pub non_step_keeps : Settle → Keeps → (old new : Machine) → IsConsistent old base opened journal hives → (e : Event) (r : Reply) → is_not_step e ≡ true → Step old e r new → IsConsistent new base opened journal hives
+  non_step_keeps settle keeps old new i e r quiet step =
       let c = settle old new e r i.kept quiet step in
       let known = i.kept.within.known in
       record {

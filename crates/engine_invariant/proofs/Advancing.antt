@@ -33,11 +33,11 @@ module _ (machines : ℕ → Machine) (left : ℕ → ℕ) (count : ℕ) (some :
       by_kind : Settles k ⊎ ((k ≡ 0) ⊎ (left k + k ≤ 5)) → ((machines k).durable < last_number (machines k)) ⊎ (last_number (machines k) ≤ (machines k).durable) → Settles (k + 1) ⊎ ((k + 1 ≡ 0) ⊎ (left (k + 1) + (k + 1) ≤ 5))
       by_kind (inl up) w = inl (omega (arith, up, one.step.grows))
       by_kind (inr few) (inr all) = inl (omega (arith, all, near.last, some, one.step.grows))
-      by_kind (inr few) (inl waits) = by_step few (one.nears waits).nearer
+      by_kind (inr few) (inl waits) = by_step few (one.nears_durable waits).nearer
         where
           by_step : (k ≡ 0) ⊎ (left k + k ≤ 5) → ((machines k).durable < (machines (k + 1)).durable) ⊎ (left (k + 1) < left k) → Settles (k + 1) ⊎ ((k + 1 ≡ 0) ⊎ (left (k + 1) + (k + 1) ≤ 5))
           by_step f (inl up) = inl (omega (arith, up, near.rises))
-          by_step (inl first) (inr less) = inr (inr (omega (arith, first, less, (one.nears waits).few)))
+          by_step (inl first) (inr less) = inr (inr (omega (arith, first, less, (one.nears_durable waits).few)))
           by_step (inr most) (inr less) = inr (inr (omega (arith, most, less)))
 
   all_near : (k : ℕ) → k ≤ count → Nearer k

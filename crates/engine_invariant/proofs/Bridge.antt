@@ -21,7 +21,7 @@ use Rattle.crash_model.specs.Life.{NamesHive, tree_at, opened_number}
 use Rattle.crash_model.specs.Life as life
 use Rattle.crash_model.proofs.HiveByHive.{after_elements_at}
 use Rattle.store_model.specs.Machine.{Machine, trees_now, last_number}
-use Rattle.store_model.specs.Kept.{AreLegalChanges}
+use Rattle.store_model.specs.Invariant.{AreLegalChanges}
 use Rattle.change_codec.specs.ModelChanges.{TimedOp, tree_rules, is_legal, timed, timed_element, timed_elements}
 use Rattle.engine_invariant.specs.States.{tree_of, life_of}
 use Rattle.engine_invariant.specs.Prefixes.{trees_after}

@@ -41,20 +41,20 @@ module _ (hives : ℕ → HiveView) (flushes : ℕ → FlushView) (numbers : ℕ
 
   next_step : (k : ℕ) → k < 2 * (flushes 1).pages + 7 → HasFlushed k answers hives ⊎ Busy k → HasFlushed (k + 1) answers hives ⊎ Busy (k + 1)
   next_step k lt (inl done) = inl (flushed_on k done)
-  next_step k lt (inr busy) = elim (steps k lt) [
+  next_step k lt (inr not_idle) = elim (steps k lt) [
     | inl done ↦ inl (flushed_on k done)
     | inr goes ↦ by_kind goes
   ]
     where
       by_kind : FlushesOn (numbers k) (answers k) (hives k) (hives (k + 1)) (flushes k) (flushes (k + 1)) → HasFlushed (k + 1) answers hives ⊎ Busy (k + 1)
-      by_kind (inl begins) = absurd (none-some (hives 1).memory (sym begins.rests ∙ busy.next))
+      by_kind (inl begins) = absurd (none-some (hives 1).memory (sym begins.rests ∙ not_idle.next))
       by_kind (inr (inl on)) = inr (record {
-        memory = ap (λ (h : HiveView). h.memory) on.hive ∙ busy.memory;
-        next = ap (λ (h : HiveView). h.files.next) on.hive ∙ busy.next;
-        few = omega (arith, on.falls, busy.few);
+        memory = ap (λ (h : HiveView). h.memory) on.hive ∙ not_idle.memory;
+        next = ap (λ (h : HiveView). h.files.next) on.hive ∙ not_idle.next;
+        few = omega (arith, on.falls, not_idle.few);
         some = on.some;
       })
-      by_kind (inr (inr ends)) = inl (k, omega arith, ends.told, ends.files ∙ ap (λ (x : TreeMap × ℕ). settled x) busy.memory)
+      by_kind (inr (inr ends)) = inl (k, omega arith, ends.told, ends.files ∙ ap (λ (x : TreeMap × ℕ). settled x) not_idle.memory)
 
   all_steps : (k : ℕ) → suc k ≤ 2 * (flushes 1).pages + 7 → HasFlushed (suc k) answers hives ⊎ Busy (suc k)
   all_steps zero le = inr one_busy
@@ -67,4 +67,4 @@ module _ (hives : ℕ → HiveView) (flushes : ℕ → FlushView) (numbers : ℕ
     where
       by_last : HasFlushed (2 * (flushes 1).pages + 7) answers hives ⊎ Busy (2 * (flushes 1).pages + 7) → HasFlushed (2 * (flushes 1).pages + 7) answers hives
       by_last (inl done) = done
-      by_last (inr busy) = absurd (omega (arith, busy.few, busy.some))
+      by_last (inr not_idle) = absurd (omega (arith, not_idle.few, not_idle.some))

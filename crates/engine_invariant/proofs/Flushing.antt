@@ -12,9 +12,9 @@ use Rattle.reg_tree.specs.Fresh.{fresh_tree}
 use Rattle.reg_tree.specs.declared.element.Element.{Element}
 use Rattle.crash_model.specs.Changes as law
 use Rattle.crash_model.specs.Changes.{AreLegal, ops_on, replay, applied}
-use Rattle.crash_model.specs.Promises.{Choice, Spelled, Answer, Answer.Idle, Answer.More, Answer.Done, Answer.NoMemory, Answer.DiskFault, Answer.Faulted, HiveSays}
+use Rattle.crash_model.specs.Promises.{Choice, Content, Answer, Answer.Idle, Answer.More, Answer.Done, Answer.NoMemory, Answer.DiskFault, Answer.Faulted, HiveSays}
 use Rattle.crash_model.specs.Life.{ops_in}
-use Rattle.crash_model.specs.Kept as law_kept
+use Rattle.crash_model.specs.Invariant as law_kept
 use Rattle.crash_model.specs.Steps.{OthersStay}
 use Rattle.crash_model.specs.Calls.{MemoryFits}
 use Rattle.crash_model.specs.Memory.{with_memory, IsOfMemory}
@@ -83,7 +83,7 @@ own_after memory DiskFault old new own (inl b) = inr (ap (λ (c : Choice _). c.n
 own_after memory DiskFault old new own (inr b) = subst (λ c. IsOfMemory c memory) (sym b) own
 own_after memory Faulted old new own says = subst (λ c. IsOfMemory c memory) (sym says) own
 
-module _ (m : Machine) (base : ℕ) (opened : List Element) (journal : Choice (Spelled TimedOp)) (hives : List HiveView) (i : IsConsistent m base opened journal hives)
+module _ (m : Machine) (base : ℕ) (opened : List Element) (journal : Choice (Content TimedOp)) (hives : List HiveView) (i : IsConsistent m base opened journal hives)
     (k : ℕ) (old : HiveView) (is : slice_get hives k ≡ Some old) where
   there : k < length m.opened
   there = omega (arith, slice_get_within hives k old is, i.all)
@@ -113,7 +113,7 @@ module _ (m : Machine) (base : ℕ) (opened : List Element) (journal : Choice (S
   may_take es are = subst (λ (os : List TimedOp). AreLegal tree_rules os old.memory.0) (lacked_is m base opened i.begun since k old.memory.1 ∙ ap (λ (l : List Element). ops_on k (timed_elements l)) (sym are))
       (may_absorb tree_rules GREATEST_NUMBER (length m.opened) (state_of m base opened journal hives) k old.memory m.durable fits_memory up (omega arith))
 
-  with_hive : (v : HiveView) → IsOfMemory v.files v.memory → law_kept.IsKept tree_rules GREATEST_NUMBER (length m.opened) (state_of m base opened journal (slice_set hives k v)) → IsConsistent m base opened journal (slice_set hives k v)
+  with_hive : (v : HiveView) → IsOfMemory v.files v.memory → law_kept.InvariantHolds tree_rules GREATEST_NUMBER (length m.opened) (state_of m base opened journal (slice_set hives k v)) → IsConsistent m base opened journal (slice_set hives k v)
   with_hive v own l = record {
     kept = i.kept;
     law = l;
@@ -168,12 +168,12 @@ module _ (m : Machine) (base : ℕ) (opened : List Element) (journal : Choice (S
         others = others_stay (length m.opened) hives k v;
       }))
 
-pub takes_in : (m : Machine) (base : ℕ) (opened : List Element) (journal : Choice (Spelled TimedOp)) (hives : List HiveView) (i : IsConsistent m base opened journal hives) (k : ℕ) (old : HiveView) (is : slice_get hives k ≡ Some old)
+pub takes_in : (m : Machine) (base : ℕ) (opened : List Element) (journal : Choice (Content TimedOp)) (hives : List HiveView) (i : IsConsistent m base opened journal hives) (k : ℕ) (old : HiveView) (is : slice_get hives k ≡ Some old)
     → old.files.next ≡ None → IsConsistent m base opened journal (slice_set hives k (record { files = old.files; memory = absorbed m base opened k old.memory }))
 takes_in m base opened journal hives i k old is idle =
     takes m base opened journal hives i k old is (opened_above base opened old.memory.1 ++ accepted_above m old.memory.1) (record { files = old.files; memory = absorbed m base opened k old.memory }) refl idle refl
 
-module _ (keeps : Keeps) (m : Machine) (base : ℕ) (opened : List Element) (journal : Choice (Spelled TimedOp)) (hives : List HiveView) (i : IsConsistent m base opened journal hives) (free : m.faulted ≡ false)
+module _ (keeps : Keeps) (m : Machine) (base : ℕ) (opened : List Element) (journal : Choice (Content TimedOp)) (hives : List HiveView) (i : IsConsistent m base opened journal hives) (free : m.faulted ≡ false)
     (k : ℕ) (old : HiveView) (is : slice_get hives k ≡ Some old) (v : HiveView) (same : v.memory ≡ old.memory) where
   none_wrong : fault m ≡ None
   none_wrong = ap (λ b. refused_if b refusal.Faulted) free

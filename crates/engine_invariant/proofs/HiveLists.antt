@@ -4,11 +4,11 @@ use Rattle.std.specs.Prelude.{slice_set}
 use Rattle.std.proofs.lemmas.Bool.{cases_eq}
 use Rattle.std.proofs.lemmas.Option.{none-some, same_Some, slice_get_cases, slice_get_within, slice_get-map}
 use Rattle.disk_model.specs.FileState.{FileState}
-use Rattle.disk_model.specs.StoreFiles.{IsOfHive, primary_file, log_file, journal_file}
+use Rattle.disk_model.specs.StoreFiles.{IsFileOfHive, primary_file, log_file, journal_file}
 use Rattle.commit_journal.specs.OnDisk.{is_on}
-use Rattle.commit_journal.specs.Journals.{texts_of, value_of}
+use Rattle.commit_journal.specs.Journals.{encodings_of, journal_view}
 use Rattle.commit_journal.specs.declared.journal.Journal.{Journal}
-use Rattle.hive_flush.specs.HiveStates.{IsOn}
+use Rattle.hive_flush.specs.HiveStates.{FilesMatchHive}
 use Rattle.hive_flush.specs.declared.hive.HiveFile.{HiveFile}
 use Rattle.engine_invariant.specs.States.{HiveView}
 use Rattle.engine_invariant.specs.Prefixes.{AreOnDisk, view_of}
@@ -59,11 +59,11 @@ each_pushed (y ∷ ys) last P each its zero x is = each 0 x is
 each_pushed (y ∷ ys) last P each its (suc i) x is = each_pushed ys last (λ j z. P (suc j) z) (λ j z at. each (suc j) z at) its i x is
 
 -- a call on a hive's files leaves all others on the disk
-pub hive_writes : (journal : Journal) (hives : List HiveFile) (k : ℕ) (old new : HiveFile) (a b : ℕ → FileState) → slice_get hives k ≡ Some old → AreOnDisk journal hives a → ((f : ℕ) → ¬ (IsOfHive k f) → b f ≡ a f)
-    → IsOn new (b (primary_file k)) (b (log_file k)) → AreOnDisk journal (slice_set hives k new) b
+pub hive_writes : (journal : Journal) (hives : List HiveFile) (k : ℕ) (old new : HiveFile) (a b : ℕ → FileState) → slice_get hives k ≡ Some old → AreOnDisk journal hives a → ((f : ℕ) → ¬ (IsFileOfHive k f) → b f ≡ a f)
+    → FilesMatchHive new (b (primary_file k)) (b (log_file k)) → AreOnDisk journal (slice_set hives k new) b
 hive_writes journal hives k old new a b is on others own = record {
-  spells = subst (is_on (texts_of journal) (value_of journal)) (sym (others journal_file (λ f. elim (f) [ inl e ↦ omega (arith, e) | inr e ↦ omega (arith, e) ]))) on.spells;
-  each = each_hive hives k old new is (λ j h. IsOn h (b (primary_file j)) (b (log_file j))) own
-      (λ j h ne at. subst (λ (s : FileState). IsOn h s (b (log_file j))) (sym (others (primary_file j) (λ f. elim (f) [ inl e ↦ absurd (ne (omega (arith, e))) | inr e ↦ omega (arith, e) ])))
-      (subst (λ (s : FileState). IsOn h (a (primary_file j)) s) (sym (others (log_file j) (λ f. elim (f) [ inl e ↦ omega (arith, e) | inr e ↦ absurd (ne (omega (arith, e))) ]))) (on.each j h at)));
+  decodes = subst (is_on (encodings_of journal) (journal_view journal)) (sym (others journal_file (λ f. elim (f) [ inl e ↦ omega (arith, e) | inr e ↦ omega (arith, e) ]))) on.decodes;
+  each = each_hive hives k old new is (λ j h. FilesMatchHive h (b (primary_file j)) (b (log_file j))) own
+      (λ j h ne at. subst (λ (s : FileState). FilesMatchHive h s (b (log_file j))) (sym (others (primary_file j) (λ f. elim (f) [ inl e ↦ absurd (ne (omega (arith, e))) | inr e ↦ omega (arith, e) ])))
+      (subst (λ (s : FileState). FilesMatchHive h (a (primary_file j)) s) (sym (others (log_file j) (λ f. elim (f) [ inl e ↦ omega (arith, e) | inr e ↦ absurd (ne (omega (arith, e))) ]))) (on.each j h at)));
 }

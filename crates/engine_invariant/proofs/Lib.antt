@@ -9,6 +9,6 @@ mod Stepping
 mod Advancing
 mod FlushesEnd
 mod Flushing
-pub mod Standing
+pub mod StoreReads
 mod Running
 mod Receipts

@@ -3,7 +3,7 @@ use Rattle.std.proofs.Common.{◌≡◌, ℕ, ◌+◌, ◌≤◌, List, [], ◌�
 use Rattle.std.specs.List.{sum_by}
 use Rattle.std.proofs.lemmas.List.{map-append, length-map, take-append-le}
 use Rattle.std.proofs.lemmas.List.Sums.{sum_by-append, sum_by-cons}
-use Rattle.reg_tree.specs.Texts.{element_text_len, op_text_len}
+use Rattle.reg_tree.specs.Encodings.{element_encoded_len, op_encoded_len}
 use Rattle.reg_tree.specs.declared.element.Element.{Element}
 use Rattle.reg_tree.specs.declared.op.Op.{Op}
 use Rattle.crash_model.specs.Changes as law
@@ -11,12 +11,12 @@ use Rattle.store_model.specs.Machine as machine
 use Rattle.change_codec.specs.ModelChanges.{TimedOp, timed, timed_element, timed_elements}
 use Rattle.commit_journal.specs.Store.{room_of, timed_len}
 
-ops_len : (moment : ℕ) (ops : List Op) → sum_by (λ (o : ℕ × TimedOp). op_text_len o.1.1) (map (timed moment) ops) ≡ sum_by op_text_len ops
+ops_len : (moment : ℕ) (ops : List Op) → sum_by (λ (o : ℕ × TimedOp). op_encoded_len o.1.1) (map (timed moment) ops) ≡ sum_by op_encoded_len ops
 ops_len moment [] = refl
 ops_len moment (op ∷ ops) = let rest = ops_len moment ops in
-    omega (arith, rest, sum_by-cons (λ (o : ℕ × TimedOp). op_text_len o.1.1) (timed moment op) (map (timed moment) ops), sum_by-cons op_text_len op ops)
+    omega (arith, rest, sum_by-cons (λ (o : ℕ × TimedOp). op_encoded_len o.1.1) (timed moment op) (map (timed moment) ops), sum_by-cons op_encoded_len op ops)
 
-pub len_is : (e : Element) → timed_len (timed_element e) ≡ element_text_len e
+pub len_is : (e : Element) → timed_len (timed_element e) ≡ element_encoded_len e
 len_is e = ap (λ n. 16 + n) (ops_len e.moment e.ops)
 
 pub rooms_are : (es : List Element) → room_of (timed_elements es) ≡ sum_by machine.room_of es
@@ -27,7 +27,7 @@ rooms_are (e ∷ es) = let rest = rooms_are es in
 pub room_append : (xs ys : List (law.Element TimedOp)) → room_of (xs ++ ys) ≡ room_of xs + room_of ys
 room_append xs ys = sum_by-append (λ l. 17 + timed_len l) xs ys
 
-pub one_more_room : (es : List Element) (e : Element) → room_of (timed_elements (es ++ e ∷ [])) ≡ room_of (timed_elements es) + (17 + element_text_len e)
+pub one_more_room : (es : List Element) (e : Element) → room_of (timed_elements (es ++ e ∷ [])) ≡ room_of (timed_elements es) + (17 + element_encoded_len e)
 one_more_room es e =
     omega (arith, rooms_are (es ++ e ∷ []), rooms_are es, sum_by-append machine.room_of es (e ∷ []))
 

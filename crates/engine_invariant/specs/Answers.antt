@@ -4,9 +4,9 @@ use Rattle.refusals.specs.declared.refusal.Refusal.{Refusal}
 use Rattle.refusals.specs.declared.refusal.Refusal.TheVariants as refusal
 use Rattle.reg_tree.specs.Maps.{TreeMap}
 use Rattle.reg_tree.specs.declared.element.Element.{Element}
-use Rattle.hive_flush.specs.HiveStates.{led_to}
+use Rattle.hive_flush.specs.HiveStates.{tree_after_changes}
 use Rattle.crash_model.specs.Life.{ops_in}
-use Rattle.crash_model.specs.Promises.{Choice, Spelled, nothing, top}
+use Rattle.crash_model.specs.Promises.{Choice, Content, nothing, top}
 use Rattle.change_codec.specs.ModelChanges.{TimedOp}
 use Rattle.disk_model.specs.declared.progress.Progress.{Progress}
 use Rattle.disk_model.specs.declared.progress.Progress.TheVariants as progress
@@ -31,12 +31,12 @@ refused_by machine refusal.DiskFault = failed machine
 refused_by machine _ = machine
 
 -- the bytes that changes in the journal give back once they are no longer in it: where more of them are there, none
-abbrev pub freed : Choice (Spelled TimedOp) → Choice (Spelled TimedOp) → ℕ
+abbrev pub freed : Choice (Content TimedOp) → Choice (Content TimedOp) → ℕ
 freed old new = room_of old.now.elements - room_of new.now.elements
 
 -- the machine after a step of the journal or of a trim: what the journal carries is durable once the step is done, and the
 -- room of changes that left it is free
-abbrev pub after_step : Machine → Choice (Spelled TimedOp) → Choice (Spelled TimedOp) → Result Progress Refusal → Machine
+abbrev pub after_step : Machine → Choice (Content TimedOp) → Choice (Content TimedOp) → Result Progress Refusal → Machine
 after_step machine old new (Ok progress.Done) = record machine { durable = top machine.durable new.now; room = machine.room - freed old new }
 after_step machine old new (Ok progress.Idle) = machine
 after_step machine old new (Ok progress.More) = machine
@@ -52,7 +52,7 @@ abbrev pub HaveAll : Machine → ℕ → List Element → List HiveView → Type
 HaveAll machine base opened hives = (i : ℕ) (hive : HiveView) → slice_get hives i ≡ Some hive → ops_in (life_of machine base opened) i hive.files.now.1 machine.durable ≡ []
 
 -- A step of a trim may be made: one is on its way; or nothing is, the journal spells something, and the hives have all of it.
-abbrev pub MayTrim : Machine → ℕ → List Element → Choice (Spelled TimedOp) → List HiveView → Type 0
+abbrev pub MayTrim : Machine → ℕ → List Element → Choice (Content TimedOp) → List HiveView → Type 0
 MayTrim machine base opened journal hives = (journal.next ≡ Some nothing)
     ⊎ ((journal.next ≡ None) × (0 < length journal.now.elements) × HaveAll machine base opened hives)
 
@@ -66,4 +66,4 @@ accepted_above machine number = drop (number - machine.before) (take (machine.du
 -- what a hive has in memory once it has taken in what it lacks
 abbrev pub absorbed : Machine → ℕ → List Element → ℕ → TreeMap × ℕ → TreeMap × ℕ
 absorbed machine base opened place memory =
-    (led_to place (opened_above base opened memory.1 ++ accepted_above machine memory.1) memory.0, machine.durable)
+    (tree_after_changes place (opened_above base opened memory.1 ++ accepted_above machine memory.1) memory.0, machine.durable)

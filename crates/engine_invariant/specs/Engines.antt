@@ -3,7 +3,7 @@ use Rattle.std.specs.Prelude.{◌≡◌, ◌⊎◌, ℕ, ◌+◌, ◌<◌, ◌�
 use Rattle.refusals.specs.declared.refusal.Refusal.{Refusal}
 use Rattle.refusals.specs.declared.refusal.Refusal.TheVariants.{DiskFault}
 use Rattle.reg_tree.specs.declared.element.Element.{Element}
-use Rattle.crash_model.specs.Promises.{BeginsTrim, Choice, Spelled}
+use Rattle.crash_model.specs.Promises.{BeginsTrim, Choice, Content}
 use Rattle.change_codec.specs.ModelChanges.{TimedOp}
 use Rattle.store_model.specs.Machine.{Machine}
 use Rattle.store_model.specs.Steps.{Step, is_step}
@@ -13,7 +13,7 @@ use Rattle.disk_model.specs.declared.progress.Progress.TheVariants.{Idle, More}
 use Rattle.store_model.specs.declared.event.Reply.{Reply}
 use Rattle.store_model.specs.declared.event.Reply.TheVariants.{Refused, Stepped}
 use Rattle.engine_invariant.specs.Idle.{IdlesExactly}
-use Rattle.engine_invariant.specs.Progress.{FlushView, FlushesOn, HasPending, HasTrimmed, IsMade, IsTrimming, NearsDurable}
+use Rattle.engine_invariant.specs.Progress.{FlushView, FlushesOn, HasPending, HasTrimmed, IsNotRefused, IsTrimming, NearsDurable}
 use Rattle.engine_invariant.specs.States.{HiveView}
 
 -- An engine at one moment: its machine; the changes that its journal spelled at the opening, and the number below the first of them;
@@ -23,7 +23,7 @@ pub record EngineView : Type 0 where
   pub machine : Machine
   pub base : ℕ
   pub opened : List Element
-  pub journal : Choice (Spelled TimedOp)
+  pub journal : Choice (Content TimedOp)
   pub hives : List HiveView
   pub left : ℕ
   pub flushes : List FlushView
@@ -42,7 +42,7 @@ NeedsNoDevice asked answer = (is_step asked ≡ false) ⊎ ((answer ≡ Stepped 
 -- - `quiet`: with none, where the answer is told without the device. So an event that accepts a change makes none.
 -- - `failed`, `works`: that the device failed is answered only where it did, in this event; and at any other answer it didn't.
 -- - `idle`: a step is idle exactly where there is nothing to do, as long as the store isn't faulted.
--- - `nears`: a step of the journal that isn't refused, where some change waits, brings it nearer to being durable.
+-- - `nears_durable`: a step of the journal that isn't refused, where some change waits, brings it nearer to being durable.
 -- - `begins_trim`, `ends_trim`: a step of a trim begins one, and the next step of the journal or of a trim ends it.
 -- - `flushes`: a step of a hive's flush begins one, goes on with it, or ends it.
 -- - `life`: what the journal spelled at the opening stays.
@@ -55,12 +55,12 @@ pub record EngineAnswers (asked : Event) (answer : Reply) (old new : EngineView)
   pub failed : answer ≡ Refused DiskFault → old.failures < new.failures
   pub works : ¬ (answer ≡ Refused DiskFault) → new.failures ≡ old.failures
   pub idle : old.machine.faulted ≡ false → IdlesExactly asked answer old.machine old.base old.opened old.journal old.hives
-  pub nears : asked ≡ event.JournalStep → IsMade answer → HasPending old.machine → NearsDurable old.machine old.left new.machine new.left
-  pub begins_trim : asked ≡ event.TrimStep → IsMade answer → ¬ (answer ≡ Stepped Idle) → ¬ (IsTrimming old.journal)
+  pub nears_durable : asked ≡ event.JournalStep → IsNotRefused answer → HasPending old.machine → NearsDurable old.machine old.left new.machine new.left
+  pub begins_trim : asked ≡ event.TrimStep → IsNotRefused answer → ¬ (answer ≡ Stepped Idle) → ¬ (IsTrimming old.journal)
       → (answer ≡ Stepped More) × BeginsTrim old.journal new.journal
-  pub ends_trim : (asked ≡ event.JournalStep) ⊎ (asked ≡ event.TrimStep) → IsMade answer → IsTrimming old.journal
+  pub ends_trim : (asked ≡ event.JournalStep) ⊎ (asked ≡ event.TrimStep) → IsNotRefused answer → IsTrimming old.journal
       → HasTrimmed old.machine answer new.machine new.journal
-  pub flushes : (i : ℕ) (was is : HiveView) (before after : FlushView) → asked ≡ event.FlusherStep i → IsMade answer → ¬ (answer ≡ Stepped Idle)
+  pub flushes : (i : ℕ) (was is : HiveView) (before after : FlushView) → asked ≡ event.FlusherStep i → IsNotRefused answer → ¬ (answer ≡ Stepped Idle)
       → slice_get old.hives i ≡ Some was → slice_get old.flushes i ≡ Some before → slice_get new.hives i ≡ Some is → slice_get new.flushes i ≡ Some after
       → FlushesOn old.machine.durable answer was is before after
   pub life : (new.base ≡ old.base) × (new.opened ≡ old.opened)

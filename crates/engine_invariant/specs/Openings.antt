@@ -6,7 +6,7 @@ use Rattle.reg_tree.specs.Maps.{TreeMap}
 use Rattle.reg_tree.specs.Fresh.{fresh_tree}
 use Rattle.reg_tree.specs.Sequences.{AreTrees}
 use Rattle.reg_tree.specs.declared.element.Element.{Element}
-use Rattle.crash_model.specs.Promises.{Choice, Spelled, settled, floor}
+use Rattle.crash_model.specs.Promises.{Choice, Content, settled, floor}
 use Rattle.crash_model.specs.Recovery.{Recovers}
 use Rattle.crash_model.specs.Life.{NamesHive}
 use Rattle.change_codec.specs.ModelChanges.{TimedOp, rules, timed_elements}
@@ -21,7 +21,7 @@ abbrev pub held_by : List HiveView → ℕ → TreeMap × ℕ
 held_by hives i = held_if (slice_get hives i)
 
 -- The trees, the number and the journal's changes are what the journal and the hives, which are settled, recover.
-pub record IsFound (trees : List TreeMap) (number base : ℕ) (opened : List Element) (journal : Choice (Spelled TimedOp)) (hives : List HiveView) : Type 0 where
+pub record OpeningRecovers (trees : List TreeMap) (number base : ℕ) (opened : List Element) (journal : Choice (Content TimedOp)) (hives : List HiveView) : Type 0 where
   pub below : ℕ
   pub journal_is : journal ≡ settled (record { below = below; elements = timed_elements opened })
   pub base_is : base ≡ floor number (record { below = below; elements = timed_elements opened })

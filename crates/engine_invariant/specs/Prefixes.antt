@@ -3,37 +3,37 @@ use Rattle.std.specs.Prelude.{◌≡◌, ℕ, ◌-◌, ◌<◌, ◌≤◌, List,
 use Rattle.refusals.specs.declared.limits.TheConstants.{GREATEST_NUMBER}
 use Rattle.reg_tree.specs.Maps.{TreeMap}
 use Rattle.reg_tree.specs.Sequences.{after_elements}
-use Rattle.crash_model.specs.Promises.{Spelled}
-use Rattle.crash_model.specs.Files.{SpellsBy, FilesRecover}
+use Rattle.crash_model.specs.Promises.{Content}
+use Rattle.crash_model.specs.Files.{DecodesBy, FilesRecover}
 use Rattle.disk_model.specs.FileState.{FileState}
 use Rattle.disk_model.specs.Crash.{LeavesHonest}
 use Rattle.disk_model.specs.StoreFiles.{primary_file, log_file, journal_file}
 use Rattle.change_codec.specs.ModelChanges.{TimedOp, rules}
-use Rattle.commit_journal.specs.Text.{spelled}
-use Rattle.commit_journal.specs.Store.{Store, texts}
+use Rattle.commit_journal.specs.Encoding.{decoded}
+use Rattle.commit_journal.specs.Store.{Store, encodings}
 use Rattle.commit_journal.specs.OnDisk.{is_on}
-use Rattle.commit_journal.specs.Journals.{texts_of, value_of}
+use Rattle.commit_journal.specs.Journals.{encodings_of, journal_view}
 use Rattle.commit_journal.specs.declared.journal.Journal.{Journal}
-use Rattle.hive_flush.specs.Standing.{HoldsUnder}
-use Rattle.hive_flush.specs.HiveStates.{IsOn, place_of}
+use Rattle.hive_flush.specs.Decoders.{HiveFilesHold}
+use Rattle.hive_flush.specs.HiveStates.{FilesMatchHive, hive_number}
 use Rattle.hive_flush.specs.HiveStates as states
 use Rattle.hive_flush.specs.declared.hive.HiveFile.{HiveFile}
 use Rattle.store_model.specs.Machine.{Machine, last_number}
 use Rattle.engine_invariant.specs.States.{HiveView, tree_of}
 
 -- bytes of the journal's file spell this, in a store
-abbrev pub Spells : Store → List ℕ → Spelled TimedOp → Type 0
-Spells store = SpellsBy (spelled (texts store))
+abbrev pub JournalDecodesTo : Store → List ℕ → Content TimedOp → Type 0
+JournalDecodesTo store = DecodesBy (decoded (encodings store))
 
 -- a primary file and a log hold this tree and number, in a store
 abbrev pub Holds : Store → List ℕ → List ℕ → TreeMap × ℕ → Type 0
-Holds store = HoldsUnder store.id
+Holds store = HiveFilesHold store.id
 
 -- The files of a store, which has so many hives, recover a number and trees: the journal spells something, the number is its
 -- last one, or else the greatest of a hive, and each hive's tree is the one that its files hold with the operations of the
 -- changes above its own number applied in order, each legal.
 abbrev pub Recover : Store → ℕ → (ℕ → List ℕ) → ℕ → List TreeMap → Type 0
-Recover store hives files number trees = FilesRecover (rules store.hives) (Spells store) (Holds store) GREATEST_NUMBER hives files number (tree_of trees)
+Recover store hives files number trees = FilesRecover (rules store.hives) (JournalDecodesTo store) (Holds store) GREATEST_NUMBER hives files number (tree_of trees)
 
 -- the trees after the change numbered n
 abbrev pub trees_after : Machine → ℕ → List TreeMap
@@ -55,7 +55,7 @@ IsSafeAt store states moment machine = (files : ℕ → List ℕ) → LeavesHone
 
 -- what the law sees of a hive
 abbrev pub view_of : HiveFile → HiveView
-view_of hive = record { files = states.files_of hive; memory = states.memory_of hive }
+view_of hive = record { files = states.file_choice hive; memory = states.memory_of hive }
 
 -- a device call may be on any file
 abbrev pub AnyFile : ℕ → Type 0
@@ -63,10 +63,10 @@ AnyFile f = ⊤
 
 -- The journal and each hive are on the disk as they say.
 pub record AreOnDisk (journal : Journal) (hives : List HiveFile) (state : ℕ → FileState) : Type 0 where
-  pub spells : is_on (texts_of journal) (value_of journal) (state journal_file)
-  pub each : (i : ℕ) (hive : HiveFile) → slice_get hives i ≡ Some hive → IsOn hive (state (primary_file i)) (state (log_file i))
+  pub decodes : is_on (encodings_of journal) (journal_view journal) (state journal_file)
+  pub each : (i : ℕ) (hive : HiveFile) → slice_get hives i ≡ Some hive → FilesMatchHive hive (state (primary_file i)) (state (log_file i))
 
 -- each hive has the number of its place, and is of the store
 pub record ArePlaced (store : Store) (hives : List HiveFile) : Type 0 where
-  pub place : (i : ℕ) (hive : HiveFile) → slice_get hives i ≡ Some hive → place_of hive ≡ i
+  pub place : (i : ℕ) (hive : HiveFile) → slice_get hives i ≡ Some hive → hive_number hive ≡ i
   pub owner : (i : ℕ) (hive : HiveFile) → slice_get hives i ≡ Some hive → states.store_of hive ≡ store.id

@@ -1,6 +1,6 @@
 -- How far steps come: how many are left until something is durable or flushed, and what a trim frees.
 use Rattle.std.specs.Prelude.{◌≡◌, ◌⊎◌, ℕ, ◌+◌, ◌-◌, ◌*◌, ◌<◌, ◌≤◌, Some, None}
-use Rattle.crash_model.specs.Promises.{Choice, Spelled, nothing, settled, under_way}
+use Rattle.crash_model.specs.Promises.{Choice, Content, nothing, settled, under_way}
 use Rattle.change_codec.specs.ModelChanges.{TimedOp}
 use Rattle.store_model.specs.Machine.{Machine, last_number}
 use Rattle.store_model.specs.Steps.{EndsTrim, Step}
@@ -14,8 +14,8 @@ use Rattle.hive_flush.specs.declared.hive.HiveFile.{HiveFile}
 use Rattle.engine_invariant.specs.States.{HiveView}
 
 -- A step was made: it wasn't refused.
-abbrev pub IsMade : Reply → Type 0
-IsMade answer = (progress : Progress) × (answer ≡ Stepped progress)
+abbrev pub IsNotRefused : Reply → Type 0
+IsNotRefused answer = (progress : Progress) × (answer ≡ Stepped progress)
 
 -- Some accepted change isn't durable yet.
 abbrev pub HasPending : Machine → Type 0
@@ -36,17 +36,17 @@ pub record NearsDurable (old : Machine) (left : ℕ) (new : Machine) (left_then 
 pub record IsJournalStep (old : Machine) (left : ℕ) (new : Machine) (left_then : ℕ) : Type 0 where
   pub progress : Progress
   pub step : Step old JournalStep (Stepped progress) new
-  pub nears : HasPending old → NearsDurable old left new left_then
+  pub nears_durable : HasPending old → NearsDurable old left new left_then
 
 -- A trim is halfway: that the journal spells nothing is on its way.
-abbrev pub IsTrimming : Choice (Spelled TimedOp) → Type 0
+abbrev pub IsTrimming : Choice (Content TimedOp) → Type 0
 IsTrimming journal = journal.next ≡ Some nothing
 
 -- A trim is done: the journal spells nothing, and the room is that of the changes which are not durable.
-pub record HasTrimmed (old : Machine) (answer : Reply) (new : Machine) (journal : Choice (Spelled TimedOp)) : Type 0 where
+pub record HasTrimmed (old : Machine) (answer : Reply) (new : Machine) (journal : Choice (Content TimedOp)) : Type 0 where
   pub told : answer ≡ Stepped Done
   pub frees : EndsTrim old Done new
-  pub spells : journal ≡ settled nothing
+  pub decodes : journal ≡ settled nothing
 
 -- the flush of a hive: how many of its calls are left, or of a whole one where none is on its way; and how many pages it writes
 pub record FlushView : Type 0 where

@@ -30,6 +30,6 @@ pub record IsBoundary (safe : ℕ → Machine → Type 0) (old : EngineView) (ev
   pub holds : safe moment engine.machine
 
 -- a receipt that was told is of a number that is durable
-abbrev pub IsHeld : ℕ → Reply → Type 0
-IsHeld durable (reply.Receipt number) = number ≤ durable
-IsHeld durable _ = ⊤
+abbrev pub ReceiptIsDurable : ℕ → Reply → Type 0
+ReceiptIsDurable durable (reply.Receipt number) = number ≤ durable
+ReceiptIsDurable durable _ = ⊤

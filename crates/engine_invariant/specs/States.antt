@@ -4,15 +4,15 @@ use Rattle.refusals.specs.declared.limits.TheConstants.{GREATEST_NUMBER, MOST_JO
 use Rattle.reg_tree.specs.Maps.{TreeMap}
 use Rattle.reg_tree.specs.Fresh.{fresh_tree}
 use Rattle.reg_tree.specs.declared.element.Element.{Element}
-use Rattle.crash_model.specs.Promises.{Choice, Spelled, nothing, floor, settled}
+use Rattle.crash_model.specs.Promises.{Choice, Content, nothing, floor, settled}
 use Rattle.crash_model.specs.Life.{Life}
-use Rattle.crash_model.specs.Kept.{State}
-use Rattle.crash_model.specs.Kept as law
+use Rattle.crash_model.specs.Invariant.{State}
+use Rattle.crash_model.specs.Invariant as law
 use Rattle.crash_model.specs.Memory.{with_memory, IsOfMemory}
 use Rattle.change_codec.specs.ModelChanges.{TimedOp, rules, timed_elements}
 use Rattle.commit_journal.specs.Store.{room_of}
 use Rattle.store_model.specs.Machine.{Machine, pending}
-use Rattle.store_model.specs.Kept.{IsKept}
+use Rattle.store_model.specs.Invariant.{InvariantHolds}
 
 -- a hive's files, and its tree and number in memory
 pub record HiveView : Type 0 where
@@ -41,7 +41,7 @@ life_of machine base opened = record {
   accepted = timed_elements machine.accepted;
 }
 
-abbrev pub state_of : Machine → ℕ → List Element → Choice (Spelled TimedOp) → List HiveView → State TreeMap TimedOp
+abbrev pub state_of : Machine → ℕ → List Element → Choice (Content TimedOp) → List HiveView → State TreeMap TimedOp
 state_of machine base opened journal hives = record {
   life = life_of machine base opened;
   durable = machine.durable;
@@ -50,7 +50,7 @@ state_of machine base opened journal hives = record {
 }
 
 -- A batch of the pending changes: so many of the first of them, behind what the journal spells.
-abbrev pub IsBatch : Machine → Spelled TimedOp → Spelled TimedOp → Type 0
+abbrev pub IsBatch : Machine → Content TimedOp → Content TimedOp → Type 0
 IsBatch machine now next = (count : ℕ) × (1 ≤ count) × (count ≤ length (pending machine))
     × (next ≡ record { below = floor machine.durable now; elements = now.elements ++ take count (timed_elements (pending machine)) })
 
@@ -59,13 +59,13 @@ IsBatch machine now next = (count : ℕ) × (1 ≤ count) × (count ≤ length (
 -- begins where the machine does; as many hives as trees; that what is on its way to a hive's files is its memory; that what is
 -- on its way to the journal is nothing, by a trim, or a batch of the pending changes; and that the machine's room is that of the
 -- changes which the journal spells and of those pending.
-pub record IsConsistent (machine : Machine) (base : ℕ) (opened : List Element) (journal : Choice (Spelled TimedOp))
+pub record IsConsistent (machine : Machine) (base : ℕ) (opened : List Element) (journal : Choice (Content TimedOp))
     (hives : List HiveView) : Type 0 where
-  pub kept : IsKept machine
+  pub kept : InvariantHolds machine
   pub fits : 0 < length (pending machine) → machine.room ≤ MOST_JOURNAL_BYTES
-  pub law : law.IsKept (rules machine.bounds.hives) GREATEST_NUMBER (length machine.opened) (state_of machine base opened journal hives)
+  pub law : law.InvariantHolds (rules machine.bounds.hives) GREATEST_NUMBER (length machine.opened) (state_of machine base opened journal hives)
   pub begun : machine.before ≡ base + length opened
   pub all : length hives ≡ length machine.opened
   pub own : (i : ℕ) (hive : HiveView) → slice_get hives i ≡ Some hive → IsOfMemory hive.files hive.memory
-  pub onward : (next : Spelled TimedOp) → journal.next ≡ Some next → (next ≡ nothing) ⊎ IsBatch machine journal.now next
+  pub onward : (next : Content TimedOp) → journal.next ≡ Some next → (next ≡ nothing) ⊎ IsBatch machine journal.now next
   pub room : machine.room ≡ 65 + room_of journal.now.elements + room_of (timed_elements (pending machine))

@@ -4,16 +4,16 @@ ghost use Rattle.reg_tree.specs.Maps.{TreeMap};
 ghost use Rattle.reg_tree.specs.declared.element.Element.{Element};
 ghost use Rattle.crash_model.specs.Changes.{ops_on};
 ghost use Rattle.crash_model.specs.Life.{ops_in};
-ghost use Rattle.crash_model.specs.Promises.{Choice, Spelled, Ends, JournalSays, TrimSays, HiveSays, settled, top};
+ghost use Rattle.crash_model.specs.Promises.{Choice, Content, Ends, JournalSays, TrimSays, HiveSays, settled, top};
 ghost use Rattle.change_codec.specs.ModelChanges.{TimedOp, timed_elements};
-ghost use Rattle.hive_flush.specs.HiveStates.{AreLegalOn};
+ghost use Rattle.hive_flush.specs.HiveStates.{ChangesAreLegalOn};
 ghost use Rattle.crash_model.specs.StepAnswers.{Says};
 ghost use Rattle.disk_model.specs.declared.progress.Progress.{Progress};
 ghost use Rattle.disk_model.specs.declared.progress.Progress.TheVariants as progress;
 ghost use Rattle.store_model.specs.Machine.{Machine, last_number, opened_machine, pending, trees_now};
-ghost use Rattle.store_model.specs.Steps.{EndsTrim, Step, Run, is_calm};
-ghost use Rattle.store_model.specs.Kept.{IsKept};
-ghost use Rattle.store_model.specs.declared.bounds.Bounds.{Bounds};
+ghost use Rattle.store_model.specs.Steps.{EndsTrim, Step, Run, is_not_step};
+ghost use Rattle.store_model.specs.Invariant.{InvariantHolds};
+ghost use Rattle.store_model.specs.declared.bounds.StoreBounds.{StoreBounds};
 ghost use Rattle.store_model.specs.declared.event.Event.{Event};
 ghost use Rattle.store_model.specs.declared.event.Event.TheVariants as event;
 ghost use Rattle.disk_model.specs.declared.progress.Progress.TheVariants.{Done};
@@ -32,8 +32,8 @@ ghost use Rattle.commit_journal.specs.declared.journal.Journal.{Journal};
 ghost use Rattle.hive_flush.specs.declared.hive.HiveFile.{HiveFile};
 ghost use Rattle.engine_invariant.specs.Prefixes.{AreOnDisk, ArePlaced, IsPrefix, IsPrimaryOf, IsSafeAt, Recover, view_of};
 ghost use Rattle.engine_invariant.specs.Engines.{EngineAnswers, EngineView};
-ghost use Rattle.engine_invariant.specs.Runs.{AnswersInTurn, RunsSafely, IsBoundary, IsHeld};
-ghost use Rattle.engine_invariant.specs.Openings.{IsFound};
+ghost use Rattle.engine_invariant.specs.Runs.{AnswersInTurn, RunsSafely, IsBoundary, ReceiptIsDurable};
+ghost use Rattle.engine_invariant.specs.Openings.{OpeningRecovers};
 ghost use Rattle.engine_invariant.specs.Progress.{FlushView, FlushesOn, HasFlushed, HasPending, IsJournalStep, IsTrimming};
 
 use reg_tree::{Op, Tree};
@@ -41,32 +41,32 @@ use reg_tree::{Op, Tree};
 /// What an opening finds begins a life in which all is kept, whatever its bounds are: the machine is as it is opened, its room that of
 /// the changes which the journal spells.
 pub fn openings_begin()
-    ensures { (bounds : Bounds) (trees : List TreeMap) (number failures base : ℕ)
-        (opened : List Element) (journal : Choice (Spelled TimedOp)) (hives : List HiveView) →
-        IsFound trees number base opened journal hives →
+    ensures { (bounds : StoreBounds) (trees : List TreeMap) (number failures base : ℕ)
+        (opened : List Element) (journal : Choice (Content TimedOp)) (hives : List HiveView) →
+        OpeningRecovers trees number base opened journal hives →
         IsConsistent (record (opened_machine bounds trees number [] failures)
         { room = 65 + room_of journal.now.elements }) base opened journal hives }
 {
-    store_model::laws::states_are_kept();
+    store_model::laws::steps_keep_invariant();
 }
 
 /// A calm event, which makes no step, keeps all.
 pub fn events_keep()
     ensures { (old new : Machine) (base : ℕ) (opened : List Element)
-        (journal : Choice (Spelled TimedOp)) (hives : List HiveView)
+        (journal : Choice (Content TimedOp)) (hives : List HiveView)
         (event : Event) (reply : Reply) → IsConsistent old base opened journal hives →
-        is_calm event ≡ true → Step old event reply new →
+        is_not_step event ≡ true → Step old event reply new →
         IsConsistent new base opened journal hives }
 {
-    store_model::laws::states_are_kept();
-    store_model::laws::steps_alone_settle();
+    store_model::laws::steps_keep_invariant();
+    store_model::laws::only_steps_make_durable();
 }
 
 /// What is pending may be handed to the journal of a store with as many hives, where each change is short: the numbers go on
 /// from what it spells, each operation is on a hive that is there, and there is room.
 pub fn pending_may_be_handed()
     ensures { (machine : Machine) (base : ℕ) (opened : List Element)
-        (journal : Choice (Spelled TimedOp)) (hives : List HiveView) →
+        (journal : Choice (Content TimedOp)) (hives : List HiveView) →
         IsConsistent machine base opened journal hives →
         AllByRecursion IsShort (pending machine) →
         IsHanded (length hives) (65 + room_of journal.now.elements) (machine.durable + 1)
@@ -80,21 +80,21 @@ pub fn pending_may_be_handed()
 /// that have left it is free then.
 pub fn journal_steps_keep()
     ensures batch { (machine : Machine) (base : ℕ) (opened : List Element)
-        (old new : Choice (Spelled TimedOp)) (hives : List HiveView)
+        (old new : Choice (Content TimedOp)) (hives : List HiveView)
         (result : Result Progress Refusal) → IsConsistent machine base opened old hives →
         machine.faulted ≡ false → ¬ (result ≡ Err Faulted) →
         Says (JournalSays (machine.durable + 1) (timed_elements (pending machine))) result old new →
         Step machine event.JournalStep (reply_to result) (after_step machine old new result)
         × IsConsistent (after_step machine old new result) base opened new hives }
     ensures trim { (machine : Machine) (base : ℕ) (opened : List Element)
-        (old new : Choice (Spelled TimedOp)) (hives : List HiveView)
+        (old new : Choice (Content TimedOp)) (hives : List HiveView)
         (result : Result Progress Refusal) → IsConsistent machine base opened old hives →
         machine.faulted ≡ false → MayTrim machine base opened old hives →
         ¬ (result ≡ Err Faulted) → Says TrimSays result old new →
         Step machine event.TrimStep (reply_to result) (after_step machine old new result)
         × IsConsistent (after_step machine old new result) base opened new hives }
 {
-    store_model::laws::states_are_kept();
+    store_model::laws::steps_keep_invariant();
 }
 
 /// What a hive takes in and what its steps say.
@@ -106,32 +106,32 @@ pub fn journal_steps_keep()
 /// - `step`: a step of its flush keeps all and is a step of the machine, at each of its answers.
 pub fn hive_steps_keep()
     ensures lacks { (machine : Machine) (base : ℕ) (opened : List Element)
-        (journal : Choice (Spelled TimedOp)) (hives : List HiveView) (i : ℕ) (old : HiveView) →
+        (journal : Choice (Content TimedOp)) (hives : List HiveView) (i : ℕ) (old : HiveView) →
         IsConsistent machine base opened journal hives → slice_get hives i ≡ Some old →
         (old.memory.1 ≤ machine.durable)
-        × AreLegalOn i (opened_above base opened old.memory.1
+        × ChangesAreLegalOn i (opened_above base opened old.memory.1
         ++ accepted_above machine old.memory.1) old.memory.0 }
     ensures above { (machine : Machine) (base : ℕ) (opened : List Element)
-        (journal : Choice (Spelled TimedOp)) (hives : List HiveView) (i number : ℕ) →
+        (journal : Choice (Content TimedOp)) (hives : List HiveView) (i number : ℕ) →
         IsConsistent machine base opened journal hives →
         ops_in (life_of machine base opened) i number machine.durable
         ≡ ops_on i (timed_elements (opened_above base opened number
         ++ accepted_above machine number)) }
     ensures takes { (machine : Machine) (base : ℕ) (opened : List Element)
-        (journal : Choice (Spelled TimedOp)) (hives : List HiveView) (i : ℕ) (old : HiveView) →
+        (journal : Choice (Content TimedOp)) (hives : List HiveView) (i : ℕ) (old : HiveView) →
         IsConsistent machine base opened journal hives → slice_get hives i ≡ Some old →
         old.files.next ≡ None →
         IsConsistent machine base opened journal (slice_set hives i
         (record { files = old.files; memory = absorbed machine base opened i old.memory })) }
     ensures step { (machine : Machine) (base : ℕ) (opened : List Element)
-        (journal : Choice (Spelled TimedOp)) (hives : List HiveView) (i : ℕ) (old new : HiveView)
+        (journal : Choice (Content TimedOp)) (hives : List HiveView) (i : ℕ) (old new : HiveView)
         (result : Result Progress Refusal) → IsConsistent machine base opened journal hives →
         machine.faulted ≡ false → slice_get hives i ≡ Some old → new.memory ≡ old.memory →
         ¬ (result ≡ Err Faulted) → Says (HiveSays old.memory) result old.files new.files →
         Step machine (event.FlusherStep i) (reply_to result) (after_flush machine result)
         × IsConsistent (after_flush machine result) base opened journal (slice_set hives i new) }
 {
-    store_model::laws::states_are_kept();
+    store_model::laws::steps_keep_invariant();
 }
 
 /// Where all is kept, and journal and hives are on the disk as they say, whatever a crash leaves at that moment, with honest first
@@ -153,14 +153,14 @@ pub fn crashes_leave_prefixes()
 
 /// Runs whose boundaries are safe, each at its moment.
 ///
-/// - `goes_on`: such a run goes on by an event that the engine answers, behind which it is safe again, over a disk of which what
+/// - `continues`: such a run goes on by an event that the engine answers, behind which it is safe again, over a disk of which what
 ///   was is as it was.
 /// - `answers`: a run of events that an engine answers in turn goes on by one more.
 /// - `runs`: each such run is a run of the machine, with as many answers as events.
 /// - `each_moment`: at each moment from its start to its end some boundary is of that moment; so what a crash leaves then is
 ///   a prefix of the changes accepted up to there.
 pub fn safe_runs_go_on()
-    ensures goes_on { (store : Store) (was is : ℕ → ℕ → FileState) (old mid new : EngineView)
+    ensures continues { (store : Store) (was is : ℕ → ℕ → FileState) (old mid new : EngineView)
         (events : List Event) (replies : List Reply) (event : Event) (reply : Reply) →
         RunsSafely (IsSafeAt store was) old events replies mid →
         ((k f : ℕ) → k ≤ mid.clock → is k f ≡ was k f) → EngineAnswers event reply mid new →
@@ -185,25 +185,25 @@ pub fn safe_runs_go_on()
 /// Each receipt that was told in a run is of a number that is durable at the run's end: no durable number falls, whatever was
 /// durable before.
 pub fn receipts_are_durable()
-    ensures { (old new : Machine) (events : List Event) (replies : List Reply) → IsKept old →
+    ensures { (old new : Machine) (events : List Event) (replies : List Reply) → InvariantHolds old →
         Run old events replies new →
-        (old.durable ≤ new.durable) × AllByRecursion (IsHeld new.durable) replies }
+        (old.durable ≤ new.durable) × AllByRecursion (ReceiptIsDurable new.durable) replies }
 {
-    store_model::laws::states_are_kept();
-    store_model::laws::steps_alone_settle();
+    store_model::laws::steps_keep_invariant();
+    store_model::laws::only_steps_make_durable();
 }
 
 /// What a step has done that ended what was on its way to the journal, where all is kept.
 ///
 /// - `settles`: a batch that stands has made changes durable.
 /// - `frees`: behind a trim that is done the room is that of the changes which are not durable.
-pub fn ended_steps_tell()
+pub fn ended_steps_effects()
     ensures settles { (machine : Machine) (base : ℕ) (opened : List Element)
-        (old new : Choice (Spelled TimedOp)) (hives : List HiveView) →
+        (old new : Choice (Content TimedOp)) (hives : List HiveView) →
         IsConsistent machine base opened old hives → ¬ (IsTrimming old) → Ends old new →
         machine.durable < top machine.durable new.now }
     ensures frees { (machine : Machine) (base : ℕ) (opened : List Element)
-        (old new : Choice (Spelled TimedOp)) (hives : List HiveView) →
+        (old new : Choice (Content TimedOp)) (hives : List HiveView) →
         IsConsistent machine base opened old hives → IsTrimming old → Ends old new →
         EndsTrim machine Done (after_step machine old new (Ok progress.Done)) }
 {}

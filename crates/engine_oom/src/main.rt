@@ -9,11 +9,11 @@
 //! it twice, as where every allocation from one on is refused, and 2 where something else came.
 #![tactic(auto)]
 
-mod calm;
-mod desk;
+mod driver;
 mod opening;
+mod without_memory;
 
-use crate::desk::Desk;
+use crate::driver::EngineDriver;
 use std::alloc::Global;
 use std::process::ExitCode;
 use test_support::Fault;
@@ -30,10 +30,10 @@ fn main(rt: HostRuntime) -> ExitCode {
 // an engine's life, and what is opened behind it: the status
 fn status(alloc: Global) -> Result<u8, Fault> {
     let (engine, was_refused) = opening::made(alloc)?;
-    let mut desk = Desk::new(engine, was_refused);
-    let lived = live(alloc, &mut desk);
-    let was_refused = desk.was_refused;
-    let disk = desk.into_disk();
+    let mut driver = EngineDriver::new(engine, was_refused);
+    let lived = live(alloc, &mut driver);
+    let was_refused = driver.was_refused;
+    let disk = driver.into_disk();
     match lived {
         Ok(()) => opening::seen_again(alloc, disk, was_refused),
         Err(fault) => Err(fault),
@@ -41,12 +41,12 @@ fn status(alloc: Global) -> Result<u8, Fault> {
 }
 
 // two stretches of a store's life, behind each of which stands what takes no memory
-fn live(alloc: Global, desk: &mut Desk) -> Result<(), Fault> {
-    let first = desk.begin_batch_and_flush(alloc);
-    desk.end()?;
+fn live(alloc: Global, driver: &mut EngineDriver) -> Result<(), Fault> {
+    let first = driver.begin_batch_and_flush(alloc);
+    driver.end()?;
     first?;
-    let second = desk.begin_trim(alloc);
-    desk.end()?;
+    let second = driver.begin_trim(alloc);
+    driver.end()?;
     second?;
-    desk.end_session()
+    driver.end_session()
 }

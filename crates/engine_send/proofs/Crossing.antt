@@ -4,15 +4,15 @@ use denote.Param.Send.{IsSend, IsSync, sendable}
 use Rattle.std.proofs.Crossing as std
 use Rattle.std.proofs.MapsCrossing as maps
 use Rattle.std.proofs.MapsCrossingOver as over
-use Rattle.persistent_map.specs.contracts.group.Group as Group
+use Rattle.persistent_map.specs.contracts.map_node.MapNode as MapNode
 use Rattle.persistent_map.specs.contracts.map.SharedMap as SharedMap
 use Rattle.reg_tree.specs.contracts.trees.Trees as Trees
 use Rattle.reg_tree_parts.specs.contracts.key.Key as Key
 use Rattle.reg_tree_parts.specs.contracts.value.Value as Value
 use Rattle.reg_tree_parts.specs.contracts.values.Values as Values
 use Rattle.reg_tree_parts.specs.contracts.descriptor.Descriptor as Descriptor
-use Rattle.reg_tree_parts.specs.contracts.uncommon.Uncommon as Uncommon
-use Rattle.store_model.specs.contracts.event.Found as Found
+use Rattle.reg_tree_parts.specs.contracts.rare_fields.RareFields as RareFields
+use Rattle.store_model.specs.contracts.event.ReadResult as ReadResult
 use Rattle.refusals.specs.contracts.refusal.Refusal as Refusal
 use Rattle.reg_tree.specs.contracts.names.Names as Names
 use Rattle.reg_tree_parts.specs.contracts.node.Node as Node
@@ -22,14 +22,14 @@ use Rattle.reg_names.specs.contracts.name.Name as Name
 use Rattle.reg_names.specs.contracts.path.Path as Path
 use Rattle.reg_names.specs.contracts.name.ValueName as ValueName
 use Rattle.reg_tree_parts.specs.contracts.data.Data as Data
-use Rattle.change_codec.specs.contracts.change_text.ChangeText as ChangeText
+use Rattle.change_codec.specs.contracts.encoded_change.EncodedChange as EncodedChange
 use Rattle.conflicts.specs.contracts.table.ClaimTable as ClaimTable
 use Rattle.conflicts.specs.contracts.table.Kept as Kept
 use Rattle.conflicts.specs.contracts.table.Entry as ClaimEntry
 use Rattle.store_model.specs.contracts.event.Reply as Reply
 use Rattle.transactions.specs.contracts.view.View as View
 use Rattle.transactions.specs.contracts.entry.Entry as Entry
-use Rattle.transactions.specs.contracts.history.History as History
+use Rattle.transactions.specs.contracts.history.ChangeHistory as ChangeHistory
 use Rattle.transactions.specs.contracts.table.TxTable as TxTable
 use Rattle.transactions.specs.contracts.store.Store as Store
 use Rattle.transactions.specs.contracts.prepared.ReadyWrite as ReadyWrite
@@ -40,10 +40,10 @@ use Rattle.dirty_vector.specs.contracts.vector.DirtyVector as DirtyVector
 use Rattle.base_block.specs.contracts.block.BaseBlock as BaseBlock
 use Rattle.hive_writer.specs.contracts.writer.HiveWriter as HiveWriter
 use Rattle.hive_flush.specs.contracts.hive.HiveFile as HiveFile
-use Rattle.commit_journal.specs.contracts.told.Told as Told
-use Rattle.commit_journal.proofs.told.Told.TheLaws.TheKnot as told
-use Rattle.commit_journal.specs.contracts.standing.Standing as Standing
-use Rattle.commit_journal.specs.contracts.naming.Naming as Naming
+use Rattle.commit_journal.specs.contracts.ghost_log.GhostLog as GhostLog
+use Rattle.commit_journal.proofs.ghost_log.GhostLog.TheLaws.TheKnot as ghost_log
+use Rattle.commit_journal.specs.contracts.extent.Extent as Extent
+use Rattle.commit_journal.specs.contracts.last_changes.LastChangePerHive as LastChangePerHive
 use Rattle.commit_journal.specs.contracts.journal.Journal as Journal
 use Rattle.commit_journal.specs.contracts.journal.Phase as Phase
 use Rattle.engine.specs.contracts.parts.Parts as Parts
@@ -55,10 +55,10 @@ pub name_sync : IsSync Name.the_field.row
 name_sync = search (std.crosses, sendable) depth 40
 
 module _ (P : RattleType) where
-  pub group_send : IsSend P → IsSync P → IsSend (Group.the_row P)
+  pub group_send : IsSend P → IsSync P → IsSend (MapNode.the_row P)
   group_send s y = search (name_send, std.crosses, sendable) depth 40
 
-  pub group_sync : IsSend P → IsSync P → IsSync (Group.the_row P)
+  pub group_sync : IsSend P → IsSync P → IsSync (MapNode.the_row P)
   group_sync s y = search (name_sync, std.crosses, sendable) depth 40
 
 module _ (E : RattleType) where
@@ -100,10 +100,10 @@ descriptor_send = search (data_send, data_sync, std.crosses, sendable) depth 40
 pub descriptor_sync : IsSync Descriptor.the_field.row
 descriptor_sync = search (data_send, data_sync, std.crosses, sendable) depth 40
 
-pub uncommon_send : IsSend Uncommon.the_field.row
+pub uncommon_send : IsSend RareFields.the_field.row
 uncommon_send = search (data_send, sendable) depth 40
 
-pub uncommon_sync : IsSync Uncommon.the_field.row
+pub uncommon_sync : IsSync RareFields.the_field.row
 uncommon_sync = search (data_sync, sendable) depth 40
 
 pub key_send : IsSend Key.the_field.row
@@ -124,8 +124,8 @@ trees_send = search (node_send, node_sync, std.crosses, sendable) depth 40
 pub trees_sync : IsSync Trees.the_row
 trees_sync = search (node_send, node_sync, std.crosses, sendable) depth 40
 
-pub change_text_send : IsSend ChangeText.the_row
-change_text_send = search (std.crosses, sendable) depth 40
+pub encoded_change_send : IsSend EncodedChange.the_row
+encoded_change_send = search (std.crosses, sendable) depth 40
 
 pub path_send : IsSend Path.the_field.row
 path_send = search (name_send, name_sync, std.crosses, sendable) depth 40
@@ -151,8 +151,8 @@ view_send = search (trees_send, sendable) depth 40
 pub entry_send : IsSend Entry.the_field.row
 entry_send = search (view_send, op_send, std.crosses, sendable) depth 40
 
-pub history_send : IsSend History.the_row
-history_send = search (change_text_send, std.crosses, sendable) depth 40
+pub history_send : IsSend ChangeHistory.the_row
+history_send = search (encoded_change_send, std.crosses, sendable) depth 40
 
 pub table_send : IsSend TxTable.the_row
 table_send = search (trees_send, entry_send, claims_send, std.crosses, sendable) depth 40
@@ -166,17 +166,17 @@ refusal_send = search sendable depth 40 fits 8000
 pub names_send : IsSend Names.the_field.row
 names_send = search (name_send, std.crosses, sendable) depth 40
 
-pub found_send : IsSend Found.the_field.row
+pub found_send : IsSend ReadResult.the_field.row
 found_send = search (name_send, names_send, value_send, sendable) depth 40
 
 pub reply_send : IsSend Reply.the_field.row
 reply_send = search (found_send, refusal_send, sendable) depth 60 fits 8000
 
 pub ready_write_send : IsSend ReadyWrite.the_field.row
-ready_write_send = search (change_text_send, trees_send, view_send, std.crosses, sendable) depth 40
+ready_write_send = search (encoded_change_send, trees_send, view_send, std.crosses, sendable) depth 40
 
 pub ready_commit_send : IsSend ReadyCommit.the_field.row
-ready_commit_send = search (change_text_send, trees_send, view_send, std.crosses, sendable) depth 40
+ready_commit_send = search (encoded_change_send, trees_send, view_send, std.crosses, sendable) depth 40
 
 pub prepared_send : IsSend Prepared.the_field.row
 prepared_send = search (reply_send, ready_write_send, ready_commit_send, std.crosses, sendable) depth 40
@@ -196,16 +196,16 @@ writer_send = search (block_send, std.crosses, sendable) depth 40
 pub hive_send : IsSend HiveFile.the_field.row
 hive_send = search (tree_send, vector_send, writer_send, std.crosses, sendable) depth 40
 
-pub told_send : IsSend Told.the_row
-told_send = search (told.crosses, std.crosses, sendable) depth 40
+pub told_send : IsSend GhostLog.the_row
+told_send = search (ghost_log.crosses, std.crosses, sendable) depth 40
 
-pub standing_send : IsSend Standing.the_field.row
+pub standing_send : IsSend Extent.the_field.row
 standing_send = search (std.crosses, sendable) depth 40
 
 pub phase_send : IsSend Phase.the_field.row
 phase_send = search (standing_send, std.crosses, sendable) depth 40
 
-pub naming_send : IsSend Naming.the_field.row
+pub naming_send : IsSend LastChangePerHive.the_field.row
 naming_send = search (std.crosses, sendable) depth 40
 
 pub journal_send : IsSend Journal.the_field.row
@@ -213,4 +213,4 @@ journal_send = search (standing_send, phase_send, std.crosses, sendable) depth 4
 
 module _ (D : RattleType) where
   pub parts_send : IsSend D → IsSend (Parts.the_field D).row
-  parts_send s = search (journal_send, hive_send, store_send, change_text_send, naming_send, std.crosses, sendable) depth 40
+  parts_send s = search (journal_send, hive_send, store_send, encoded_change_send, naming_send, std.crosses, sendable) depth 40

@@ -2,7 +2,7 @@
 ghost use Rattle.std.specs.Prelude.{◌≤◌};
 
 use crate::calls::planned;
-use crate::runs::{Found, found_behind_crashes, last_acknowledged};
+use crate::runs::{OpenedStore, found_behind_crashes, last_acknowledged};
 use crate::stores::{
     MANY, begun, commit, create, created, creation, engine, flush, fresh, journal, write_in,
 };
@@ -39,7 +39,7 @@ fn run(alloc: Global, store: &mut Engine<MemDisk>) {
 }
 
 // what is opened behind so many of the batches
-const BATCHES: [Found; 4] = [
+const BATCHES: [OpenedStore; 4] = [
     (0, *b"-----", *b"-----"),
     (2, *b"AB---", *b"-----"),
     (4, *b"AB---", *b"--CD-"),
@@ -47,7 +47,7 @@ const BATCHES: [Found; 4] = [
 ];
 
 // what a crash with each tear leaves of the run, behind so many steps of its last batch
-fn last_batch(alloc: Global, steps: u32) -> Result<[Found; 3], Refusal> {
+fn last_batch(alloc: Global, steps: u32) -> Result<[OpenedStore; 3], Refusal> {
     let mut store = fresh(alloc, 2)?;
     run(alloc, &mut store);
     journal(&mut store, steps);
@@ -74,7 +74,7 @@ fn the_last_batch_is_found_whole_or_not_at_all(rt: HostRuntime) -> Result<(), Fa
 
 // the last change that is acknowledged of the run, with its last batch, that is stopped at a call, and what a crash with each tear
 // leaves of it
-fn stopped(alloc: Global, call: u64) -> Result<(u64, [Found; 3]), Refusal>
+fn stopped(alloc: Global, call: u64) -> Result<(u64, [OpenedStore; 3]), Refusal>
     requires { 1 ≤ call }
 {
     let (disk, plan) = planned(alloc, &created(alloc, 2)?, Tear::Old)?;

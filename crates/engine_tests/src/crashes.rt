@@ -2,7 +2,7 @@
 ghost use Rattle.std.specs.Prelude.{◌≤◌};
 
 use crate::calls::planned;
-use crate::runs::{Found, found, found_behind_crashes, prefix, run};
+use crate::runs::{OpenedStore, found, found_behind_crashes, prefix, run};
 use crate::stores::{MANY, create_all, created, engine, fresh, journal};
 use disk_model::{MemDisk, Tear};
 use engine::Engine;
@@ -11,7 +11,7 @@ use std::alloc::Global;
 use std::test::Fail;
 
 // what a crash with each tear leaves of a commit over two hives, behind so many steps of the journal
-fn committed(alloc: Global, steps: u32) -> Result<[Found; 3], Refusal> {
+fn committed(alloc: Global, steps: u32) -> Result<[OpenedStore; 3], Refusal> {
     let mut store = fresh(alloc, 2)?;
     create_all(&mut store, alloc, b"AB")?;
     journal(&mut store, steps);
@@ -38,7 +38,7 @@ fn a_commit_over_two_hives_is_found_whole_or_not_at_all(rt: HostRuntime) -> Resu
 }
 
 // the last change that is acknowledged of a run that is stopped at a call, and what a crash with each tear leaves of it
-fn stopped(alloc: Global, call: u64) -> Result<(u64, [Found; 3]), Refusal>
+fn stopped(alloc: Global, call: u64) -> Result<(u64, [OpenedStore; 3]), Refusal>
     requires { 1 ≤ call }
 {
     let (disk, plan) = planned(alloc, &created(alloc, 2)?, Tear::Old)?;

@@ -2,7 +2,7 @@
 ghost use Rattle.std.specs.Prelude.{◌≤◌};
 
 use crate::calls::planned;
-use crate::runs::{Found, found_behind_crashes, prefix, run, seen};
+use crate::runs::{OpenedStore, found_behind_crashes, prefix, run, seen};
 use crate::stores::{created, engine, opened};
 use disk_model::{MemDisk, Tear};
 use refusals::Refusal;
@@ -25,14 +25,14 @@ fn faulted(alloc: Global, call: u64) -> Result<(MemDisk, u64), Refusal>
 }
 
 // what is opened of a disk, and then of it again behind a crash with each tear
-fn found_again(alloc: Global, disk: MemDisk) -> Result<(Found, [Found; 3]), Refusal> {
+fn found_again(alloc: Global, disk: MemDisk) -> Result<(OpenedStore, [OpenedStore; 3]), Refusal> {
     let store = opened(alloc, disk)?;
     let found = seen(alloc, &store)?;
     Ok((found, found_behind_crashes(alloc, store.disk())?))
 }
 
 // the last change that is acknowledged of such a run, and what is found of it
-fn told(alloc: Global, call: u64) -> Result<(u64, Found, [Found; 3]), Refusal>
+fn told(alloc: Global, call: u64) -> Result<(u64, OpenedStore, [OpenedStore; 3]), Refusal>
     requires { 1 ≤ call }
 {
     let (disk, acknowledged) = faulted(alloc, call)?;

@@ -30,7 +30,7 @@ const FULL: Result<u64, Refusal> = Err(Refusal::JournalFull);
 fn is_active(store: &mut Engine<MemDisk>, tx: Tx) -> bool {
     let session = SESSION;
     match ask(store, Event::Outcome { session, tx }) {
-        Reply::Stands { outcome } => outcome == Outcome::Active,
+        Reply::OutcomeIs { outcome } => outcome == Outcome::Active,
         _ => false,
     }
 }

@@ -2,7 +2,7 @@
 ghost use Rattle.std.specs.Prelude.{◌≤◌};
 
 use crate::calls::{left, open, planned};
-use crate::runs::{Found, found, found_behind_crashes};
+use crate::runs::{OpenedStore, found, found_behind_crashes};
 use crate::stores::{MANY, create, create_all, created, flush, fresh, journal, opened, repair_all};
 use disk_model::{MemDisk, Plan, Tear};
 use engine::Engine;
@@ -70,7 +70,7 @@ fn journaled(alloc: Global) -> Result<MemDisk, Refusal> {
 }
 
 // what is opened of it
-const JOURNALED: Found = (1, *b"A----", *b"-----");
+const JOURNALED: OpenedStore = (1, *b"A----", *b"-----");
 
 #[test]
 fn what_a_hive_lacks_is_replayed(rt: HostRuntime) -> Result<(), Fail> {
@@ -105,7 +105,7 @@ fn a_change_that_is_not_legal_on_what_a_hive_holds_is_refused(rt: HostRuntime) -
 
 // why an opening is refused whose device fails at a call, and what is opened then of the disk that it hands back; nothing where it
 // makes no such call
-fn failing(alloc: Global, call: u64) -> Result<Option<(Refusal, Found)>, Refusal>
+fn failing(alloc: Global, call: u64) -> Result<Option<(Refusal, OpenedStore)>, Refusal>
     requires { 1 ≤ call }
 {
     let (disk, plan) = planned(alloc, &journaled(alloc)?, Tear::Old)?;
@@ -148,7 +148,7 @@ fn unclean(alloc: Global, tear: Tear) -> Result<MemDisk, Refusal> {
 }
 
 // what is opened of it
-const FLUSHED: Found = (1, *b"A----", *b"-B---");
+const FLUSHED: OpenedStore = (1, *b"A----", *b"-B---");
 
 // opens and repairs a store as far as the device goes: the disk, and whether that was to the end
 fn tried(alloc: Global, disk: MemDisk) -> (MemDisk, bool) {
@@ -162,7 +162,7 @@ fn tried(alloc: Global, disk: MemDisk) -> (MemDisk, bool) {
 }
 
 // what is opened behind an opening of it that was stopped at a call, and a crash with each tear; nothing where it wasn't stopped
-fn stopped(alloc: Global, before: Tear, call: u64) -> Result<Option<[Found; 3]>, Refusal>
+fn stopped(alloc: Global, before: Tear, call: u64) -> Result<Option<[OpenedStore; 3]>, Refusal>
     requires { 1 ≤ call }
 {
     let (disk, plan) = planned(alloc, &unclean(alloc, before)?, Tear::New)?;
@@ -223,7 +223,7 @@ fn faulted(
     alloc: Global,
     disk: &MemDisk,
     call: u64,
-) -> Result<Option<(Refusal, [Found; 3], Found)>, Refusal>
+) -> Result<Option<(Refusal, [OpenedStore; 3], OpenedStore)>, Refusal>
     requires { 1 ≤ call }
 {
     let Some((why, disk)) = unfinished(alloc, disk, call)? else {
@@ -267,7 +267,7 @@ fn an_opening_in_which_one_call_fails_loses_nothing(rt: HostRuntime) -> Result<(
 }
 
 // how many changes are at hand of an opened store, and the number below the first of them
-fn at_hand(alloc: Global, disk: MemDisk) -> Result<(usize, u64), Refusal> {
+fn retained(alloc: Global, disk: MemDisk) -> Result<(usize, u64), Refusal> {
     let (_, found) = opened(alloc, disk)?.into_parts();
     Ok((found.opened.len(), found.below))
 }
@@ -288,13 +288,13 @@ fn flushed(alloc: Global, places: &[u8]) -> Result<MemDisk, Refusal> {
 }
 
 // what is opened of it
-const THREE: Found = (3, *b"A-C--", *b"-B---");
+const THREE: OpenedStore = (3, *b"A-C--", *b"-B---");
 
 #[test]
 fn changes_that_all_hives_hold_are_let_go(rt: HostRuntime) -> Result<(), Fail> {
     let alloc = rt.alloc();
     assert_eq!(&rt; found(alloc, flushed(alloc, &[0, 1])?)?, THREE);
-    assert_eq!(&rt; at_hand(alloc, flushed(alloc, &[0, 1])?)?, (1, 2));
+    assert_eq!(&rt; retained(alloc, flushed(alloc, &[0, 1])?)?, (1, 2));
     Ok(())
 }
 
@@ -303,8 +303,8 @@ fn changes_from_the_first_one_on_that_a_hive_lacks_are_kept(rt: HostRuntime) -> 
     let alloc = rt.alloc();
     // the second hive lags behind: it lacks the second change
     assert_eq!(&rt; found(alloc, flushed(alloc, &[0])?)?, THREE);
-    assert_eq!(&rt; at_hand(alloc, flushed(alloc, &[0])?)?, (2, 1));
+    assert_eq!(&rt; retained(alloc, flushed(alloc, &[0])?)?, (2, 1));
     assert_eq!(&rt; found(alloc, flushed(alloc, &[1])?)?, THREE);
-    assert_eq!(&rt; at_hand(alloc, flushed(alloc, &[1])?)?, (3, 0));
+    assert_eq!(&rt; retained(alloc, flushed(alloc, &[1])?)?, (3, 0));
     Ok(())
 }

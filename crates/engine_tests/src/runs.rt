@@ -10,10 +10,10 @@ use refusals::Refusal;
 use std::alloc::Global;
 
 /// A number, and the keys of both hives.
-pub type Found = (u64, [u8; 5], [u8; 5]);
+pub type OpenedStore = (u64, [u8; 5], [u8; 5]);
 
 /// What is opened of a disk.
-pub fn found(alloc: Global, disk: MemDisk) -> Result<Found, Refusal> {
+pub fn found(alloc: Global, disk: MemDisk) -> Result<OpenedStore, Refusal> {
     match opened(alloc, disk) {
         Ok(store) => seen(alloc, &store),
         Err(why) => Err(why),
@@ -21,14 +21,14 @@ pub fn found(alloc: Global, disk: MemDisk) -> Result<Found, Refusal> {
 }
 
 /// What an opened store has.
-pub fn seen(alloc: Global, store: &Opened<MemDisk>) -> Result<Found, Refusal> {
+pub fn seen(alloc: Global, store: &Opened<MemDisk>) -> Result<OpenedStore, Refusal> {
     let first = keys(alloc, store.trees(), 0)?;
     let second = keys(alloc, store.trees(), 1)?;
     Ok((store.number(), first, second))
 }
 
 /// What is opened of a disk behind a crash with each tear.
-pub fn found_behind_crashes(alloc: Global, disk: &MemDisk) -> Result<[Found; 3], Refusal> {
+pub fn found_behind_crashes(alloc: Global, disk: &MemDisk) -> Result<[OpenedStore; 3], Refusal> {
     let mut all = [(0, *b"?????", *b"?????"); 3];
     for (tear, place) in TEARS.iter().zip(&mut all) {
         *place = found(alloc, left(alloc, disk, *tear)?)?;

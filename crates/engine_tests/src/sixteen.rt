@@ -11,12 +11,12 @@ use std::test::Fail;
 const HIVES: u8 = 16;
 
 // a number, and the keys of all hives, where each has the same
-type Found = (u64, Option<[u8; 5]>);
+type OpenedStore = (u64, Option<[u8; 5]>);
 
 // behind a change of each hive by itself, and one of all; and behind another change of each
-const BEFORE: Found = (17, Some(*b"AB---"));
+const BEFORE: OpenedStore = (17, Some(*b"AB---"));
 
-const AFTER: Found = (33, Some(*b"ABC--"));
+const AFTER: OpenedStore = (33, Some(*b"ABC--"));
 
 // creates a key in each hive, by a change of its own
 fn create_each(store: &mut Engine<MemDisk>, alloc: Global, letter: u8) -> Result<(), Refusal> {
@@ -62,13 +62,13 @@ fn common_keys(alloc: Global, trees: &Trees) -> Result<Option<[u8; 5]>, Refusal>
 }
 
 // what is opened of a disk
-fn found(alloc: Global, disk: MemDisk) -> Result<Found, Refusal> {
+fn found(alloc: Global, disk: MemDisk) -> Result<OpenedStore, Refusal> {
     let store = opened(alloc, disk)?;
     Ok((store.number(), common_keys(alloc, store.trees())?))
 }
 
 // what is opened of a disk behind a crash with each tear
-fn found_behind_crashes(alloc: Global, disk: &MemDisk) -> Result<[Found; 3], Refusal> {
+fn found_behind_crashes(alloc: Global, disk: &MemDisk) -> Result<[OpenedStore; 3], Refusal> {
     let mut all = [(0, None); 3];
     for (tear, place) in TEARS.iter().zip(&mut all) {
         *place = found(alloc, left(alloc, disk, *tear)?)?;
@@ -77,7 +77,7 @@ fn found_behind_crashes(alloc: Global, disk: &MemDisk) -> Result<[Found; 3], Ref
 }
 
 // what a crash with each tear leaves of the last 16 changes, behind so many steps of their batch
-fn batch(alloc: Global, steps: u32) -> Result<[Found; 3], Refusal> {
+fn batch(alloc: Global, steps: u32) -> Result<[OpenedStore; 3], Refusal> {
     let mut store = waiting(alloc)?;
     journal(&mut store, steps);
     found_behind_crashes(alloc, store.disk())
@@ -115,7 +115,7 @@ fn advance(store: &mut Engine<MemDisk>, stage: u32) {
 }
 
 // what a crash with each tear leaves behind so many such stages
-fn staged(alloc: Global, stages: u32) -> Result<[Found; 3], Refusal> {
+fn staged(alloc: Global, stages: u32) -> Result<[OpenedStore; 3], Refusal> {
     let mut store = waiting(alloc)?;
     journal(&mut store, MANY);
     for stage in 0..stages {

@@ -2,7 +2,7 @@
 use Rattle.std.proofs.Common.{◌≡◌, ◌≢◌, ◌⊎◌, inl, inr, ℕ, ◌<◌, ◌≤◌, List, [], ◌∷◌, length, Bool, true, false, refl, sym, ap, subst, ◌∙◌, arith}
 use Rattle.std.specs.Prelude.{◌==◌, nat_le, if◌then◌else◌, OnErr, Result, Ok, Err}
 use Rattle.std.proofs.lemmas.Bool.{eqb-false, ne_eqb, le-leb, leb-true, cases_Bool}
-use Rattle.disk_model.specs.Call.{KeepsOthers, Passes, Reads}
+use Rattle.disk_model.specs.Call.{KeepsOthers, Passes, ReadGives}
 use Rattle.disk_model.specs.FileState.{Cuts, FileState, MayCut, MayWrite, PutsPart, Syncs, Writes}
 use Rattle.file_disk.specs.declared.record.Bytes.{Bytes}
 use Rattle.file_disk.specs.declared.record.Call.{Call}
@@ -90,10 +90,10 @@ pub is_synced : (seen : Seen) (old new : List Call) (file : ℕ) → new ≡ cal
 is_synced seen old new file is = behind seen old new _ is file _ (same_file file _ (states seen old (length old)))
 
 pub is_read : (seen : Seen) (old new : List Call) (file offset : ℕ) (before later : Snapshot Bytes) (count : ℕ) (was is : List ℕ) → bytes_in before.value ≡ was → bytes_in later.value ≡ is → new ≡ call.Read file offset before later count ∷ old → AreFaithful seen new
-    → Reads offset (states seen old (length old) file).seen was is count
+    → ReadGives offset (states seen old (length old) file).seen was is count
 is_read seen old new file offset before later count was is first then' by f =
-    subst (λ (l : List ℕ). Reads offset (states seen old (length old) file).seen l is count) first
-    (subst (λ (l : List ℕ). Reads offset (states seen old (length old) file).seen (bytes_in before.value) l count) then' (allowed seen old new _ by f))
+    subst (λ (l : List ℕ). ReadGives offset (states seen old (length old) file).seen l is count) first
+    (subst (λ (l : List ℕ). ReadGives offset (states seen old (length old) file).seen (bytes_in before.value) l count) then' (allowed seen old new _ by f))
 
 -- what holds whatever was told holds where a refusal was
 pub told_anyway : {T E P : Type 0} (result : Result T E) → P → OnErr result P

@@ -1,6 +1,6 @@
 -- What the files of a disk hold by the record of its calls, and when each answer is one that they allow.
 use Rattle.std.specs.Prelude.{◌≡◌, ◌⊎◌, ◌==◌, ℕ, ◌+◌, nat_le, cond, if◌then◌else◌, Bool, true, false, List, [], ◌∷◌, ◌++◌, length, ⊤}
-use Rattle.disk_model.specs.Call.{Reads}
+use Rattle.disk_model.specs.Call.{ReadGives}
 use Rattle.disk_model.specs.FileState.{FileState, PutsPart, after_cut, after_write, at_rest, put, resized}
 use Rattle.file_disk.specs.declared.record.Bytes.{Bytes}
 use Rattle.file_disk.specs.declared.record.Bytes.TheVariants as bytes
@@ -59,7 +59,7 @@ states seen (last ∷ calls) k f = if nat_le k (length calls) then states seen c
 -- an answer is one that the files allow
 abbrev pub Allows : Call → List ℕ → (ℕ → FileState) → Type 0
 Allows (call.Measured file told) torn state = told ≡ length (state file).seen
-Allows (call.Read file offset before later count) torn state = Reads offset (state file).seen (bytes_in before.value) (bytes_in later.value) count
+Allows (call.Read file offset before later count) torn state = ReadGives offset (state file).seen (bytes_in before.value) (bytes_in later.value) count
 Allows (call.Written file offset bytes true) torn state = PutsPart offset (bytes_in bytes.value) (state file).seen torn
 Allows (call.Written file offset bytes false) torn state = ⊤
 Allows (call.Cut file length true) torn state = (torn ≡ (state file).seen) ⊎ (torn ≡ resized (state file).seen length)

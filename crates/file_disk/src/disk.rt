@@ -2,7 +2,7 @@
 ghost use Rattle.std.specs.Prelude.{◌≡◌, ◌∷◌, IsErr};
 ghost use Rattle.file_disk.specs.Records.{calls_in};
 
-use crate::folder::{Denial, FileName, Folder, MOST_FILES, Unheld};
+use crate::folder::{Denial, FileName, Folder, LockError, MOST_FILES};
 use crate::record::{Call, Record, noted};
 use crate::world::World;
 use disk_model::{Disk, Failed};
@@ -31,9 +31,9 @@ impl<R: Files<File = File> + Drop, W: World> FileDisk<R, W> {
     /// made later.
     ///
     /// Refused where another program has it, where it is no folder, where the system refuses it, and for want of memory.
-    pub fn hold(rt: R, alloc: Global, folder: &str) -> Result<FileDisk<R, W>, Unheld> {
+    pub fn open_locked(rt: R, alloc: Global, folder: &str) -> Result<FileDisk<R, W>, LockError> {
         Ok(FileDisk {
-            folder: Folder::hold(rt, alloc, folder)?,
+            folder: Folder::open_locked(rt, alloc, folder)?,
             calls: Record::Begun,
             world: PhantomData,
         })
@@ -63,8 +63,8 @@ impl<R: Files<File = File> + Drop, W: World> FileDisk<R, W> {
     }
 
     /// The first file that was read and wasn't there, of those that each store has: the journal and the hives' primary files.
-    pub fn absent(&self) -> Option<FileName> {
-        self.folder.absent()
+    pub fn missing_file(&self) -> Option<FileName> {
+        self.folder.missing_file()
     }
 }
 

@@ -44,7 +44,7 @@ pub struct Denial {
 
 /// Why a folder can't be held.
 #[derive(Debug, Drop)]
-pub enum Unheld {
+pub enum LockError {
     /// Memory was not given.
     NoMemory,
     /// Another program has it.
@@ -53,24 +53,24 @@ pub enum Unheld {
     Denied(io::Error),
 }
 
-impl From<AllocError> for Unheld {
-    fn from(_: AllocError) -> Unheld {
-        Unheld::NoMemory
+impl From<AllocError> for LockError {
+    fn from(_: AllocError) -> LockError {
+        LockError::NoMemory
     }
 }
 
-impl<T: Drop> From<AllocFailed<T>> for Unheld {
-    fn from(_: AllocFailed<T>) -> Unheld {
-        Unheld::NoMemory
+impl<T: Drop> From<AllocFailed<T>> for LockError {
+    fn from(_: AllocFailed<T>) -> LockError {
+        LockError::NoMemory
     }
 }
 
-impl From<io::Error> for Unheld {
-    fn from(error: io::Error) -> Unheld {
+impl From<io::Error> for LockError {
+    fn from(error: io::Error) -> LockError {
         if error.kind() == ErrorKind::OutOfMemory {
-            Unheld::NoMemory
+            LockError::NoMemory
         } else {
-            Unheld::Denied(error)
+            LockError::Denied(error)
         }
     }
 }
@@ -94,13 +94,13 @@ pub(crate) struct Folder<R: Files<File = File> + Drop> {
     // what the system refused first
     denial: Option<Denial>,
     // the first file that was read and wasn't there, if each store has it
-    absent: Option<FileName>,
+    missing_file: Option<FileName>,
 }
 
 impl<R: Files<File = File> + Drop> Folder<R> {
     /// Takes hold of a folder. One that isn't there has no files, and none can be made in it, also if somebody makes the folder
     /// later: nothing locks it. What isn't a folder is refused.
-    pub(crate) fn hold(rt: R, alloc: Global, folder: &str) -> Result<Folder<R>, Unheld> {
+    pub(crate) fn open_locked(rt: R, alloc: Global, folder: &str) -> Result<Folder<R>, LockError> {
         let path = String::with_capacity(alloc, folder.len().saturating_add(LONGEST_NAME))?;
         let handle = match File::open(&rt, folder) {
             Ok(handle) => Some(handle),
@@ -109,7 +109,7 @@ impl<R: Files<File = File> + Drop> Folder<R> {
         };
         if let Some(handle) = &handle {
             if !handle.metadata()?.is_dir() {
-                return Err(Unheld::Denied(ErrorKind::NotADirectory.into()));
+                return Err(LockError::Denied(ErrorKind::NotADirectory.into()));
             }
             lock(handle)?;
         }
@@ -125,7 +125,7 @@ impl<R: Files<File = File> + Drop> Folder<R> {
             files,
             has_news: true,
             denial: None,
-            absent: None,
+            missing_file: None,
         })
     }
 
@@ -140,14 +140,14 @@ impl<R: Files<File = File> + Drop> Folder<R> {
     }
 
     /// The first file that was measured or read below and wasn't there, of the journal and the hives' primary files.
-    pub(crate) fn absent(&self) -> Option<FileName> {
-        self.absent
+    pub(crate) fn missing_file(&self) -> Option<FileName> {
+        self.missing_file
     }
 
     /// The length of a file in bytes.
     pub(crate) fn len(&mut self, number: u32) -> io::Result<u64> {
         let told = self.size(number);
-        let length = self.heard(Some(number), told)?;
+        let length = self.record_denial(Some(number), told)?;
         self.look_for(number);
         Ok(length)
     }
@@ -157,7 +157,7 @@ impl<R: Files<File = File> + Drop> Folder<R> {
         ensures count { IfOk result (λ n. n ≤ length buffer.old) }
     {
         let told = self.read_part(number, offset, buffer);
-        let count = self.heard(Some(number), told)?;
+        let count = self.record_denial(Some(number), told)?;
         self.look_for(number);
         Ok(count)
     }
@@ -165,13 +165,13 @@ impl<R: Files<File = File> + Drop> Folder<R> {
     /// Writes all of the bytes at an offset. A file that isn't there is made.
     pub(crate) fn write(&mut self, number: u32, offset: u64, bytes: &[u8]) -> io::Result<()> {
         let told = self.write_all(number, offset, bytes);
-        self.heard(Some(number), told)
+        self.record_denial(Some(number), told)
     }
 
     /// Makes a file so long. One that isn't there is made, but where it is to be empty.
     pub(crate) fn cut(&mut self, number: u32, length: u64) -> io::Result<()> {
         let told = self.resize(number, length);
-        self.heard(Some(number), told)
+        self.record_denial(Some(number), told)
     }
 
     /// Syncs a file, and the folder if it is the first sync since the folder was held or since a file was made: else a crash may
@@ -179,9 +179,9 @@ impl<R: Files<File = File> + Drop> Folder<R> {
     /// change, which nothing reads.
     pub(crate) fn sync(&mut self, number: u32) -> io::Result<()> {
         let told = self.sync_bytes(number);
-        if self.heard(Some(number), told)? {
+        if self.record_denial(Some(number), told)? {
             let told = self.sync_names();
-            self.heard(None, told)?;
+            self.record_denial(None, told)?;
         }
         Ok(())
     }
@@ -243,7 +243,7 @@ impl<R: Files<File = File> + Drop> Folder<R> {
     }
 
     // remembers what the system refused first, of a file or of the folder itself
-    fn heard<T: Drop>(&mut self, number: Option<u32>, told: io::Result<T>) -> io::Result<T>
+    fn record_denial<T: Drop>(&mut self, number: Option<u32>, told: io::Result<T>) -> io::Result<T>
         ensures { result ≡ told }
     {
         if let Err(error) = &told {
@@ -261,8 +261,8 @@ impl<R: Files<File = File> + Drop> Folder<R> {
     // remembers the first file that isn't there, though each store has it; an odd number is that of a primary file
     fn look_for(&mut self, number: u32) {
         let is_of_each_store = number == 0 || number % 2 == 1;
-        if is_of_each_store && self.absent.is_none() && self.is_closed(number) {
-            self.absent = Some(FileName { number });
+        if is_of_each_store && self.missing_file.is_none() && self.is_closed(number) {
+            self.missing_file = Some(FileName { number });
         }
     }
 
@@ -328,10 +328,10 @@ impl<R: Files<File = File> + Drop> Folder<R> {
 }
 
 // takes the lock on a folder, where no other program has it
-fn lock(handle: &File) -> Result<(), Unheld> {
+fn lock(handle: &File) -> Result<(), LockError> {
     match handle.try_lock() {
         Ok(()) => Ok(()),
-        Err(TryLockError::WouldBlock) => Err(Unheld::InUse),
+        Err(TryLockError::WouldBlock) => Err(LockError::InUse),
         Err(TryLockError::Error(error)) => Err(error.into()),
     }
 }

@@ -10,5 +10,5 @@ mod record;
 mod world;
 
 pub use disk::FileDisk;
-pub use folder::{Denial, FileName, MOST_FILES, Unheld};
+pub use folder::{Denial, FileName, LockError, MOST_FILES};
 pub use world::{Unknown, World};

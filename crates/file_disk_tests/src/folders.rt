@@ -1,6 +1,6 @@
 //! Files of a folder, each test in a folder of its own that goes with it.
 use disk_model::{Disk, Failed};
-use file_disk::{FileDisk, Unheld, Unknown};
+use file_disk::{FileDisk, LockError, Unknown};
 use std::test::Fail;
 use std::{fs, io};
 
@@ -22,8 +22,8 @@ fn fresh(rt: &HostRuntime, folder: &str) -> io::Result<()> {
     fs::create_dir(rt, folder)
 }
 
-fn held<'a>(rt: &'a HostRuntime, folder: &str) -> Result<Held<'a>, Unheld> {
-    FileDisk::hold(rt, rt.alloc(), folder)
+fn held<'a>(rt: &'a HostRuntime, folder: &str) -> Result<Held<'a>, LockError> {
+    FileDisk::open_locked(rt, rt.alloc(), folder)
 }
 
 // the first bytes of a file, as many as there are up to eight
@@ -113,7 +113,7 @@ fn a_folder_is_held_by_one_and_found_again_as_it_was_left(rt: HostRuntime) -> Re
     let mut disk = held(&rt, folder)?;
     disk.write_at(PRIMARY, 0, &[5])?;
     disk.sync(PRIMARY)?;
-    assert!(&rt; matches!(held(&rt, folder), Err(Unheld::InUse)));
+    assert!(&rt; matches!(held(&rt, folder), Err(LockError::InUse)));
     drop(disk);
     let mut disk = held(&rt, folder)?;
     assert_eq!(&rt;

@@ -4,7 +4,7 @@ use hive_emit::emit;
 use refusals::Refusal;
 use reg_names::{Name, Path};
 use reg_tree::{Op, Trees};
-use script_syntax::{Line, Place, Request, read_line};
+use script_syntax::{KeyRef, Line, Request, read_line};
 use std::alloc::Global;
 use std::io;
 use std::io::{BufRead, BufReader, BufWriter, Write};
@@ -48,36 +48,36 @@ fn trees_of<R: BufRead + Drop>(alloc: Global, reader: R) -> Result<Trees, Fault>
 }
 
 // the path of a place
-fn path_of(alloc: Global, place: &Place) -> Result<Path, Refusal> {
-    Path::parse(alloc, place.path.units())
+fn path_of(alloc: Global, key_ref: &KeyRef) -> Result<Path, Refusal> {
+    Path::parse(alloc, key_ref.path.units())
 }
 
 // the operation on hive 0 that a request asks for, where it writes
 fn op_of(alloc: Global, request: Request) -> Result<Option<Op>, Fault> {
     Ok(Some(match request {
-        Request::Create { place } => Op::CreateKey {
+        Request::Create { key_ref } => Op::CreateKey {
             hive: 0,
-            path: path_of(alloc, &place)?,
+            path: path_of(alloc, &key_ref)?,
         },
-        Request::Delete { place } => Op::DeleteKey {
+        Request::Delete { key_ref } => Op::DeleteKey {
             hive: 0,
-            path: path_of(alloc, &place)?,
+            path: path_of(alloc, &key_ref)?,
         },
         Request::Set {
-            place,
+            key_ref,
             name,
             kind,
             data,
         } => Op::SetValue {
             hive: 0,
-            path: path_of(alloc, &place)?,
+            path: path_of(alloc, &key_ref)?,
             name: Name::value(alloc, name.units())?,
             kind,
             data,
         },
-        Request::Unset { place, name } => Op::DeleteValue {
+        Request::Unset { key_ref, name } => Op::DeleteValue {
             hive: 0,
-            path: path_of(alloc, &place)?,
+            path: path_of(alloc, &key_ref)?,
             name: Name::value(alloc, name.units())?,
         },
         _ => return Ok(None),

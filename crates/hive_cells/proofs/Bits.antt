@@ -5,7 +5,7 @@ use Rattle.std.proofs.lemmas.Bool.{cases_lt, cases_eq}
 use Rattle.std.proofs.lemmas.List.{length-set, get_or-set_same, get_or-set_other}
 use Rattle.std.proofs.lemmas.Nat.Bits.{bit_at-lt, bit_at-zero, bit_at_above, bit_at_and, bit_at_ones, bit_at_ones_above, bit_at_set_same, bit_at_set_other, bit_at_clear_same, bit_at_clear_other, ones_shr}
 use Rattle.std.proofs.Math.Nat.{one-le-pow, pow-suc, div-lt_iff_lt-mul, le-div_iff_mul-le}
-use Rattle.hive_cells.specs.Starts.{NoStart, IsLastStart, NoBit, IsLastBit, PutsStart}
+use Rattle.hive_cells.specs.Starts.{NoStart, IsLastStart, NoBit, IsLastBit, SetsStartBit}
 
 -- ---- a bit is put
 
@@ -13,7 +13,7 @@ use Rattle.hive_cells.specs.Starts.{NoStart, IsLastStart, NoBit, IsLastBit, Puts
 puts_word : (words : List ℕ) (slot word : ℕ) (begins : Bool) → slot < 64 * length words
     → eqb (bit_at word (slot % 64)) 1 ≡ begins
     → ((bit : ℕ) → bit < 64 → bit ≢ slot % 64 → bit_at word bit ≡ bit_at (get_or words (slot / 64) 0) bit)
-    → PutsStart words (set words (slot / 64) word) slot begins
+    → SetsStartBit words (set words (slot / 64) word) slot begins
 puts_word words slot word begins within here others =
     record {
       len = length-set words (slot / 64) word;
@@ -29,7 +29,7 @@ puts_word words slot word begins within here others =
     }
 
 pub put_one : (words : List ℕ) (slot : ℕ) (begins : Bool) → begins ≡ true → slot < 64 * length words
-    → PutsStart words (set words (slot / 64) (bit_or (get_or words (slot / 64) 0) (1 * 2 ^ (slot % 64) % 18446744073709551616))) slot begins
+    → SetsStartBit words (set words (slot / 64) (bit_or (get_or words (slot / 64) 0) (1 * 2 ^ (slot % 64) % 18446744073709551616))) slot begins
 put_one words slot begins is_true within =
     let small : slot % 64 < 64 = omega arith in
     puts_word words slot _ begins within
@@ -37,7 +37,7 @@ put_one words slot begins is_true within =
     (λ bit fits apart. bit_at_set_other w64 (get_or words (slot / 64) 0) (slot % 64) small bit apart)
 
 pub put_none : (words : List ℕ) (slot : ℕ) (begins : Bool) → begins ≡ false → slot < 64 * length words
-    → PutsStart words (set words (slot / 64) (bit_and (get_or words (slot / 64) 0) (18446744073709551615 - 1 * 2 ^ (slot % 64) % 18446744073709551616))) slot begins
+    → SetsStartBit words (set words (slot / 64) (bit_and (get_or words (slot / 64) 0) (18446744073709551615 - 1 * 2 ^ (slot % 64) % 18446744073709551616))) slot begins
 put_none words slot begins none within =
     let small : slot % 64 < 64 = omega arith in
     puts_word words slot _ begins within

@@ -5,7 +5,7 @@ use Rattle.std.proofs.lemmas.Bool.{cases_eq, cases_lt}
 use Rattle.std.proofs.lemmas.List.{length-set, get_or-set_same, get_or-set_other, get_or_past, get_or-take, get_or-drop}
 use Rattle.hive_cells.specs.Tiles.{BeginsCell, IsFreeCell, cell_size}
 use Rattle.hive_cells.specs.Marks.{IsWholeCell}
-use Rattle.hive_cells.specs.Starts.{AreGrouped, AreBounds, AreBoundsBut, Raises, SameCell, OtherCells, bound_at, IsKept}
+use Rattle.hive_cells.specs.Starts.{AreGrouped, AreBounds, AreBoundsBut, Raises, SameCell, OtherCells, bound_at, HasStartBits}
 use Rattle.hive_cells.proofs.Region.{free_was}
 use Rattle.hive_cells.proofs.CellChanges.{cell_within}
 
@@ -83,7 +83,7 @@ bounds_all bytes bounds at m none =
     }
 
 -- the page of a cell has a bound, and its size is there to be read
-pub page_of : (bytes words bounds : List ℕ) (at : ℕ) → IsKept bytes words → length bytes ≤ 4096 * length bounds → BeginsCell bytes at → (at + 4 ≤ length bytes) × (at / 4096 < length bounds)
+pub page_of : (bytes words bounds : List ℕ) (at : ℕ) → HasStartBits bytes words → length bytes ≤ 4096 * length bounds → BeginsCell bytes at → (at + 4 ≤ length bytes) × (at / 4096 < length bounds)
 page_of bytes words bounds at k len found =
     let w : IsWholeCell bytes at = cell_within bytes words at k found in
     (omega (arith, w.least, w.within), omega (arith, w.least, w.within))

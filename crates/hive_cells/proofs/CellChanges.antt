@@ -2,17 +2,17 @@
 use Rattle.std.proofs.Common.{◌≡◌, ◌≢◌, ℕ, ◌+◌, ◌-◌, ◌*◌, ◌%◌, ◌/◌, ◌<◌, ◌≤◌, Bool, false, List, length, refl, sym, ◌∙◌, subst, inl, inr, arith, ap, true}
 use Rattle.std.specs.Prelude.{slice_set, ◌⊎◌}
 use Rattle.std.proofs.lemmas.Bool.{cases_eq, cases_lt, cases_order}
-use Rattle.hive_cells.specs.Tiles.{word_at, cell_size, is_allocated, BeginsCell, IsAllocatedCell, IsFreeCell}
+use Rattle.hive_cells.specs.Tiles.{u32_at, cell_size, is_allocated, BeginsCell, IsAllocatedCell, IsFreeCell}
 use Rattle.hive_cells.specs.Marks.{Mark, Inside, Bin, Cell, mark_at, CellMarked, IsMarked, IsCellMarkedAt, IsWholeCell}
 use Rattle.hive_cells.specs.Changes.{OthersStay, AllStay, PutsSize, RewritesWithin, StaysFree, Writes}
 use Rattle.hive_cells.proofs.Region.{free_was, free_is}
-use Rattle.hive_cells.specs.Starts.{IsKept, AreStarts, PutsStart, is_cell_mark, is_start, OtherCells}
+use Rattle.hive_cells.specs.Starts.{HasStartBits, AreStarts, SetsStartBit, is_cell_mark, is_start, OtherCells}
 use Rattle.hive_cells.proofs.Reached.{whole_at_mark, starts_at_mark, mark_at_start}
 use Rattle.hive_cells.proofs.Marking.{SetsMark, set_mark}
 use Rattle.hive_cells.proofs.Region.{ChangesCells, size_same, kind_same, all_again, stays_at, same_at, words_same}
 
 -- a size that is put leaves the words before and behind it
-pub puts_beside : (old new : List ℕ) (at size : ℕ) (kind : Bool) → PutsSize old new at size kind → (other : ℕ) → ((other + 4 ≤ at) ⊎ (at + 4 ≤ other)) → word_at new other ≡ word_at old other
+pub puts_beside : (old new : List ℕ) (at size : ℕ) (kind : Bool) → PutsSize old new at size kind → (other : ℕ) → ((other + 4 ≤ at) ⊎ (at + 4 ≤ other)) → u32_at new other ≡ u32_at old other
 puts_beside old new at size kind p other (inl low) = words_same old new other (λ i after before. p.others i (inl (omega arith)))
 puts_beside old new at size kind p other (inr high) = words_same old new other (λ i after before. p.others i (inr (omega arith)))
 
@@ -379,13 +379,13 @@ module _ (bytes bytes' : List ℕ) (marks : List Mark) (k a rest : ℕ) (m : IsM
 -- a change leaves what is kept, what stays, and all cells but for those at two offsets, at the first of which a cell
 -- begins
 pub record Changed (old new words : List ℕ) (Stay : Type 0) (a b : ℕ) : Type 0 where
-  pub kept : IsKept new words
+  pub kept : HasStartBits new words
   pub stay : Stay
   pub cells : OtherCells old new a b
   pub begins : BeginsCell new a
 
 -- the bits where one mark is set
-pub puts_same : (bytes bytes' : List ℕ) (marks marks' : List Mark) (words words' : List ℕ) (n : ℕ) (kind : Mark) → AreStarts bytes marks words → SetsMark marks marks' n kind → PutsStart words words' n (is_cell_mark kind) → length bytes' ≡ length bytes → AreStarts bytes' marks' words'
+pub puts_same : (bytes bytes' : List ℕ) (marks marks' : List Mark) (words words' : List ℕ) (n : ℕ) (kind : Mark) → AreStarts bytes marks words → SetsMark marks marks' n kind → SetsStartBit words words' n (is_cell_mark kind) → length bytes' ≡ length bytes → AreStarts bytes' marks' words'
 puts_same bytes bytes' marks marks' words words' n kind b s p len =
     record {
       len = omega (arith, b.len, p.len);
@@ -396,11 +396,11 @@ puts_same bytes bytes' marks marks' words words' n kind b s p len =
     }
 
 -- where a cell that begins is marked
-pub slot_of : (bytes words : List ℕ) (k : IsKept bytes words) (at : ℕ) → BeginsCell bytes at → IsCellMarkedAt k.marks at
+pub slot_of : (bytes words : List ℕ) (k : HasStartBits bytes words) (at : ℕ) → BeginsCell bytes at → IsCellMarkedAt k.marks at
 slot_of bytes words k at found = mark_at_start bytes k.marks k.all found.0 at found.1
 
 -- a cell that was written and kept its size
-pub rewritten : (bytes bytes' words : List ℕ) (at : ℕ) → IsKept bytes words → BeginsCell bytes at → RewritesWithin bytes bytes' at (at + cell_size bytes at) → cell_size bytes' at ≡ cell_size bytes at → Changed bytes bytes' words (OthersStay bytes bytes' at) at at
+pub rewritten : (bytes bytes' words : List ℕ) (at : ℕ) → HasStartBits bytes words → BeginsCell bytes at → RewritesWithin bytes bytes' at (at + cell_size bytes at) → cell_size bytes' at ≡ cell_size bytes at → Changed bytes bytes' words (OthersStay bytes bytes' at) at at
 rewritten bytes bytes' words at k found r same =
     let w : IsCellMarkedAt k.marks at = slot_of bytes words k at found in
     let slot : 8 * (at / 8) ≡ at = omega (arith, w.eights) in
@@ -415,14 +415,14 @@ rewritten bytes bytes' words at k found r same =
     }
 
 -- a cell that turned
-pub turned : (bytes bytes' words : List ℕ) (at size : ℕ) (kind : Bool) → IsKept bytes words → BeginsCell bytes at → size ≡ cell_size bytes at → PutsSize bytes bytes' at size kind → Changed bytes bytes' words (OthersStay bytes bytes' at) at at
+pub turned : (bytes bytes' words : List ℕ) (at size : ℕ) (kind : Bool) → HasStartBits bytes words → BeginsCell bytes at → size ≡ cell_size bytes at → PutsSize bytes bytes' at size kind → Changed bytes bytes' words (OthersStay bytes bytes' at) at at
 turned bytes bytes' words at size kind k found size_is p =
     let least : 8 ≤ cell_size bytes at = (whole_at_mark bytes k.marks k.all at (slot_of bytes words k at found)).least in
     rewritten bytes bytes' words at k found (record { len = p.len; others = λ i out. p.others i (elim out [ inl low ↦ inl low | inr high ↦ inr (omega arith) ]) }) (p.size_is ∙ size_is)
 
 -- a free cell that was split
-pub was_split : (bytes half bytes' words words' : List ℕ) (at size rest : ℕ) → IsKept bytes words → IsFreeCell bytes at → cell_size bytes at ≡ size + rest → size % 8 ≡ 0 → 8 ≤ size → 8 ≤ rest
-    → PutsSize bytes half (at + size) rest false → PutsSize half bytes' at size false → PutsStart words words' ((at + size) / 8) true
+pub was_split : (bytes half bytes' words words' : List ℕ) (at size rest : ℕ) → HasStartBits bytes words → IsFreeCell bytes at → cell_size bytes at ≡ size + rest → size % 8 ≡ 0 → 8 ≤ size → 8 ≤ rest
+    → PutsSize bytes half (at + size) rest false → PutsSize half bytes' at size false → SetsStartBit words words' ((at + size) / 8) true
     → Changed bytes bytes' words' (AllStay bytes bytes') at (at + size) × IsFreeCell bytes' (at + size)
 was_split bytes half bytes' words words' at size rest k f whole eights least more p q put =
     let w : IsCellMarkedAt k.marks at = slot_of bytes words k at f.0 in
@@ -455,8 +455,8 @@ was_split bytes half bytes' words words' at size rest k f whole eights least mor
     )
 
 -- two free cells that were joined
-pub were_joined : (bytes bytes' words words' : List ℕ) (at next size : ℕ) → IsKept bytes words → IsFreeCell bytes at → IsFreeCell bytes next → next ≡ at + cell_size bytes at
-    → size ≡ cell_size bytes at + cell_size bytes next → PutsSize bytes bytes' at size false → PutsStart words words' (next / 8) false
+pub were_joined : (bytes bytes' words words' : List ℕ) (at next size : ℕ) → HasStartBits bytes words → IsFreeCell bytes at → IsFreeCell bytes next → next ≡ at + cell_size bytes at
+    → size ≡ cell_size bytes at + cell_size bytes next → PutsSize bytes bytes' at size false → SetsStartBit words words' (next / 8) false
     → Changed bytes bytes' words' (AllStay bytes bytes') at next × (¬ BeginsCell bytes' next)
 were_joined bytes bytes' words words' at next size k f g behind sum_is q put =
     let w : IsCellMarkedAt k.marks at = slot_of bytes words k at f.0 in
@@ -508,10 +508,10 @@ free_elsewhere old new at other was is cells = elim (cases_eq other at) [
 ]
 
 -- a cell whose data were written
-pub written : (bytes bytes' words : List ℕ) (at from len : ℕ) → IsKept bytes words → IsAllocatedCell bytes at → at + 4 ≤ from → from + len ≤ at + cell_size bytes at
+pub written : (bytes bytes' words : List ℕ) (at from len : ℕ) → HasStartBits bytes words → IsAllocatedCell bytes at → at + 4 ≤ from → from + len ≤ at + cell_size bytes at
     → RewritesWithin bytes bytes' from (from + len) → Changed bytes bytes' words (Writes bytes bytes' at from (from + len)) at at
 written bytes bytes' words at from len k found low high r =
-    let word : word_at bytes' at ≡ word_at bytes at = words_same bytes bytes' at (λ i after before. r.others i (inl (omega arith))) in
+    let word : u32_at bytes' at ≡ u32_at bytes at = words_same bytes bytes' at (λ i after before. r.others i (inl (omega arith))) in
     let wide : RewritesWithin bytes bytes' at (at + cell_size bytes at) = record { len = r.len; others = λ i out. r.others i (elim out [ inl under ↦ inl (omega arith) | inr over ↦ inr (omega arith) ]) } in
     let all : Changed bytes bytes' words (OthersStay bytes bytes' at) at at = rewritten bytes bytes' words at k found.0 wide (size_same bytes bytes' at word) in
     record {
@@ -529,5 +529,5 @@ written bytes bytes' words at from len k found low high r =
     }
 
 -- a cell that begins lies within the data
-pub cell_within : (bytes words : List ℕ) (at : ℕ) → IsKept bytes words → BeginsCell bytes at → IsWholeCell bytes at
+pub cell_within : (bytes words : List ℕ) (at : ℕ) → HasStartBits bytes words → BeginsCell bytes at → IsWholeCell bytes at
 cell_within bytes words at k found = whole_at_mark bytes k.marks k.all at (slot_of bytes words k at found)

@@ -6,7 +6,7 @@ use Rattle.std.proofs.lemmas.List.{length-append, length-replicate}
 use Rattle.hive_cells.proofs.NewBin.{bin_added}
 use Rattle.hive_cells.specs.Bins.{Cells, Shows}
 use Rattle.hive_cells.specs.Tiles.{is_allocated, cell_size, cell_data, BeginsCell, IsAllocatedCell, IsFreeCell}
-use Rattle.hive_cells.specs.Starts.{IsKept, IsImage, AreBounds, PutsStart, Raises, is_start}
+use Rattle.hive_cells.specs.Starts.{HasStartBits, IsImage, AreBounds, SetsStartBit, Raises, is_start}
 use Rattle.hive_cells.specs.Changes.{PutsSize, RewritesWithin, Turns, Splits, Joins, LaysBin, AddsFreeBin, Writes}
 use Rattle.hive_cells.proofs.CellChanges.{turned, was_split, were_joined, written, puts_beside}
 use Rattle.hive_cells.proofs.Region.{size_same}
@@ -15,7 +15,7 @@ use Rattle.hive_cells.proofs.Bounds.{bounds_on, bounds_noted, bounds_all}
 
 -- an image of other bytes of the same length
 image_again : (old new words words' bounds bounds' : List ℕ) (spare room words_room : ℕ) → IsImage old words bounds spare room words_room
-    → length new ≡ length old → length words' ≡ length words → IsKept new words' → AreBounds new bounds' → length bounds' ≡ length bounds → IsImage new words' bounds' spare room words_room
+    → length new ≡ length old → length words' ≡ length words → HasStartBits new words' → AreBounds new bounds' → length bounds' ≡ length bounds → IsImage new words' bounds' spare room words_room
 image_again old new words words' bounds bounds' spare room words_room i len words_len kept free bounds_len =
     record {
       indexed = record { cells = kept; free = free; most_pages = omega (arith, i.indexed.most_pages) };
@@ -38,7 +38,7 @@ image_turned old new words bounds bounds' spare room words_room at size kind i f
 -- a free cell that was split, of which the second one was noted
 pub image_split : (old half new words words' bounds bounds' : List ℕ) (spare room words_room at size rest : ℕ) → IsImage old words bounds spare room words_room
     → IsFreeCell old at → cell_size old at ≡ size + rest → size % 8 ≡ 0 → 8 ≤ size → 8 ≤ rest
-    → PutsSize old half (at + size) rest false → PutsSize half new at size false → PutsStart words words' ((at + size) / 8) true → Raises bounds bounds' ((at + size) / 4096) rest
+    → PutsSize old half (at + size) rest false → PutsSize half new at size false → SetsStartBit words words' ((at + size) / 8) true → Raises bounds bounds' ((at + size) / 4096) rest
     → IsImage new words' bounds' spare room words_room × Splits old new at size
 image_split old half new words words' bounds bounds' spare room words_room at size rest i free whole eights least more p q put r =
     let both = was_split old half new words words' at size rest i.indexed.cells free whole eights least more p q put in
@@ -65,7 +65,7 @@ image_split old half new words words' bounds bounds' spare room words_room at si
 -- two free cells that were joined, and noted
 pub image_joined : (old new words words' bounds bounds' : List ℕ) (spare room words_room at next size : ℕ) → IsImage old words bounds spare room words_room
     → IsFreeCell old at → IsFreeCell old next → next ≡ at + cell_size old at → size ≡ cell_size old at + cell_size old next
-    → PutsSize old new at size false → PutsStart words words' (next / 8) false → Raises bounds bounds' (at / 4096) size
+    → PutsSize old new at size false → SetsStartBit words words' (next / 8) false → Raises bounds bounds' (at / 4096) size
     → IsImage new words' bounds' spare room words_room × Joins old new at next
 image_joined old new words words' bounds bounds' spare room words_room at next size i free next_free behind size_is q put r =
     let both = were_joined old new words words' at next size i.indexed.cells free next_free behind size_is q put in
@@ -110,20 +110,20 @@ turn_all items now given new words bounds bounds' spare room words_room at size 
 
 pub split_all : (items now given new words given_words words' bounds bounds' : List ℕ) (spare room words_room at size rest : ℕ) → items ≡ now → given ≡ items → given_words ≡ words → IsImage items words bounds spare room words_room
     → IsFreeCell now at → cell_size now at ≡ size + rest → size % 8 ≡ 0 → 8 ≤ size → 8 ≤ rest
-    → ((half : List ℕ) × PutsSize given half (at + size) rest false × PutsSize half new at size false) → PutsStart given_words words' ((at + size) / 8) true → Raises bounds bounds' ((at + size) / 4096) rest
+    → ((half : List ℕ) × PutsSize given half (at + size) rest false × PutsSize half new at size false) → SetsStartBit given_words words' ((at + size) / 8) true → Raises bounds bounds' ((at + size) / 4096) rest
     → IsImage new words' bounds' spare room words_room × Splits now new at size
 split_all items now given new words given_words words' bounds bounds' spare room words_room at size rest seen same same_words i free whole eights least more puts put r =
     image_split now puts.0 new words words' bounds bounds' spare room words_room at size rest (subst (λ (x : List ℕ). IsImage x words bounds spare room words_room) seen i)
     free whole eights least more (subst (λ (x : List ℕ). PutsSize x puts.0 (at + size) rest false) (same ∙ seen) puts.1) puts.2
-    (subst (λ (x : List ℕ). PutsStart x words' ((at + size) / 8) true) same_words put) r
+    (subst (λ (x : List ℕ). SetsStartBit x words' ((at + size) / 8) true) same_words put) r
 
 pub join_all : (items now given new words given_words words' bounds bounds' : List ℕ) (spare room words_room at next size : ℕ) → items ≡ now → given ≡ items → given_words ≡ words → IsImage items words bounds spare room words_room
     → IsFreeCell now at → IsFreeCell now next → next ≡ at + cell_size now at → size ≡ cell_size now at + cell_size now next
-    → PutsSize given new at size false → PutsStart given_words words' (next / 8) false → Raises bounds bounds' (at / 4096) size
+    → PutsSize given new at size false → SetsStartBit given_words words' (next / 8) false → Raises bounds bounds' (at / 4096) size
     → IsImage new words' bounds' spare room words_room × Joins now new at next
 join_all items now given new words given_words words' bounds bounds' spare room words_room at next size seen same same_words i free next_free behind size_is p put r =
     image_joined now new words words' bounds bounds' spare room words_room at next size (subst (λ (x : List ℕ). IsImage x words bounds spare room words_room) seen i)
-    free next_free behind size_is (subst (λ (x : List ℕ). PutsSize x new at size false) (same ∙ seen) p) (subst (λ (x : List ℕ). PutsStart x words' (next / 8) false) same_words put) r
+    free next_free behind size_is (subst (λ (x : List ℕ). PutsSize x new at size false) (same ∙ seen) p) (subst (λ (x : List ℕ). SetsStartBit x words' (next / 8) false) same_words put) r
 
 pub write_all : (items now given new words bounds : List ℕ) (spare room words_room at from len : ℕ) → items ≡ now → given ≡ items → IsImage items words bounds spare room words_room
     → IsAllocatedCell now at → at + 4 ≤ from → from + len ≤ at + cell_size now at → RewritesWithin given new from (from + len)
@@ -135,14 +135,14 @@ write_all items now given new words bounds spare room words_room at from len see
 -- a bin that was added, with what is spare then
 pub bin_all : (items now given new words given_words words' bounds bounds' : List ℕ) (spare spare' room words_room room' words_room' more at : ℕ) → items ≡ now → at ≡ length items → IsImage items words bounds spare room words_room
     → more % 4096 ≡ 0 → 0 < more → at + more ≤ 67108864 → given ≡ items ++ replicate more 0 → given_words ≡ words ++ replicate (more / 512) 0
-    → PutsStart given_words words' ((at + 32) / 8) true → LaysBin given new at → Raises bounds bounds' ((at + 32) / 4096) (more - 32)
+    → SetsStartBit given_words words' ((at + 32) / 8) true → LaysBin given new at → Raises bounds bounds' ((at + 32) / 4096) (more - 32)
     → spare' ≡ spare - more → room ≤ room' → words_room ≤ words_room' → length new ≤ room' → length words' ≤ words_room'
     → IsImage new words' bounds' spare' room' words_room' × AddsFreeBin now new more
 bin_all items now given new words given_words words' bounds bounds' spare spare' room words_room room' words_room' more at seen at_is i pages some limit given_is words_are put l r spare_is wider words_wider fits words_fit =
     let most : 16384 ≤ length bounds = i.indexed.most_pages in
     let whole : length items % 4096 ≡ 0 = i.indexed.cells.all.pages in
     let added = bin_added items given new words words' bounds bounds' more at at_is i.indexed.cells i.indexed.free pages some given_is
-    (subst (λ (x : List ℕ). PutsStart x words' ((at + 32) / 8) true) words_are put) l (omega arith) r in
+    (subst (λ (x : List ℕ). SetsStartBit x words' ((at + 32) / 8) true) words_are put) l (omega arith) r in
     let longer : length new ≡ length items + more = added.0.adds.longer in
     let words_longer : length words' ≡ length words + more / 512 = put.len ∙ ap length words_are ∙ length-append words (replicate (more / 512) 0) ∙ ap (λ (x : ℕ). length words + x) (length-replicate {A = ℕ} (more / 512) 0) in (
       record {
@@ -155,7 +155,7 @@ bin_all items now given new words given_words words' bounds bounds' spare spare'
 
 -- ---- the allocated cells as a function of offsets
 
-module _ (bytes words : List ℕ) (k : IsKept bytes words) where
+module _ (bytes words : List ℕ) (k : HasStartBits bytes words) where
   -- whether a cell begins, by the bits
   starts_here : (at : ℕ) → (BeginsCell bytes at) ⊎ (¬ BeginsCell bytes at)
   starts_here at = elim (cases_eq (at % 8) 0) [

@@ -3,7 +3,7 @@ use Rattle.std.proofs.Common.{◌≡◌, ◌≢◌, ℕ, ◌+◌, ◌*◌, ◌/�
 use Rattle.std.proofs.lemmas.Bool.{cases_eq, cases_lt, cases_order}
 use Rattle.hive_cells.specs.Tiles.{BeginsCell, IsFreeCell, HasFree, cell_size}
 use Rattle.hive_cells.specs.Marks.{Mark, Inside, Bin, Cell, mark_at, CellMarked, IsCellMarkedAt, IsWholeCell}
-use Rattle.hive_cells.specs.Starts.{is_start, is_cell_mark, NoStart, IsLastStart, IsKept, AreBounds, AllBelow, bound_at}
+use Rattle.hive_cells.specs.Starts.{is_start, is_cell_mark, NoStart, IsLastStart, HasStartBits, AreBounds, AllBelow, bound_at}
 use Rattle.hive_cells.proofs.Reached.{starts_at_mark}
 use Rattle.hive_cells.proofs.CellChanges.{slot_of, cell_within}
 
@@ -16,7 +16,7 @@ cell_mark Cell e = refl
 abbrev pub MostFrom : List ℕ → ℕ → ℕ → ℕ → Type 0
 MostFrom bytes end high most = (at : ℕ) → IsFreeCell bytes at → end ≤ at / 8 → at / 8 < high → cell_size bytes at ≤ most
 
-module _ (bytes words : List ℕ) (k : IsKept bytes words) where
+module _ (bytes words : List ℕ) (k : HasStartBits bytes words) where
   -- a bit that is set is a cell
   pub cell_of_bit : (at : ℕ) → at % 8 ≡ 0 → is_start words (at / 8) ≡ true → BeginsCell bytes at
   cell_of_bit at eights set = starts_at_mark bytes k.marks k.all at (record { eights = eights; is_cell = cell_mark (mark_at k.marks (at / 8)) (sym (k.starts.same (at / 8)) ∙ set) })
@@ -117,7 +117,7 @@ module _ (bytes words : List ℕ) (k : IsKept bytes words) where
 -- ---- pages
 
 -- where all bounds are below a size no free cell has it
-pub none_free : (bytes words bounds : List ℕ) (size from : ℕ) → IsKept bytes words → AreBounds bytes bounds → AllBelow bounds 0 from size → AllBelow bounds from (length bytes / 4096) size → ¬ HasFree bytes size
+pub none_free : (bytes words bounds : List ℕ) (size from : ℕ) → HasStartBits bytes words → AreBounds bytes bounds → AllBelow bounds 0 from size → AllBelow bounds from (length bytes / 4096) size → ¬ HasFree bytes size
 none_free bytes words bounds size from k b low high found =
     let at : ℕ = found.0 in
     let free : IsFreeCell bytes at = found.1 in

@@ -3,10 +3,10 @@ use Rattle.std.proofs.Common.{eqb, ◌≡◌, ◌≢◌, ℕ, ◌+◌, ◌-◌, 
 use Rattle.std.specs.Prelude.{slice_index, slice_range, slice_set, replicate, ◌⊎◌}
 use Rattle.std.proofs.lemmas.List.{length-append, length-replicate, get_or_append_left, get_or-append_right, get_or-replicate, get_or_past}
 use Rattle.std.proofs.lemmas.Bool.{cases_eq, cases_lt}
-use Rattle.hive_cells.specs.Tiles.{word_at, BinStart, first_bin, next_bin, IsBin, bin_size, IsCell, cell_size, is_allocated, cell_data, BeginsCell, IsFreeCell}
+use Rattle.hive_cells.specs.Tiles.{u32_at, BinStart, first_bin, next_bin, IsBin, bin_size, IsCell, cell_size, is_allocated, cell_data, BeginsCell, IsFreeCell}
 use Rattle.hive_cells.specs.Marks.{Mark, Inside, Bin, Cell, mark_at, BinMarked, CellMarked, IsMarked, IsBetweenBins, IsCellMarkedAt}
 use Rattle.hive_cells.specs.Changes.{AllStay, LaysBin, PutsSize, AddsFreeBin}
-use Rattle.hive_cells.specs.Starts.{IsKept, AreBounds, Raises, PutsStart, SameCell, is_start, is_cell_mark, bound_at}
+use Rattle.hive_cells.specs.Starts.{HasStartBits, AreBounds, Raises, SetsStartBit, SameCell, is_start, is_cell_mark, bound_at}
 use Rattle.hive_cells.proofs.Marking.{SetsMark, set_mark, bin_set, cell_set, bin_ended, all_marked}
 use Rattle.hive_cells.proofs.Reached.{LiesInBin, bin_over, starts_at_mark, mark_at_start}
 use Rattle.hive_cells.proofs.Region.{words_same, size_same, kind_same, range_same}
@@ -24,16 +24,16 @@ pub record Grows (bytes bytes' : List ℕ) (marks marks' : List Mark) : Type 0 w
   pub clear : (j : ℕ) → length bytes ≤ 8 * j → mark_at marks' j ≡ Inside
 
 module _ (bytes bytes' : List ℕ) (marks marks' : List Mark) (m : IsMarked bytes marks) (g : Grows bytes bytes' marks marks') where
-  word_again : (at : ℕ) → at + 4 ≤ length bytes → word_at bytes' at ≡ word_at bytes at
+  word_again : (at : ℕ) → at + 4 ≤ length bytes → u32_at bytes' at ≡ u32_at bytes at
   word_again at within = words_same bytes bytes' at (λ i after before. g.same i (omega arith))
 
   -- a bin is one again
   bin_is_again : (at : ℕ) → IsBin bytes at → IsBin bytes' at
   bin_is_again at b =
-      let pages : word_at bytes (at + 8) % 4096 ≡ 0 = b.pages in
-      let some : word_at bytes (at + 8) ≢ 0 = b.not_empty in
-      let within : at + word_at bytes (at + 8) ≤ length bytes = b.within in
-      let size : word_at bytes' (at + 8) ≡ word_at bytes (at + 8) = word_again (at + 8) (omega arith) in
+      let pages : u32_at bytes (at + 8) % 4096 ≡ 0 = b.pages in
+      let some : u32_at bytes (at + 8) ≢ 0 = b.not_empty in
+      let within : at + u32_at bytes (at + 8) ≤ length bytes = b.within in
+      let size : u32_at bytes' (at + 8) ≡ u32_at bytes (at + 8) = word_again (at + 8) (omega arith) in
       let longer : length bytes < length bytes' = g.longer in
       record {
         signature = word_again at (omega arith) ∙ b.signature;
@@ -45,9 +45,9 @@ module _ (bytes bytes' : List ℕ) (marks marks' : List Mark) (m : IsMarked byte
 
   bin_size_again : (at : ℕ) → IsBin bytes at → bin_size bytes' at ≡ bin_size bytes at
   bin_size_again at b =
-      let pages : word_at bytes (at + 8) % 4096 ≡ 0 = b.pages in
-      let some : word_at bytes (at + 8) ≢ 0 = b.not_empty in
-      let within : at + word_at bytes (at + 8) ≤ length bytes = b.within in
+      let pages : u32_at bytes (at + 8) % 4096 ≡ 0 = b.pages in
+      let some : u32_at bytes (at + 8) ≢ 0 = b.not_empty in
+      let within : at + u32_at bytes (at + 8) ≤ length bytes = b.within in
       word_again (at + 8) (omega arith)
 
   -- and begins where it did
@@ -283,14 +283,14 @@ abbrev pub WritesWord : List ℕ → List ℕ → ℕ → Type 0
 WritesWord old new at = (i : ℕ) → ((i < at) ⊎ (at + 4 ≤ i)) → slice_index new i ≡ slice_index old i
 
 -- a word before one that is written
-word_before : (old new : List ℕ) (at other : ℕ) → WritesWord old new at → other + 4 ≤ at → word_at new other ≡ word_at old other
+word_before : (old new : List ℕ) (at other : ℕ) → WritesWord old new at → other + 4 ≤ at → u32_at new other ≡ u32_at old other
 word_before old new at other w low = words_same old new other (λ i after before. w i (inl (omega arith)))
 
 -- the words that are written one after another lay a bin
 pub lays : (b0 b1 b2 b3 b4 : List ℕ) (at size : ℕ) → at + size ≡ length b0 → 32 ≤ size → ((i : ℕ) → at ≤ i → slice_index b0 i ≡ 0)
-    → word_at b1 at ≡ 0x6e69_6268 → WritesWord b0 b1 at → length b1 ≡ length b0
-    → word_at b2 (at + 4) ≡ at → WritesWord b1 b2 (at + 4) → length b2 ≡ length b1
-    → word_at b3 (at + 8) ≡ size → WritesWord b2 b3 (at + 8) → length b3 ≡ length b2
+    → u32_at b1 at ≡ 0x6e69_6268 → WritesWord b0 b1 at → length b1 ≡ length b0
+    → u32_at b2 (at + 4) ≡ at → WritesWord b1 b2 (at + 4) → length b2 ≡ length b1
+    → u32_at b3 (at + 8) ≡ size → WritesWord b2 b3 (at + 8) → length b3 ≡ length b2
     → PutsSize b3 b4 (at + 32) (size - 32) false → LaysBin b0 b4 at
 lays b0 b1 b2 b3 b4 at size whole wide zeros e1 w1 n1 e2 w2 n2 e3 w3 n3 p =
     let cell : cell_size b4 (at + 32) ≡ size - 32 = p.size_is in
@@ -341,10 +341,10 @@ module _ (bytes : List ℕ) (words : List ℕ) (n : ℕ) where
   starts_before k low = ap (λ (w : ℕ). eqb (bit_at w (k % 64)) 1) (get_or_append_left words (replicate n 0) 0 (k / 64) (omega arith))
 
 -- the bin and its free cell are added, with the bits and the bounds
-pub bin_added : (bytes grown bytes' words words' bounds bounds' : List ℕ) (more at : ℕ) → at ≡ length bytes → (k : IsKept bytes words) → AreBounds bytes bounds → more % 4096 ≡ 0 → 0 < more
-    → grown ≡ bytes ++ replicate more 0 → PutsStart (words ++ replicate (more / 512) 0) words' ((at + 32) / 8) true → LaysBin grown bytes' at
+pub bin_added : (bytes grown bytes' words words' bounds bounds' : List ℕ) (more at : ℕ) → at ≡ length bytes → (k : HasStartBits bytes words) → AreBounds bytes bounds → more % 4096 ≡ 0 → 0 < more
+    → grown ≡ bytes ++ replicate more 0 → SetsStartBit (words ++ replicate (more / 512) 0) words' ((at + 32) / 8) true → LaysBin grown bytes' at
     → at + more ≤ 4096 * length bounds → Raises bounds bounds' ((at + 32) / 4096) (more - 32)
-    → AddsFreeBin bytes bytes' more × IsKept bytes' words' × AreBounds bytes' bounds'
+    → AddsFreeBin bytes bytes' more × HasStartBits bytes' words' × AreBounds bytes' bounds'
 unfolding with_bin with_cell
 bin_added bytes grown bytes' words words' bounds bounds' more at at_is k b pages some bytes_are put l' enough raised =
     let m : IsMarked bytes k.marks = k.all in

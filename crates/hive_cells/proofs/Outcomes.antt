@@ -2,10 +2,10 @@
 use Rattle.std.proofs.Common.{◌≡◌, ◌≢◌, ℕ, ◌+◌, ◌%◌, ◌<◌, ◌≤◌, true, false, List, length, refl, sym, ◌∙◌, subst, inl, inr, arith, ap}
 use Rattle.std.proofs.lemmas.Bool.{cases_lt, cases_eq}
 use Rattle.refusals.specs.declared.limits.TheConstants.{MOST_BINS_BYTES}
-use Rattle.hive_cells.specs.Tiles.{word_at, IsBin, bin_size, is_allocated, cell_size, IsAllocatedCell, IsFreeCell, HasFree}
+use Rattle.hive_cells.specs.Tiles.{u32_at, IsBin, bin_size, is_allocated, cell_size, IsAllocatedCell, IsFreeCell, HasFree}
 use Rattle.hive_cells.specs.Marks.{IsWholeCell}
-use Rattle.hive_cells.specs.Starts.{IsKept, SameCell}
-use Rattle.hive_cells.specs.Changes.{StaysAt, StaysFree, RewritesWithin, Turns, Splits, Joins, JoinsBehind, JoinsBefore, Frees, Fits, Takes, LeavesRest, IsRoomFor, AddsFreeBin, HasRoom, HasNoPlace, Allocates, least_size, least_bin}
+use Rattle.hive_cells.specs.Starts.{HasStartBits, SameCell}
+use Rattle.hive_cells.specs.Changes.{StaysAt, StaysFree, RewritesWithin, Turns, Splits, Joins, JoinsBehind, JoinsBefore, Frees, IsCutToSize, Takes, LeavesRest, IsRoomFor, AddsFreeBin, HasRoom, HasNoRoomFor, Allocates, least_size, least_bin}
 use Rattle.hive_cells.proofs.CellChanges.{cell_within}
 use Rattle.hive_cells.proofs.Lookups.{begins_apart}
 use Rattle.hive_cells.proofs.Region.{words_same}
@@ -45,7 +45,7 @@ same_free old new at s =
 -- ---- freeing
 
 -- a cell that turned free and was joined with its neighbours
-pub freed : (old free joined new words : List ℕ) (at from : ℕ) → IsKept old words → IsAllocatedCell old at → length old ≤ MOST_BINS_BYTES
+pub freed : (old free joined new words : List ℕ) (at from : ℕ) → HasStartBits old words → IsAllocatedCell old at → length old ≤ MOST_BINS_BYTES
     → Turns old free at false → JoinsBehind free joined at → JoinsBefore joined new at from → Frees old new at from
 freed old free joined new words at from k was limit turned behind before =
     let long : 8 ≤ cell_size old at = (cell_within old words at k was.0).least in
@@ -80,7 +80,7 @@ freed old free joined new words at from k was limit turned behind before =
     }
 
 -- the free cell behind one that is joined with it
-pub joined_behind : (old new words : List ℕ) (at next : ℕ) → IsKept old words → IsFreeCell old at → next ≡ at + cell_size old at → Joins old new at next → JoinsBehind old new at
+pub joined_behind : (old new words : List ℕ) (at next : ℕ) → HasStartBits old words → IsFreeCell old at → next ≡ at + cell_size old at → Joins old new at next → JoinsBehind old new at
 joined_behind old new words at next k free next_is j =
     let least : 8 ≤ cell_size old at = (cell_within old words at k free.0).least in
     record {
@@ -108,7 +108,7 @@ none_behind bytes at next free next_is none =
     }
 
 -- the free cell before one that takes it in
-pub joined_before : (old new words : List ℕ) (at from : ℕ) → IsKept old words → IsFreeCell old from → from + cell_size old from ≡ at
+pub joined_before : (old new words : List ℕ) (at from : ℕ) → HasStartBits old words → IsFreeCell old from → from + cell_size old from ≡ at
     → ((other : ℕ) → IsFreeCell old other → other + cell_size old other ≡ at → from ≡ other) → Joins old new from at → JoinsBefore old new at from
 joined_before old new words at from k free ends only j =
     record {
@@ -135,7 +135,7 @@ none_before bytes at free none =
 -- ---- allocating
 
 -- a free cell that was split
-pub was_fitted : (old new : List ℕ) (at size : ℕ) → size + 8 ≤ cell_size old at → Splits old new at size → Fits old new at size
+pub was_fitted : (old new : List ℕ) (at size : ℕ) → size + 8 ≤ cell_size old at → Splits old new at size → IsCutToSize old new at size
 was_fitted old new at size more s =
     let first : cell_size new at ≡ size = s.first_size in
     let whole : size + cell_size new (at + size) ≡ cell_size old at = s.second_size in
@@ -154,7 +154,7 @@ was_fitted old new at size more s =
     }
 
 -- one that fits as it is
-pub fits_already : (bytes : List ℕ) (at size : ℕ) → IsFreeCell bytes at → size ≤ cell_size bytes at → cell_size bytes at ≤ size + 8 → Fits bytes bytes at size
+pub fits_already : (bytes : List ℕ) (at size : ℕ) → IsFreeCell bytes at → size ≤ cell_size bytes at → cell_size bytes at ≤ size + 8 → IsCutToSize bytes bytes at size
 fits_already bytes at size free least most =
     record {
       free = free;
@@ -170,7 +170,7 @@ fits_already bytes at size free least most =
     }
 
 -- a free cell that was fitted and turned allocated
-pub taken : (old fitted new words : List ℕ) (at size : ℕ) → IsKept old words → 8 ≤ size → IsFreeCell old at → Fits old fitted at size → Turns fitted new at true → Takes old new at size
+pub taken : (old fitted new words : List ℕ) (at size : ℕ) → HasStartBits old words → 8 ≤ size → IsFreeCell old at → IsCutToSize old fitted at size → Turns fitted new at true → Takes old new at size
 taken old fitted new words at size k wide free fit turn =
     let same_size : cell_size new at ≡ cell_size fitted at = turn.size in
     let least : size ≤ cell_size fitted at = fit.least in
@@ -220,7 +220,7 @@ taken old fitted new words at size k wide free fit turn =
 -- a bin stays one where only bytes behind its header are written
 bin_stays : (mid new : List ℕ) (bin from to : ℕ) → IsBin mid bin → bin + 32 ≤ from → RewritesWithin mid new from to → IsBin new bin × (bin_size new bin ≡ bin_size mid bin)
 bin_stays mid new bin from to b behind r =
-    let word : (at : ℕ) → at + 4 ≤ from → word_at new at ≡ word_at mid at = (λ at low. words_same mid new at (λ i after before. r.others i (inl (omega arith)))) in
+    let word : (at : ℕ) → at + 4 ≤ from → u32_at new at ≡ u32_at mid at = (λ at low. words_same mid new at (λ i after before. r.others i (inl (omega arith)))) in
     let size : bin_size new bin ≡ bin_size mid bin = word (bin + 8) (omega arith) in (
       record {
         signature = word bin (omega arith) ∙ b.signature;
@@ -260,7 +260,7 @@ allocated old mid new len size at size_is room took =
     let some : 0 < cell_size mid at = omega (arith, room.fits) in
     record {
       room = cell_size mid at;
-      has_place = subst (λ (x : ℕ). ¬ HasNoPlace old x) size_is room.has_place;
+      has_place = subst (λ (x : ℕ). ¬ HasNoRoomFor old x) size_is room.has_place;
       fresh = λ found. took.fresh ((room.stay at).same.1 found);
       begins = took.begins;
       least = omega arith;
@@ -288,7 +288,7 @@ allocated old mid new len size at size_is room took =
     }
 
 -- a free cell that is there has room
-pub room_found : (bytes words : List ℕ) (at size : ℕ) → IsKept bytes words → length bytes ≤ MOST_BINS_BYTES → IsFreeCell bytes at → size ≤ cell_size bytes at → HasRoom bytes bytes at size
+pub room_found : (bytes words : List ℕ) (at size : ℕ) → HasStartBits bytes words → length bytes ≤ MOST_BINS_BYTES → IsFreeCell bytes at → size ≤ cell_size bytes at → HasRoom bytes bytes at size
 room_found bytes words at size k limit free fits =
     record {
       limit = limit;
@@ -320,7 +320,7 @@ room_added old new size limit none added =
     }
 
 -- no cell that is longer than the limit has a place
-pub no_place : (bytes words : List ℕ) (len : ℕ) → IsKept bytes words → MOST_BINS_BYTES < len → HasNoPlace bytes (least_size len)
+pub no_place : (bytes words : List ℕ) (len : ℕ) → HasStartBits bytes words → MOST_BINS_BYTES < len → HasNoRoomFor bytes (least_size len)
 no_place bytes words len k over = elim (cases_lt MOST_BINS_BYTES (length bytes)) [
   | inl long ↦ inl long
   | inr within ↦ inr (

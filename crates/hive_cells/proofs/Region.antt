@@ -6,7 +6,7 @@ use Rattle.std.proofs.lemmas.Bool.{cases_eq, cases_lt, cases_order}
 use Rattle.hive_cells.specs.Changes.{StaysAt}
 use Rattle.hive_cells.specs.Starts.{SameCell}
 use Rattle.hive_cells.proofs.Reached.{starts_at_mark, mark_at_start}
-use Rattle.hive_cells.specs.Tiles.{BeginsCell, IsFreeCell, word_at, cell_size, is_allocated, cell_data}
+use Rattle.hive_cells.specs.Tiles.{BeginsCell, IsFreeCell, u32_at, cell_size, is_allocated, cell_data}
 use Rattle.hive_cells.specs.Marks.{Mark, Inside, Bin, Cell, mark_at, BinMarked, CellMarked, IsMarkedTo, IsMarked, IsCellMarkedAt}
 
 -- the cells from the slot `from` on, up to the slot `to`, become others; `from` and `to` are in 8 bytes
@@ -27,29 +27,29 @@ pub record ChangesCells (bytes bytes' : List ℕ) (marks marks' : List Mark) (fr
   pub cells : (j : ℕ) → from ≤ j → j < to → mark_at marks' j ≡ Cell → CellMarked bytes' marks' (8 * to) j
 
 -- words that no changed byte is of
-pub words_same : (bytes bytes' : List ℕ) (at : ℕ) → ((i : ℕ) → at ≤ i → i < at + 4 → slice_index bytes' i ≡ slice_index bytes i) → word_at bytes' at ≡ word_at bytes at
-unfolding word_at
+pub words_same : (bytes bytes' : List ℕ) (at : ℕ) → ((i : ℕ) → at ≤ i → i < at + 4 → slice_index bytes' i ≡ slice_index bytes i) → u32_at bytes' at ≡ u32_at bytes at
+unfolding u32_at
 words_same bytes bytes' at same = rw (same at (omega arith) (omega arith), same (at + 1) (omega arith) (omega arith), same (at + 2) (omega arith) (omega arith), same (at + 3) (omega arith) (omega arith)) refl
 
 -- the size and the kind of a cell are those of its word
-pub size_same : (bytes bytes' : List ℕ) (at : ℕ) → word_at bytes' at ≡ word_at bytes at → cell_size bytes' at ≡ cell_size bytes at
+pub size_same : (bytes bytes' : List ℕ) (at : ℕ) → u32_at bytes' at ≡ u32_at bytes at → cell_size bytes' at ≡ cell_size bytes at
 unfolding cell_size is_allocated
 size_same bytes bytes' at same = rw same refl
 
-pub kind_same : (bytes bytes' : List ℕ) (at : ℕ) → word_at bytes' at ≡ word_at bytes at → is_allocated bytes' at ≡ is_allocated bytes at
+pub kind_same : (bytes bytes' : List ℕ) (at : ℕ) → u32_at bytes' at ≡ u32_at bytes at → is_allocated bytes' at ≡ is_allocated bytes at
 unfolding is_allocated
 kind_same bytes bytes' at same = rw same refl
 
 -- a free cell that is the same was free, with its size
 pub free_was : (old new : List ℕ) (at : ℕ) → SameCell old new at → IsFreeCell new at → IsFreeCell old at × (cell_size new at ≡ cell_size old at)
 free_was old new at s free =
-    let word : word_at new at ≡ word_at old at = s.word (s.began free.0) in
+    let word : u32_at new at ≡ u32_at old at = s.word (s.began free.0) in
     ((s.began free.0, sym (kind_same old new at word) ∙ free.1), size_same old new at word)
 
 -- and is free, with its size
 pub free_is : (old new : List ℕ) (at : ℕ) → SameCell old new at → IsFreeCell old at → IsFreeCell new at × (cell_size new at ≡ cell_size old at)
 free_is old new at s free =
-    let word : word_at new at ≡ word_at old at = s.word free.0 in
+    let word : u32_at new at ≡ u32_at old at = s.word free.0 in
     ((s.begins free.0, kind_same old new at word ∙ free.1), size_same old new at word)
 
 -- a part of the data that no changed byte is of
@@ -96,20 +96,20 @@ module _ (bytes bytes' : List ℕ) (marks marks' : List Mark) (from to : ℕ) (m
   mark_outside j (inl low) = c.marks_before j low
   mark_outside j (inr high) = c.marks_behind j high
 
-  word_outside : (at : ℕ) → ((at + 4 ≤ 8 * from) ⊎ (8 * to ≤ at)) → word_at bytes' at ≡ word_at bytes at
+  word_outside : (at : ℕ) → ((at + 4 ≤ 8 * from) ⊎ (8 * to ≤ at)) → u32_at bytes' at ≡ u32_at bytes at
   word_outside at (inl low) = words_same bytes bytes' at (λ i after before. c.bytes_before i (omega arith))
   word_outside at (inr high) = words_same bytes bytes' at (λ i after before. c.bytes_behind i (omega arith))
 
   bin_again : (k : ℕ) → mark_at marks k ≡ Bin → ((8 * k + 32 ≤ 8 * from) ⊎ (to ≤ k)) → BinMarked bytes' marks' (length bytes') k
   bin_again k is_bin out =
       let b : BinMarked bytes marks (length bytes) k = m.bins k is_bin in
-      let here : word_at bytes' (8 * k) ≡ word_at bytes (8 * k) = word_outside (8 * k) (elim out [ inl low ↦ inl (omega arith) | inr high ↦ inr (omega arith) ]) in
-      let own : word_at bytes' (8 * k + 4) ≡ word_at bytes (8 * k + 4) = word_outside (8 * k + 4) (elim out [ inl low ↦ inl (omega arith) | inr high ↦ inr (omega arith) ]) in
-      let size : word_at bytes' (8 * k + 8) ≡ word_at bytes (8 * k + 8) = word_outside (8 * k + 8) (elim out [ inl low ↦ inl (omega arith) | inr high ↦ inr (omega arith) ]) in
+      let here : u32_at bytes' (8 * k) ≡ u32_at bytes (8 * k) = word_outside (8 * k) (elim out [ inl low ↦ inl (omega arith) | inr high ↦ inr (omega arith) ]) in
+      let own : u32_at bytes' (8 * k + 4) ≡ u32_at bytes (8 * k + 4) = word_outside (8 * k + 4) (elim out [ inl low ↦ inl (omega arith) | inr high ↦ inr (omega arith) ]) in
+      let size : u32_at bytes' (8 * k + 8) ≡ u32_at bytes (8 * k + 8) = word_outside (8 * k + 8) (elim out [ inl low ↦ inl (omega arith) | inr high ↦ inr (omega arith) ]) in
       let len : length bytes' ≡ length bytes = c.len in
-      let within : 8 * k + word_at bytes (8 * k + 8) ≤ length bytes = b.sound.within in
-      let pages : word_at bytes (8 * k + 8) % 4096 ≡ 0 = b.sound.pages in
-      let not_empty : word_at bytes (8 * k + 8) ≢ 0 = b.sound.not_empty in
+      let within : 8 * k + u32_at bytes (8 * k + 8) ≤ length bytes = b.sound.within in
+      let pages : u32_at bytes (8 * k + 8) % 4096 ≡ 0 = b.sound.pages in
+      let not_empty : u32_at bytes (8 * k + 8) ≢ 0 = b.sound.not_empty in
       record {
         sound = record {
           signature = here ∙ b.sound.signature;
@@ -220,7 +220,7 @@ module _ (bytes bytes' : List ℕ) (marks marks' : List Mark) (from to : ℕ) (m
   pub all_again : IsMarked bytes marks → IsMarked bytes' marks'
   all_again all = record { pages = omega (arith, all.pages, c.len); all = changed_marked }
 
-  kind_outside : (at : ℕ) → at % 8 ≡ 0 → ((at / 8 < from) ⊎ (to ≤ at / 8)) → word_at bytes' at ≡ word_at bytes at
+  kind_outside : (at : ℕ) → at % 8 ≡ 0 → ((at / 8 < from) ⊎ (to ≤ at / 8)) → u32_at bytes' at ≡ u32_at bytes at
   kind_outside at eights out = word_outside at (elim out [ inl low ↦ inl (omega arith) | inr high ↦ inr (omega arith) ])
 
   -- the data of a cell outside are not written

@@ -7,7 +7,7 @@ use Rattle.std.proofs.lemmas.List.{length-replicate, get_or-replicate, get_or_pa
 use Rattle.std.proofs.lemmas.Nat.Bits.{bit_at-zero}
 use Rattle.hive_cells.specs.Tiles.{IsBin, bin_size, IsCell, cell_size, is_allocated}
 use Rattle.hive_cells.specs.Marks.{Mark, Inside, Bin, Cell, mark_at, BinMarked, IsMarked, IsInBin, IsCellMarkedAt}
-use Rattle.hive_cells.specs.Starts.{is_start, is_cell_mark, IsIndexed, PutsStart, StandsBetween, StandsIn, bound_at}
+use Rattle.hive_cells.specs.Starts.{is_start, is_cell_mark, IsIndexed, SetsStartBit, WalkIsBetweenBins, WalkIsInBin, bound_at}
 use Rattle.hive_cells.proofs.Marking.{SetsMark, set_mark, bin_set, cell_set, bin_ended, all_marked, none_marked}
 use Rattle.hive_cells.proofs.Reached.{mark_at_start}
 use Rattle.hive_cells.proofs.CellChanges.{puts_same}
@@ -24,7 +24,7 @@ pub no_start : (n k : ℕ) → is_start (replicate n 0) k ≡ false
 no_start n k = ap (λ (w : ℕ). eqb (bit_at w (k % 64)) 1) (zero_word n (k / 64)) ∙ ap (λ (b : ℕ). eqb b 1) (bit_at-zero (k % 64))
 
 -- the walk begins
-pub walk_start : (bytes : List ℕ) (bounds : ℕ) → length bytes % 4096 ≡ 0 → length bytes / 4096 ≤ bounds → 16384 ≤ bounds → StandsBetween bytes (replicate (length bytes / 512) 0) (replicate bounds 0) 0
+pub walk_start : (bytes : List ℕ) (bounds : ℕ) → length bytes % 4096 ≡ 0 → length bytes / 4096 ≤ bounds → 16384 ≤ bounds → WalkIsBetweenBins bytes (replicate (length bytes / 512) 0) (replicate bounds 0) 0
 walk_start bytes bounds pages enough most_pages =
     let count : ℕ = length bytes / 8 in
     let inside : (k : ℕ) → mark_at (replicate count Inside) k ≡ Inside = inside_marks count in
@@ -43,15 +43,15 @@ walk_start bytes bounds pages enough most_pages =
     }
 
 -- a bin ends within the data
-pub bin_within : (bytes words bounds : List ℕ) (end at : ℕ) → StandsIn bytes words bounds end at → end ≤ length bytes
+pub bin_within : (bytes words bounds : List ℕ) (end at : ℕ) → WalkIsInBin bytes words bounds end at → end ≤ length bytes
 bin_within bytes words bounds end at s =
     let mine : BinMarked bytes s.marks at s.walk.bin = s.walk.marked.bins s.walk.bin s.walk.bin_is in
     omega (arith, mine.sound.within, s.walk.ends)
 
 -- the walk goes on behind a cell
-pub cell_walked : (bytes words words' bounds bounds' : List ℕ) (end at behind : ℕ) → StandsIn bytes words bounds end at → at < end → IsCell bytes end at → behind ≡ at + cell_size bytes at
-    → PutsStart words words' (at / 8) true → length bounds' ≡ length bounds → ((k : ℕ) → slice_index bounds k ≤ slice_index bounds' k) → (is_allocated bytes at ≡ false → cell_size bytes at ≤ bound_at bounds' at)
-    → (at < behind) × StandsIn bytes words' bounds' end behind
+pub cell_walked : (bytes words words' bounds bounds' : List ℕ) (end at behind : ℕ) → WalkIsInBin bytes words bounds end at → at < end → IsCell bytes end at → behind ≡ at + cell_size bytes at
+    → SetsStartBit words words' (at / 8) true → length bounds' ≡ length bounds → ((k : ℕ) → slice_index bounds k ≤ slice_index bounds' k) → (is_allocated bytes at ≡ false → cell_size bytes at ≤ bound_at bounds' at)
+    → (at < behind) × WalkIsInBin bytes words' bounds' end behind
 cell_walked bytes words words' bounds bounds' end at behind s before cell is put len more here =
     let done = cell_set bytes s.marks end at behind s.walk before cell is in
     let within : end ≤ length bytes = bin_within bytes words bounds end at s in
@@ -78,7 +78,7 @@ cell_walked bytes words words' bounds bounds' end at behind s before cell is put
     )
 
 -- behind a bin's header
-pub bin_walked : (bytes words bounds : List ℕ) (at end : ℕ) → StandsBetween bytes words bounds at → at < length bytes → IsBin bytes at → end ≡ at + bin_size bytes at → (at + 32 < end) × StandsIn bytes words bounds end (at + 32)
+pub bin_walked : (bytes words bounds : List ℕ) (at end : ℕ) → WalkIsBetweenBins bytes words bounds at → at < length bytes → IsBin bytes at → end ≡ at + bin_size bytes at → (at + 32 < end) × WalkIsInBin bytes words bounds end (at + 32)
 bin_walked bytes words bounds at end s before bin is =
     let done = bin_set bytes s.marks at end s.walk before bin is in
     let pages : at % 4096 ≡ 0 = s.walk.pages in
@@ -107,13 +107,13 @@ bin_walked bytes words bounds at end s before bin is =
     )
 
 -- behind a bin
-pub bin_done : (bytes words bounds : List ℕ) (end at : ℕ) → StandsIn bytes words bounds end at → end ≤ at → StandsBetween bytes words bounds end
+pub bin_done : (bytes words bounds : List ℕ) (end at : ℕ) → WalkIsInBin bytes words bounds end at → end ≤ at → WalkIsBetweenBins bytes words bounds end
 bin_done bytes words bounds end at s past =
     let same : at ≡ end = omega (arith, s.walk.before_end) in
     record { marks = s.marks; walk = bin_ended bytes s.marks end (subst (λ (x : ℕ). IsInBin bytes s.marks end x) same s.walk); starts = s.starts; free = s.free }
 
 -- behind all bins
-pub all_walked : (bytes words bounds : List ℕ) (at : ℕ) → StandsBetween bytes words bounds at → length bytes ≤ at → IsIndexed bytes words bounds
+pub all_walked : (bytes words bounds : List ℕ) (at : ℕ) → WalkIsBetweenBins bytes words bounds at → length bytes ≤ at → IsIndexed bytes words bounds
 all_walked bytes words bounds at s past =
     let all : IsMarked bytes s.marks = all_marked bytes s.marks at s.walk past in
     record {

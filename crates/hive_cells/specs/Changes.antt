@@ -4,7 +4,7 @@ use Rattle.refusals.specs.declared.refusal.Refusal.{Refusal}
 use Rattle.refusals.specs.declared.refusal.Refusal.TheVariants as refusal
 use Rattle.refusals.specs.declared.refusal.Cause.TheVariants as cause
 use Rattle.refusals.specs.declared.limits.TheConstants.{MOST_BINS_BYTES}
-use Rattle.hive_cells.specs.Tiles.{word_at, IsBin, bin_size, is_allocated, cell_size, BeginsCell, IsAllocatedCell, IsFreeCell, HasFree, cell_data}
+use Rattle.hive_cells.specs.Tiles.{u32_at, IsBin, bin_size, is_allocated, cell_size, BeginsCell, IsAllocatedCell, IsFreeCell, HasFree, cell_data}
 use Rattle.hive_cells.specs.Starts.{SameCell, OtherCells}
 use Rattle.hive_cells.specs.Bins.{Bins}
 
@@ -98,8 +98,8 @@ pub record JoinsBefore (old new : List ℕ) (at from : ℕ) : Type 0 where
 -- a bin with one free cell is laid behind the data, from an offset up to the new end: its header says `hbin`, the offset
 -- and its size, and what is neither that nor the cell's size is 0
 pub record LaysBin (old new : List ℕ) (at : ℕ) : Type 0 where
-  pub signature : word_at new at ≡ 0x6e69_6268
-  pub own_offset : word_at new (at + 4) ≡ at
+  pub signature : u32_at new at ≡ 0x6e69_6268
+  pub own_offset : u32_at new (at + 4) ≡ at
   pub size_is : at + bin_size new at ≡ length new
   pub cell_is : at + (32 + cell_size new (at + 32)) ≡ length new
   pub is_free : is_allocated new (at + 32) ≡ false
@@ -145,8 +145,8 @@ pub record LeavesRest (old new : List ℕ) (offset room : ℕ) : Type 0 where
 
 -- a cell of a size has no place: the data are over the limit, or no free cell is as long and a bin for it would take
 -- the data over the limit
-abbrev pub HasNoPlace : List ℕ → ℕ → Type 0
-HasNoPlace bytes size = (MOST_BINS_BYTES < length bytes) ⊎ ((¬ HasFree bytes size) × (MOST_BINS_BYTES < length bytes + least_bin size))
+abbrev pub HasNoRoomFor : List ℕ → ℕ → Type 0
+HasNoRoomFor bytes size = (MOST_BINS_BYTES < length bytes) ⊎ ((¬ HasFree bytes size) × (MOST_BINS_BYTES < length bytes + least_bin size))
 
 -- a free cell of at least a size is at an offset; the data may have got longer, and what they were stays
 pub record HasRoom (old new : List ℕ) (at size : ℕ) : Type 0 where
@@ -159,21 +159,21 @@ pub record HasRoom (old new : List ℕ) (at size : ℕ) : Type 0 where
   pub longer : length old ≤ length new
   pub same : (i : ℕ) → i < length old → slice_index new i ≡ slice_index old i
   pub source : IsRoomFor old new size at (cell_size new at)
-  pub has_place : ¬ HasNoPlace old size
+  pub has_place : ¬ HasNoRoomFor old size
 
 -- why no cell of a size is allocated: it has no place; or no free cell is as long, and there is no memory reserved for
 -- the bin that has it
-abbrev pub PlaceRefused : Bins → ℕ → Refusal → Type 0
-PlaceRefused old size refusal.NoMemory = (¬ HasNoPlace old.bytes size) × (¬ HasFree old.bytes size) × (old.spare < least_bin size)
-PlaceRefused old size refusal.TooLarge = HasNoPlace old.bytes size
-PlaceRefused old size _ = ⊥
+abbrev pub RoomRefused : Bins → ℕ → Refusal → Type 0
+RoomRefused old size refusal.NoMemory = (¬ HasNoRoomFor old.bytes size) × (¬ HasFree old.bytes size) × (old.spare < least_bin size)
+RoomRefused old size refusal.TooLarge = HasNoRoomFor old.bytes size
+RoomRefused old size _ = ⊥
 
 -- what is spare gets less by what the data get longer
 abbrev pub UsesSpare : Bins → Bins → Type 0
 UsesSpare old new = new.spare ≡ old.spare - (length new.bytes - length old.bytes)
 
 -- the free cell at an offset is as long as it was, or was split behind a size; all other cells are the same
-pub record Fits (old new : List ℕ) (at size : ℕ) : Type 0 where
+pub record IsCutToSize (old new : List ℕ) (at size : ℕ) : Type 0 where
   pub free : IsFreeCell new at
   pub least : size ≤ cell_size new at
   pub most : cell_size new at ≤ size + 8
@@ -225,7 +225,7 @@ FreeRefused bytes offset _ = ⊥
 -- longer than the least one only where no more than 8 bytes would be over
 pub record Allocates (old new : List ℕ) (len offset : ℕ) : Type 0 where
   pub room : ℕ
-  pub has_place : ¬ HasNoPlace old (least_size len)
+  pub has_place : ¬ HasNoRoomFor old (least_size len)
   pub fresh : ¬ IsAllocatedCell old offset
   pub begins : IsAllocatedCell new offset
   pub least : least_size len ≤ cell_size new offset

@@ -2,7 +2,7 @@
 -- the greatest sizes of free cells, page by page.
 use Rattle.std.specs.Prelude.{◌≡◌, ◌≢◌, ℕ, ◌+◌, ◌*◌, ◌/◌, ◌%◌, ◌<◌, ◌≤◌, ◌==◌, Bool, true, false, List, length, slice_index}
 use Rattle.std.specs.Int.{bit_at}
-use Rattle.hive_cells.specs.Tiles.{IsFreeCell, BeginsCell, word_at, is_allocated, cell_size}
+use Rattle.hive_cells.specs.Tiles.{IsFreeCell, BeginsCell, u32_at, is_allocated, cell_size}
 use Rattle.hive_cells.specs.Marks.{Mark, Cell, mark_at, IsMarked, IsBetweenBins, IsInBin}
 
 -- whether a cell begins at the k-th 8 bytes
@@ -31,7 +31,7 @@ pub record IsLastBit (word last bit : ℕ) : Type 0 where
   pub rest : (above : ℕ) → bit < above → above ≤ last → bit_at word above ≡ 0
 
 -- one bit is put
-pub record PutsStart (old new : List ℕ) (slot : ℕ) (begins : Bool) : Type 0 where
+pub record SetsStartBit (old new : List ℕ) (slot : ℕ) (begins : Bool) : Type 0 where
   pub len : length new ≡ length old
   pub here : is_start new slot ≡ begins
   pub others : (k : ℕ) → k ≢ slot → is_start new k ≡ is_start old k
@@ -47,7 +47,7 @@ pub record AreStarts (bytes : List ℕ) (marks : List Mark) (words : List ℕ) :
   pub same : (k : ℕ) → is_start words k ≡ is_cell_mark (mark_at marks k)
 
 -- bins and cells tile the data, and the bits say where cells begin
-pub record IsKept (bytes words : List ℕ) : Type 0 where
+pub record HasStartBits (bytes words : List ℕ) : Type 0 where
   pub marks : List Mark
   pub all : IsMarked bytes marks
   pub starts : AreStarts bytes marks words
@@ -70,7 +70,7 @@ pub record AreBounds (bytes bounds : List ℕ) : Type 0 where
 -- what is kept beside the data: bins and cells tile them, bits and bounds are theirs, and there is a bound for each page
 -- of the largest data
 pub record IsIndexed (bytes words bounds : List ℕ) : Type 0 where
-  pub cells : IsKept bytes words
+  pub cells : HasStartBits bytes words
   pub free : AreBounds bytes bounds
   pub most_pages : 16384 ≤ length bounds
 
@@ -109,14 +109,14 @@ pub record AreBoundsOf (bytes : List ℕ) (marks : List Mark) (bounds : List ℕ
   pub most : (k : ℕ) → mark_at marks k ≡ Cell → is_allocated bytes (8 * k) ≡ false → cell_size bytes (8 * k) ≤ bound_at bounds (8 * k)
 
 -- the walk over the data stands between two bins, at an offset
-pub record StandsBetween (bytes words bounds : List ℕ) (at : ℕ) : Type 0 where
+pub record WalkIsBetweenBins (bytes words bounds : List ℕ) (at : ℕ) : Type 0 where
   pub marks : List Mark
   pub walk : IsBetweenBins bytes marks at
   pub starts : AreStarts bytes marks words
   pub free : AreBoundsOf bytes marks bounds
 
 -- the walk stands at an offset behind the header of the bin that ends at `end`
-pub record StandsIn (bytes words bounds : List ℕ) (end at : ℕ) : Type 0 where
+pub record WalkIsInBin (bytes words bounds : List ℕ) (end at : ℕ) : Type 0 where
   pub marks : List Mark
   pub walk : IsInBin bytes marks end at
   pub starts : AreStarts bytes marks words
@@ -126,7 +126,7 @@ pub record StandsIn (bytes words bounds : List ℕ) (end at : ℕ) : Type 0 wher
 pub record SameCell (old new : List ℕ) (at : ℕ) : Type 0 where
   pub begins : BeginsCell old at → BeginsCell new at
   pub began : BeginsCell new at → BeginsCell old at
-  pub word : BeginsCell old at → word_at new at ≡ word_at old at
+  pub word : BeginsCell old at → u32_at new at ≡ u32_at old at
 
 -- all cells but for those at two offsets are the same
 abbrev pub OtherCells : List ℕ → List ℕ → ℕ → ℕ → Type 0

@@ -7,19 +7,19 @@ use Rattle.refusals.specs.declared.refusal.Cause.{Cause}
 use Rattle.refusals.specs.declared.refusal.Cause.TheVariants as cause
 
 -- the number of the four bytes that begin at an offset, the lowest byte first
-unfoldable pub word_at : List ℕ → ℕ → ℕ
-word_at bytes at =
+unfoldable pub u32_at : List ℕ → ℕ → ℕ
+u32_at bytes at =
     slice_index bytes at + 0x100 * slice_index bytes (at + 1) + 0x1_0000 * slice_index bytes (at + 2) + 0x100_0000 * slice_index bytes (at + 3)
 
 -- the size that the header of a bin says
 abbrev pub bin_size : List ℕ → ℕ → ℕ
-bin_size bytes at = word_at bytes (at + 8)
+bin_size bytes at = u32_at bytes (at + 8)
 
 -- a bin at an offset: its header says `hbin`, that offset, and a size that is a multiple of 4,096 and not 0; and
 -- it ends within the data
 pub record IsBin (bytes : List ℕ) (at : ℕ) : Type 0 where
-  pub signature : word_at bytes at ≡ 0x6e69_6268
-  pub own_offset : word_at bytes (at + 4) ≡ at
+  pub signature : u32_at bytes at ≡ 0x6e69_6268
+  pub own_offset : u32_at bytes (at + 4) ≡ at
   pub pages : bin_size bytes at % 4096 ≡ 0
   pub not_empty : bin_size bytes at ≢ 0
   pub within : at + bin_size bytes at ≤ length bytes
@@ -31,11 +31,11 @@ pub data BinStart (bytes : List ℕ) : ℕ → Type 0 where
 
 -- a cell's stored size is a signed number of 32 bits: below 0 where the cell is allocated
 unfoldable pub is_allocated : List ℕ → ℕ → Bool
-is_allocated bytes at = nat_le (2 ^ 31) (word_at bytes at)
+is_allocated bytes at = nat_le (2 ^ 31) (u32_at bytes at)
 
 -- the size of a cell, its own four bytes included: the amount of the stored size
 unfoldable pub cell_size : List ℕ → ℕ → ℕ
-cell_size bytes at = if is_allocated bytes at then 2 ^ 32 - word_at bytes at else word_at bytes at
+cell_size bytes at = if is_allocated bytes at then 2 ^ 32 - u32_at bytes at else u32_at bytes at
 
 -- a cell at an offset, in a bin that has this end: its size is a multiple of 8, at least 8, and it ends within the
 -- bin

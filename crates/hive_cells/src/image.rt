@@ -5,7 +5,7 @@ ghost use Rattle.std.specs.Vec.{vec_capacity};
 ghost use Rattle.hive_cells.specs.Bins.{Bins, bins_code, Cells, Shows};
 ghost use Rattle.hive_cells.specs.Tiles.{Tiles, LiesInOneTile, DataRefused, IsAllocatedCell, cell_data, cell_size, is_allocated};
 ghost use Rattle.hive_cells.specs.Starts.{IsImage};
-ghost use Rattle.hive_cells.specs.Changes.{RewritesWithin, Frees, FreeRefused, Allocates, PlaceRefused, HasRoom, UsesSpare, Writes, least_size};
+ghost use Rattle.hive_cells.specs.Changes.{RewritesWithin, Frees, FreeRefused, Allocates, RoomRefused, HasRoom, UsesSpare, Writes, least_size};
 
 mod edits;
 mod growth;
@@ -52,17 +52,17 @@ impl Model for Image {
 
 /// Bytes that are not opened as an image, given back with the reason.
 #[derive(Drop)]
-pub struct Unopened {
+pub struct ImageOpenError {
     /// Why the bytes are no image.
     pub refusal: Refusal,
     /// The bytes.
     pub bytes: Vec<u8>,
 }
 
-impl From<Unopened> for Refusal {
+impl From<ImageOpenError> for Refusal {
     ghost from_gives = { λ unopened refusal. refusal ≡ unopened.refusal };
 
-    fn from(unopened: Unopened) -> Refusal {
+    fn from(unopened: ImageOpenError) -> Refusal {
         unopened.refusal
     }
 }
@@ -75,7 +75,7 @@ impl Image {
     /// signature, offset or size is wrong or the bin doesn't end within the data, `BadCell` where a cell's
     /// size is no multiple of 8, is below 8, or passes the end of its bin. Refused with `NoMemory` where memory
     /// for the bits and the bounds was not given. A refusal hands the bytes back.
-    pub fn open(alloc: Global, bytes: Vec<u8>) -> Result<Image, Unopened>
+    pub fn open(alloc: Global, bytes: Vec<u8>) -> Result<Image, ImageOpenError>
         ensures { MatchResult result
             (λ image. (image ≡ record { bytes = bytes.items; spare = 0 }) × Tiles bytes.items)
             (λ unopened. (unopened.bytes.items ≡ bytes.items)
@@ -88,7 +88,7 @@ impl Image {
                 free,
                 spare: 0,
             }),
-            Err(refusal) => Err(Unopened { refusal, bytes }),
+            Err(refusal) => Err(ImageOpenError { refusal, bytes }),
         }
     }
 
@@ -213,7 +213,7 @@ impl Image {
     pub fn alloc(&mut self, len: usize) -> Result<u32, Refusal>
         ensures allocated { MatchResult result
             (λ offset. Allocates self.old.bytes self.new.bytes len offset)
-            (λ refusal. (self.new ≡ self.old) × PlaceRefused self.old (least_size len) refusal) }
+            (λ refusal. (self.new ≡ self.old) × RoomRefused self.old (least_size len) refusal) }
         ensures spare { UsesSpare self.old self.new }
     {
         if self.bytes.len() > MOST_BINS_BYTES || len > MOST_BINS_BYTES {
@@ -232,7 +232,7 @@ impl Image {
         requires fits { size ≤ MOST_BINS_BYTES + 16 }
         ensures { MatchResult result (λ at. HasRoom self.old.bytes self.new.bytes at size
             × UsesSpare self.old self.new)
-            (λ refusal. (self.new ≡ self.old) × PlaceRefused self.old size refusal) }
+            (λ refusal. (self.new ≡ self.old) × RoomRefused self.old size refusal) }
     {
         let _ = &self.bytes;
         match self.find_free(size) {
@@ -264,7 +264,7 @@ fn are_bytes(bytes: &[u8])
 fn put_bytes(bytes: &mut [u8], from: usize, source: &[u8])
     requires { from + length source.now ≤ length bytes.old }
     ensures written { RewritesWithin bytes.old bytes.new from (from + length source.now) }
-    ensures text { slice_range bytes.new from (from + length source.now) ≡ source.now }
+    ensures encoding { slice_range bytes.new from (from + length source.now) ≡ source.now }
 {
     bytes[from..from + source.len()].copy_from_slice(source);
 }

@@ -25,5 +25,5 @@ mod starts;
 mod tiling;
 mod words;
 
-pub use image::{Image, Unopened};
+pub use image::{Image, ImageOpenError};
 pub use looks::Looks;

@@ -1,7 +1,7 @@
 //! Where cells begin in hive bins data: a bit for each 8 bytes, that of the k-th 8 bytes being bit `k % 64` of word
 //! `k / 64`.
 ghost use Rattle.std.specs.Prelude.{◌≡◌, ℕ, ◌+◌, ◌*◌, ◌<◌, ◌≤◌, length, MatchOption};
-ghost use Rattle.hive_cells.specs.Starts.{is_start, NoStart, IsLastStart, PutsStart, NoBit, IsLastBit};
+ghost use Rattle.hive_cells.specs.Starts.{is_start, NoStart, IsLastStart, SetsStartBit, NoBit, IsLastBit};
 
 // bits in a word
 const WORD_BITS: usize = 64;
@@ -17,9 +17,9 @@ pub(crate) fn begins_at(starts: &[u64], slot: usize) -> bool
 }
 
 /// Puts whether a cell begins at the 8 bytes of a slot.
-pub(crate) fn put_start(starts: &mut [u64], slot: usize, begins: bool)
+pub(crate) fn set_start_bit(starts: &mut [u64], slot: usize, begins: bool)
     requires { slot < 64 * length starts.old }
-    ensures { PutsStart starts.old starts.new slot begins }
+    ensures { SetsStartBit starts.old starts.new slot begins }
 {
     let bit = 1 << (slot % WORD_BITS);
     if begins {

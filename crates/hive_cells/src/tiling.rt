@@ -1,11 +1,11 @@
 //! The one walk over hive bins data that finds where bins and cells begin.
 ghost use Rattle.std.specs.Prelude.{◌≡◌, ◌+◌, ◌≤◌, ◌<◌, ◌*◌, ◌%◌, ◌^◌, length, MatchResult, IfOk};
 ghost use Rattle.hive_cells.specs.Tiles.{IsBin, IsCell, DataRefused, bin_size, cell_size, is_allocated};
-ghost use Rattle.hive_cells.specs.Starts.{IsIndexed, StandsBetween, StandsIn};
+ghost use Rattle.hive_cells.specs.Starts.{IsIndexed, WalkIsBetweenBins, WalkIsInBin};
 
 use crate::free_bounds::FreeBounds;
-use crate::starts::put_start;
-use crate::words::word_at;
+use crate::starts::set_start_bit;
+use crate::words::u32_at;
 use refusals::{Cause, Refusal};
 use std::alloc::Global;
 
@@ -43,7 +43,7 @@ pub(crate) fn is_allocated(bytes: &[u8], at: usize) -> bool
     requires { at + 4 ≤ length bytes.now }
     ensures { result ≡ is_allocated bytes.now at }
 {
-    LOWEST_ALLOCATED <= word_at(bytes, at)
+    LOWEST_ALLOCATED <= u32_at(bytes, at)
 }
 
 // the size of the cell at an offset: the amount of its stored size
@@ -53,7 +53,7 @@ pub(crate) fn cell_size(bytes: &[u8], at: usize) -> usize
     ensures size { result ≡ cell_size bytes.now at }
     ensures fits { result < 2 ^ 32 }
 {
-    let stored = word_at(bytes, at);
+    let stored = u32_at(bytes, at);
     if LOWEST_ALLOCATED <= stored {
         (u32::MAX - stored) as usize + 1
     } else {
@@ -67,9 +67,9 @@ fn bin_end(bytes: &[u8], at: usize) -> Result<usize, Refusal>
     ensures { MatchResult result (λ end. IsBin bytes.now at × (end ≡ at + bin_size bytes.now at))
         (λ refusal. (refusal ≡ Refusal.HiveDamaged 0 Cause.BadBin) × (¬ IsBin bytes.now at)) }
 {
-    let size = word_at(bytes, at + 8) as usize;
-    if word_at(bytes, at) == BIN_SIGNATURE
-        && word_at(bytes, at + 4) as usize == at
+    let size = u32_at(bytes, at + 8) as usize;
+    if u32_at(bytes, at) == BIN_SIGNATURE
+        && u32_at(bytes, at + 4) as usize == at
         && size % PAGE_BYTES == 0
         && size != 0
         && size <= bytes.len() - at
@@ -104,13 +104,13 @@ fn walk_cell(
     at: usize,
     end: usize,
 ) -> Result<usize, Refusal>
-    requires walk { StandsIn bytes.now starts.old free.old end at }
+    requires walk { WalkIsInBin bytes.now starts.old free.old end at }
     requires before { at < end }
     ensures { MatchResult result (λ behind. (at < behind)
-        × StandsIn bytes.now starts.new free.new end behind) (DataRefused bytes.now) }
+        × WalkIsInBin bytes.now starts.new free.new end behind) (DataRefused bytes.now) }
 {
     let behind = cell_end(bytes, at, end)?;
-    put_start(starts, at / MARKED_BYTES, true);
+    set_start_bit(starts, at / MARKED_BYTES, true);
     if !is_allocated(bytes, at) {
         free.note(at, cell_size(bytes, at));
     }
@@ -124,10 +124,10 @@ fn walk_bin(
     free: &mut FreeBounds,
     at: usize,
 ) -> Result<usize, Refusal>
-    requires walk { StandsBetween bytes.now starts.old free.old at }
+    requires walk { WalkIsBetweenBins bytes.now starts.old free.old at }
     requires before { at < length bytes.now }
     ensures { MatchResult result (λ end. (at < end)
-        × StandsBetween bytes.now starts.new free.new end) (DataRefused bytes.now) }
+        × WalkIsBetweenBins bytes.now starts.new free.new end) (DataRefused bytes.now) }
 {
     let end = bin_end(bytes, at)?;
     let mut cell = at + BIN_HEADER_BYTES;

@@ -1,25 +1,25 @@
 //! Numbers of 32 bits in hive bins data, the lowest byte first.
 ghost use Rattle.std.specs.Prelude.{◌≡◌, ◌+◌, ◌≤◌, ◌<◌, ◌^◌, ◌⊎◌, ℕ, length, slice_index};
-ghost use Rattle.hive_cells.specs.Tiles.{word_at};
+ghost use Rattle.hive_cells.specs.Tiles.{u32_at};
 ghost use Rattle.hive_cells.specs.Changes.{PutsSize};
 
 use byteorder::{ByteOrder, LittleEndian};
 
 /// The number of the four bytes that begin at an offset.
-#[tactic(auto, unfolding(crate::specs::Tiles::word_at))]
-pub(crate) fn word_at(bytes: &[u8], at: usize) -> u32
+#[tactic(auto, unfolding(crate::specs::Tiles::u32_at))]
+pub(crate) fn u32_at(bytes: &[u8], at: usize) -> u32
     requires { at + 4 ≤ length bytes.now }
-    ensures word { result ≡ word_at bytes.now at }
-    ensures fits { word_at bytes.now at < 2 ^ 32 }
+    ensures word { result ≡ u32_at bytes.now at }
+    ensures fits { u32_at bytes.now at < 2 ^ 32 }
 {
     LittleEndian::read_u32(&bytes[at..at + 4])
 }
 
 /// Writes the number of the four bytes that begin at an offset.
-#[tactic(auto, unfolding(crate::specs::Tiles::word_at))]
-pub(crate) fn put_word(bytes: &mut [u8], at: usize, word: u32)
+#[tactic(auto, unfolding(crate::specs::Tiles::u32_at))]
+pub(crate) fn put_u32(bytes: &mut [u8], at: usize, word: u32)
     requires { at + 4 ≤ length bytes.old }
-    ensures put { word_at bytes.new at ≡ word }
+    ensures put { u32_at bytes.new at ≡ word }
     ensures others { (i : ℕ) → ((i < at) ⊎ (at + 4 ≤ i)) →
         slice_index bytes.new i ≡ slice_index bytes.old i }
 {
@@ -40,5 +40,5 @@ pub(crate) fn put_size(bytes: &mut [u8], at: usize, size: usize, allocated: bool
     } else {
         amount
     };
-    put_word(bytes, at, stored);
+    put_u32(bytes, at, stored);
 }

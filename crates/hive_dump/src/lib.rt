@@ -8,6 +8,6 @@
 //! ([`hive_file_reader::laws`]).
 #![tactic(auto)]
 
-mod dumping;
+mod output;
 
-pub use dumping::{DumpFault, dump};
+pub use output::{DumpError, dump};

@@ -1,6 +1,6 @@
 //! Files that can't be read on, and texts that can't be written.
 use crate::hives::{TEXT, file};
-use hive_dump::{DumpFault, dump};
+use hive_dump::{DumpError, dump};
 use script_syntax::Status;
 use std::io;
 use std::io::{ErrorKind, Read, Write};
@@ -89,7 +89,7 @@ fn a_reader_that_fails_leaves_nothing_printed(rt: HostRuntime) -> Result<(), Fai
         let mut printed = Vec::new(alloc);
         let mut reader = Slow::new(file.get(..count).unwrap_or(b""), ErrorKind::BrokenPipe);
         let told = dump(alloc, &mut reader, &mut printed);
-        assert!(&rt; told == Err(DumpFault::CannotRead), "{count}");
+        assert!(&rt; told == Err(DumpError::CannotRead), "{count}");
         assert!(&rt; printed.is_empty(), "{count}");
     }
     Ok(())
@@ -119,10 +119,10 @@ fn a_write_that_fails_is_told(rt: HostRuntime) -> Result<(), Fail> {
     for left in [0, 1, 2] {
         let mut full = Full { left };
         let told = dump(alloc, &mut file.as_slice(), &mut full);
-        assert!(&rt; told == Err(DumpFault::CannotWrite), "{left}");
+        assert!(&rt; told == Err(DumpError::CannotWrite), "{left}");
         // so it is of a refusal's line
         let told = dump(alloc, &mut b"short".as_slice(), &mut Full { left: 0 });
-        assert!(&rt; told == Err(DumpFault::CannotWrite), "{left}");
+        assert!(&rt; told == Err(DumpError::CannotWrite), "{left}");
     }
     Ok(())
 }

@@ -2,7 +2,7 @@ pub mod Formed
 pub mod Owns
 pub mod KeyProofs
 pub mod Plains
-pub mod Securing
+pub mod SecurityTables
 pub mod Wholes
 pub mod KeySums
 pub mod Rooms

@@ -6,8 +6,8 @@ use Rattle.hive_cells.specs.Bins.{Cells}
 use Rattle.hive_tree_model.specs.Lists.{IsIn}
 use Rattle.hive_tree_model.specs.Cells.{Grows}
 use Rattle.hive_tree_model.proofs.Basics.{in_either, once_joined}
-use Rattle.hive_records.specs.Fields.{Holds}
-use Rattle.hive_emit.specs.Making.{Makes, Adds, Lists}
+use Rattle.hive_records.specs.Fields.{CellHolds}
+use Rattle.hive_emit.specs.CellWrites.{Makes, Adds, Lists}
 
 pub some_not : {A : Type 0} (o : Option (List ℕ)) → IsSome o → o ≡ None → A
 some_not None h e = absurd (let no : ⊥ = cc in no)
@@ -38,8 +38,8 @@ pub made_none : (a : List ℕ) (R : Cells → Cells → Type 0) → ((x : Cells)
 made_none a R is = record { cells = λ before shows. (before, shows, grows_none before, is before); longer = omega arith }
 
 -- what is there stays
-pub holds_grown : (y z : Cells) (at : ℕ) (text : List ℕ) → Grows y z → Holds y at text → Holds z at text
-holds_grown y z at text g h = (h.0, g at (ap is_some h.1) ∙ h.1)
+pub holds_grown : (y z : Cells) (at : ℕ) (encoding : List ℕ) → Grows y z → CellHolds y at encoding → CellHolds z at encoding
+holds_grown y z at encoding g h = (h.0, g at (ap is_some h.1) ∙ h.1)
 
 pub there_grown : (y z : Cells) (own : List ℕ) → Grows y z → ((cell : ℕ) → IsIn cell own → IsSome (y cell)) → (cell : ℕ) → IsIn cell own → IsSome (z cell)
 there_grown y z own g there cell i = ap is_some (g cell (there cell i)) ∙ there cell i

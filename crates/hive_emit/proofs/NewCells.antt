@@ -8,9 +8,9 @@ use Rattle.refusals.specs.declared.refusal.Refusal.{Refusal}
 use Rattle.refusals.specs.declared.refusal.Refusal.TheVariants as refusal
 use Rattle.hive_cells.specs.Tiles.{Tiles, BinStart, first_bin, next_bin, CellStart, first_cell, next_cell, IsCell, IsAllocatedCell, IsFreeCell, cell_size, cell_data, bin_size}
 use Rattle.hive_cells.specs.Bins.{Bins, Cells, Shows}
-use Rattle.hive_cells.specs.Changes.{OthersStay, StaysAt, Allocates, Writes, PlaceRefused, least_size}
-use Rattle.hive_records.specs.Numbers.{nowhere}
-use Rattle.hive_emit.specs.Making.{Makes, Opens, Puts, RoomyAt, Roomy, Uses, Lands, Stops, Fills, IsLongCell, cell_cost}
+use Rattle.hive_cells.specs.Changes.{OthersStay, StaysAt, Allocates, Writes, RoomRefused, least_size}
+use Rattle.hive_records.specs.Numbers.{nil_offset}
+use Rattle.hive_emit.specs.CellWrites.{Makes, Opens, Puts, HasFreeRoomAt, HasFreeRoom, Uses, Lands, WriteRefused, Fills, IsLongCell, cell_cost}
 
 -- bins begin at multiples of 4,096, cells at multiples of 8 within the data
 bin_pages : (bytes : List ℕ) (at : ℕ) → BinStart bytes at → at % 4096 ≡ 0
@@ -47,8 +47,8 @@ data_long bytes at tiles found =
     omega (arith, within, least, ends, length-take (at + cell_size bytes at - (at + 4)) (drop (at + 4) bytes), length-drop (at + 4) bytes)
 
 -- no cell begins at the offset of none
-pub cell_near : (bytes : List ℕ) (at : ℕ) → at < 2 ^ 32 → IsAllocatedCell bytes at → at < nowhere
-cell_near bytes at word found = let eights : at % 8 ≡ 0 = cell_eights bytes found.0.0 at found.0.1 in omega (arith, eights, word)
+pub cell_near : (bytes : List ℕ) (at : ℕ) → at < 2 ^ 32 → IsAllocatedCell bytes at → at < nil_offset
+cell_near bytes at u32_bytes found = let eights : at % 8 ≡ 0 = cell_eights bytes found.0.0 at found.0.1 in omega (arith, eights, u32_bytes)
 
 -- the cells with other data at one offset
 put_at : Cells → ℕ → List ℕ → Cells
@@ -86,7 +86,7 @@ some_none (Some its) h e = absurd (let no : ⊥ = cc in no)
 
 -- a cell that is allocated
 pub opened : (old new : List ℕ) (len at : ℕ) → at < 2 ^ 32 → Tiles new → Allocates old new len at → Makes old new (Opens at len)
-opened old new len at word tiles a = record {
+opened old new len at u32_bytes tiles a = record {
   cells = λ before shows.
       let gone : before at ≡ None = none_shown old at a.fresh (before at) (shows at) in
       let its : put_at before at (cell_data new at) at ≡ Some (cell_data new at) = put_here before at (cell_data new at) at refl in
@@ -103,7 +103,7 @@ opened old new len at word tiles a = record {
           its = cell_data new at;
           is = its;
           long = omega (arith, least, data_long new at tiles a.begins);
-          near = cell_near new at word a.begins;
+          near = cell_near new at u32_bytes a.begins;
         },
       );
   longer = a.written.longer;
@@ -141,7 +141,7 @@ landed old new len at a front more r = elim a.source [
   | inr h ↦ absurd (h.0 (front, r.free, (let long : least_size len + more + 8 < cell_size old front = r.long in omega (arith, long))))
 ]
 
-pub stopped : (old : Bins) (len : ℕ) (why : Refusal) → PlaceRefused old (least_size len) why → Stops old.bytes (cell_cost len) why
+pub stopped : (old : Bins) (len : ℕ) (why : Refusal) → RoomRefused old (least_size len) why → WriteRefused old.bytes (cell_cost len) why
 stopped old len refusal.NoMemory h = inl refl
 stopped old len refusal.TooLarge h = inr (λ r. elim h [
   | inl over ↦ (let limit : length old.bytes ≤ 67108864 = r.1.limit in let o : 67108864 < length old.bytes = over in omega arith)
@@ -172,17 +172,17 @@ part_of xs from middle to low high =
     ap (λ n. take n (drop from xs)) sum ∙ take-add (middle - from) (to - middle) (drop from xs)
     ∙ ap (λ ys. take (middle - from) (drop from xs) ++ take (to - middle) ys) (drop-drop (middle - from) from xs ∙ ap (λ n. drop n xs) next)
 
-pub filled : (old new : List ℕ) (at : ℕ) (text : List ℕ) → IsLongCell old at (length text) → Writes old new at (at + 4 + 0) (at + 4 + 0 + length text) → slice_range new (at + 4 + 0) (at + 4 + 0 + length text) ≡ text → Fills old new at text
-filled old new at text long w is = record {
+pub filled : (old new : List ℕ) (at : ℕ) (encoding : List ℕ) → IsLongCell old at (length encoding) → Writes old new at (at + 4 + 0) (at + 4 + 0 + length encoding) → slice_range new (at + 4 + 0) (at + 4 + 0 + length encoding) ≡ encoding → Fills old new at encoding
+filled old new at encoding long w is = record {
   cells = λ before shows.
       let size : cell_size new at ≡ cell_size old at = w.size in
-      let its : cell_data new at ≡ text ++ slice_range new (at + 4 + length text) (at + cell_size new at) =
-      part_of new (at + 4) (at + 4 + length text) (at + cell_size new at) (omega arith) (omega (arith, long.1, size))
-      ∙ ap (λ xs. xs ++ slice_range new (at + 4 + length text) (at + cell_size new at)) (subst (λ n. slice_range new n (n + length text) ≡ text) zero_more is) in (
+      let its : cell_data new at ≡ encoding ++ slice_range new (at + 4 + length encoding) (at + cell_size new at) =
+      part_of new (at + 4) (at + 4 + length encoding) (at + cell_size new at) (omega arith) (omega (arith, long.1, size))
+      ∙ ap (λ xs. xs ++ slice_range new (at + 4 + length encoding) (at + cell_size new at)) (subst (λ n. slice_range new n (n + length encoding) ≡ encoding) zero_more is) in (
         put_at before at (cell_data new at),
         put_shown old new at before shows w.begins w.others,
         (λ cell apart. put_there before at (cell_data new at) cell apart),
-        (slice_range new (at + 4 + length text) (at + cell_size new at), put_here before at (cell_data new at) at refl ∙ ap Some its),
+        (slice_range new (at + 4 + length encoding) (at + cell_size new at), put_here before at (cell_data new at) at refl ∙ ap Some its),
       );
   len = w.within.len;
   room = λ front more r. record {
@@ -197,8 +197,8 @@ filled old new at text long w is = record {
     zero_more = omega arith
 
 -- a cell that is allocated and filled
-pub put_made : (old mid new : List ℕ) (at len : ℕ) (text : List ℕ) → Makes old mid (Opens at len) → Fills mid new at text → Makes old new (Puts at text)
-put_made old mid new at len text m f = record {
+pub put_made : (old mid new : List ℕ) (at len : ℕ) (encoding : List ℕ) → Makes old mid (Opens at len) → Fills mid new at encoding → Makes old new (Puts at encoding)
+put_made old mid new at len encoding m f = record {
   cells = λ before shows.
       let o = m.cells before shows in
       let h = f.cells o.0 o.1 in
@@ -220,28 +220,28 @@ put_made old mid new at len text m f = record {
 }
 
 -- what is taken by one thing after another
-roomy_less : (bytes : List ℕ) (front room less : ℕ) → less ≤ room → RoomyAt bytes front room → RoomyAt bytes front less
+roomy_less : (bytes : List ℕ) (front room less : ℕ) → less ≤ room → HasFreeRoomAt bytes front room → HasFreeRoomAt bytes front less
 roomy_less bytes front room less fewer r = record { limit = r.limit; free = r.free; long = let long : room + 8 < cell_size bytes front = r.long in omega (arith, long, fewer); only = r.only }
 
-pub less_roomy : (bytes : List ℕ) (room less : ℕ) → less ≤ room → Roomy bytes room → Roomy bytes less
+pub less_roomy : (bytes : List ℕ) (room less : ℕ) → less ≤ room → HasFreeRoom bytes room → HasFreeRoom bytes less
 less_roomy bytes room less fewer r = (r.0, roomy_less bytes r.0 room less fewer r.1)
 
 pub lands_used : (old new : List ℕ) (at cost : ℕ) → Lands old new at cost → Uses old new cost
 lands_used old new at cost l more r = (r.0 + cost, (l r.0 more r.1).1)
 
 pub none_used : (bytes : List ℕ) → Uses bytes bytes 0
-none_used bytes more r = subst (Roomy bytes) (let e : 0 + more ≡ more = omega arith in e) r
+none_used bytes more r = subst (HasFreeRoom bytes) (let e : 0 + more ≡ more = omega arith in e) r
 
 pub uses_more : (old new : List ℕ) (a b : ℕ) → a ≤ b → Uses old new a → Uses old new b
-uses_more old new a b most u more r = less_roomy new (b - a + more) more (omega arith) (u (b - a + more) (subst (Roomy old) (let e : b + more ≡ a + (b - a + more) = omega (arith, most) in e) r))
+uses_more old new a b most u more r = less_roomy new (b - a + more) more (omega arith) (u (b - a + more) (subst (HasFreeRoom old) (let e : b + more ≡ a + (b - a + more) = omega (arith, most) in e) r))
 
 pub both_used : (old mid new : List ℕ) (a b : ℕ) → Uses old mid a → Uses mid new b → Uses old new (a + b)
-both_used old mid new a b u v more r = v more (u (b + more) (subst (Roomy old) (let e : a + b + more ≡ a + (b + more) = omega arith in e) r))
+both_used old mid new a b u v more r = v more (u (b + more) (subst (HasFreeRoom old) (let e : a + b + more ≡ a + (b + more) = omega arith in e) r))
 
 -- what stops a later thing stops all of it
-pub stops_later : (old mid : List ℕ) (a b all : ℕ) (why : Refusal) → a + b ≤ all → Uses old mid a → Stops mid b why → Stops old all why
+pub stops_later : (old mid : List ℕ) (a b all : ℕ) (why : Refusal) → a + b ≤ all → Uses old mid a → WriteRefused mid b why → WriteRefused old all why
 stops_later old mid a b all why most u (inl none) = inl none
 stops_later old mid a b all why most u (inr full) = inr (λ r. full (u b (less_roomy old all (a + b) most r)))
 
-pub stops_more : (old : List ℕ) (a b : ℕ) (why : Refusal) → a ≤ b → Stops old a why → Stops old b why
+pub stops_more : (old : List ℕ) (a b : ℕ) (why : Refusal) → a ≤ b → WriteRefused old a why → WriteRefused old b why
 stops_more old a b why most s = stops_later old old 0 a b why (let e : 0 + a ≤ b = omega (arith, most) in e) (none_used old) s

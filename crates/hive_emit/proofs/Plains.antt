@@ -7,8 +7,8 @@ use Rattle.reg_names.specs.Names.{fold_unit, folded}
 use Rattle.reg_tree_parts.specs.Nodes.{Entries, root_name}
 use Rattle.hive_emit.proofs.ValueMaps.{take_next}
 use Rattle.hive_emit.specs.Forms.{is_past_ascii}
-use Rattle.hive_emit.specs.Emitting.{any_past_ascii}
-use Rattle.hive_emit.proofs.KeyProofs.{found_kid}
+use Rattle.hive_emit.specs.EmittedKeys.{any_past_ascii}
+use Rattle.hive_emit.proofs.KeyProofs.{found_subkey}
 
 fold_past : (u : ℕ) → nat_lt 0x7f (fold_unit u) ≡ nat_lt 0x7f u
 fold_past u = grind (arith, nat_tests)
@@ -41,8 +41,8 @@ some_at (j ∷ ks) (suc i) k e past = or_true (is_past_ascii j.0) (any_past_asci
 -- one subkey more, whose own name is spelled so
 pub past_next : (ks : List (List ℕ × Entries)) (i : ℕ) (es : Entries) (name : List ℕ) → AllByRecursion (λ (k : List ℕ × Entries). root_name k.1 ≡ k.0) ks → Some es ≡ slice_get (map (λ k. k.1) ks) i → root_name es ≡ folded name → is_past_ascii name ≡ false → any_past_ascii (take i ks) ≡ false → any_past_ascii (take (i + 1) ks) ≡ false
 past_next ks i es name named e root plain before =
-    let k = found_kid ks i es named e in
+    let k = found_subkey ks i es named e in
     ap any_past_ascii (take_next ks i (k.0, es) k.1) ∙ none_push (take i ks) (k.0, es) before (ap is_past_ascii (sym k.2 ∙ root) ∙ past_folded name ∙ plain)
 
 pub past_here : (ks : List (List ℕ × Entries)) (i : ℕ) (es : Entries) (name : List ℕ) → AllByRecursion (λ (k : List ℕ × Entries). root_name k.1 ≡ k.0) ks → Some es ≡ slice_get (map (λ k. k.1) ks) i → root_name es ≡ folded name → is_past_ascii name ≡ true → any_past_ascii ks ≡ true
-past_here ks i es name named e root past = let k = found_kid ks i es named e in some_at ks i (k.0, es) k.1 (ap is_past_ascii (sym k.2 ∙ root) ∙ past_folded name ∙ past)
+past_here ks i es name named e root past = let k = found_subkey ks i es named e in some_at ks i (k.0, es) k.1 (ap is_past_ascii (sym k.2 ∙ root) ∙ past_folded name ∙ past)

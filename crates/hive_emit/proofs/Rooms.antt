@@ -5,10 +5,10 @@ use Rattle.refusals.specs.declared.refusal.Refusal.{Refusal}
 use Rattle.refusals.specs.declared.refusal.Refusal.TheVariants as refusal
 use Rattle.refusals.specs.declared.refusal.Cause.TheVariants as cause
 use Rattle.hive_cells.specs.Bins.{Bins}
-use Rattle.hive_cells.specs.Tiles.{DataRefused, BinStart, first_bin, next_bin, CellStart, first_cell, next_cell, IsFreeCell, IsAllocatedCell, HasFree, bin_size, cell_size, word_at}
-use Rattle.hive_cells.specs.Changes.{Allocates, Frees, HasNoPlace, PlaceRefused, FreeRefused, least_size, least_bin}
+use Rattle.hive_cells.specs.Tiles.{DataRefused, BinStart, first_bin, next_bin, CellStart, first_cell, next_cell, IsFreeCell, IsAllocatedCell, HasFree, bin_size, cell_size, u32_at}
+use Rattle.hive_cells.specs.Changes.{Allocates, Frees, HasNoRoomFor, RoomRefused, FreeRefused, least_size, least_bin}
 use Rattle.hive_cells.proofs.Region.{words_same}
-use Rattle.hive_emit.specs.Making.{RoomyAt}
+use Rattle.hive_emit.specs.CellWrites.{HasFreeRoomAt}
 use Rattle.hive_emit.proofs.NewCells.{end_within}
 
 -- in no data nothing begins
@@ -67,7 +67,7 @@ freed_whole b c len at from a f = elim a.source [
       let low : 32 ≤ from = cell_behind c f.merges.free.0.0 from f.merges.free.0.1 in
       let front : from ≡ 32 = omega (arith, low, f.merges.before, at_is) in
       let here : cell_size c from ≡ cell_size c 32 = ap (cell_size c) front in
-      let word : word_at c 8 ≡ word_at b 8 = words_same b c 8 (λ i after before. f.written i (inl (omega (arith, before, at_is))) (inl (omega (arith, before, low)))) in
+      let word : u32_at c 8 ≡ u32_at b 8 = words_same b c 8 (λ i after before. f.written i (inl (omega (arith, before, at_is))) (inl (omega (arith, before, low)))) in
       let len_is : length c ≡ length b = f.len in
       record {
         front = front;
@@ -86,7 +86,7 @@ freed_whole b c len at from a f = elim a.source [
       }
 ]
 
-pub roomy_new : (b c : List ℕ) (len at from needed : ℕ) → needed + 8 ≤ len → len ≤ 67_108_828 → Allocates [] b len at → Frees b c at from → RoomyAt c 32 needed × (len + 36 ≤ length c)
+pub roomy_new : (b c : List ℕ) (len at from needed : ℕ) → needed + 8 ≤ len → len ≤ 67_108_828 → Allocates [] b len at → Frees b c at from → HasFreeRoomAt c 32 needed × (len + 36 ≤ length c)
 roomy_new b c len at from needed enough most a f =
     let w : FreedWhole b c from (least_size len) = freed_whole b c len at from a f in
     let long : length c ≤ 32 + cell_size c 32 = w.long in
@@ -100,7 +100,7 @@ roomy_new b c len at from needed enough most a f =
       omega (arith, len_is),
     )
 
-pub placed_new : (len : ℕ) → len ≤ 67_108_828 → ¬ HasNoPlace [] (least_size len)
+pub placed_new : (len : ℕ) → len ≤ 67_108_828 → ¬ HasNoRoomFor [] (least_size len)
 placed_new len most h = elim h [ inl over ↦ omega (arith, over) | inr over ↦ (let o : 67_108_864 < 0 + least_bin (least_size len) = over.1 in omega (arith, o, most)) ]
 
 pub limit_new : (b : List ℕ) (len at : ℕ) → len ≤ 67_108_828 → Allocates [] b len at → length b ≤ 67_108_864
@@ -143,9 +143,9 @@ not_opened refusal.JournalDamaged h = absurd h
 not_opened refusal.Unsupported h = absurd h
 not_opened refusal.Fixed h = absurd h
 
-pub not_placed : (old : Bins) (len : ℕ) (why : Refusal) → old.bytes ≡ [] → len ≤ 67_108_828 → PlaceRefused old (least_size len) why → why ≡ refusal.NoMemory
+pub not_placed : (old : Bins) (len : ℕ) (why : Refusal) → old.bytes ≡ [] → len ≤ 67_108_828 → RoomRefused old (least_size len) why → why ≡ refusal.NoMemory
 not_placed old len refusal.NoMemory none most h = refl
-not_placed old len refusal.TooLarge none most h = absurd (placed_new len most (subst (λ (bytes : List ℕ). HasNoPlace bytes (least_size len)) none h))
+not_placed old len refusal.TooLarge none most h = absurd (placed_new len most (subst (λ (bytes : List ℕ). HasNoRoomFor bytes (least_size len)) none h))
 not_placed old len (refusal.HiveDamaged hive c) none most h = absurd h
 not_placed old len refusal.NotFound none most h = absurd h
 not_placed old len refusal.HasSubkeys none most h = absurd h

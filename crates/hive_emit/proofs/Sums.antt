@@ -6,11 +6,11 @@ use Rattle.std.proofs.lemmas.List.{length-map}
 use Rattle.std.proofs.lemmas.Bool.{cases_lt}
 use Rattle.reg_tree_parts.specs.declared.value.Value.{Value}
 use Rattle.reg_tree_parts.specs.Weights.{value_weight}
-use Rattle.hive_records.specs.ListTexts.{Kid}
-use Rattle.hive_records.specs.ValueTexts.{small_value, large_value}
+use Rattle.hive_records.specs.ListEncodings.{Subkey}
+use Rattle.hive_records.specs.ValueEncodings.{small_value, large_value}
 use Rattle.hive_records.proofs.Sizes.{name_most, long_small, long_large, long_plain, long_hashed}
-use Rattle.hive_emit.specs.Making.{cell_cost}
-use Rattle.hive_emit.specs.KeyLists.{leaf_text}
+use Rattle.hive_emit.specs.CellWrites.{cell_cost}
+use Rattle.hive_emit.specs.KeyLists.{leaf_bytes}
 use Rattle.hive_emit.specs.CellCosts.{segments_cost, apart_cost, data_cost, value_cost, leaf_cost}
 use Rattle.hive_emit.proofs.ValueMaps.{take_next}
 
@@ -72,9 +72,9 @@ values_light [] = omega arith
 values_light (v ∷ values) = omega (arith, sum_by-cons value_cost v values, sum_by-cons value_weight v values, value_light v, values_light values)
 
 -- lists of subkeys
-pub leaf_long : (plain : Bool) (kids : List Kid) → cell_cost (length (leaf_text plain kids)) ≤ leaf_cost (length kids)
-leaf_long true kids = omega (arith, long_plain (map (λ (k : Kid). k.at) kids), length-map kids (λ (k : Kid). k.at))
-leaf_long false kids = omega (arith, long_hashed kids)
+pub leaf_long : (plain : Bool) (subkey_list : List Subkey) → cell_cost (length (leaf_bytes plain subkey_list)) ≤ leaf_cost (length subkey_list)
+leaf_long true subkey_list = omega (arith, long_plain (map (λ (k : Subkey). k.at) subkey_list), length-map subkey_list (λ (k : Subkey). k.at))
+leaf_long false subkey_list = omega (arith, long_hashed subkey_list)
 
 -- data of less than 2 ^ 29 bytes take less than 2 ^ 31
 pub data_few : (len : ℕ) → data_cost len ≤ 2 * len + 11

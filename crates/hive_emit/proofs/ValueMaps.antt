@@ -16,14 +16,14 @@ use Rattle.reg_tree_parts.proofs.Keys.{names_total, names_apart}
 use Rattle.reg_tree_parts.proofs.SortedLists.{front_of, back_of, less_of}
 use Rattle.hive_cells.specs.Bins.{Cells}
 use Rattle.hive_tree_model.specs.Cells.{Grows}
-use Rattle.hive_records.specs.Numbers.{nowhere}
+use Rattle.hive_records.specs.Numbers.{nil_offset}
 use Rattle.hive_records.specs.Names.{all_apart}
 use Rattle.hive_records.specs.Values.{map_of, values_at}
-use Rattle.hive_records.specs.Fields.{Gives, Holds}
-use Rattle.hive_records.specs.ListTexts.{offsets_text, AreOffsets}
-use Rattle.hive_records.specs.KeyTexts.{Written}
+use Rattle.hive_records.specs.Fields.{Gives, CellHolds}
+use Rattle.hive_records.specs.ListEncodings.{offsets_bytes, AreOffsets}
+use Rattle.hive_records.specs.KeyEncodings.{ValueCells}
 use Rattle.hive_records.proofs.WholesAgain.{all_written, no_values}
-use Rattle.hive_emit.specs.Making.{Makes, Puts}
+use Rattle.hive_emit.specs.CellWrites.{Makes, Puts}
 use Rattle.hive_emit.specs.Values.{IsValue, value_own, ValueAt, CanPutAll, ListedValues, ValuesAt}
 use Rattle.hive_emit.proofs.Makings.{made_then, made_none, adds_none, adds_ahead, all_push, all_as, lists_none, lists_more}
 use Rattle.hive_emit.proofs.Valued.{written_grown}
@@ -35,17 +35,17 @@ take_next xs i x e = take_more xs i x (slice_get_within xs i x e) ∙ ap (λ y. 
 pub no_listed : (bytes : List ℕ) → Makes bytes bytes (ListedValues [] [])
 no_listed bytes = made_none bytes (ListedValues [] []) (λ x. record { written = []; listed = lists_none IsValue value_own x; at = refl; its = refl; near = tt })
 
-listed_on : (places : List ℕ) (values : List Value) (at : ℕ) (value : Value) (x y z : Cells) → Grows x y → Grows y z → ListedValues places values x y → ValueAt at value y z → ListedValues (places ++ at ∷ []) (values ++ value ∷ []) x z
-listed_on places values at value x y z g h l v = record {
+listed_on : (cell_offsets : List ℕ) (values : List Value) (at : ℕ) (value : Value) (x y z : Cells) → Grows x y → Grows y z → ListedValues cell_offsets values x y → ValueAt at value y z → ListedValues (cell_offsets ++ at ∷ []) (values ++ value ∷ []) x z
+listed_on cell_offsets values at value x y z g h l v = record {
   written = l.written ++ record { at = at; own = v.own; value = value } ∷ [];
   listed = lists_more IsValue value_own l.written (record { at = at; own = v.own; value = value }) x y z (λ w is. written_grown y z w h is) g h l.listed v.is v.adds;
-  at = map-append (λ (w : Written). w.at) l.written (record { at = at; own = v.own; value = value } ∷ []) ∙ ap (λ ps. ps ++ at ∷ []) l.at;
-  its = map-append (λ (w : Written). w.value) l.written (record { at = at; own = v.own; value = value } ∷ []) ∙ ap (λ vs. vs ++ value ∷ []) l.its;
-  near = all_push (λ at. at < 2 ^ 32) places at l.near v.near;
+  at = map-append (λ (w : ValueCells). w.at) l.written (record { at = at; own = v.own; value = value } ∷ []) ∙ ap (λ ps. ps ++ at ∷ []) l.at;
+  its = map-append (λ (w : ValueCells). w.value) l.written (record { at = at; own = v.own; value = value } ∷ []) ∙ ap (λ vs. vs ++ value ∷ []) l.its;
+  near = all_push (λ at. at < 2 ^ 32) cell_offsets at l.near v.near;
 }
 
-pub one_listed : (a b c places : List ℕ) (values : List Value) (at : ℕ) (value : Value) → Makes a b (ListedValues places values) → Makes b c (ValueAt at value) → Makes a c (ListedValues (places ++ at ∷ []) (values ++ value ∷ []))
-one_listed a b c places values at value m n = made_then a b c (ListedValues places values) (ValueAt at value) (ListedValues (places ++ at ∷ []) (values ++ value ∷ [])) m n (λ x y z g h l v. listed_on places values at value x y z g h l v)
+pub one_listed : (a b c cell_offsets : List ℕ) (values : List Value) (at : ℕ) (value : Value) → Makes a b (ListedValues cell_offsets values) → Makes b c (ValueAt at value) → Makes a c (ListedValues (cell_offsets ++ at ∷ []) (values ++ value ∷ []))
+one_listed a b c cell_offsets values at value m n = made_then a b c (ListedValues cell_offsets values) (ValueAt at value) (ListedValues (cell_offsets ++ at ∷ []) (values ++ value ∷ [])) m n (λ x y z g h l v. listed_on cell_offsets values at value x y z g h l v)
 
 -- the map of values, from them
 entry : Value → List ℕ × Value
@@ -80,43 +80,43 @@ names_are [] h = refl
 names_are (e ∷ es) h = ap (λ n. n ∷ map (λ (v : Value). folded v.name) (map (λ e. e.1) es)) h.0 ∙ ap (λ ns. e.0 ∷ ns) (names_are es h.1)
 
 -- the list of values, once all of them are written
-values_read : (list : ℕ) (places : List ℕ) (values : ValueMap) (x y z : Cells) → CanPutAll values → 0 < finite.len values → Grows x y → Grows y z → ListedValues places (finite.values values) x y → Puts list (offsets_text places) y z → ValuesAt list values x z
-values_read list places values x y z can some g h l p =
-    let count : length l.written ≡ finite.len values = sym (length-map l.written (λ (w : Written). w.value)) ∙ ap length l.its ∙ length-map (finite.entries values) (λ e. e.1) ∙ sym (len-entries values) in
-    let apart : all_apart (map (λ (v : Value). folded v.name) (map (λ (w : Written). w.value) l.written)) ≡ true =
+values_read : (list : ℕ) (cell_offsets : List ℕ) (values : ValueMap) (x y z : Cells) → CanPutAll values → 0 < finite.len values → Grows x y → Grows y z → ListedValues cell_offsets (finite.values values) x y → Puts list (offsets_bytes cell_offsets) y z → ValuesAt list values x z
+values_read list cell_offsets values x y z can some g h l p =
+    let count : length l.written ≡ finite.len values = sym (length-map l.written (λ (w : ValueCells). w.value)) ∙ ap length l.its ∙ length-map (finite.entries values) (λ e. e.1) ∙ sym (len-entries values) in
+    let apart : all_apart (map (λ (v : Value). folded v.name) (map (λ (w : ValueCells). w.value) l.written)) ≡ true =
     ap (λ vs. all_apart (map (λ (v : Value). folded v.name) vs)) l.its ∙ ap all_apart (names_are (finite.entries values) can.filed) ∙ apart_sorted (finite.entries values) (entries_sorted values) in
-    let read : Gives (values_at true (length l.written) list) z (list ∷ flat_map value_own l.written) [] (map_of (map (λ (w : Written). w.value) l.written)) =
-    all_written true z list l.written (omega (arith, count)) (subst AreOffsets (sym l.at) l.near) apart (all_as (IsValue y) (IsValue z) l.written (λ w is. written_grown y z w h is) l.listed.all) (subst (λ ps. Holds z list (offsets_text ps)) (sym l.at) p.holds) in
+    let read : Gives (values_at true (length l.written) list) z (list ∷ flat_map value_own l.written) [] (map_of (map (λ (w : ValueCells). w.value) l.written)) =
+    all_written true z list l.written (omega (arith, count)) (subst AreOffsets (sym l.at) l.near) apart (all_as (IsValue y) (IsValue z) l.written (λ w is. written_grown y z w h is) l.listed.all) (subst (λ ps. CellHolds z list (offsets_bytes ps)) (sym l.at) p.holds) in
     record {
       own = list ∷ flat_map value_own l.written;
-      near = let near : list < nowhere = p.near in omega arith;
+      near = let near : list < nil_offset = p.near in omega arith;
       adds = adds_ahead x y z (flat_map value_own l.written) (list ∷ []) g h l.listed.adds p.adds;
       is = inr (record {
         written = l.written;
         its = l.its;
         each = all_as (IsValue y) (IsValue z) l.written (λ w is. written_grown y z w h is) l.listed.all;
-        held = subst (λ ps. Holds z list (offsets_text ps)) (sym l.at) p.holds;
+        held = subst (λ ps. CellHolds z list (offsets_bytes ps)) (sym l.at) p.holds;
         its_own = refl;
       });
       gives = subst (λ (n : ℕ). Gives (values_at true n list) z (list ∷ flat_map value_own l.written) [] values) count
           (subst (λ (m : ValueMap). Gives (values_at true (length l.written) list) z (list ∷ flat_map value_own l.written) [] m) (ap map_of l.its ∙ map_again values can) read);
     }
 
-pub values_made : (a b c : List ℕ) (list : ℕ) (places : List ℕ) (values : ValueMap) → CanPutAll values → 0 < finite.len values → Makes a b (ListedValues places (finite.values values)) → Makes b c (Puts list (offsets_text places)) → Makes a c (ValuesAt list values)
-values_made a b c list places values can some m n = made_then a b c (ListedValues places (finite.values values)) (Puts list (offsets_text places)) (ValuesAt list values) m n (λ x y z g h l p. values_read list places values x y z can some g h l p)
+pub values_made : (a b c : List ℕ) (list : ℕ) (cell_offsets : List ℕ) (values : ValueMap) → CanPutAll values → 0 < finite.len values → Makes a b (ListedValues cell_offsets (finite.values values)) → Makes b c (Puts list (offsets_bytes cell_offsets)) → Makes a c (ValuesAt list values)
+values_made a b c list cell_offsets values can some m n = made_then a b c (ListedValues cell_offsets (finite.values values)) (Puts list (offsets_bytes cell_offsets)) (ValuesAt list values) m n (λ x y z g h l p. values_read list cell_offsets values x y z can some g h l p)
 
 nothing : {A : Type 0} (xs : List A) → length xs ≡ 0 → xs ≡ []
 nothing [] e = refl
 nothing (x ∷ xs) e = absurd (omega (arith, e))
 
-pub none_made : (a : List ℕ) (values : ValueMap) → CanPutAll values → finite.len values ≡ 0 → Makes a a (ValuesAt nowhere values)
-none_made a values can none = made_none a (ValuesAt nowhere values) (λ x. record {
+pub none_made : (a : List ℕ) (values : ValueMap) → CanPutAll values → finite.len values ≡ 0 → Makes a a (ValuesAt nil_offset values)
+none_made a values can none = made_none a (ValuesAt nil_offset values) (λ x. record {
   own = [];
   near = omega arith;
   adds = adds_none x x;
   is = inl (record { none = none; without = refl; its_own = refl });
-  gives = subst (λ (n : ℕ). Gives (values_at true n nowhere) x [] [] values) (sym none)
-      (subst (λ (m : ValueMap). Gives (values_at true 0 nowhere) x [] [] m) (ap map_of (sym (nothing (finite.values values) (length-map (finite.entries values) (λ e. e.1) ∙ sym (len-entries values) ∙ none))) ∙ map_again values can) (no_values true x nowhere));
+  gives = subst (λ (n : ℕ). Gives (values_at true n nil_offset) x [] [] values) (sym none)
+      (subst (λ (m : ValueMap). Gives (values_at true 0 nil_offset) x [] [] m) (ap map_of (sym (nothing (finite.values values) (length-map (finite.entries values) (λ e. e.1) ∙ sym (len-entries values) ∙ none))) ∙ map_again values can) (no_values true x nil_offset));
 })
 
 -- what is at a place

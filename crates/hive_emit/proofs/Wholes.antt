@@ -22,21 +22,21 @@ use Rattle.reg_tree_parts.proofs.Finds.{equal_of}
 use Rattle.reg_tree_parts.proofs.Keys.{names_total, names_apart, paths_total, paths_apart}
 use Rattle.reg_tree_parts.proofs.SortedLists.{front_of, back_of, less_of}
 use Rattle.reg_tree.specs.Maps.{TreeMap, weight}
-use Rattle.reg_tree.specs.Spellable.{IsSpellable, IsSpellableAt, IsSpellableRow, IsSpellableValue, stored_len}
+use Rattle.reg_tree.specs.Encodable.{IsEncodable, IsEncodableAt, IsEncodableRow, IsEncodableValue, stored_len}
 use Rattle.hive_tree_model.proofs.Basics.{decided}
-use Rattle.hive_records.specs.Spellings.{is_latin, name_text}
+use Rattle.hive_records.specs.NameEncodings.{is_latin, name_bytes}
 use Rattle.hive_emit.specs.Values.{CanPut, CanPutAll}
 use Rattle.hive_cells.specs.Tiles.{Tiles}
 use Rattle.hive_cells.specs.Bins.{Cells, Shows}
-use Rattle.hive_tree_model.specs.Stands.{Stands}
-use Rattle.hive_records.specs.Numbers.{nowhere}
-use Rattle.hive_records.specs.Images.{splits, StandsFor}
+use Rattle.hive_tree_model.specs.Encodings.{CellsEncodeTree}
+use Rattle.hive_records.specs.Numbers.{nil_offset}
+use Rattle.hive_records.specs.Images.{splits, BinsEncodeTree}
 use Rattle.hive_records.specs.KeyNodes.{keys_in}
 use Rattle.hive_records.proofs.NodesOf.{tree_of_node}
-use Rattle.hive_emit.specs.Making.{Makes}
+use Rattle.hive_emit.specs.CellWrites.{Makes}
 use Rattle.hive_emit.proofs.Makings.{made_then, some_not}
-use Rattle.hive_emit.specs.declared.security.Security.{Security}
-use Rattle.hive_emit.specs.Emitting.{CanPutKey, CanPutKeys, AreHeld, Holding, KeyAt, PutsKey}
+use Rattle.hive_emit.specs.declared.security.SecurityEntry.{SecurityEntry}
+use Rattle.hive_emit.specs.EmittedKeys.{CanPutKey, CanPutKeys, SecuritiesAreWritten, KeepsSecurityCells, KeyAt, PutsKey}
 use Rattle.hive_emit.proofs.Owns.{record_long}
 use Rattle.hive_emit.proofs.KeyProofs.{held_there}
 
@@ -65,15 +65,15 @@ module _ {K X : Type 0} (R : K → K → Ordering) (tie : (k : K) → R k k ≡ 
   )
 
 -- names
-name_few : (name : List ℕ) → stored_len name ≤ 65535 → length (name_text name) < 2 ^ 16
-name_few name h = let long : length (name_text name) ≡ cond (is_latin name) (length name) (2 * length name) = record_long name (is_latin name) refl in let few : cond (is_latin name) (length name) (2 * length name) ≤ 65535 = h in omega (arith, long, few)
+name_few : (name : List ℕ) → stored_len name ≤ 65535 → length (name_bytes name) < 2 ^ 16
+name_few name h = let long : length (name_bytes name) ≡ cond (is_latin name) (length name) (2 * length name) = record_long name (is_latin name) refl in let few : cond (is_latin name) (length name) (2 * length name) ≤ 65535 = h in omega (arith, long, few)
 
 none_of : (name : List ℕ) → AllByRecursion (λ u. u ≢ 0x5c) name → list_any (λ u. eqb u 0x5c) name ≡ false
 none_of [] h = refl
 none_of (u ∷ name) h = ap (λ b. b || list_any (λ u. eqb u 0x5c) name) (ne_eqb u 0x5c h.0) ∙ none_of name h.1
 
 -- values
-value_can : (name : List ℕ) (v : Value) → IsSpellableValue name v → length v.«data» < 2 ^ 29 → CanPut v
+value_can : (name : List ℕ) (v : Value) → IsEncodableValue name v → length v.«data» < 2 ^ 29 → CanPut v
 value_can name v is few = record { fits = λ kind. record { units = is.spelled.units; name = name_few v.name is.spelled.short; kind = kind }; few = few }
 
 weigh_all : (vs : List Value) (most : ℕ) → sum_by value_weight vs ≤ most → AllByRecursion (λ (v : Value). length v.«data» ≤ most) vs
@@ -84,11 +84,11 @@ count_all : (vs : List Value) → length vs ≤ sum_by value_weight vs
 count_all [] = omega arith
 count_all (v ∷ vs) = let sum : sum_by value_weight (v ∷ vs) ≡ value_weight v + sum_by value_weight vs = sum_by-cons value_weight v vs in omega (arith, sum, count_all vs)
 
-both_can : (es : List (List ℕ × Value)) → AllByRecursion (λ (e : List ℕ × Value). IsSpellableValue e.0 e.1) es → AllByRecursion (λ (v : Value). length v.«data» ≤ 16_777_216) (map (λ e. e.1) es) → AllByRecursion CanPut (map (λ e. e.1) es)
+both_can : (es : List (List ℕ × Value)) → AllByRecursion (λ (e : List ℕ × Value). IsEncodableValue e.0 e.1) es → AllByRecursion (λ (v : Value). length v.«data» ≤ 16_777_216) (map (λ e. e.1) es) → AllByRecursion CanPut (map (λ e. e.1) es)
 both_can [] h g = tt
 both_can (e ∷ es) h g = let few = g.0 in (value_can e.0 e.1 h.0 (omega (arith, few)), both_can es h.1 g.1)
 
-all_filed : (es : List (List ℕ × Value)) → AllByRecursion (λ (e : List ℕ × Value). IsSpellableValue e.0 e.1) es → AllByRecursion (λ (e : List ℕ × Value). let value = e.1 in folded value.name ≡ e.0) es
+all_filed : (es : List (List ℕ × Value)) → AllByRecursion (λ (e : List ℕ × Value). IsEncodableValue e.0 e.1) es → AllByRecursion (λ (e : List ℕ × Value). let value = e.1 in folded value.name ≡ e.0) es
 all_filed [] h = tt
 all_filed (e ∷ es) h = (h.0.filed, all_filed es h.1)
 
@@ -97,10 +97,10 @@ found_in values q =
     ap (λ (m : ValueMap). finite.get m q) (same_entries_map values (finite.from_sorted (finite.entries values)) (sym (entries-from_sorted name_order (finite.entries values) (entries_sorted values))))
     ∙ get-from_sorted name_order (finite.entries values) q (entries_sorted values)
 
-values_can : (row : Row) → IsSpellableRow row → row_weight row ≤ 16_777_216 → CanPutAll row.values
+values_can : (row : Row) → IsEncodableRow row → row_weight row ≤ 16_777_216 → CanPutAll row.values
 values_can row is few =
-    let spelled : AllByRecursion (λ (e : List ℕ × Value). IsSpellableValue e.0 e.1) (finite.entries row.values) =
-    all_found name_order (tied_itself names_total) names_apart (λ n v. IsSpellableValue n v) (finite.entries row.values) (entries_sorted row.values) (λ n v found. is.values n v (found_in row.values n ∙ found)) in
+    let spelled : AllByRecursion (λ (e : List ℕ × Value). IsEncodableValue e.0 e.1) (finite.entries row.values) =
+    all_found name_order (tied_itself names_total) names_apart (λ n v. IsEncodableValue n v) (finite.entries row.values) (entries_sorted row.values) (λ n v found. is.values n v (found_in row.values n ∙ found)) in
     let sum : sum_by value_weight (finite.values row.values) ≤ 16_777_216 = omega arith in
     record {
       each = both_can (finite.entries row.values) spelled (weigh_all (finite.values row.values) 16_777_216 sum);
@@ -112,7 +112,7 @@ values_can row is few =
 unmarked : (flags : ℕ) → bit_and flags 0x60 ≡ 0 → flags / 32 % 4 ≡ 0
 unmarked flags e = let is : flags / 32 % 4 * 2 ^ 5 ≡ 0 = sym (and_high flags 2 5) ∙ e in omega (arith, is)
 
-row_can : (path : List (List ℕ)) (row : Row) → IsSpellableAt path row → row_weight row ≤ 16_777_216 → CanPutKey path row
+row_can : (path : List (List ℕ)) (row : Row) → IsEncodableAt path row → row_weight row ≤ 16_777_216 → CanPutKey path row
 row_can path row is few =
     let own = is.spelled in
     let clear : row.flags / 32 % 4 ≡ 0 = unmarked row.flags own.unmarked in
@@ -141,38 +141,38 @@ count_rows : (es : Entries) → 192 * length es ≤ entries_weight es
 count_rows [] = omega arith
 count_rows (e ∷ es) = let sum : entries_weight (e ∷ es) ≡ row_weight e.1 + entries_weight es = sum_by-cons (λ (e : List (List ℕ) × Row). row_weight e.1) e es in omega (arith, sum, count_rows es)
 
-rows_can : (es : Entries) → AllByRecursion (λ (e : List (List ℕ) × Row). IsSpellableAt e.0 e.1) es → AllByRecursion (λ (e : List (List ℕ) × Row). row_weight e.1 ≤ 16_777_216) es → CanPutKeys es
+rows_can : (es : Entries) → AllByRecursion (λ (e : List (List ℕ) × Row). IsEncodableAt e.0 e.1) es → AllByRecursion (λ (e : List (List ℕ) × Row). row_weight e.1 ≤ 16_777_216) es → CanPutKeys es
 rows_can [] h g = tt
 rows_can (e ∷ es) h g = (row_can e.0 e.1 h.0 g.0, rows_can es h.1 g.1)
 
 pub root_weight : (tree : TreeMap) (root : Entries) → IsNode root → tree ≡ finite.from_sorted root → weight tree ≤ 16_777_216 → entries_weight root ≤ 16_777_216
 root_weight tree root node same light = subst (λ es. entries_weight es ≤ 16_777_216) (entries-from_sorted path_order root node.rises) (subst (λ (t : TreeMap). weight t ≤ 16_777_216) same light)
 
-pub tree_can : (tree : TreeMap) (root : Entries) → IsNode root → tree ≡ finite.from_sorted root → IsSpellable tree → weight tree ≤ 16_777_216 → CanPutKeys root
-tree_can tree root node same spellable light =
+pub tree_can : (tree : TreeMap) (root : Entries) → IsNode root → tree ≡ finite.from_sorted root → IsEncodable tree → weight tree ≤ 16_777_216 → CanPutKeys root
+tree_can tree root node same encodable light =
     rows_can root
-    (all_found path_order (tied_itself paths_total) paths_apart (λ p r. IsSpellableAt p r) root node.rises (λ p r found. spellable.rows p r (ap (λ (t : TreeMap). finite.get t p) same ∙ get-from_sorted path_order root p node.rises ∙ found)))
+    (all_found path_order (tied_itself paths_total) paths_apart (λ p r. IsEncodableAt p r) root node.rises (λ p r found. encodable.rows p r (ap (λ (t : TreeMap). finite.get t p) same ∙ get-from_sorted path_order root p node.rises ∙ found)))
     (weigh_rows root 16_777_216 (root_weight tree root node same light))
 
 pub tree_few : (tree : TreeMap) (root : Entries) → IsNode root → tree ≡ finite.from_sorted root → weight tree ≤ 16_777_216 → length root < 2 ^ 24
 tree_few tree root node same light = omega (arith, count_rows root, root_weight tree root node same light)
 
 -- what stands at the end
-record Ended (securities : List Security) (root : ℕ) (entries : Entries) (x z : Cells) : Type 0 where
+record Ended (securities : List SecurityEntry) (root : ℕ) (entries : Entries) (x z : Cells) : Type 0 where
   y : Cells
-  held : AreHeld securities y
-  key : KeyAt securities nowhere root entries y z
+  held : SecuritiesAreWritten securities y
+  key : KeyAt securities nil_offset root entries y z
 
-pub stands_at_end : (a b c : List ℕ) (securities : List Security) (root minor : ℕ) (tree : TreeMap) (entries : Entries) (before : Cells) → Shows a before → 4 ≤ minor → IsNode entries → tree ≡ finite.from_sorted entries → Tiles c → Makes a b (Holding securities) → Makes b c (PutsKey securities nowhere root entries) → StandsFor c root minor tree
+pub stands_at_end : (a b c : List ℕ) (securities : List SecurityEntry) (root minor : ℕ) (tree : TreeMap) (entries : Entries) (before : Cells) → Shows a before → 4 ≤ minor → IsNode entries → tree ≡ finite.from_sorted entries → Tiles c → Makes a b (KeepsSecurityCells securities) → Makes b c (PutsKey securities nil_offset root entries) → BinsEncodeTree c root minor tree
 stands_at_end a b c securities root minor tree entries before shows new node same tiles m n =
-    let all = made_then a b c (Holding securities) (PutsKey securities nowhere root entries) (Ended securities root entries) m n (λ x y z g h held put. record { y = y; held = held; key = put held }) in
+    let all = made_then a b c (KeepsSecurityCells securities) (PutsKey securities nil_offset root entries) (Ended securities root entries) m n (λ x y z g h held put. record { y = y; held = held; key = put held }) in
     let z = all.cells before shows in
     let k = z.3.key in
     let split : true ≡ splits minor = sym (le-leb 4 minor new) in (
       tiles,
       z.0,
       z.1,
-      subst (λ (s : Bool). Stands (keys_in s z.0) root tree) split (
+      subst (λ (s : Bool). CellsEncodeTree (keys_in s z.0) root tree) split (
         k.parts,
         k.below,
         k.written.whole,

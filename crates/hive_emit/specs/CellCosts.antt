@@ -3,8 +3,8 @@ use Rattle.std.specs.Prelude.{ℕ, ◌+◌, ◌*◌, ◌/◌, nat_le, if◌then�
 use Rattle.std.specs.FinMap as finite
 use Rattle.reg_tree_parts.specs.declared.value.Value.{Value}
 use Rattle.reg_tree_parts.specs.Rows.{ValueMap}
-use Rattle.hive_records.specs.Spellings.{name_text}
-use Rattle.hive_emit.specs.Making.{cell_cost}
+use Rattle.hive_records.specs.NameEncodings.{name_bytes}
+use Rattle.hive_emit.specs.CellWrites.{cell_cost}
 
 -- the segments of big data
 abbrev pub segments_cost : ℕ → ℕ
@@ -20,7 +20,7 @@ data_cost len = if nat_le len 4 then 0 else apart_cost len
 
 -- a value: its record, and its data
 unfoldable pub value_cost : Value → ℕ
-value_cost value = cell_cost (20 + length (name_text value.name)) + data_cost (length value.«data»)
+value_cost value = cell_cost (20 + length (name_bytes value.name)) + data_cost (length value.«data»)
 
 -- all values of a key, and the list of them
 abbrev pub values_cost : ValueMap → ℕ
@@ -35,5 +35,5 @@ abbrev pub leaves_cost : ℕ → ℕ
 leaves_cost count = 8 * count + 8 * ((count + 499) / 500)
 
 -- all lists of so many subkeys of a key
-abbrev pub kids_cost : ℕ → ℕ
-kids_cost count = 16 * count
+abbrev pub subkeys_cost : ℕ → ℕ
+subkeys_cost count = 16 * count

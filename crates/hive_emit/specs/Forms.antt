@@ -12,13 +12,13 @@ use Rattle.reg_tree_parts.specs.Nodes.{Entries}
 use Rattle.reg_tree.specs.Maps.{TreeMap}
 use Rattle.hive_cells.specs.Bins.{Cells, Shows}
 use Rattle.hive_tree_model.specs.Lists.{IsIn, Once}
-use Rattle.hive_tree_model.specs.Keys.{Parts, Reads}
-use Rattle.hive_records.specs.Numbers.{nowhere}
-use Rattle.hive_records.specs.Fields.{Holds}
+use Rattle.hive_tree_model.specs.Keys.{KeyParts, KeyReader}
+use Rattle.hive_records.specs.Numbers.{nil_offset}
+use Rattle.hive_records.specs.Fields.{CellHolds}
 use Rattle.hive_records.specs.KeyNodes.{keys_in}
-use Rattle.hive_records.specs.KeyTexts.{key_text, security_text}
-use Rattle.hive_records.specs.ListTexts.{Kid, places}
-use Rattle.hive_records.specs.declared.key_places.KeyPlaces.{KeyPlaces}
+use Rattle.hive_records.specs.KeyEncodings.{key_node_bytes, security_bytes}
+use Rattle.hive_records.specs.ListEncodings.{Subkey, cell_offsets}
+use Rattle.hive_records.specs.declared.key_node_fields.KeyNodeFields.{KeyNodeFields}
 use Rattle.hive_emit.specs.Values.{AreListedValues}
 use Rattle.hive_emit.specs.KeyLists.{IsListed}
 
@@ -29,56 +29,56 @@ abbrev pub is_past_ascii : List ℕ → Bool
 is_past_ascii name = list_any (λ u. nat_lt 0x7f u) name
 
 -- whether a key's lists have offsets alone: where a subkey's name has a unit past ASCII
-abbrev pub is_plain : List Kid → Bool
-is_plain subkeys = list_any (λ (k : Kid). is_past_ascii k.name) subkeys
+abbrev pub is_plain : List Subkey → Bool
+is_plain subkeys = list_any (λ (k : Subkey). is_past_ascii k.name) subkeys
 
 -- folded names rise
-abbrev pub Rises : List Kid → Type 0
+abbrev pub Rises : List Subkey → Type 0
 Rises [] = Unit {0}
-Rises (k ∷ subkeys) = AllByRecursion (λ (j : Kid). name_order k.name j.name ≡ Less) subkeys × Rises subkeys
+Rises (k ∷ subkeys) = AllByRecursion (λ (j : Subkey). name_order k.name j.name ≡ Less) subkeys × Rises subkeys
 
 -- these subkeys are read at their offsets, each under its folded name
-abbrev pub AreRead : Reads Row Refusal → List Kid → Type 0
-AreRead reads subkeys = AllByRecursion (λ (k : Kid). (parts : Parts Row) × (reads k.at ≡ Ok parts) × (parts.name ≡ k.name)) subkeys
+abbrev pub AreRead : KeyReader Row Refusal → List Subkey → Type 0
+AreRead reads subkeys = AllByRecursion (λ (k : Subkey). (parts : KeyParts Row) × (reads k.at ≡ Ok parts) × (parts.name ≡ k.name)) subkeys
 
 -- a class is in its cell; an empty one has none
 abbrev pub IsClass : ℕ → List ℕ → List ℕ → Cells → Type 0
-IsClass at class own cells = ((class ≡ []) × (at ≡ nowhere) × (own ≡ [])) ⊎ ((0 < length class) × Holds cells at class × (own ≡ at ∷ []))
+IsClass at class own cells = ((class ≡ []) × (at ≡ nil_offset) × (own ≡ [])) ⊎ ((0 < length class) × CellHolds cells at class × (own ≡ at ∷ []))
 
 -- A key is written, its record at an offset: the record is its row's text and names the parent; its class is in its cell; its values are listed
 -- in the order of their folded names; its subkeys in the order of theirs, in one leaf of at most 500 or in leaves of at
 -- most 500 and a list of these, with hashes where no name is past ASCII; and the record names the security cell of its
 -- descriptor. So the key hangs on its record and these cells.
-pub record KeyForm (cells : Cells) (Names : List ℕ → ℕ → Type 0) (parent at : ℕ) (parts : Parts Row) (subkeys : List Kid) : Type 0 where
-  pub its : KeyPlaces
-  pub text : Holds cells at (key_text parts.row its)
+pub record KeyForm (cells : Cells) (Names : List ℕ → ℕ → Type 0) (parent at : ℕ) (parts : KeyParts Row) (subkeys : List Subkey) : Type 0 where
+  pub its : KeyNodeFields
+  pub encoding : CellHolds cells at (key_node_bytes parts.row its)
   pub parent_is : its.parent ≡ parent
-  pub kid_count : its.kid_count ≡ length subkeys
+  pub subkey_total : its.subkey_total ≡ length subkeys
   pub value_count : its.value_count ≡ finite.len parts.row.values
   pub class_own : List ℕ
   pub values_own : List ℕ
-  pub kids_own : List ℕ
-  pub own : parts.own ≡ at ∷ (class_own ++ (values_own ++ kids_own))
+  pub subkeys_own : List ℕ
+  pub own : parts.own ≡ at ∷ (class_own ++ (values_own ++ subkeys_own))
   pub class : IsClass its.class parts.row.class class_own cells
   pub values : AreListedValues its.values parts.row.values values_own cells
-  pub kids : IsListed its.kids (is_plain subkeys) subkeys kids_own cells
+  pub subkey_list : IsListed its.subkey_list (is_plain subkeys) subkeys subkeys_own cells
   pub rises : Rises subkeys
   pub security : Names parts.row.descriptor its.security
 
 -- the key at an offset is written so, with the subkeys that are read from its list
 pub record IsKeyForm (cells : Cells) (Names : List ℕ → ℕ → Type 0) (parent at : ℕ) : Type 0 where
-  pub parts : Parts Row
-  pub subkeys : List Kid
+  pub parts : KeyParts Row
+  pub subkeys : List Subkey
   pub reads : keys_in true cells at ≡ Ok parts
-  pub listed : places subkeys ≡ parts.kids
+  pub listed : cell_offsets subkeys ≡ parts.subkey_list
   pub named : AreRead (keys_in true cells) subkeys
   pub form : KeyForm cells Names parent at parts subkeys
 
 -- a way, which is the places of subkeys in the lists of one key after another, leads from the key at an offset to that at
 -- another; and from the offset that the first one has for its parent to that of the last one's
-abbrev pub LeadsUnder : Reads Row Refusal → ℕ → ℕ → List ℕ → ℕ → ℕ → Type 0
+abbrev pub LeadsUnder : KeyReader Row Refusal → ℕ → ℕ → List ℕ → ℕ → ℕ → Type 0
 LeadsUnder reads above at [] parent to = (above ≡ parent) × (at ≡ to)
-LeadsUnder reads above at (i ∷ way) parent to = (parts : Parts Row) × (kid : ℕ) × (reads at ≡ Ok parts) × (slice_get parts.kids i ≡ Some kid) × LeadsUnder reads at kid way parent to
+LeadsUnder reads above at (i ∷ way) parent to = (parts : KeyParts Row) × (subkey : ℕ) × (reads at ≡ Ok parts) × (slice_get parts.subkey_list i ≡ Some subkey) × LeadsUnder reads at subkey way parent to
 
 -- ---- security cells
 
@@ -109,14 +109,14 @@ IsRing all = (i : ℕ) (s t : SecurityCell) → slice_get all i ≡ Some s → s
 -- the security cells of a tree: no two have one descriptor, they form one ring, and each counts the keys that have its
 -- descriptor, of which there are some
 pub record AreSecurities (cells : Cells) (tree : TreeMap) (all : List SecurityCell) : Type 0 where
-  pub held : AllByRecursion (λ (s : SecurityCell). Holds cells s.at (security_text s.next s.previous s.count s.descriptor)) all
+  pub held : AllByRecursion (λ (s : SecurityCell). CellHolds cells s.at (security_bytes s.next s.previous s.count s.descriptor)) all
   pub apart : Once (map (λ (s : SecurityCell). s.descriptor) all)
   pub ring : IsRing all
   pub counts : AllByRecursion (λ (s : SecurityCell). (0 < s.count) × (s.count ≡ keys_with s.descriptor (finite.entries tree))) all
 
 -- the offset of the cell that has a descriptor; that of none for an empty one
 abbrev pub IsNamed : List SecurityCell → List ℕ → ℕ → Type 0
-IsNamed all descriptor at = ((descriptor ≡ []) × (at ≡ nowhere)) ⊎ ((s : SecurityCell) × IsIn s all × (s.descriptor ≡ descriptor) × (s.at ≡ at))
+IsNamed all descriptor at = ((descriptor ≡ []) × (at ≡ nil_offset)) ⊎ ((s : SecurityCell) × IsIn s all × (s.descriptor ≡ descriptor) × (s.at ≡ at))
 
 -- ---- the whole
 
@@ -127,4 +127,4 @@ pub record IsFormed (bytes : List ℕ) (root : ℕ) (tree : TreeMap) : Type 0 wh
   pub shows : Shows bytes cells
   pub securities : List SecurityCell
   pub ring : AreSecurities cells tree securities
-  pub keys : (way : List ℕ) (parent at : ℕ) → LeadsUnder (keys_in true cells) nowhere root way parent at → IsKeyForm cells (IsNamed securities) parent at
+  pub keys : (way : List ℕ) (parent at : ℕ) → LeadsUnder (keys_in true cells) nil_offset root way parent at → IsKeyForm cells (IsNamed securities) parent at

@@ -2,10 +2,10 @@
 use Rattle.std.specs.Prelude.{ℕ, ◌+◌, ◌*◌, ◌/◌, List, [], ◌∷◌, length, sum_by}
 use Rattle.reg_tree_parts.specs.Rows.{Row}
 use Rattle.reg_tree_parts.specs.Nodes.{Entries, subkeys_of}
-use Rattle.hive_records.specs.Spellings.{name_text}
-use Rattle.hive_emit.specs.Making.{cell_cost}
-use Rattle.hive_emit.specs.CellCosts.{values_cost, kids_cost}
-use Rattle.hive_emit.specs.declared.security.Security.{Security}
+use Rattle.hive_records.specs.NameEncodings.{name_bytes}
+use Rattle.hive_emit.specs.CellWrites.{cell_cost}
+use Rattle.hive_emit.specs.CellCosts.{values_cost, subkeys_cost}
+use Rattle.hive_emit.specs.declared.security.SecurityEntry.{SecurityEntry}
 
 -- a class: none where it is empty
 abbrev pub class_cost : ℕ → ℕ
@@ -13,11 +13,11 @@ class_cost len = 16 * ((len + 7) / 8)
 
 -- what a key has of its own: record, class and values
 unfoldable pub row_cost : Row → ℕ
-row_cost row = cell_cost (76 + length (name_text row.name)) + class_cost (length row.class) + values_cost row.values
+row_cost row = cell_cost (76 + length (name_bytes row.name)) + class_cost (length row.class) + values_cost row.values
 
 -- what a key has beside its record: class, values, and the list of so many subkeys
 abbrev pub own_cost : Row → ℕ → ℕ
-own_cost row kids = class_cost (length row.class) + values_cost row.values + kids_cost kids
+own_cost row subkey_list = class_cost (length row.class) + values_cost row.values + subkeys_cost subkey_list
 
 -- a key, and all keys below it with what each takes in the list of its parent's subkeys
 abbrev pub keys_cost : Entries → ℕ
@@ -32,10 +32,10 @@ below_cost entries = sum_by (λ k. keys_cost k.1) (subkeys_of entries)
 abbrev pub descriptor_cost : ℕ → ℕ
 descriptor_cost len = cell_cost (20 + len)
 
-abbrev pub security_cost : Security → ℕ
+abbrev pub security_cost : SecurityEntry → ℕ
 security_cost security = descriptor_cost (length security.descriptor)
 
-abbrev pub securities_cost : List Security → ℕ
+abbrev pub securities_cost : List SecurityEntry → ℕ
 securities_cost securities = sum_by security_cost securities
 
 -- as many as the keys that have them

@@ -1,8 +1,8 @@
 pub mod Forms
-pub mod Securing
-pub mod Emitting
+pub mod SecurityTables
+pub mod EmittedKeys
 pub mod KeyCosts
-pub mod Making
+pub mod CellWrites
 pub mod Values
 pub mod KeyLists
 pub mod CellCosts

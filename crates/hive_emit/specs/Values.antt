@@ -3,60 +3,60 @@ use Rattle.std.specs.Prelude.{◌≡◌, ◌⊎◌, ℕ, ◌<◌, ◌≤◌, ◌
 use Rattle.std.specs.List.{AllByRecursion}
 use Rattle.reg_tree_parts.specs.declared.value.Value.{Value}
 use Rattle.hive_cells.specs.Bins.{Cells}
-use Rattle.hive_records.specs.Numbers.{nowhere}
-use Rattle.hive_records.specs.Fields.{Gives, Holds}
-use Rattle.hive_records.specs.BigTexts.{Segment, big_text, segment_places, together, AreFull}
-use Rattle.hive_records.specs.ListTexts.{offsets_text, AreOffsets}
-use Rattle.hive_records.specs.ValueTexts.{Fits}
-use Rattle.hive_records.specs.KeyTexts.{Written}
+use Rattle.hive_records.specs.Numbers.{nil_offset}
+use Rattle.hive_records.specs.Fields.{Gives, CellHolds}
+use Rattle.hive_records.specs.BigDataEncodings.{Segment, big_data_bytes, segment_offsets, joined_segments, AreFull}
+use Rattle.hive_records.specs.ListEncodings.{offsets_bytes, AreOffsets}
+use Rattle.hive_records.specs.ValueEncodings.{ValueIsEncodable}
+use Rattle.hive_records.specs.KeyEncodings.{ValueCells}
 use Rattle.hive_records.specs.Wholes.{IsWritten}
 use Rattle.hive_records.specs.Values.{values_at}
 use Rattle.std.specs.FinMap as finite
 use Rattle.reg_names.specs.Names.{folded}
 use Rattle.reg_tree_parts.specs.Rows.{ValueMap}
-use Rattle.hive_emit.specs.Making.{Adds, Lists}
+use Rattle.hive_emit.specs.CellWrites.{Adds, Lists}
 
 -- a segment is in its cell
 abbrev pub IsSegment : Cells → Segment → Type 0
-IsSegment cells s = Holds cells s.at s.text
+IsSegment cells s = CellHolds cells s.at s.encoding
 
 abbrev pub segment_own : Segment → List ℕ
 segment_own s = s.at ∷ []
 
 -- data lie in segments at places, of which something holds beside
-pub record InSegments (Full : List Segment → Type 0) (places text : List ℕ) (before after : Cells) : Type 0 where
+pub record InSegments (Full : List Segment → Type 0) (cell_offsets encoding : List ℕ) (before after : Cells) : Type 0 where
   pub segments : List Segment
   pub listed : Lists IsSegment segment_own segments before after
-  pub at : segment_places segments ≡ places
-  pub its : together segments ≡ text
+  pub at : segment_offsets segments ≡ cell_offsets
+  pub its : joined_segments segments ≡ encoding
   pub full : Full segments
-  pub near : AreOffsets places
+  pub near : AreOffsets cell_offsets
 
 -- data lie in a cell, or in segments that a record in a cell leads to
-pub record InCell (to : ℕ) (text own : List ℕ) (cells : Cells) : Type 0 where
-  pub few : length text ≤ 16_344
+pub record InCell (to : ℕ) (encoding own : List ℕ) (cells : Cells) : Type 0 where
+  pub few : length encoding ≤ 16_344
   pub is : own ≡ to ∷ []
-  pub held : Holds cells to text
+  pub held : CellHolds cells to encoding
 
-pub record InBig (to : ℕ) (text own : List ℕ) (cells : Cells) : Type 0 where
-  pub many : 16_344 < length text
+pub record InBig (to : ℕ) (encoding own : List ℕ) (cells : Cells) : Type 0 where
+  pub many : 16_344 < length encoding
   pub list : ℕ
   pub segments : List Segment
   pub near_list : list < 2 ^ 32
-  pub is : own ≡ to ∷ list ∷ segment_places segments
-  pub its : text ≡ together segments
+  pub is : own ≡ to ∷ list ∷ segment_offsets segments
+  pub its : encoding ≡ joined_segments segments
   pub full : AreFull segments
   pub count : length segments < 2 ^ 16
-  pub are : AreOffsets (segment_places segments)
-  pub leads : Holds cells to (big_text segments list)
-  pub listing : Holds cells list (offsets_text (segment_places segments))
+  pub are : AreOffsets (segment_offsets segments)
+  pub leads : CellHolds cells to (big_data_bytes segments list)
+  pub listing : CellHolds cells list (offsets_bytes (segment_offsets segments))
   pub held : AllByRecursion (IsSegment cells) segments
 
-pub record DataAt (to : ℕ) (text : List ℕ) (before after : Cells) : Type 0 where
+pub record DataAt (to : ℕ) (encoding : List ℕ) (before after : Cells) : Type 0 where
   pub own : List ℕ
   pub near : to < 2 ^ 32
   pub adds : Adds before after own
-  pub lies : InCell to text own after ⊎ InBig to text own after
+  pub lies : InCell to encoding own after ⊎ InBig to encoding own after
 
 -- a value is written, its record at an offset
 pub record ValueAt (at : ℕ) (value : Value) (before after : Cells) : Type 0 where
@@ -68,7 +68,7 @@ pub record ValueAt (at : ℕ) (value : Value) (before after : Cells) : Type 0 wh
 -- a value that can be put: it can be written, where its type is a number of 32 bits, and its data have so many segments as
 -- a record can count
 pub record CanPut (value : Value) : Type 0 where
-  pub fits : value.kind < 2 ^ 32 → Fits value
+  pub fits : value.kind < 2 ^ 32 → ValueIsEncodable value
   pub few : length value.«data» < 2 ^ 29
 
 -- values that can be put: each of them, under its own name, and no more than a record can count
@@ -77,32 +77,32 @@ pub record CanPutAll (values : ValueMap) : Type 0 where
   pub filed : AllByRecursion (λ (entry : List ℕ × Value). let value = entry.1 in folded value.name ≡ entry.0) (finite.entries values)
   pub few : finite.len values < 2 ^ 32
 
-abbrev pub IsValue : Cells → Written → Type 0
+abbrev pub IsValue : Cells → ValueCells → Type 0
 IsValue cells v = IsWritten true cells v
 
-abbrev pub value_own : Written → List ℕ
+abbrev pub value_own : ValueCells → List ℕ
 value_own v = v.own
 
 -- values are written one after another, their records at places
-pub record ListedValues (places : List ℕ) (values : List Value) (before after : Cells) : Type 0 where
-  pub written : List Written
+pub record ListedValues (cell_offsets : List ℕ) (values : List Value) (before after : Cells) : Type 0 where
+  pub written : List ValueCells
   pub listed : Lists IsValue value_own written before after
-  pub at : map (λ (v : Written). v.at) written ≡ places
-  pub its : map (λ (v : Written). v.value) written ≡ values
-  pub near : AreOffsets places
+  pub at : map (λ (v : ValueCells). v.at) written ≡ cell_offsets
+  pub its : map (λ (v : ValueCells). v.value) written ≡ values
+  pub near : AreOffsets cell_offsets
 
 -- a key's values have their records, and a list of these in the order of the values' folded names
 pub record HasValues (list : ℕ) (values : ValueMap) (own : List ℕ) (cells : Cells) : Type 0 where
-  pub written : List Written
-  pub its : map (λ (v : Written). v.value) written ≡ finite.values values
+  pub written : List ValueCells
+  pub its : map (λ (v : ValueCells). v.value) written ≡ finite.values values
   pub each : AllByRecursion (IsValue cells) written
-  pub held : Holds cells list (offsets_text (map (λ (v : Written). v.at) written))
+  pub held : CellHolds cells list (offsets_bytes (map (λ (v : ValueCells). v.at) written))
   pub its_own : own ≡ list ∷ flat_map value_own written
 
 -- none have no list, and its offset is that of none
 pub record HasNoValues (list : ℕ) (values : ValueMap) (own : List ℕ) : Type 0 where
   pub none : finite.len values ≡ 0
-  pub without : list ≡ nowhere
+  pub without : list ≡ nil_offset
   pub its_own : own ≡ []
 
 abbrev pub AreListedValues : ℕ → ValueMap → List ℕ → Cells → Type 0

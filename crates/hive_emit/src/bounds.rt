@@ -6,11 +6,11 @@ const UNIT: usize = 2;
 
 /// What the longest of a key's subkeys and values have.
 #[derive(Clone, Copy)]
-pub(crate) struct Bounds {
+pub(crate) struct RecordBounds {
     /// The most bytes of a subkey's name, as if in UTF-16, or 65,535 where it is more.
-    pub kid_name: u16,
+    pub subkey_name: u16,
     /// The most bytes of a subkey's class.
-    pub kid_class: u32,
+    pub subkey_class: u32,
     /// The most bytes of a value's name, as if in UTF-16.
     pub value_name: u32,
     /// The most bytes of a value's data.
@@ -23,16 +23,16 @@ pub(crate) fn clamped(len: usize) -> u32 {
 }
 
 /// The bounds of a key.
-pub(crate) fn bounds_of(node: &Node) -> Bounds {
-    let mut bounds = Bounds {
-        kid_name: 0,
-        kid_class: 0,
+pub(crate) fn bounds_of(node: &Node) -> RecordBounds {
+    let mut bounds = RecordBounds {
+        subkey_name: 0,
+        subkey_class: 0,
         value_name: 0,
         value_data: 0,
     };
     for index in 0..node.subkey_count() {
         if let Some(subkey) = node.subkey_at(index) {
-            add_kid(&mut bounds, subkey.key());
+            add_subkey(&mut bounds, subkey.key());
         }
     }
     for index in 0..node.key().values().len() {
@@ -46,9 +46,9 @@ pub(crate) fn bounds_of(node: &Node) -> Bounds {
 }
 
 // raises bounds to those of one subkey
-fn add_kid(bounds: &mut Bounds, key: &Key) {
+fn add_subkey(bounds: &mut RecordBounds, key: &Key) {
     let name = key.name().units().len().saturating_mul(UNIT);
     let name = u16::try_from(name).unwrap_or(u16::MAX);
-    bounds.kid_name = bounds.kid_name.max(name);
-    bounds.kid_class = bounds.kid_class.max(clamped(key.class().len()));
+    bounds.subkey_name = bounds.subkey_name.max(name);
+    bounds.subkey_class = bounds.subkey_class.max(clamped(key.class().len()));
 }

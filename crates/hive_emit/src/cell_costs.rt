@@ -1,7 +1,7 @@
 //! What writing takes of an image's free cell at most, reckoned before it is written: so an image is made as long as it has to
 //! be, at once.
 ghost use Rattle.std.specs.Prelude.{◌≡◌, ◌<◌, ◌^◌, length};
-ghost use Rattle.hive_emit.specs.Making.{cell_cost};
+ghost use Rattle.hive_emit.specs.CellWrites.{cell_cost};
 ghost use Rattle.hive_emit.specs.Values.{CanPut, CanPutAll};
 ghost use Rattle.hive_emit.specs.CellCosts.{data_cost, value_cost, values_cost};
 

@@ -1,14 +1,14 @@
 //! Cells that are written into an image.
 ghost use Rattle.std.specs.Prelude.{◌≤◌, ◌+◌, ℕ, length, MatchResult};
-ghost use Rattle.hive_emit.specs.Making.{Makes, Opens, Puts, Lands, Stops, Fills, IsLongCell, cell_cost};
+ghost use Rattle.hive_emit.specs.CellWrites.{Makes, Opens, Puts, Lands, WriteRefused, Fills, IsLongCell, cell_cost};
 
 use hive_cells::Image;
 use refusals::Refusal;
 
 /// The offset of none.
-pub const NOWHERE: u32 = 0xffff_ffff;
+pub const NIL: u32 = 0xffff_ffff;
 
-const _: () = prove!(NOWHERE == 0xffff_ffff);
+const _: () = prove!(NIL == 0xffff_ffff);
 
 /// A new cell with room for data of a length.
 ///
@@ -18,7 +18,7 @@ pub fn new_cell(image: &mut Image, len: usize) -> Result<u32, Refusal>
         (λ at. Makes image.old.bytes image.new.bytes (Opens at len)
         × IsLongCell image.new.bytes at len
         × Lands image.old.bytes image.new.bytes at (cell_cost len))
-        (λ why. Stops image.old.bytes (cell_cost len) why) }
+        (λ why. WriteRefused image.old.bytes (cell_cost len) why) }
 {
     match image.alloc(len) {
         Ok(at) => {
@@ -30,11 +30,11 @@ pub fn new_cell(image: &mut Image, len: usize) -> Result<u32, Refusal>
 }
 
 /// Fills a text into a cell that is there and long enough for it.
-pub fn fill(image: &mut Image, at: u32, text: &[u8])
-    requires { IsLongCell image.old.bytes at (length text.now) }
-    ensures { Fills image.old.bytes image.new.bytes at text.now }
+pub fn fill(image: &mut Image, at: u32, encoding: &[u8])
+    requires { IsLongCell image.old.bytes at (length encoding.now) }
+    ensures { Fills image.old.bytes image.new.bytes at encoding.now }
 {
-    match image.write(at, 0, text) {
+    match image.write(at, 0, encoding) {
         Ok(()) => {}
         Err(_) => unreachable!(),
     }
@@ -43,17 +43,17 @@ pub fn fill(image: &mut Image, at: u32, text: &[u8])
 /// Puts a text into a new cell with room for data of a length, which is at least that of the text.
 ///
 /// Refused with `NoMemory`, and else only where the image has no free cell that is as long, or has several.
-pub fn put_cell(image: &mut Image, text: &[u8], len: usize) -> Result<u32, Refusal>
-    requires { length text.now ≤ len }
+pub fn put_cell(image: &mut Image, encoding: &[u8], len: usize) -> Result<u32, Refusal>
+    requires { length encoding.now ≤ len }
     ensures { MatchResult result
-        (λ at. Makes image.old.bytes image.new.bytes (Puts at text.now)
+        (λ at. Makes image.old.bytes image.new.bytes (Puts at encoding.now)
         × Lands image.old.bytes image.new.bytes at (cell_cost len))
-        (λ why. Stops image.old.bytes (cell_cost len) why) }
+        (λ why. WriteRefused image.old.bytes (cell_cost len) why) }
 {
     let at = match new_cell(image, len) {
         Ok(at) => at,
         Err(why) => return Err(why),
     };
-    fill(image, at, text);
+    fill(image, at, encoding);
     Ok(at)
 }

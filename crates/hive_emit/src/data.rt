@@ -1,7 +1,7 @@
 //! Data of values that don't lie in their record.
 ghost use Rattle.std.specs.Prelude.{◌<◌, ◌+◌, ◌*◌, ◌^◌, length, IfOk, IfErr, OnOk};
-ghost use Rattle.hive_records.specs.BigTexts.{AreFull};
-ghost use Rattle.hive_emit.specs.Making.{Makes, Uses, Stops};
+ghost use Rattle.hive_records.specs.BigDataEncodings.{AreFull};
+ghost use Rattle.hive_emit.specs.CellWrites.{Makes, Uses, WriteRefused};
 ghost use Rattle.hive_emit.specs.Values.{InSegments, DataAt};
 ghost use Rattle.hive_emit.specs.CellCosts.{segments_cost, apart_cost};
 
@@ -18,14 +18,14 @@ const UNREAD: usize = 4;
 /// Puts data into segments, all full but the last; answers the segments' cells.
 fn put_segments(alloc: Global, image: &mut Image, content: &[u8]) -> Result<Vec<u32>, Refusal>
     requires { 0 < length content.now }
-    ensures made { IfOk result (λ places. Makes image.old.bytes image.new.bytes
-        (InSegments AreFull places.items content.now)) }
-    ensures count { IfOk result (λ places. 16_344 * length places.items < length content.now + 16_344) }
+    ensures made { IfOk result (λ cell_offsets. Makes image.old.bytes image.new.bytes
+        (InSegments AreFull cell_offsets.items content.now)) }
+    ensures count { IfOk result (λ cell_offsets. 16_344 * length cell_offsets.items < length content.now + 16_344) }
     ensures uses { OnOk result (Uses image.old.bytes image.new.bytes (segments_cost
         (length content.now))) }
-    ensures stops { IfErr result (Stops image.old.bytes (segments_cost (length content.now))) }
+    ensures stops { IfErr result (WriteRefused image.old.bytes (segments_cost (length content.now))) }
 {
-    let mut places = Vec::new(alloc);
+    let mut cell_offsets = Vec::new(alloc);
     let full = (content.len() - 1) / SEGMENT_BYTES;
     for index in 0..full {
         let from = index * SEGMENT_BYTES;
@@ -33,22 +33,22 @@ fn put_segments(alloc: Global, image: &mut Image, content: &[u8]) -> Result<Vec<
             Ok(at) => at,
             Err(why) => return Err(why),
         };
-        places.push(at)?;
+        cell_offsets.push(at)?;
     }
     let last = &content[full * SEGMENT_BYTES..];
     let at = match put_cell(image, last, last.len() + UNREAD) {
         Ok(at) => at,
         Err(why) => return Err(why),
     };
-    places.push(at)?;
-    Ok(places)
+    cell_offsets.push(at)?;
+    Ok(cell_offsets)
 }
 
 // puts data that are longer than one segment
 fn put_big(
     alloc: Global,
     image: &mut Image,
-    text: &mut Vec<u8>,
+    encoding: &mut Vec<u8>,
     content: &[u8],
 ) -> Result<u32, Refusal>
     requires many { 16_344 < length content.now }
@@ -56,21 +56,21 @@ fn put_big(
     ensures made { IfOk result (λ to. Makes image.old.bytes image.new.bytes (DataAt to content.now)) }
     ensures uses { OnOk result (Uses image.old.bytes image.new.bytes (apart_cost
         (length content.now))) }
-    ensures stops { IfErr result (Stops image.old.bytes (apart_cost (length content.now))) }
+    ensures stops { IfErr result (WriteRefused image.old.bytes (apart_cost (length content.now))) }
 {
-    let places = match put_segments(alloc, image, content) {
-        Ok(places) => places,
+    let cell_offsets = match put_segments(alloc, image, content) {
+        Ok(cell_offsets) => cell_offsets,
         Err(why) => return Err(why),
     };
-    text.clear();
-    put_offsets(text, &places)?;
-    let list = match put_cell(image, text, text.len()) {
+    encoding.clear();
+    put_offsets(encoding, &cell_offsets)?;
+    let list = match put_cell(image, encoding, encoding.len()) {
         Ok(at) => at,
         Err(why) => return Err(why),
     };
-    text.clear();
-    put_big_data(text, places.len() as u16, list)?;
-    match put_cell(image, text, text.len()) {
+    encoding.clear();
+    put_big_data(encoding, cell_offsets.len() as u16, list)?;
+    match put_cell(image, encoding, encoding.len()) {
         Ok(to) => Ok(to),
         Err(why) => Err(why),
     }
@@ -80,17 +80,17 @@ fn put_big(
 pub(crate) fn put_data(
     alloc: Global,
     image: &mut Image,
-    text: &mut Vec<u8>,
+    encoding: &mut Vec<u8>,
     content: &[u8],
 ) -> Result<u32, Refusal>
     requires { length content.now < 2 ^ 29 }
     ensures made { IfOk result (λ to. Makes image.old.bytes image.new.bytes (DataAt to content.now)) }
     ensures uses { OnOk result (Uses image.old.bytes image.new.bytes (apart_cost
         (length content.now))) }
-    ensures stops { IfErr result (Stops image.old.bytes (apart_cost (length content.now))) }
+    ensures stops { IfErr result (WriteRefused image.old.bytes (apart_cost (length content.now))) }
 {
     if SEGMENT_BYTES < content.len() {
-        return put_big(alloc, image, text, content);
+        return put_big(alloc, image, encoding, content);
     }
     match put_cell(image, content, content.len()) {
         Ok(to) => Ok(to),

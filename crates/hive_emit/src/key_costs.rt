@@ -1,6 +1,6 @@
 //! What a tree takes of an image's free cell at most, reckoned before the image is made.
 ghost use Rattle.std.specs.Prelude.{◌≡◌, ◌<◌, ◌^◌, []};
-ghost use Rattle.hive_emit.specs.Emitting.{CanPutKey, CanPutKeys};
+ghost use Rattle.hive_emit.specs.EmittedKeys.{CanPutKey, CanPutKeys};
 ghost use Rattle.hive_emit.specs.KeyCosts.{class_cost, row_cost, keys_cost};
 
 use crate::cell_costs::{cell_cost, values_cost};

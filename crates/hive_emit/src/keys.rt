@@ -3,21 +3,21 @@ ghost use Rattle.std.specs.Prelude.{◌≡◌, ◌<◌, ◌≤◌, ◌+◌, ◌^
 ghost use Rattle.std.specs.FinMap as finite;
 ghost use Rattle.reg_tree_parts.specs.Rows.{Row};
 ghost use Rattle.reg_tree_parts.specs.Nodes.{subkeys_of, row_at, HasSubkeys};
-ghost use Rattle.hive_records.specs.ListTexts.{AreOffsets};
-ghost use Rattle.hive_records.specs.KeyTexts.{key_text, RowFits};
-ghost use Rattle.hive_records.specs.Spellings.{name_text};
-ghost use Rattle.hive_emit.specs.Making.{Makes, Fills, IsLongCell, Uses, Stops};
+ghost use Rattle.hive_records.specs.ListEncodings.{AreOffsets};
+ghost use Rattle.hive_records.specs.KeyEncodings.{key_node_bytes, RowFits};
+ghost use Rattle.hive_records.specs.NameEncodings.{name_bytes};
+ghost use Rattle.hive_emit.specs.CellWrites.{Makes, Fills, IsLongCell, Uses, WriteRefused};
 ghost use Rattle.hive_emit.specs.Forms.{is_past_ascii};
-ghost use Rattle.hive_emit.specs.Emitting.{CanPutKey, CanPutKeys, any_past_ascii, AreCounted, PutsKey, PutsKids, OwnAt, ClassAt, NodePlaces};
+ghost use Rattle.hive_emit.specs.EmittedKeys.{CanPutKey, CanPutKeys, any_past_ascii, AreCounted, PutsKey, PutsSubkeys, OwnAt, ClassAt, KeyNodeFieldsAre};
 ghost use Rattle.hive_emit.specs.KeyCosts.{class_cost, own_cost, below_cost, keys_cost};
 
-use crate::bounds::{Bounds, bounds_of};
-use crate::cells::{NOWHERE, fill, new_cell, put_cell};
-use crate::lists::put_kids;
-use crate::security::Securities;
+use crate::bounds::{RecordBounds, bounds_of};
+use crate::cells::{NIL, fill, new_cell, put_cell};
+use crate::lists::put_subkey_list;
+use crate::security::SecurityTable;
 use crate::values::put_values;
 use hive_cells::Image;
-use hive_records::{KeyPlaces, put_key_node, stored_len};
+use hive_records::{KeyNodeFields, put_key_node, stored_len};
 use refusals::Refusal;
 use reg_tree_parts::Node;
 use std::alloc::Global;
@@ -30,10 +30,10 @@ const LAST_ASCII: u16 = 0x7f;
 
 /// Where a key's own cells are, its record apart.
 #[derive(Drop)]
-struct Own {
+struct OwnCells {
     class: u32,
     values: u32,
-    kids: u32,
+    subkey_list: u32,
 }
 
 // whether a name has a unit past ASCII
@@ -63,10 +63,10 @@ fn put_class(image: &mut Image, class: &[u8]) -> Result<u32, Refusal>
     ensures made { IfOk result (λ at. Makes image.old.bytes image.new.bytes (ClassAt at class.now)) }
     ensures uses { OnOk result (Uses image.old.bytes image.new.bytes (class_cost
         (length class.now))) }
-    ensures stops { IfErr result (Stops image.old.bytes (class_cost (length class.now))) }
+    ensures stops { IfErr result (WriteRefused image.old.bytes (class_cost (length class.now))) }
 {
     if class.is_empty() {
-        return Ok(NOWHERE);
+        return Ok(NIL);
     }
     match put_cell(image, class, class.len()) {
         Ok(at) => Ok(at),
@@ -78,61 +78,68 @@ fn put_class(image: &mut Image, class: &[u8]) -> Result<u32, Refusal>
 fn put_own(
     alloc: Global,
     image: &mut Image,
-    text: &mut Vec<u8>,
+    encoding: &mut Vec<u8>,
     node: &Node,
-    places: &[u32],
-) -> Result<Own, Refusal>
+    cell_offsets: &[u32],
+) -> Result<OwnCells, Refusal>
     requires can { CanPutKeys node.now }
-    requires all { length places.now ≡ length (subkeys_of node.now) }
-    requires few { length places.now < 2 ^ 24 }
-    requires near { AreOffsets places.now }
+    requires all { length cell_offsets.now ≡ length (subkeys_of node.now) }
+    requires few { length cell_offsets.now < 2 ^ 24 }
+    requires near { AreOffsets cell_offsets.now }
     ensures made { IfOk result (λ own. (row : Row) → row_at node.now [] ≡ Some row → Makes
-        image.old.bytes image.new.bytes (OwnAt own.class own.values own.kids row places.now
+        image.old.bytes image.new.bytes (OwnAt own.class own.values own.subkey_list row cell_offsets.now
         (subkeys_of node.now))) }
     ensures uses { OnOk result ((row : Row) → row_at node.now [] ≡ Some row → Uses
-        image.old.bytes image.new.bytes (own_cost row (length places.now))) }
-    ensures stops { IfErr result (λ why. (row : Row) → row_at node.now [] ≡ Some row → Stops
-        image.old.bytes (own_cost row (length places.now)) why) }
+        image.old.bytes image.new.bytes (own_cost row (length cell_offsets.now))) }
+    ensures stops { IfErr result (λ why. (row : Row) → row_at node.now [] ≡ Some row → WriteRefused
+        image.old.bytes (own_cost row (length cell_offsets.now)) why) }
 {
     let key = node.key();
     let class = match put_class(image, key.class()) {
         Ok(class) => class,
         Err(why) => return Err(why),
     };
-    let values = match put_values(alloc, image, text, key.values()) {
+    let values = match put_values(alloc, image, encoding, key.values()) {
         Ok(values) => values,
         Err(why) => return Err(why),
     };
-    let kids = match put_kids(alloc, image, text, node, places, is_plain(node)) {
-        Ok(kids) => kids,
+    let subkey_list = match put_subkey_list(
+        alloc,
+        image,
+        encoding,
+        node,
+        cell_offsets,
+        is_plain(node),
+    ) {
+        Ok(subkey_list) => subkey_list,
         Err(why) => return Err(why),
     };
-    Ok(Own {
+    Ok(OwnCells {
         class,
         values,
-        kids,
+        subkey_list,
     })
 }
 
 // what a key's record says beside its row
-fn key_places(node: &Node, parent: u32, security: u32, own: &Own) -> KeyPlaces
+fn key_node_fields(node: &Node, parent: u32, security: u32, own: &OwnCells) -> KeyNodeFields
     requires can { CanPutKeys node.now }
     requires few { length (subkeys_of node.now) < 2 ^ 24 }
-    ensures { (row : Row) → row_at node.now [] ≡ Some row → NodePlaces result row parent
-        (length (subkeys_of node.now)) security own.now.class own.now.values own.now.kids }
+    ensures { (row : Row) → row_at node.now [] ≡ Some row → KeyNodeFieldsAre result row parent
+        (length (subkeys_of node.now)) security own.now.class own.now.values own.now.subkey_list }
 {
     let key = node.key();
     let bounds = bounds_of(node);
-    KeyPlaces {
+    KeyNodeFields {
         parent,
-        kid_count: node.subkey_count() as u32,
-        kids: own.kids,
+        subkey_total: node.subkey_count() as u32,
+        subkey_list: own.subkey_list,
         value_count: key.values().len() as u32,
         values: own.values,
         security,
         class: own.class,
-        longest_kid: bounds.kid_name,
-        longest_class: bounds.kid_class,
+        longest_subkey: bounds.subkey_name,
+        longest_class: bounds.subkey_class,
         longest_value: bounds.value_name,
         largest_data: bounds.value_data,
     }
@@ -141,33 +148,33 @@ fn key_places(node: &Node, parent: u32, security: u32, own: &Own) -> KeyPlaces
 // fills a key's record into its cell
 fn fill_key(
     image: &mut Image,
-    text: &mut Vec<u8>,
+    encoding: &mut Vec<u8>,
     node: &Node,
     at: u32,
-    its: &KeyPlaces,
+    its: &KeyNodeFields,
 ) -> Result<(), Refusal>
     requires can { CanPutKeys node.now }
     requires long { (row : Row) → row_at node.now [] ≡ Some row →
-        IsLongCell image.old.bytes at (76 + length (name_text row.name)) }
+        IsLongCell image.old.bytes at (76 + length (name_bytes row.name)) }
     ensures filled { OnOk result ((row : Row) → row_at node.now [] ≡ Some row →
-        Fills image.old.bytes image.new.bytes at (key_text row its.now)) }
+        Fills image.old.bytes image.new.bytes at (key_node_bytes row its.now)) }
     ensures time { OnOk result ((row : Row) → row_at node.now [] ≡ Some row →
         row.time < 2 ^ 64) }
     ensures memory { IfErr result (λ why. why ≡ Refusal.NoMemory) }
 {
     let key = node.key();
     let time = key.time();
-    text.clear();
+    encoding.clear();
     let class = key.class().len() as u16;
-    put_key_node(text, key.name().units(), key.flags(), time, class, its)?;
-    fill(image, at, text);
+    put_key_node(encoding, key.name().units(), key.flags(), time, class, its)?;
+    fill(image, at, encoding);
     Ok(())
 }
 
 /// How many bytes a key's record has.
 pub(crate) fn record_len(name: &[u16]) -> usize
-    requires { length (name_text name.now) < 2 ^ 16 }
-    ensures { result ≡ 76 + length (name_text name.now) }
+    requires { length (name_bytes name.now) < 2 ^ 16 }
+    ensures { result ≡ 76 + length (name_bytes name.now) }
 {
     RECORD_BYTES + stored_len(name) as usize
 }
@@ -177,35 +184,35 @@ pub(crate) fn record_len(name: &[u16]) -> usize
 fn put_subkeys(
     alloc: Global,
     image: &mut Image,
-    text: &mut Vec<u8>,
-    securities: &Securities,
+    encoding: &mut Vec<u8>,
+    securities: &SecurityTable,
     node: &Node,
     parent: u32,
 ) -> Result<Vec<u32>, Refusal>
     requires can { CanPutKeys node.now }
     requires counted { AreCounted securities.now node.now }
     requires few { length node.now < 2 ^ 24 }
-    ensures made { IfOk result (λ places. Makes image.old.bytes image.new.bytes
-        (PutsKids securities.now parent places.items (subkeys_of node.now))) }
-    ensures count { IfOk result (λ places. length places.items ≡ length (subkeys_of node.now)) }
-    ensures near { IfOk result (λ places. AreOffsets places.items) }
+    ensures made { IfOk result (λ cell_offsets. Makes image.old.bytes image.new.bytes
+        (PutsSubkeys securities.now parent cell_offsets.items (subkeys_of node.now))) }
+    ensures count { IfOk result (λ cell_offsets. length cell_offsets.items ≡ length (subkeys_of node.now)) }
+    ensures near { IfOk result (λ cell_offsets. AreOffsets cell_offsets.items) }
     ensures has { HasSubkeys node.now (subkeys_of node.now) }
     ensures uses { OnOk result (Uses image.old.bytes image.new.bytes (below_cost node.now)) }
-    ensures stops { IfErr result (Stops image.old.bytes (below_cost node.now)) }
+    ensures stops { IfErr result (WriteRefused image.old.bytes (below_cost node.now)) }
 {
     let _ = node.key();
-    let mut places = Vec::new(alloc);
+    let mut cell_offsets = Vec::new(alloc);
     for index in 0..node.subkey_count() {
         let Some(subkey) = node.subkey_at(index) else {
             unreachable!();
         };
-        let at = match put_key(alloc, image, text, securities, subkey, parent) {
+        let at = match put_key(alloc, image, encoding, securities, subkey, parent) {
             Ok(at) => at,
             Err(why) => return Err(why),
         };
-        places.push(at)?;
+        cell_offsets.push(at)?;
     }
-    Ok(places)
+    Ok(cell_offsets)
 }
 
 /// Puts a key and all keys below it; answers the cell of its record.
@@ -215,8 +222,8 @@ fn put_subkeys(
 pub(crate) fn put_key(
     alloc: Global,
     image: &mut Image,
-    text: &mut Vec<u8>,
-    securities: &Securities,
+    encoding: &mut Vec<u8>,
+    securities: &SecurityTable,
     node: &Node,
     parent: u32,
 ) -> Result<u32, Refusal>
@@ -226,7 +233,7 @@ pub(crate) fn put_key(
     ensures made { IfOk result (λ at. Makes image.old.bytes image.new.bytes
         (PutsKey securities.now parent at node.now)) }
     ensures uses { OnOk result (Uses image.old.bytes image.new.bytes (keys_cost node.now)) }
-    ensures stops { IfErr result (Stops image.old.bytes (keys_cost node.now)) }
+    ensures stops { IfErr result (WriteRefused image.old.bytes (keys_cost node.now)) }
 {
     let key = node.key();
     let _time = key.time();
@@ -235,18 +242,18 @@ pub(crate) fn put_key(
         Err(why) => return Err(why),
     };
     image.tiles(0);
-    let places = match put_subkeys(alloc, image, text, securities, node, at) {
-        Ok(places) => places,
+    let cell_offsets = match put_subkeys(alloc, image, encoding, securities, node, at) {
+        Ok(cell_offsets) => cell_offsets,
         Err(why) => return Err(why),
     };
-    let own = match put_own(alloc, image, text, node, &places) {
+    let own = match put_own(alloc, image, encoding, node, &cell_offsets) {
         Ok(own) => own,
         Err(why) => return Err(why),
     };
     let security = securities.offset(key.descriptor().bytes());
-    let its = key_places(node, parent, security, &own);
+    let its = key_node_fields(node, parent, security, &own);
     image.tiles(0);
-    match fill_key(image, text, node, at, &its) {
+    match fill_key(image, encoding, node, at, &its) {
         Ok(()) => Ok(at),
         Err(why) => Err(why),
     }

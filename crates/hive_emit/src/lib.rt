@@ -8,12 +8,12 @@ mod bounds;
 mod cell_costs;
 mod cells;
 mod data;
-mod emitting;
+mod emitter;
 mod key_costs;
 mod keys;
 mod lists;
 mod security;
 mod values;
 
-pub use emitting::{Emitted, emit};
+pub use emitter::{Emitted, emit};
 pub use lists::LEAF_MOST;

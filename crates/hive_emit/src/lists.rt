@@ -1,12 +1,12 @@
 //! Lists of a key's subkeys: leaves of at most 500, and a list of leaves where there is more than one.
 ghost use Rattle.std.specs.Prelude.{◌≡◌, ◌<◌, ◌≤◌, ◌+◌, ◌++◌, ◌^◌, ◌*◌, true, false, length, drop, IfOk, IfErr, OnOk};
 ghost use Rattle.reg_tree_parts.specs.Nodes.{subkeys_of};
-ghost use Rattle.hive_records.specs.ListTexts.{hashed_leaf};
-ghost use Rattle.hive_emit.specs.Making.{Makes, Puts, Uses, Stops};
-ghost use Rattle.hive_emit.specs.KeyLists.{leaf_text, placed, ListedLeaves, KidsAt};
-ghost use Rattle.hive_emit.specs.CellCosts.{leaf_cost, leaves_cost, kids_cost};
+ghost use Rattle.hive_records.specs.ListEncodings.{hashed_leaf};
+ghost use Rattle.hive_emit.specs.CellWrites.{Makes, Puts, Uses, WriteRefused};
+ghost use Rattle.hive_emit.specs.KeyLists.{leaf_bytes, placed, ListedLeaves, SubkeysAt};
+ghost use Rattle.hive_emit.specs.CellCosts.{leaf_cost, leaves_cost, subkeys_cost};
 
-use crate::cells::{NOWHERE, put_cell};
+use crate::cells::{NIL, put_cell};
 use hive_cells::Image;
 use hive_records::{put_hashed, put_hashed_head, put_indirect, put_plain_leaf};
 use refusals::Refusal;
@@ -20,45 +20,45 @@ const _: () = prove!(LEAF_MOST == 500);
 
 // puts the text of a leaf with hashes, for subkeys from one on, which have these cells
 fn put_hashes(
-    text: &mut Vec<u8>,
+    encoding: &mut Vec<u8>,
     node: &Node,
     from: usize,
-    places: &[u32],
+    cell_offsets: &[u32],
 ) -> Result<(), AllocError>
-    requires few { length places.now ≤ 500 }
-    requires within { from + length places.now ≤ length (subkeys_of node.now) }
+    requires few { length cell_offsets.now ≤ 500 }
+    requires within { from + length cell_offsets.now ≤ length (subkeys_of node.now) }
     requires small { length (subkeys_of node.now) < 2 ^ 24 }
-    ensures { OnOk result (text.new.items ≡ text.old.items ++ hashed_leaf (placed places.now
+    ensures { OnOk result (encoding.new.items ≡ encoding.old.items ++ hashed_leaf (placed cell_offsets.now
         (drop from (subkeys_of node.now)))) }
 {
-    put_hashed_head(text, places.len() as u16)?;
-    for index in 0..places.len() {
+    put_hashed_head(encoding, cell_offsets.len() as u16)?;
+    for index in 0..cell_offsets.len() {
         let Some(subkey) = node.subkey_at(from + index) else {
             unreachable!();
         };
-        put_hashed(text, places[index], subkey.key().name().units())?;
+        put_hashed(encoding, cell_offsets[index], subkey.key().name().units())?;
     }
     Ok(())
 }
 
 // puts the text of a leaf for subkeys from one on, which have these cells
-fn put_leaf_text(
-    text: &mut Vec<u8>,
+fn put_leaf_bytes(
+    encoding: &mut Vec<u8>,
     node: &Node,
     from: usize,
-    places: &[u32],
+    cell_offsets: &[u32],
     plain: bool,
 ) -> Result<(), AllocError>
-    requires few { length places.now ≤ 500 }
-    requires within { from + length places.now ≤ length (subkeys_of node.now) }
+    requires few { length cell_offsets.now ≤ 500 }
+    requires within { from + length cell_offsets.now ≤ length (subkeys_of node.now) }
     requires small { length (subkeys_of node.now) < 2 ^ 24 }
-    ensures { OnOk result (text.new.items ≡ text.old.items ++ leaf_text plain (placed places.now
+    ensures { OnOk result (encoding.new.items ≡ encoding.old.items ++ leaf_bytes plain (placed cell_offsets.now
         (drop from (subkeys_of node.now)))) }
 {
     if plain {
-        put_plain_leaf(text, places)?;
+        put_plain_leaf(encoding, cell_offsets)?;
     } else {
-        put_hashes(text, node, from, places)?;
+        put_hashes(encoding, node, from, cell_offsets)?;
     }
     Ok(())
 }
@@ -66,24 +66,24 @@ fn put_leaf_text(
 // puts a leaf for subkeys from one on, which have these cells
 fn put_leaf(
     image: &mut Image,
-    text: &mut Vec<u8>,
+    encoding: &mut Vec<u8>,
     node: &Node,
     from: usize,
-    places: &[u32],
+    cell_offsets: &[u32],
     plain: bool,
 ) -> Result<u32, Refusal>
-    requires few { length places.now ≤ 500 }
-    requires within { from + length places.now ≤ length (subkeys_of node.now) }
+    requires few { length cell_offsets.now ≤ 500 }
+    requires within { from + length cell_offsets.now ≤ length (subkeys_of node.now) }
     requires small { length (subkeys_of node.now) < 2 ^ 24 }
-    ensures made { IfOk result (λ at. Makes image.old.bytes image.new.bytes (Puts at (leaf_text
-        plain (placed places.now (drop from (subkeys_of node.now)))))) }
+    ensures made { IfOk result (λ at. Makes image.old.bytes image.new.bytes (Puts at (leaf_bytes
+        plain (placed cell_offsets.now (drop from (subkeys_of node.now)))))) }
     ensures uses { OnOk result (Uses image.old.bytes image.new.bytes (leaf_cost
-        (length places.now))) }
-    ensures stops { IfErr result (Stops image.old.bytes (leaf_cost (length places.now))) }
+        (length cell_offsets.now))) }
+    ensures stops { IfErr result (WriteRefused image.old.bytes (leaf_cost (length cell_offsets.now))) }
 {
-    text.clear();
-    put_leaf_text(text, node, from, places, plain)?;
-    match put_cell(image, text, text.len()) {
+    encoding.clear();
+    put_leaf_bytes(encoding, node, from, cell_offsets, plain)?;
+    match put_cell(image, encoding, encoding.len()) {
         Ok(at) => Ok(at),
         Err(why) => Err(why),
     }
@@ -93,25 +93,25 @@ fn put_leaf(
 fn put_leaves(
     alloc: Global,
     image: &mut Image,
-    text: &mut Vec<u8>,
+    encoding: &mut Vec<u8>,
     node: &Node,
-    places: &[u32],
+    cell_offsets: &[u32],
     plain: bool,
 ) -> Result<Vec<u32>, Refusal>
-    requires within { length places.now ≤ length (subkeys_of node.now) }
+    requires within { length cell_offsets.now ≤ length (subkeys_of node.now) }
     requires small { length (subkeys_of node.now) < 2 ^ 24 }
     ensures made { IfOk result (λ leaves. Makes image.old.bytes image.new.bytes
-        (ListedLeaves plain leaves.items (placed places.now (subkeys_of node.now)))) }
-    ensures count { IfOk result (λ leaves. 500 * length leaves.items < length places.now + 500) }
+        (ListedLeaves plain leaves.items (placed cell_offsets.now (subkeys_of node.now)))) }
+    ensures count { IfOk result (λ leaves. 500 * length leaves.items < length cell_offsets.now + 500) }
     ensures uses { OnOk result (Uses image.old.bytes image.new.bytes (leaves_cost
-        (length places.now))) }
-    ensures stops { IfErr result (Stops image.old.bytes (leaves_cost (length places.now))) }
+        (length cell_offsets.now))) }
+    ensures stops { IfErr result (WriteRefused image.old.bytes (leaves_cost (length cell_offsets.now))) }
 {
     let mut leaves = Vec::new(alloc);
-    for index in 0..places.len().div_ceil(LEAF_MOST) {
+    for index in 0..cell_offsets.len().div_ceil(LEAF_MOST) {
         let from = index * LEAF_MOST;
-        let to = places.len().min(from + LEAF_MOST);
-        let at = match put_leaf(image, text, node, from, &places[from..to], plain) {
+        let to = cell_offsets.len().min(from + LEAF_MOST);
+        let at = match put_leaf(image, encoding, node, from, &cell_offsets[from..to], plain) {
             Ok(at) => at,
             Err(why) => return Err(why),
         };
@@ -124,38 +124,38 @@ fn put_leaves(
 /// its cell, or the offset of none where there are no subkeys.
 ///
 /// Refused with `NoMemory`, and else only where the image has no free cell with room for all of it, or has several.
-pub fn put_kids(
+pub fn put_subkey_list(
     alloc: Global,
     image: &mut Image,
-    text: &mut Vec<u8>,
+    encoding: &mut Vec<u8>,
     node: &Node,
-    places: &[u32],
+    cell_offsets: &[u32],
     plain: bool,
 ) -> Result<u32, Refusal>
-    requires all { length places.now ≡ length (subkeys_of node.now) }
-    requires few { length places.now < 2 ^ 24 }
-    ensures made { IfOk result (λ list. Makes image.old.bytes image.new.bytes (KidsAt list plain
-        (placed places.now (subkeys_of node.now)))) }
-    ensures uses { OnOk result (Uses image.old.bytes image.new.bytes (kids_cost
-        (length places.now))) }
-    ensures stops { IfErr result (Stops image.old.bytes (kids_cost (length places.now))) }
+    requires all { length cell_offsets.now ≡ length (subkeys_of node.now) }
+    requires few { length cell_offsets.now < 2 ^ 24 }
+    ensures made { IfOk result (λ list. Makes image.old.bytes image.new.bytes (SubkeysAt list plain
+        (placed cell_offsets.now (subkeys_of node.now)))) }
+    ensures uses { OnOk result (Uses image.old.bytes image.new.bytes (subkeys_cost
+        (length cell_offsets.now))) }
+    ensures stops { IfErr result (WriteRefused image.old.bytes (subkeys_cost (length cell_offsets.now))) }
 {
-    if places.is_empty() {
-        return Ok(NOWHERE);
+    if cell_offsets.is_empty() {
+        return Ok(NIL);
     }
-    if places.len() <= LEAF_MOST {
-        return match put_leaf(image, text, node, 0, places, plain) {
+    if cell_offsets.len() <= LEAF_MOST {
+        return match put_leaf(image, encoding, node, 0, cell_offsets, plain) {
             Ok(list) => Ok(list),
             Err(why) => Err(why),
         };
     }
-    let leaves = match put_leaves(alloc, image, text, node, places, plain) {
+    let leaves = match put_leaves(alloc, image, encoding, node, cell_offsets, plain) {
         Ok(leaves) => leaves,
         Err(why) => return Err(why),
     };
-    text.clear();
-    put_indirect(text, &leaves)?;
-    match put_cell(image, text, text.len()) {
+    encoding.clear();
+    put_indirect(encoding, &leaves)?;
+    match put_cell(image, encoding, encoding.len()) {
         Ok(list) => Ok(list),
         Err(why) => Err(why),
     }

@@ -1,13 +1,13 @@
 //! Security cells: one for each distinct descriptor of a tree.
 ghost use Rattle.std.specs.Prelude.{◌≡◌, ◌⊎◌, ◌+◌, ◌-◌, ◌^◌, ◌<◌, ◌≤◌, ℕ, List, [], length, IsTrue, IfErr, OnOk, IfSome, IfNone};
-ghost use Rattle.hive_emit.specs.Making.{Makes, RoomyAt, Uses, Stops};
-ghost use Rattle.hive_emit.specs.Emitting.{Has, IsOffsetOf, AreShort, IsCounted, AreCounted, CanPutKeys, Keeps, Holding};
+ghost use Rattle.hive_emit.specs.CellWrites.{Makes, HasFreeRoomAt, Uses, WriteRefused};
+ghost use Rattle.hive_emit.specs.EmittedKeys.{Has, IsOffsetOf, AreShort, IsCounted, AreCounted, CanPutKeys, Keeps, KeepsSecurityCells};
 ghost use Rattle.hive_emit.specs.Forms.{has_descriptor, keys_with, behind};
-ghost use Rattle.hive_emit.specs.Securing.{HasAt, tallies, one_with, Counts, AreSome, AreApart, spot, ArePlanned};
+ghost use Rattle.hive_emit.specs.SecurityTables.{HasDescriptorAt, tallies, one_with, Counts, AreSome, AreApart, planned_offset, ArePlanned};
 ghost use Rattle.hive_emit.specs.KeyCosts.{descriptor_cost, row_security_cost, descriptors_cost, security_cost, securities_cost};
 
 use crate::cell_costs::cell_cost;
-use crate::cells::{NOWHERE, put_cell};
+use crate::cells::{NIL, put_cell};
 use hive_cells::Image;
 use hive_records::put_security;
 use refusals::Refusal;
@@ -18,7 +18,7 @@ use std::marker::Model;
 
 /// A security cell: its descriptor, how many keys name it, and its offset once it is put.
 #[derive(Drop)]
-pub(crate) struct Security {
+pub(crate) struct SecurityEntry {
     /// The descriptor.
     pub descriptor: Descriptor,
     /// How many keys have it.
@@ -35,48 +35,48 @@ pub(crate) struct Security {
 ///
 /// Contracts see them as the list of their cells.
 #[derive(Drop)]
-pub(crate) struct Securities {
-    cells: Vec<Security>,
-    places: BTreeMap<Vec<u8>, usize>,
+pub(crate) struct SecurityTable {
+    cells: Vec<SecurityEntry>,
+    indexes: BTreeMap<Vec<u8>, usize>,
 }
 
-impl Model for Securities {
+impl Model for SecurityTable {
     ghost use Rattle.std.specs.Prelude.{List};
-    ghost use Rattle.hive_emit.specs.declared.security.Security.{Security};
-    ghost use Rattle.hive_emit.specs.Securing.{AreFiled};
+    ghost use Rattle.hive_emit.specs.declared.security.SecurityEntry.{SecurityEntry};
+    ghost use Rattle.hive_emit.specs.SecurityTables.{AreFiled};
 
-    ghost Value = { List Security };
+    ghost Value = { List SecurityEntry };
 
     ghost view = { λ inside. inside.cells.items };
 
-    ghost invariant = { λ inside. AreFiled inside.places.entries inside.cells.items };
+    ghost invariant = { λ inside. AreFiled inside.indexes.entries inside.cells.items };
 }
 
-impl Securities {
+impl SecurityTable {
     /// None.
-    pub(crate) fn new(alloc: Global) -> Securities
+    pub(crate) fn new(alloc: Global) -> SecurityTable
         ensures { result ≡ [] }
     {
-        Securities {
+        SecurityTable {
             cells: Vec::new(alloc),
-            places: BTreeMap::new(alloc),
+            indexes: BTreeMap::new(alloc),
         }
     }
 
     // whether a descriptor is kept at a place
     fn is_at(&self, place: usize, descriptor: &[u8]) -> bool
-        ensures yes { IsTrue result → HasAt self.now place descriptor.now }
-        ensures no { HasAt self.now place descriptor.now → IsTrue result }
+        ensures yes { IsTrue result → HasDescriptorAt self.now place descriptor.now }
+        ensures no { HasDescriptorAt self.now place descriptor.now → IsTrue result }
     {
         place < self.cells.len() && self.cells[place].descriptor.bytes() == descriptor
     }
 
     // the place where a descriptor is kept
     fn place(&self, descriptor: &[u8]) -> Option<usize>
-        ensures kept { IfSome result (λ place. HasAt self.now place descriptor.now) }
+        ensures kept { IfSome result (λ place. HasDescriptorAt self.now place descriptor.now) }
         ensures none { IfNone result (Has self.now descriptor.now → ⊥) }
     {
-        let Some(place) = self.places.get(descriptor) else {
+        let Some(place) = self.indexes.get(descriptor) else {
             return None;
         };
         if self.is_at(*place, descriptor) {
@@ -92,7 +92,7 @@ impl Securities {
         ensures keeps { Keeps self.old self.new }
         ensures short { AreShort self.old → AreShort self.new }
         ensures cost { securities_cost self.new ≡ securities_cost self.old }
-        ensures counts { (descriptor : List ℕ) → HasAt self.old place descriptor →
+        ensures counts { (descriptor : List ℕ) → HasDescriptorAt self.old place descriptor →
             Counts (tallies self.old) (tallies self.new) 1 (λ d. one_with d descriptor) }
         ensures some { AreSome (tallies self.old) → AreSome (tallies self.new) }
     {
@@ -114,13 +114,13 @@ impl Securities {
             AreSome (tallies self.new)) }
     {
         let bytes = Vec::from_slice(alloc, descriptor.bytes())?;
-        self.places.insert(bytes, self.cells.len())?;
-        self.cells.push(Security {
+        self.indexes.insert(bytes, self.cells.len())?;
+        self.cells.push(SecurityEntry {
             descriptor: descriptor.clone()?,
             count: 1,
-            at: NOWHERE,
-            next: NOWHERE,
-            previous: NOWHERE,
+            at: NIL,
+            next: NIL,
+            previous: NIL,
         })?;
         Ok(())
     }
@@ -194,7 +194,7 @@ impl Securities {
         ensures { IsOffsetOf self.now descriptor.now result }
     {
         if descriptor.is_empty() {
-            return NOWHERE;
+            return NIL;
         }
         match self.place(descriptor) {
             Some(place) => self.cells[place].at,
@@ -216,19 +216,19 @@ impl Securities {
 
     /// Puts the cells one behind the other, each linked with those ahead of and behind it in a ring. The links are right
     /// where the image is new and has room for all cells in its first bin; they are not read.
-    pub(crate) fn put(&mut self, image: &mut Image, text: &mut Vec<u8>) -> Result<(), Refusal>
+    pub(crate) fn put(&mut self, image: &mut Image, encoding: &mut Vec<u8>) -> Result<(), Refusal>
         requires short { AreShort self.old }
         requires fits { securities_cost self.old < 2 ^ 31 }
-        ensures held { OnOk result (Makes image.old.bytes image.new.bytes (Holding self.new)) }
+        ensures held { OnOk result (Makes image.old.bytes image.new.bytes (KeepsSecurityCells self.new)) }
         ensures keeps { OnOk result (Keeps self.old self.new) }
         ensures same { OnOk result (tallies self.new ≡ tallies self.old) }
         ensures apart { OnOk result (AreApart (tallies self.new)) }
-        ensures ring { OnOk result ((more : ℕ) → RoomyAt image.old.bytes 32
+        ensures ring { OnOk result ((more : ℕ) → HasFreeRoomAt image.old.bytes 32
             (securities_cost self.old + more) →
             ArePlanned self.old self.new (length self.old)) }
         ensures uses { OnOk result (Uses image.old.bytes image.new.bytes
             (securities_cost self.old)) }
-        ensures stops { IfErr result (Stops image.old.bytes (securities_cost self.old)) }
+        ensures stops { IfErr result (WriteRefused image.old.bytes (securities_cost self.old)) }
     {
         let count = self.cells.len();
         let mut previous = self.last_at();
@@ -236,15 +236,15 @@ impl Securities {
         for index in 0..count {
             next = self.next_at(index, next);
             let security = &self.cells[index];
-            text.clear();
+            encoding.clear();
             put_security(
-                text,
+                encoding,
                 next,
                 previous,
                 security.count,
                 security.descriptor.bytes(),
             )?;
-            let at = match put_cell(image, text, text.len()) {
+            let at = match put_cell(image, encoding, encoding.len()) {
                 Ok(at) => at,
                 Err(why) => return Err(why),
             };
@@ -260,21 +260,21 @@ impl Securities {
     // where the last cell is to be
     fn last_at(&self) -> u32
         requires { securities_cost self.now < 2 ^ 31 }
-        ensures { 0 < length self.now → result ≡ spot self.now (length self.now - 1) }
+        ensures { 0 < length self.now → result ≡ planned_offset self.now (length self.now - 1) }
     {
         match self.cells.last() {
             Some(last) => FIRST
                 .wrapping_add(self.cost() as u32)
                 .wrapping_sub(security_len(last) as u32),
-            None => NOWHERE,
+            None => NIL,
         }
     }
 
     // where the cell behind the one at an index is to be, from where that is; the first one is behind the last
     fn next_at(&self, index: usize, at: u32) -> u32
         requires { securities_cost self.now < 2 ^ 31 }
-        ensures { index < length self.now → at ≡ spot self.now index →
-            result ≡ spot self.now (behind (length self.now) index) }
+        ensures { index < length self.now → at ≡ planned_offset self.now index →
+            result ≡ planned_offset self.now (behind (length self.now) index) }
     {
         match self.cells.get(index) {
             Some(security) => {
@@ -296,7 +296,7 @@ const BEFORE: usize = 20;
 const FIRST: u32 = 32;
 
 // how many bytes a security cell has
-fn security_len(security: &Security) -> usize
+fn security_len(security: &SecurityEntry) -> usize
     requires { security_cost security.now < 2 ^ 32 }
     ensures { result ≡ security_cost security.now }
 {

@@ -1,11 +1,11 @@
 //! Values, and the list of a key's values.
 ghost use Rattle.std.specs.Prelude.{◌≡◌, ◌<◌, ◌≤◌, length, sum_by, IfOk, IfErr, OnOk};
 ghost use Rattle.std.specs.FinMap as finite;
-ghost use Rattle.hive_emit.specs.Making.{Makes, Uses, Stops};
+ghost use Rattle.hive_emit.specs.CellWrites.{Makes, Uses, WriteRefused};
 ghost use Rattle.hive_emit.specs.Values.{ValueAt, CanPut, CanPutAll, ListedValues, ValuesAt};
 ghost use Rattle.hive_emit.specs.CellCosts.{value_cost, values_cost};
 
-use crate::cells::{NOWHERE, put_cell};
+use crate::cells::{NIL, put_cell};
 use crate::data::put_data;
 use hive_cells::Image;
 use hive_records::{put_large_value, put_offsets, put_small_value};
@@ -19,17 +19,17 @@ pub(crate) const IN_RECORD_BYTES: usize = 4;
 const _: () = prove!(IN_RECORD_BYTES == 4);
 
 // puts a value whose data lie in its record
-fn put_small(image: &mut Image, text: &mut Vec<u8>, value: &Value) -> Result<u32, Refusal>
+fn put_small(image: &mut Image, encoding: &mut Vec<u8>, value: &Value) -> Result<u32, Refusal>
     requires can { CanPut value.now }
     requires few { length value.now.data ≤ 4 }
     ensures made { IfOk result (λ at. Makes image.old.bytes image.new.bytes (ValueAt at value.now)) }
     ensures uses { OnOk result (Uses image.old.bytes image.new.bytes (value_cost value.now)) }
-    ensures stops { IfErr result (Stops image.old.bytes (value_cost value.now)) }
+    ensures stops { IfErr result (WriteRefused image.old.bytes (value_cost value.now)) }
 {
     let _kind = value.kind;
-    text.clear();
-    put_small_value(text, value)?;
-    match put_cell(image, text, text.len()) {
+    encoding.clear();
+    put_small_value(encoding, value)?;
+    match put_cell(image, encoding, encoding.len()) {
         Ok(at) => Ok(at),
         Err(why) => Err(why),
     }
@@ -39,23 +39,23 @@ fn put_small(image: &mut Image, text: &mut Vec<u8>, value: &Value) -> Result<u32
 fn put_large(
     alloc: Global,
     image: &mut Image,
-    text: &mut Vec<u8>,
+    encoding: &mut Vec<u8>,
     value: &Value,
 ) -> Result<u32, Refusal>
     requires can { CanPut value.now }
     requires some { 4 < length value.now.data }
     ensures made { IfOk result (λ at. Makes image.old.bytes image.new.bytes (ValueAt at value.now)) }
     ensures uses { OnOk result (Uses image.old.bytes image.new.bytes (value_cost value.now)) }
-    ensures stops { IfErr result (Stops image.old.bytes (value_cost value.now)) }
+    ensures stops { IfErr result (WriteRefused image.old.bytes (value_cost value.now)) }
 {
     let _kind = value.kind;
-    let to = match put_data(alloc, image, text, value.data.bytes()) {
+    let to = match put_data(alloc, image, encoding, value.data.bytes()) {
         Ok(to) => to,
         Err(why) => return Err(why),
     };
-    text.clear();
-    put_large_value(text, value, to)?;
-    match put_cell(image, text, text.len()) {
+    encoding.clear();
+    put_large_value(encoding, value, to)?;
+    match put_cell(image, encoding, encoding.len()) {
         Ok(at) => Ok(at),
         Err(why) => Err(why),
     }
@@ -65,18 +65,18 @@ fn put_large(
 pub(crate) fn put_value(
     alloc: Global,
     image: &mut Image,
-    text: &mut Vec<u8>,
+    encoding: &mut Vec<u8>,
     value: &Value,
 ) -> Result<u32, Refusal>
     requires { CanPut value.now }
     ensures made { IfOk result (λ at. Makes image.old.bytes image.new.bytes (ValueAt at value.now)) }
     ensures uses { OnOk result (Uses image.old.bytes image.new.bytes (value_cost value.now)) }
-    ensures stops { IfErr result (Stops image.old.bytes (value_cost value.now)) }
+    ensures stops { IfErr result (WriteRefused image.old.bytes (value_cost value.now)) }
 {
     if value.data.bytes().len() <= IN_RECORD_BYTES {
-        put_small(image, text, value)
+        put_small(image, encoding, value)
     } else {
-        put_large(alloc, image, text, value)
+        put_large(alloc, image, encoding, value)
     }
 }
 
@@ -84,30 +84,30 @@ pub(crate) fn put_value(
 fn put_each(
     alloc: Global,
     image: &mut Image,
-    text: &mut Vec<u8>,
+    encoding: &mut Vec<u8>,
     values: &Values,
 ) -> Result<Vec<u32>, Refusal>
     requires { CanPutAll values.now }
-    ensures made { IfOk result (λ places. Makes image.old.bytes image.new.bytes
-        (ListedValues places.items (finite.values values.now))) }
-    ensures count { IfOk result (λ places. length places.items ≡ finite.len values.now) }
+    ensures made { IfOk result (λ cell_offsets. Makes image.old.bytes image.new.bytes
+        (ListedValues cell_offsets.items (finite.values values.now))) }
+    ensures count { IfOk result (λ cell_offsets. length cell_offsets.items ≡ finite.len values.now) }
     ensures uses { OnOk result (Uses image.old.bytes image.new.bytes (sum_by value_cost
         (finite.values values.now))) }
-    ensures stops { IfErr result (Stops image.old.bytes (sum_by value_cost
+    ensures stops { IfErr result (WriteRefused image.old.bytes (sum_by value_cost
         (finite.values values.now))) }
 {
-    let mut places = Vec::new(alloc);
+    let mut cell_offsets = Vec::new(alloc);
     for index in 0..values.len() {
         let Some(value) = values.at(index) else {
             unreachable!();
         };
-        let at = match put_value(alloc, image, text, value) {
+        let at = match put_value(alloc, image, encoding, value) {
             Ok(at) => at,
             Err(why) => return Err(why),
         };
-        places.push(at)?;
+        cell_offsets.push(at)?;
     }
-    Ok(places)
+    Ok(cell_offsets)
 }
 
 /// Puts values, and the list of them; answers the list's cell, or the offset of none where there are no values.
@@ -116,25 +116,25 @@ fn put_each(
 pub fn put_values(
     alloc: Global,
     image: &mut Image,
-    text: &mut Vec<u8>,
+    encoding: &mut Vec<u8>,
     values: &Values,
 ) -> Result<u32, Refusal>
     requires { CanPutAll values.now }
     ensures made { IfOk result (λ list. Makes image.old.bytes image.new.bytes
         (ValuesAt list values.now)) }
     ensures uses { OnOk result (Uses image.old.bytes image.new.bytes (values_cost values.now)) }
-    ensures stops { IfErr result (Stops image.old.bytes (values_cost values.now)) }
+    ensures stops { IfErr result (WriteRefused image.old.bytes (values_cost values.now)) }
 {
     if values.len() == 0 {
-        return Ok(NOWHERE);
+        return Ok(NIL);
     }
-    let places = match put_each(alloc, image, text, values) {
-        Ok(places) => places,
+    let cell_offsets = match put_each(alloc, image, encoding, values) {
+        Ok(cell_offsets) => cell_offsets,
         Err(why) => return Err(why),
     };
-    text.clear();
-    put_offsets(text, &places)?;
-    match put_cell(image, text, text.len()) {
+    encoding.clear();
+    put_offsets(encoding, &cell_offsets)?;
+    match put_cell(image, encoding, encoding.len()) {
         Ok(list) => Ok(list),
         Err(why) => Err(why),
     }

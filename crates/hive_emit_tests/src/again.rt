@@ -2,7 +2,7 @@
 ghost use Rattle.std.specs.Prelude.{◌≡◌, ◌≤◌, IfOk, IfErr};
 ghost use Rattle.refusals.specs.declared.refusal.Refusal.TheVariants.{NoMemory};
 ghost use Rattle.refusals.specs.declared.limits.TheConstants.{MOST_BINS_BYTES};
-ghost use Rattle.hive_load.specs.Limits.{IsWithin};
+ghost use Rattle.hive_load.specs.Limits.{TreeIsInLimits};
 
 use hive_cells::Looks;
 use hive_emit::emit;
@@ -19,7 +19,7 @@ const MINOR: u32 = 5;
 /// A tree within the limits, of a size within the limit, is refused for want of memory alone.
 pub fn loaded_again(alloc: Global, tree: &Tree, least_size: u32) -> Result<Tree, Refusal>
     ensures same { IfOk result (λ again. again ≡ tree.now) }
-    ensures refused { IsWithin tree.now → least_size ≤ MOST_BINS_BYTES →
+    ensures refused { TreeIsInLimits tree.now → least_size ≤ MOST_BINS_BYTES →
         IfErr result (λ why. why ≡ NoMemory) }
 {
     hive_load::laws::refusals_exclude_trees();

@@ -1,7 +1,7 @@
 //! What a test reads of an image, by the readers of single records.
 use hive_cells::Looks;
 use hive_emit::Emitted;
-use hive_records::{KeyNode, SubkeyList, word_at};
+use hive_records::{KeyNode, SubkeyList, u32_at};
 use refusals::Refusal;
 
 /// The data of a cell.
@@ -18,7 +18,7 @@ pub fn root(emitted: &Emitted) -> Result<KeyNode<'_>, Refusal> {
 /// The number of four bytes at an offset, or 0 past the end.
 pub fn number(bytes: &[u8], at: usize) -> u32 {
     if 4 <= bytes.len() && at <= bytes.len() - 4 {
-        word_at(bytes, at)
+        u32_at(bytes, at)
     } else {
         0
     }

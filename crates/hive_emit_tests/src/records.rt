@@ -131,7 +131,7 @@ fn each_distinct_descriptor_has_one_cell_in_the_ring(rt: HostRuntime) -> Result<
     assert_eq!(&rt; &all[..], &[(2, first), (1, second), (1, third)][..]);
     let same = ring_with(alloc, 9)?;
     assert_eq!(&rt; &same[..], &[(2, first), (2, third)][..]);
-    let none = ring_with(alloc, hive_load_tests::hives::NO)?;
+    let none = ring_with(alloc, hive_load_tests::hives::NIL)?;
     assert_eq!(&rt; &none[..], &[(2, first), (1, third)][..]);
     Ok(())
 }

@@ -2,7 +2,7 @@
 use hive_cells::{Image, Looks};
 use hive_emit::{Emitted, emit};
 use hive_load::load;
-use hive_load_tests::hives::{NO, Says, hive, offset, put};
+use hive_load_tests::hives::{NIL, Says, hive, offset, put};
 use refusals::Refusal;
 use reg_tree::Tree;
 use std::alloc::{AllocError, Global};
@@ -13,8 +13,8 @@ pub const CELLS: [Says; 13] = [
     Says::Key(b"R", (3, 1), (2, 5), 7),
     Says::List(b"li", 4, &[3, 2, 4]),
     Says::Bytes(b""),
-    Says::Key(b"zz", (0, NO), (0, NO), 9),
-    Says::Key(b"b", (0, NO), (0, NO), 7),
+    Says::Key(b"zz", (0, NIL), (0, NIL), 9),
+    Says::Key(b"b", (0, NIL), (0, NIL), 7),
     Says::Values(&[6, 10]),
     Says::Small(b"abc", b"four"),
     Says::Security(b"first"),

@@ -10,13 +10,13 @@ use Rattle.refusals.specs.declared.refusal.Cause.TheVariants as cause
 use Rattle.base_block.specs.declared.block.BaseBlock.{BaseBlock}
 use Rattle.base_block.specs.Judgements.{IsPrimary, PrimaryRefused}
 use Rattle.base_block.specs.Layout.{block_at, is_clean_block}
-use Rattle.hive_records.specs.Images.{StandsFor}
+use Rattle.hive_records.specs.Images.{BinsEncodeTree}
 use Rattle.dirt_log.specs.WholeLog.{block_of}
 use Rattle.reg_tree.specs.Maps.{TreeMap}
-use Rattle.dirt_log.specs.Held.{is_clean_file, IsOwn}
-use Rattle.hive_load.specs.Limits.{StandsWithin, BinsRefused}
-use Rattle.hive_file_reader.specs.Hives.{HasBlock, HoldsHive, NoHive, IsFront, no_sector, no_signature, not_clean, not_usable, not_loaded}
-use Rattle.hive_file_reader.specs.Readings.{IsRefused, IsRefusedAs, of_hive}
+use Rattle.dirt_log.specs.FileContents.{is_clean_file, PrimaryDecodesTo}
+use Rattle.hive_load.specs.Limits.{BinsEncodeTreeInLimits, BinsRefused}
+use Rattle.hive_file_reader.specs.Hives.{FileHasBlock, FileHoldsHive, FileHoldsNoHive, IsFilePrefix, no_sector, no_signature, not_clean, not_usable, not_loaded}
+use Rattle.hive_file_reader.specs.Readings.{FileRefused, FileRefusedAs, of_hive}
 
 -- what holds of a known value for another reason
 pub some_as : {A : Type 0} {P Q : A → Type 0} (known : Option A) → ((x : A) → P x → Q x) → IfSome known P → IfSome known Q
@@ -24,28 +24,28 @@ some_as None f h = tt
 some_as (Some x) f h = f x h
 
 -- bytes that were read are the file's first ones, and all of it where no more were there
-pub read_front : (known now : Option (List ℕ)) (head : List ℕ) → Consumes known now head → (length head < 4096 → IsAtEnd now) → IfSome known (IsFront head)
+pub read_front : (known now : Option (List ℕ)) (head : List ℕ) → Consumes known now head → (length head < 4096 → IsAtEnd now) → IfSome known (IsFilePrefix head)
 read_front None now head read end = tt
 read_front (Some file) None head read end = absurd read
 read_front (Some file) (Some rest) head read end = (rest, read, end)
 
 -- the block that was told of each file with a front is that of the file that was read; and the front is a whole base block
-pub read_block : (known now : Option (List ℕ)) (head : List ℕ) (block : BaseBlock) → Consumes known now head → (length head < 4096 → IsAtEnd now) → ((file : List ℕ) → IsFront head file → HasBlock file block × (4096 ≤ length head)) → IfSome known (λ file. HasBlock file block)
+pub read_block : (known now : Option (List ℕ)) (head : List ℕ) (block : BaseBlock) → Consumes known now head → (length head < 4096 → IsAtEnd now) → ((file : List ℕ) → IsFilePrefix head file → FileHasBlock file block × (4096 ≤ length head)) → IfSome known (λ file. FileHasBlock file block)
 read_block known now head block read end told = some_as known (λ file is. (told file is).0) (read_front known now head read end)
 
-pub read_whole : (head : List ℕ) (block : BaseBlock) → ((file : List ℕ) → IsFront head file → HasBlock file block × (4096 ≤ length head)) → 4096 ≤ length head
+pub read_whole : (head : List ℕ) (block : BaseBlock) → ((file : List ℕ) → IsFilePrefix head file → FileHasBlock file block × (4096 ≤ length head)) → 4096 ≤ length head
 read_whole head block told = (told head ([], sym (append-nil head), λ short. refl)).1
 
 -- so of what was read into a buffer for it
 pub head_read : (known now : Option (List ℕ)) (buffer : List ℕ) (count : ℕ) (block : BaseBlock) → length buffer ≡ 4096 → count ≤ length buffer → Consumes known now (take count buffer) → (count < length buffer → IsAtEnd now)
-    → ((file : List ℕ) → IsFront (take count buffer) file → HasBlock file block × (4096 ≤ length (take count buffer))) → (length (take count buffer) ≡ 4096) × IfSome known (λ file. HasBlock file block)
+    → ((file : List ℕ) → IsFilePrefix (take count buffer) file → FileHasBlock file block × (4096 ≤ length (take count buffer))) → (length (take count buffer) ≡ 4096) × IfSome known (λ file. FileHasBlock file block)
 head_read known now buffer count block room few read end told =
     let long : length (take count buffer) ≡ count = length-take-le count buffer few in
     let whole : 4096 ≤ length (take count buffer) = read_whole (take count buffer) block told in
     (omega (arith, room, long, whole, few), read_block known now (take count buffer) block read (λ less. end (omega (arith, room, long, less))) told)
 
 -- the bins data behind a whole base block
-own_bins : (file head rest bins tail : List ℕ) (block : BaseBlock) → file ≡ head ++ rest → length head ≡ 4096 → rest ≡ bins ++ tail → HasBlock file block → length bins ≡ block.bins_size → IsOwn file block bins
+own_bins : (file head rest bins tail : List ℕ) (block : BaseBlock) → file ≡ head ++ rest → length head ≡ 4096 → rest ≡ bins ++ tail → FileHasBlock file block → length bins ≡ block.bins_size → PrimaryDecodesTo file block bins
 own_bins file head rest bins tail block whole long split has size =
     let behind : drop 4096 file ≡ bins ++ tail = ap (drop 4096) whole ∙ drop_at head rest 4096 long ∙ split in
     record {
@@ -54,21 +54,21 @@ own_bins file head rest bins tail block whole long split has size =
       part = sym (ap (take block.bins_size) behind ∙ take_at bins tail block.bins_size size);
     }
 
-pub read_own : (known mid now : Option (List ℕ)) (head bins : List ℕ) (block : BaseBlock) → Consumes known mid head → Consumes mid now bins → length head ≡ 4096 → length bins ≡ block.bins_size → IfSome known (λ file. HasBlock file block)
-    → IfSome known (λ file. HasBlock file block × IsOwn file block bins)
+pub read_own : (known mid now : Option (List ℕ)) (head bins : List ℕ) (block : BaseBlock) → Consumes known mid head → Consumes mid now bins → length head ≡ 4096 → length bins ≡ block.bins_size → IfSome known (λ file. FileHasBlock file block)
+    → IfSome known (λ file. FileHasBlock file block × PrimaryDecodesTo file block bins)
 read_own None mid now head bins block a b long size has = tt
 read_own (Some file) None now head bins block a b long size has = absurd a
 read_own (Some file) (Some rest) None head bins block a b long size has = absurd b
 read_own (Some file) (Some rest) (Some tail) head bins block a b long size has = (has, own_bins file head rest bins tail block a long b has size)
 
 -- a file that ends before its bins data do
-cut_short : (file : List ℕ) (block : BaseBlock) → HasBlock file block → length file < 4096 + block.bins_size → NoHive file (refusal.HiveDamaged 0 cause.Truncated)
+cut_short : (file : List ℕ) (block : BaseBlock) → FileHasBlock file block → length file < 4096 + block.bins_size → FileHoldsNoHive file (refusal.HiveDamaged 0 cause.Truncated)
 cut_short file block has short =
     not_usable (refusal.HiveDamaged 0 cause.Truncated) has.clean (inr (refl, subst IsPrimary has.read has.judged, subst (λ (b : BaseBlock). length file < 4096 + b.bins_size) has.read short))
 
 -- bins data that end early
-pub read_short : (known mid now : Option (List ℕ)) (head bins : List ℕ) (block : BaseBlock) → Consumes known mid head → Consumes mid now bins → length head ≡ 4096 → length bins < block.bins_size → IsAtEnd now → IfSome known (λ file. HasBlock file block)
-    → IfSome known (λ file. IsRefused file (refusal.HiveDamaged 0 cause.Truncated))
+pub read_short : (known mid now : Option (List ℕ)) (head bins : List ℕ) (block : BaseBlock) → Consumes known mid head → Consumes mid now bins → length head ≡ 4096 → length bins < block.bins_size → IsAtEnd now → IfSome known (λ file. FileHasBlock file block)
+    → IfSome known (λ file. FileRefused file (refusal.HiveDamaged 0 cause.Truncated))
 read_short None mid now head bins block a b long size end has = tt
 read_short (Some file) None now head bins block a b long size end has = absurd a
 read_short (Some file) (Some rest) None head bins block a b long size end has = absurd b
@@ -76,40 +76,40 @@ read_short (Some file) (Some rest) (Some tail) head bins block a b long size end
     inr (cut_short file block has (omega (arith, ap length a, length-append head rest, ap length b, length-append bins tail, ap (λ (l : List ℕ). length l) end)))
 
 -- what the first sector of a file's front tells
-sector_tells : (file front : List ℕ) (block : BaseBlock) → IsFront front file → 512 ≤ length front → block ≡ block_at (take 512 front) → (block ≡ block_of file) × (512 ≤ length file) × (is_clean_file file ≡ is_clean_block block)
+sector_tells : (file front : List ℕ) (block : BaseBlock) → IsFilePrefix front file → 512 ≤ length front → block ≡ block_at (take 512 front) → (block ≡ block_of file) × (512 ≤ length file) × (is_clean_file file ≡ is_clean_block block)
 sector_tells file front block is long read =
     let same : block ≡ block_of file = read ∙ ap block_at (sym (ap (take 512) is.1 ∙ take-append-le 512 front is.0 long)) in
     let here : 512 ≤ length file = omega (arith, long, ap length is.1, length-append front is.0) in
     (same, here, ap (λ (t : Bool). t && is_clean_block (block_of file)) (le-leb 512 (length file) here) ∙ ap is_clean_block (sym same))
 
 -- a front of fewer than 4,096 bytes is the file
-whole_front : (file front : List ℕ) → IsFront front file → length front < 4096 → length file ≡ length front
+whole_front : (file front : List ℕ) → IsFilePrefix front file → length front < 4096 → length file ≡ length front
 whole_front file front is short = omega (arith, ap length is.1, length-append front is.0, ap length (is.2 short))
 
-pub told_no_sector : (file front : List ℕ) → IsFront front file → length front < 512 → NoHive file (refusal.HiveDamaged 0 cause.Truncated)
+pub told_no_sector : (file front : List ℕ) → IsFilePrefix front file → length front < 512 → FileHoldsNoHive file (refusal.HiveDamaged 0 cause.Truncated)
 told_no_sector file front is short = no_sector (omega (arith, short, whole_front file front is (omega (arith, short))))
 
-pub told_no_signature : (file front : List ℕ) (block : BaseBlock) → IsFront front file → 512 ≤ length front → block ≡ block_at (take 512 front) → block.signature.0 ≢ 0x6667_6572 → NoHive file (refusal.HiveDamaged 0 cause.BadBase)
+pub told_no_signature : (file front : List ℕ) (block : BaseBlock) → IsFilePrefix front file → 512 ≤ length front → block ≡ block_at (take 512 front) → block.signature.0 ≢ 0x6667_6572 → FileHoldsNoHive file (refusal.HiveDamaged 0 cause.BadBase)
 told_no_signature file front block is long read other =
     let tells = sector_tells file front block is long read in
     no_signature tells.1 (subst (λ (b : BaseBlock). b.signature.0 ≢ 0x6667_6572) tells.0 other)
 
-pub told_not_clean : (file front : List ℕ) (block : BaseBlock) → IsFront front file → 512 ≤ length front → block ≡ block_at (take 512 front) → is_clean_block block ≡ false → NoHive file (refusal.HiveDamaged 0 cause.NotClean)
+pub told_not_clean : (file front : List ℕ) (block : BaseBlock) → IsFilePrefix front file → 512 ≤ length front → block ≡ block_at (take 512 front) → is_clean_block block ≡ false → FileHoldsNoHive file (refusal.HiveDamaged 0 cause.NotClean)
 told_not_clean file front block is long read unclean =
     let tells = sector_tells file front block is long read in
     not_clean tells.1 (ap is_clean_block (sym tells.0) ∙ unclean)
 
-pub told_not_usable : (file front : List ℕ) (block : BaseBlock) (why : Refusal) → IsFront front file → 512 ≤ length front → block ≡ block_at (take 512 front) → is_clean_block block ≡ true → PrimaryRefused block why → NoHive file why
+pub told_not_usable : (file front : List ℕ) (block : BaseBlock) (why : Refusal) → IsFilePrefix front file → 512 ≤ length front → block ≡ block_at (take 512 front) → is_clean_block block ≡ true → PrimaryRefused block why → FileHoldsNoHive file why
 told_not_usable file front block why is long read clean refused =
     let tells = sector_tells file front block is long read in
     not_usable why (tells.2 ∙ clean) (inl (subst (λ b. PrimaryRefused b why) tells.0 refused))
 
-pub told_block : (file front : List ℕ) (block : BaseBlock) → IsFront front file → 512 ≤ length front → block ≡ block_at (take 512 front) → is_clean_block block ≡ true → IsPrimary block → HasBlock file block
+pub told_block : (file front : List ℕ) (block : BaseBlock) → IsFilePrefix front file → 512 ≤ length front → block ≡ block_at (take 512 front) → is_clean_block block ≡ true → IsPrimary block → FileHasBlock file block
 told_block file front block is long read clean judged =
     let tells = sector_tells file front block is long read in
     record { clean = tells.2 ∙ clean; read = tells.0; judged = judged }
 
-pub told_cut : (file front : List ℕ) (block : BaseBlock) → IsFront front file → HasBlock file block → length front < 4096 → NoHive file (refusal.HiveDamaged 0 cause.Truncated)
+pub told_cut : (file front : List ℕ) (block : BaseBlock) → IsFilePrefix front file → FileHasBlock file block → length front < 4096 → FileHoldsNoHive file (refusal.HiveDamaged 0 cause.Truncated)
 told_cut file front block is has short = cut_short file block has (omega (arith, short, whole_front file front is short))
 
 -- ---- a file holds a tree or none
@@ -118,15 +118,15 @@ told_cut file front block is has short = cut_short file block has (omega (arith,
 same_block : (file : List ℕ) (block other : BaseBlock) → block ≡ block_of file → other ≡ block_of file → block ≡ other
 same_block file block other e o = e ∙ sym o
 
-same_bins : (file bins others : List ℕ) (block other : BaseBlock) → IsOwn file block bins → IsOwn file other others → bins ≡ others
+same_bins : (file bins others : List ℕ) (block other : BaseBlock) → PrimaryDecodesTo file block bins → PrimaryDecodesTo file other others → bins ≡ others
 same_bins file bins others block other own also = own.part ∙ ap (λ (b : BaseBlock). take b.bins_size (drop 4096 file)) (own.read ∙ sym also.read) ∙ sym also.part
 
-pub same_tree : ((bytes : List ℕ) (root minor : ℕ) (t u : TreeMap) → StandsFor bytes root minor t → StandsFor bytes root minor u → t ≡ u) → (file : List ℕ) (tree other : TreeMap) → HoldsHive file tree → HoldsHive file other → tree ≡ other
+pub same_tree : ((bytes : List ℕ) (root minor : ℕ) (t u : TreeMap) → BinsEncodeTree bytes root minor t → BinsEncodeTree bytes root minor u → t ≡ u) → (file : List ℕ) (tree other : TreeMap) → FileHoldsHive file tree → FileHoldsHive file other → tree ≡ other
 same_tree one file tree other holds also =
     let blocks : holds.block ≡ also.block = holds.own.read ∙ sym also.own.read in
     let bins : holds.bins ≡ also.bins = same_bins file holds.bins also.bins holds.block also.block holds.own also.own in
     one also.bins also.block.root also.block.minor tree other
-    (subst (λ (b : BaseBlock). StandsFor also.bins b.root b.minor tree) blocks (subst (λ (l : List ℕ). StandsFor l holds.block.root holds.block.minor tree) bins holds.tree_is.0))
+    (subst (λ (b : BaseBlock). BinsEncodeTree also.bins b.root b.minor tree) blocks (subst (λ (l : List ℕ). BinsEncodeTree l holds.block.root holds.block.minor tree) bins holds.tree_is.0))
     also.tree_is.0
 
 -- what refuses a base block isn't so of one that may be used
@@ -167,8 +167,8 @@ unusable block refusal.Fixed h judged = h
 clean_here : (file : List ℕ) → is_clean_file file ≡ true → is_clean_block (block_of file) ≡ true
 clean_here file clean = (and_parts (nat_le 512 (length file)) (is_clean_block (block_of file)) clean).1
 
-pub none_held : ((bytes : List ℕ) (root minor : ℕ) (why : Refusal) → BinsRefused bytes root minor why → why ≢ refusal.NoMemory → (tree : TreeMap) → StandsWithin bytes root minor tree → ⊥)
-    → (file : List ℕ) (why : Refusal) → NoHive file why → why ≢ refusal.NoMemory → (tree : TreeMap) → HoldsHive file tree → ⊥
+pub none_held : ((bytes : List ℕ) (root minor : ℕ) (why : Refusal) → BinsRefused bytes root minor why → why ≢ refusal.NoMemory → (tree : TreeMap) → BinsEncodeTreeInLimits bytes root minor tree → ⊥)
+    → (file : List ℕ) (why : Refusal) → FileHoldsNoHive file why → why ≢ refusal.NoMemory → (tree : TreeMap) → FileHoldsHive file tree → ⊥
 none_held law file why (no_sector short) some tree holds = let no : ⊥ = omega (arith, short, holds.own.long) in no
 none_held law file why (no_signature long other) some tree holds = other (subst (λ (b : BaseBlock). b.signature.0 ≡ 0x6667_6572) holds.has.read holds.has.judged.0.signature)
 none_held law file why (not_clean long unclean) some tree holds = let no : ⊥ = let e : true ≡ false = sym (clean_here file holds.has.clean) ∙ unclean in cc in no
@@ -181,7 +181,7 @@ none_held law file why (not_loaded _ block bins has own refused) some tree holds
     (subst (λ (b : BaseBlock). BinsRefused holds.bins b.root b.minor why) blocks (subst (λ (l : List ℕ). BinsRefused l block.root block.minor why) same refused)) some tree holds.tree_is
 
 -- so of one that is refused as a hive of some number
-pub none_held_as : ((bytes : List ℕ) (root minor : ℕ) (why : Refusal) → BinsRefused bytes root minor why → why ≢ refusal.NoMemory → (tree : TreeMap) → StandsWithin bytes root minor tree → ⊥)
-    → (hive : ℕ) (file : List ℕ) (why : Refusal) → IsRefusedAs hive file why → why ≢ refusal.NoMemory → (tree : TreeMap) → HoldsHive file tree → ⊥
+pub none_held_as : ((bytes : List ℕ) (root minor : ℕ) (why : Refusal) → BinsRefused bytes root minor why → why ≢ refusal.NoMemory → (tree : TreeMap) → BinsEncodeTreeInLimits bytes root minor tree → ⊥)
+    → (hive : ℕ) (file : List ℕ) (why : Refusal) → FileRefusedAs hive file why → why ≢ refusal.NoMemory → (tree : TreeMap) → FileHoldsHive file tree → ⊥
 none_held_as law hive file why (plain, inl memory, told) some tree holds = some (told ∙ ap (of_hive hive) memory)
 none_held_as law hive file why (plain, inr stands, told) some tree holds = none_held law file plain stands (λ memory. some (told ∙ ap (of_hive hive) memory)) tree holds

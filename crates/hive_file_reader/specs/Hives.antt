@@ -7,37 +7,37 @@ use Rattle.base_block.specs.declared.block.BaseBlock.{BaseBlock}
 use Rattle.base_block.specs.Judgements.{IsPrimary}
 use Rattle.base_block.specs.Layout.{is_clean_block}
 use Rattle.dirt_log.specs.WholeLog.{block_of}
-use Rattle.dirt_log.specs.Held.{is_clean_file, IsOwn, OwnRefused}
+use Rattle.dirt_log.specs.FileContents.{is_clean_file, PrimaryDecodesTo, PrimaryFileRefused}
 use Rattle.reg_tree.specs.Maps.{TreeMap}
-use Rattle.hive_load.specs.Limits.{StandsWithin, BinsRefused}
+use Rattle.hive_load.specs.Limits.{BinsEncodeTreeInLimits, BinsRefused}
 
 -- the file is clean, and its base block, which is this, is that of a primary file of the profile
-pub record HasBlock (file : List ℕ) (block : BaseBlock) : Type 0 where
+pub record FileHasBlock (file : List ℕ) (block : BaseBlock) : Type 0 where
   pub clean : is_clean_file file ≡ true
   pub read : block ≡ block_of file
   pub judged : IsPrimary block
 
 -- so it is; the bins data are there, whatever follows them; and they stand for the tree, which is within the limits
-pub record HoldsHive (file : List ℕ) (tree : TreeMap) : Type 0 where
+pub record FileHoldsHive (file : List ℕ) (tree : TreeMap) : Type 0 where
   pub block : BaseBlock
   pub bins : List ℕ
-  pub has : HasBlock file block
-  pub own : IsOwn file block bins
-  pub tree_is : StandsWithin bins block.root block.minor tree
+  pub has : FileHasBlock file block
+  pub own : PrimaryDecodesTo file block bins
+  pub tree_is : BinsEncodeTreeInLimits bins block.root block.minor tree
 
 -- why a file holds none, by what stands in its bytes
-pub data NoHive (file : List ℕ) : Refusal → Type 0 where
+pub data FileHoldsNoHive (file : List ℕ) : Refusal → Type 0 where
   -- it has no first sector
-  no_sector : length file < 512 → NoHive file (refusal.HiveDamaged 0 cause.Truncated)
+  no_sector : length file < 512 → FileHoldsNoHive file (refusal.HiveDamaged 0 cause.Truncated)
   -- it isn't a hive by its signature, whether its sum and its numbers are right or not
-  no_signature : 512 ≤ length file → (block_of file).signature.0 ≢ 0x6667_6572 → NoHive file (refusal.HiveDamaged 0 cause.BadBase)
+  no_signature : 512 ≤ length file → (block_of file).signature.0 ≢ 0x6667_6572 → FileHoldsNoHive file (refusal.HiveDamaged 0 cause.BadBase)
   -- the sum is wrong, or the two numbers differ
-  not_clean : 512 ≤ length file → is_clean_block (block_of file) ≡ false → NoHive file (refusal.HiveDamaged 0 cause.NotClean)
+  not_clean : 512 ≤ length file → is_clean_block (block_of file) ≡ false → FileHoldsNoHive file (refusal.HiveDamaged 0 cause.NotClean)
   -- it is clean, and its base block is outside the profile, or it ends before its bins data do
-  not_usable : (why : Refusal) → is_clean_file file ≡ true → OwnRefused (block_of file) (length file) why → NoHive file why
+  not_usable : (why : Refusal) → is_clean_file file ≡ true → PrimaryFileRefused (block_of file) (length file) why → FileHoldsNoHive file why
   -- the bins data stand for no tree within the limits, or memory for them was not given
-  not_loaded : (why : Refusal) (block : BaseBlock) (bins : List ℕ) → HasBlock file block → IsOwn file block bins → BinsRefused bins block.root block.minor why → NoHive file why
+  not_loaded : (why : Refusal) (block : BaseBlock) (bins : List ℕ) → FileHasBlock file block → PrimaryDecodesTo file block bins → BinsRefused bins block.root block.minor why → FileHoldsNoHive file why
 
 -- bytes are the first of a file, and all of it where they are fewer than 4,096
-abbrev pub IsFront : List ℕ → List ℕ → Type 0
-IsFront front file = (rest : List ℕ) × (file ≡ front ++ rest) × (length front < 4096 → rest ≡ [])
+abbrev pub IsFilePrefix : List ℕ → List ℕ → Type 0
+IsFilePrefix front file = (rest : List ℕ) × (file ≡ front ++ rest) × (length front < 4096 → rest ≡ [])

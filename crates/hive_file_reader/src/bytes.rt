@@ -7,7 +7,7 @@ use std::io;
 use std::io::{ErrorKind, Read};
 
 /// The most bytes for which room is made before those ahead of them are there.
-const PIECE_BYTES: usize = 65_536;
+const CHUNK_BYTES: usize = 65_536;
 
 /// Fills a buffer as far as the reader has bytes; answers how many there were. Fewer than the buffer has are the last.
 pub(crate) fn fill<R: Read>(reader: &mut R, buffer: &mut [u8]) -> io::Result<usize>
@@ -45,7 +45,7 @@ pub(crate) fn read_part<R: Read>(alloc: Global, reader: &mut R, size: usize) -> 
     let mut part = Vec::new(alloc);
     'pieces: while part.len() < size {
         let from = part.len();
-        let most = (size - from).min(PIECE_BYTES);
+        let most = (size - from).min(CHUNK_BYTES);
         part.resize(from + most, 0)?;
         let count = fill(reader, &mut part[from..])?;
         part.truncate(from + count);

@@ -2,7 +2,7 @@
 ghost use Rattle.std.specs.Prelude.{◌≡◌, ◌≤◌, ◌<◌, length, List, ℕ, MatchResult};
 ghost use Rattle.base_block.specs.Judgements.{IsPrimary};
 ghost use Rattle.dirt_log.specs.WholeLog.{block_of};
-ghost use Rattle.hive_file_reader.specs.Hives.{IsFront, HasBlock, NoHive};
+ghost use Rattle.hive_file_reader.specs.Hives.{IsFilePrefix, FileHasBlock, FileHoldsNoHive};
 
 use base_block::{BaseBlock, Signature};
 use refusals::{Cause, Refusal};
@@ -18,8 +18,8 @@ const _: () = prove!(HEAD_BYTES == 4_096);
 /// where the signature isn't `regf`, clean or not, since that is no hive, and as `NotClean` where the sum is wrong or the two numbers
 /// differ; else as [`BaseBlock::judge_primary`] refuses it.
 pub(crate) fn judged(head: &[u8]) -> Result<BaseBlock, Refusal>
-    ensures { (file : List ℕ) → IsFront head.now file → MatchResult result
-        (λ block. HasBlock file block × (4096 ≤ length head.now)) (NoHive file) }
+    ensures { (file : List ℕ) → IsFilePrefix head.now file → MatchResult result
+        (λ block. FileHasBlock file block × (4096 ≤ length head.now)) (FileHoldsNoHive file) }
 {
     let Some(block) = BaseBlock::read_first(head) else {
         return Err(Refusal::from(Cause::Truncated));

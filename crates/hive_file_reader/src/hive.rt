@@ -1,8 +1,8 @@
 //! The hive of a file.
 ghost use Rattle.std.specs.Prelude.{◌≡◌, IfOk, IfErr, IfSome};
-ghost use Rattle.hive_file_reader.specs.Hives.{HoldsHive};
-ghost use Rattle.hive_file_reader.specs.declared.hive.Unread.TheVariants.{Refused};
-ghost use Rattle.hive_file_reader.specs.Readings.{IsUnread, TellsWhy, TellsWhyAs, of_hive};
+ghost use Rattle.hive_file_reader.specs.Hives.{FileHoldsHive};
+ghost use Rattle.hive_file_reader.specs.declared.hive.ReadError.TheVariants.{Refused};
+ghost use Rattle.hive_file_reader.specs.Readings.{IsReadError, RefusalFitsFile, RefusalFitsFileAs, of_hive};
 
 use crate::bytes::{fill, read_part};
 use crate::head::{HEAD_BYTES, judged};
@@ -15,29 +15,29 @@ use std::io::{ErrorKind, Read};
 
 /// Why a file gives no tree.
 #[derive(Drop)]
-pub enum Unread {
+pub enum ReadError {
     /// The file's bytes are refused, or memory for them.
     Refused(Refusal),
     /// The file can't be read, or read on.
-    Unreadable,
+    SourceFailed,
 }
 
-impl From<io::Error> for Unread {
-    ghost from_gives = { λ _ unread. IsUnread unread };
+impl From<io::Error> for ReadError {
+    ghost from_gives = { λ _ unread. IsReadError unread };
 
-    fn from(error: io::Error) -> Unread {
+    fn from(error: io::Error) -> ReadError {
         match error.kind() {
-            ErrorKind::OutOfMemory => Unread::Refused(Refusal::NoMemory),
-            _ => Unread::Unreadable,
+            ErrorKind::OutOfMemory => ReadError::Refused(Refusal::NoMemory),
+            _ => ReadError::SourceFailed,
         }
     }
 }
 
-impl From<Refusal> for Unread {
+impl From<Refusal> for ReadError {
     ghost from_gives = { λ refusal unread. unread ≡ Refused refusal };
 
-    fn from(refusal: Refusal) -> Unread {
-        Unread::Refused(refusal)
+    fn from(refusal: Refusal) -> ReadError {
+        ReadError::Refused(refusal)
     }
 }
 
@@ -47,22 +47,22 @@ impl From<Refusal> for Unread {
 /// Refused with `HiveDamaged` of the hive of this number where the file ends early (`Truncated`), is no hive at all or has a wrong
 /// base block (`BadBase`), isn't clean (`NotClean`), or its bins data don't stand for a tree; with `Unsupported` for a version, a format, a
 /// type or a flag outside the profile; with `TooLarge` for bins data, a tree's weight or a path over the limits; and with
-/// `NoMemory`. A reader that fails is `Unreadable`.
-pub fn read_hive<R: Read>(alloc: Global, reader: &mut R, hive: u8) -> Result<Tree, Unread>
-    ensures hive { IfOk result (λ tree. IfSome (R.remaining reader.old) (λ file. HoldsHive file tree)) }
-    ensures unread { IfErr result (TellsWhyAs hive (R.remaining reader.old)) }
+/// `NoMemory`. A reader that fails is `SourceFailed`.
+pub fn read_hive<R: Read>(alloc: Global, reader: &mut R, hive: u8) -> Result<Tree, ReadError>
+    ensures hive { IfOk result (λ tree. IfSome (R.remaining reader.old) (λ file. FileHoldsHive file tree)) }
+    ensures unread { IfErr result (RefusalFitsFileAs hive (R.remaining reader.old)) }
 {
     match read_tree(alloc, reader) {
         Ok(tree) => Ok(tree),
-        Err(Unread::Refused(why)) => Err(Unread::Refused(with_number(why, hive))),
-        Err(Unread::Unreadable) => Err(Unread::Unreadable),
+        Err(ReadError::Refused(why)) => Err(ReadError::Refused(with_number(why, hive))),
+        Err(ReadError::SourceFailed) => Err(ReadError::SourceFailed),
     }
 }
 
 // the tree that a hive's file holds, refused as that of hive 0
-fn read_tree<R: Read>(alloc: Global, reader: &mut R) -> Result<Tree, Unread>
-    ensures hive { IfOk result (λ tree. IfSome (R.remaining reader.old) (λ file. HoldsHive file tree)) }
-    ensures unread { IfErr result (TellsWhy (R.remaining reader.old)) }
+fn read_tree<R: Read>(alloc: Global, reader: &mut R) -> Result<Tree, ReadError>
+    ensures hive { IfOk result (λ tree. IfSome (R.remaining reader.old) (λ file. FileHoldsHive file tree)) }
+    ensures unread { IfErr result (RefusalFitsFile (R.remaining reader.old)) }
 {
     let mut head = [0; HEAD_BYTES];
     let count = fill(reader, &mut head)?;
@@ -70,11 +70,11 @@ fn read_tree<R: Read>(alloc: Global, reader: &mut R) -> Result<Tree, Unread>
     let size = block.bins_size as usize;
     let bins = read_part(alloc, reader, size)?;
     if bins.len() < size {
-        return Err(Unread::Refused(Refusal::from(Cause::Truncated)));
+        return Err(ReadError::Refused(Refusal::from(Cause::Truncated)));
     }
     match load_bins(alloc, bins, block.root, block.minor) {
         Ok((tree, _)) => Ok(tree),
-        Err(why) => Err(Unread::Refused(why)),
+        Err(why) => Err(ReadError::Refused(why)),
     }
 }
 

@@ -3,18 +3,18 @@ ghost use Rattle.std.specs.Prelude.{◌≡◌, ◌≢◌, ℕ, List};
 ghost use Rattle.refusals.specs.declared.refusal.Refusal.{Refusal};
 ghost use Rattle.refusals.specs.declared.refusal.Refusal.TheVariants.{NoMemory};
 ghost use Rattle.reg_tree.specs.Maps.{TreeMap};
-ghost use Rattle.hive_file_reader.specs.Hives.{HoldsHive, NoHive};
-ghost use Rattle.hive_file_reader.specs.Readings.{IsRefusedAs};
+ghost use Rattle.hive_file_reader.specs.Hives.{FileHoldsHive, FileHoldsNoHive};
+ghost use Rattle.hive_file_reader.specs.Readings.{FileRefusedAs};
 
 /// A file holds at most one tree; one in which a refusal stands, but for want of memory, holds none; and so one that is refused as
 /// a hive of any number.
 pub fn one_or_none()
-    ensures one { (file : List ℕ) (tree other : TreeMap) → HoldsHive file tree → HoldsHive file other →
+    ensures one { (file : List ℕ) (tree other : TreeMap) → FileHoldsHive file tree → FileHoldsHive file other →
         tree ≡ other }
-    ensures none { (file : List ℕ) (why : Refusal) → NoHive file why → why ≢ NoMemory →
-        (tree : TreeMap) → HoldsHive file tree → ⊥ }
-    ensures refused { (hive : ℕ) (file : List ℕ) (why : Refusal) → IsRefusedAs hive file why →
-        why ≢ NoMemory → (tree : TreeMap) → HoldsHive file tree → ⊥ }
+    ensures none { (file : List ℕ) (why : Refusal) → FileHoldsNoHive file why → why ≢ NoMemory →
+        (tree : TreeMap) → FileHoldsHive file tree → ⊥ }
+    ensures refused { (hive : ℕ) (file : List ℕ) (why : Refusal) → FileRefusedAs hive file why →
+        why ≢ NoMemory → (tree : TreeMap) → FileHoldsHive file tree → ⊥ }
 {
     hive_load::laws::refused_bins_exclude_trees();
     hive_records::one_tree();

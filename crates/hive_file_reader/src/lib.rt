@@ -13,4 +13,4 @@ mod head;
 mod hive;
 pub mod laws;
 
-pub use hive::{Unread, read_hive};
+pub use hive::{ReadError, read_hive};

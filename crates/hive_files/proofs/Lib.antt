@@ -2,4 +2,4 @@ pub mod Frames
 pub mod Founding
 pub mod Alike
 pub mod Anew
-pub mod Pieces
+pub mod Chunks

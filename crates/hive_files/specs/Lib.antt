@@ -1,5 +1,5 @@
 pub mod Blocks
-pub mod Finding
+pub mod Contents
 pub mod Frames
-pub mod Made
-pub mod Pieces
+pub mod FreshFiles
+pub mod Chunks

@@ -1,11 +1,11 @@
 //! The device's calls on files that are read whole.
 ghost use Rattle.std.specs.Prelude.{◌≡◌, ◌⊎◌, ◌+◌, ◌<◌, ◌≤◌, ◌^◌, ℕ, length, take, drop, IfOk, IfErr, OnOk};
 ghost use Rattle.disk_model.specs.StoreFiles.{primary_file, log_file};
-ghost use Rattle.disk_model.specs.Unwritten.{OnlyReads};
-ghost use Rattle.hive_files.specs.Frames.{FailsBy, nothing_told};
-ghost use Rattle.hive_files.specs.Pieces.{calls_of_part, reads_of};
+ghost use Rattle.disk_model.specs.ReadOnly.{OnlyReads};
+ghost use Rattle.hive_files.specs.Frames.{RefusalHasCause, no_cause};
+ghost use Rattle.hive_files.specs.Chunks.{calls_of_part, reads_of};
 
-use dirt_log::PIECE_BYTES;
+use dirt_log::CHUNK_BYTES;
 use disk_model::{Disk, Failed};
 use refusals::Refusal;
 use std::alloc::Global;
@@ -43,7 +43,7 @@ pub(crate) fn read_part<D: Disk>(
     ensures few { IfOk result (λ bytes. length bytes.items ≤ most) }
     ensures calls { IfOk result (λ bytes. D.clock disk.new
         ≡ D.clock disk.old + calls_of_part (length bytes.items)) }
-    ensures fails { IfErr result (FailsBy (D.failures disk.old < D.failures disk.new) nothing_told) }
+    ensures fails { IfErr result (RefusalHasCause (D.failures disk.old < D.failures disk.new) no_cause) }
     ensures reads { OnlyReads (D.state_at disk.old) (D.state_at disk.new) (D.clock disk.old)
         (D.clock disk.new) }
     ensures failures { D.failures disk.old ≤ D.failures disk.new }
@@ -74,20 +74,20 @@ fn fill<D: Disk>(disk: &mut D, file: u32, offset: u64, bytes: &mut [u8]) -> Resu
     ensures faithful { D.faithful disk.new → D.faithful disk.old }
 {
     let mut at = 0;
-    'pieces: while at < bytes.len() {
-        let end = at + (bytes.len() - at).min(PIECE_BYTES);
-        read_piece(disk, file, offset + at as u64, &mut bytes[at..end])?;
+    'chunks: while at < bytes.len() {
+        let end = at + (bytes.len() - at).min(CHUNK_BYTES);
+        read_chunk(disk, file, offset + at as u64, &mut bytes[at..end])?;
         at = end;
     }
     Ok(())
 }
 
 // reads so many bytes as the buffer has, in one call
-fn read_piece<D: Disk>(disk: &mut D, file: u32, offset: u64, piece: &mut [u8]) -> Result<(), Failed>
-    ensures size { length piece.new ≡ length piece.old }
-    ensures bytes { OnOk result (D.faithful disk.new → offset + length piece.old
-        ≤ length (D.state_at disk.old (D.clock disk.old) file).seen → piece.new
-        ≡ take (length piece.old) (drop offset (D.state_at disk.old (D.clock disk.old) file).seen)) }
+fn read_chunk<D: Disk>(disk: &mut D, file: u32, offset: u64, chunk: &mut [u8]) -> Result<(), Failed>
+    ensures size { length chunk.new ≡ length chunk.old }
+    ensures bytes { OnOk result (D.faithful disk.new → offset + length chunk.old
+        ≤ length (D.state_at disk.old (D.clock disk.old) file).seen → chunk.new
+        ≡ take (length chunk.old) (drop offset (D.state_at disk.old (D.clock disk.old) file).seen)) }
     ensures call { D.clock disk.new ≡ D.clock disk.old + 1 }
     ensures fails { IfErr result (λ _. D.failures disk.old < D.failures disk.new) }
     ensures reads { OnlyReads (D.state_at disk.old) (D.state_at disk.new) (D.clock disk.old)
@@ -95,6 +95,6 @@ fn read_piece<D: Disk>(disk: &mut D, file: u32, offset: u64, piece: &mut [u8]) -
     ensures failures { D.failures disk.old ≤ D.failures disk.new }
     ensures faithful { D.faithful disk.new → D.faithful disk.old }
 {
-    disk.read(file, offset, piece)?;
+    disk.read(file, offset, chunk)?;
     Ok(())
 }

@@ -8,14 +8,14 @@
 //! [`make`] makes both anew, of a base block and bins data. [`mark_changes`] compares two images page by page, so that a flush writes what differs.
 #![tactic(auto)]
 
+mod contents;
+mod creation;
 mod files;
-mod finding;
-mod found;
-mod making;
-mod marking;
+mod page_diff;
+mod reader;
 
+pub use crate::contents::HiveContents;
+pub use crate::creation::{make, sector};
 pub use crate::files::{BINS_AT, log_number, primary_number};
-pub use crate::finding::find;
-pub use crate::found::Found;
-pub use crate::making::{make, sector};
-pub use crate::marking::mark_changes;
+pub use crate::page_diff::mark_changes;
+pub use crate::reader::find;

@@ -4,42 +4,42 @@ use Rattle.reg_tree.specs.Maps.{TreeMap}
 use Rattle.dirty_vector.specs.Pages.{Pages}
 use Rattle.dirt_log.specs.WholeLog.{block_of}
 use Rattle.disk_model.specs.FileState.{FileState}
-use Rattle.hive_records.specs.Images.{StandsFor}
+use Rattle.hive_records.specs.Images.{BinsEncodeTree}
 use Rattle.hive_flush_model.proofs.Moving.{absorbed}
-use Rattle.hive_flush_model.specs.Holding.{Standing, tree_under}
-use Rattle.hive_flush_model.specs.Plans.{IsReady, Marks}
-use Rattle.hive_flush_model.specs.States.{IsQuiet, RestsIn, is_on_in}
+use Rattle.hive_flush_model.specs.StoredTrees.{TreeDecoder, tree_under}
+use Rattle.hive_flush_model.specs.Plans.{PlanFitsImage, ChangesAreMarked}
+use Rattle.hive_flush_model.specs.States.{IsAtRest, PrimaryIsSyncedIn, files_match_phase}
 use Rattle.hive_writer.specs.declared.writer.HiveWriter.{HiveWriter}
-use Rattle.hive_writer.specs.declared.stage.Stage.{Stage}
-use Rattle.hive_writer.specs.declared.stage.Stage.TheVariants as stage
-use Rattle.hive_writer.specs.Writing.{phase_in, plan_of, work_of}
-use Rattle.hive_flush.specs.HiveStates.{IsOnBy}
-use Rattle.hive_flush.specs.Planned.{block_for}
-use Rattle.hive_load.specs.Limits.{StandsWithin}
-use Rattle.hive_flush.specs.Standing.{with_tree}
-use Rattle.hive_flush.proofs.Standing.{gives, gives_right, gives_still}
+use Rattle.hive_writer.specs.declared.stage.FlushStage.{FlushStage}
+use Rattle.hive_writer.specs.declared.stage.FlushStage.TheVariants as stage
+use Rattle.hive_writer.specs.WriterSteps.{phase_in, plan_of, work_of}
+use Rattle.hive_flush.specs.HiveStates.{FilesMatchWriter}
+use Rattle.hive_flush.specs.NextBlocks.{block_for}
+use Rattle.hive_load.specs.Limits.{BinsEncodeTreeInLimits}
+use Rattle.hive_flush.specs.Decoders.{decoder_with}
+use Rattle.hive_flush.proofs.TreeDecoder.{gives, gives_right, gives_still}
 
 -- one tree at most stands for bins data
 abbrev pub IsOne : Type 0
-IsOne = (bytes : List ℕ) (root minor : ℕ) (t u : TreeMap) → StandsFor bytes root minor t → StandsFor bytes root minor u → t ≡ u
+IsOne = (bytes : List ℕ) (root minor : ℕ) (t u : TreeMap) → BinsEncodeTree bytes root minor t → BinsEncodeTree bytes root minor u → t ≡ u
 
 pub adopted : (w : HiveWriter) (image bins : List ℕ) (pages left : Pages) (now memory : TreeMap × ℕ) (tree : TreeMap) (root size time number : ℕ) (primary log : FileState)
-    → IsOne → w.stage ≡ stage.Quiet → StandsWithin bins root w.block.minor tree → Marks image pages bins left
-    → ((stands : Standing TreeMap) → tree_under stands (block_for w.block root size time number) bins ≡ Some tree
-    → IsReady stands (tree, number) bins left (plan_of (record w { block = block_for w.block root size time number }) bins left))
-    → IsOnBy w image pages now memory primary log → IsOnBy (record w { block = block_for w.block root size time number }) bins left now (tree, number) primary log
+    → IsOne → w.stage ≡ stage.AtRest → BinsEncodeTreeInLimits bins root w.block.minor tree → ChangesAreMarked image pages bins left
+    → ((stands : TreeDecoder TreeMap) → tree_under stands (block_for w.block root size time number) bins ≡ Some tree
+    → PlanFitsImage stands (tree, number) bins left (plan_of (record w { block = block_for w.block root size time number }) bins left))
+    → FilesMatchWriter w image pages now memory primary log → FilesMatchWriter (record w { block = block_for w.block root size time number }) bins left now (tree, number) primary log
 adopted w image bins pages left now memory tree root size time number primary log one quiet within marks ready on =
     let block = block_for w.block root size time number in
     let next = plan_of (record w { block = block }) bins left in
-    let stands = with_tree on.stands bins root w.block.minor w.block.store tree in
-    let rest : IsQuiet on.stands (work_of on.plan image pages now memory) primary = subst (λ (q : Stage). is_on_in on.stands (work_of on.plan image pages now memory) (phase_in (length on.plan.text) q) primary log) quiet on.on in
+    let stands = decoder_with on.stands bins root w.block.minor w.block.store tree in
+    let rest : IsAtRest on.stands (work_of on.plan image pages now memory) primary = subst (λ (q : FlushStage). files_match_phase on.stands (work_of on.plan image pages now memory) (phase_in (length on.plan.encoding) q) primary log) quiet on.on in
     let moved = absorbed on.stands (work_of on.plan image pages now memory) (tree, number) bins left primary marks rest in
     let own = block_of primary.synced in
     let part = take own.bins_size (drop 4096 primary.synced) in
     let same : part ≡ bins → own.root ≡ root → own.minor ≡ w.block.minor → tree ≡ now.0 = λ b r m.
-    let told = on.right part own.root own.minor own.store now.0 rest.clean.tree in
-    one bins root w.block.minor tree now.0 within.0 (subst (λ (n : ℕ). StandsFor bins root n now.0) m (subst (λ (n : ℕ). StandsFor bins n own.minor now.0) r (subst (λ (x : List ℕ). StandsFor x own.root own.minor now.0) b told.1.0))) in
-    let still : IsQuiet stands (work_of next bins left now (tree, number)) primary = record {
+    let hive_refusal = on.right part own.root own.minor own.store now.0 rest.clean.tree in
+    one bins root w.block.minor tree now.0 within.0 (subst (λ (n : ℕ). BinsEncodeTree bins root n now.0) m (subst (λ (n : ℕ). BinsEncodeTree bins n own.minor now.0) r (subst (λ (x : List ℕ). BinsEncodeTree x own.root own.minor now.0) b hive_refusal.1.0))) in
+    let no_change : IsAtRest stands (work_of next bins left now (tree, number)) primary = record {
       rest = rest.rest;
       clean = record {
         clean = rest.clean.clean;
@@ -57,6 +57,6 @@ adopted w image bins pages left now memory tree root size time number primary lo
       ready = ready stands (gives on.stands bins root w.block.minor w.block.store tree);
       ends = record { block = refl; final = refl };
       flush = λ any. refl;
-      on = subst (λ (q : Stage). is_on_in stands (work_of next bins left now (tree, number)) (phase_in (length next.text) q) primary log) (sym quiet) still;
-      rests = λ working. subst (λ (q : Stage). RestsIn (phase_in 0 q) primary) (sym quiet) tt;
+      on = subst (λ (q : FlushStage). files_match_phase stands (work_of next bins left now (tree, number)) (phase_in (length next.encoding) q) primary log) (sym quiet) no_change;
+      rests = λ working. subst (λ (q : FlushStage). PrimaryIsSyncedIn (phase_in 0 q) primary) (sym quiet) tt;
     }

@@ -8,15 +8,15 @@ use Rattle.base_block.specs.declared.block.BaseBlock.{BaseBlock}
 use Rattle.base_block.specs.Layout.{block_at, fresh_primary, is_clean_block, sector_of, zeros}
 use Rattle.base_block.specs.Judgements.{IsPrimary}
 use Rattle.dirt_log.specs.WholeLog.{block_of}
-use Rattle.dirt_log.specs.Held.{is_clean_file}
+use Rattle.dirt_log.specs.FileContents.{is_clean_file}
 use Rattle.dirty_vector.specs.Pages.{is_bins_size}
 use Rattle.reg_tree.specs.Maps.{TreeMap}
 use Rattle.disk_model.specs.FileState.{FileState}
-use Rattle.hive_files.specs.Made.{AreMade, primary_text}
+use Rattle.hive_files.specs.FreshFiles.{FilesAreMade, primary_bytes}
 use Rattle.hive_files.proofs.Anew.{base_long}
-use Rattle.hive_flush.specs.Created.{AreCreated}
-use Rattle.hive_load.specs.Limits.{StandsWithin}
-use Rattle.hive_flush.specs.Standing.{HoldsUnder}
+use Rattle.hive_flush.specs.Creation.{AreCreated}
+use Rattle.hive_load.specs.Limits.{BinsEncodeTreeInLimits}
+use Rattle.hive_flush.specs.Decoders.{HiveFilesHold}
 use Rattle.hive_flush.proofs.Opened.{match_at_true, true_false}
 use Rattle.hive_flush.proofs.Readying.{right_sum}
 
@@ -34,18 +34,18 @@ first_is_primary root size store right =
 
 pub created_holds : (store : List ℕ) (root : ℕ) (bins log : List ℕ) (tree : TreeMap) → length (sector_of (first root (length bins) store)) ≡ 512
     → block_at (sector_of (first root (length bins) store)) ≡ record (first root (length bins) store) { sum_is_right = true }
-    → is_bins_size (length bins) ≡ true → StandsWithin bins root 5 tree
-    → HoldsUnder store (primary_text (first root (length bins) store) bins) log (tree, 0)
+    → is_bins_size (length bins) ≡ true → BinsEncodeTreeInLimits bins root 5 tree
+    → HiveFilesHold store (primary_bytes (first root (length bins) store) bins) log (tree, 0)
 unfolding first
 created_holds store root bins log tree long reads size within =
     let block = first root (length bins) store in
     let sector = sector_of block in
     let base = sector ++ zeros 3584 in
-    let text = base ++ bins in
-    let front : take 512 text ≡ sector = ap (λ (l : List ℕ). take 512 l) (append_assoc sector (zeros 3584) bins) ∙ take_at sector (zeros 3584 ++ bins) 512 long in
-    let own : block_of text ≡ block = ap block_at front ∙ reads in
-    let len : length text ≡ 4096 + length bins = length-append base bins ∙ ap (λ (n : ℕ). n + length bins) (base_long sector long) in
-    let clean : is_clean_file text ≡ true = and_from _ _ (le-leb 512 (length text) (omega (arith, len))) (ap is_clean_block own) in
+    let encoding = base ++ bins in
+    let front : take 512 encoding ≡ sector = ap (λ (l : List ℕ). take 512 l) (append_assoc sector (zeros 3584) bins) ∙ take_at sector (zeros 3584 ++ bins) 512 long in
+    let own : block_of encoding ≡ block = ap block_at front ∙ reads in
+    let len : length encoding ≡ 4096 + length bins = length-append base bins ∙ ap (λ (n : ℕ). n + length bins) (base_long sector long) in
+    let clean : is_clean_file encoding ≡ true = and_from _ _ (le-leb 512 (length encoding) (omega (arith, len))) (ap is_clean_block own) in
     record {
       block = block;
       bins = bins;
@@ -55,7 +55,7 @@ created_holds store root bins log tree long reads size within =
         part = sym (ap (λ (l : List ℕ). take (length bins) l) (drop_at base bins 4096 (base_long sector long)) ∙ take-length bins);
       });
       own = λ any. first_is_primary root (length bins) store size;
-      sector = λ other. absurd (true_false (is_clean_file text) clean other);
+      sector = λ other. absurd (true_false (is_clean_file encoding) clean other);
       store_is = refl;
       tree = within;
       number = refl;
@@ -63,17 +63,17 @@ created_holds store root bins log tree long reads size within =
 
 pub created : (store : List ℕ) (root : ℕ) (bins : List ℕ) (tree : TreeMap) (block : BaseBlock) (sector : List ℕ) (primary log : FileState) → block ≡ fresh_primary 1 root (length bins) store
     → sector ≡ sector_of block → length sector ≡ 512 → block_at sector ≡ record block { sum_is_right = true }
-    → is_bins_size (length bins) ≡ true → StandsWithin bins root 5 tree → AreMade block bins primary log → AreCreated store tree primary log
+    → is_bins_size (length bins) ≡ true → BinsEncodeTreeInLimits bins root 5 tree → FilesAreMade block bins primary log → AreCreated store tree primary log
 unfolding first right_sum
-created store root bins tree block sector primary log is text long reads size within made =
+created store root bins tree block sector primary log is encoding long reads size within made =
     let own = first root (length bins) store in
-    let made_of : AreMade own bins primary log = subst (λ (b : BaseBlock). AreMade b bins primary log) is made in
-    let sector_is : sector ≡ sector_of own = text ∙ ap sector_of is in
+    let made_of : FilesAreMade own bins primary log = subst (λ (b : BaseBlock). FilesAreMade b bins primary log) is made in
+    let sector_is : sector ≡ sector_of own = encoding ∙ ap sector_of is in
     let read : block_at (sector_of own) ≡ record own { sum_is_right = true } = ap block_at (sym sector_is) ∙ reads ∙ ap right_sum is in
     record {
       root = root;
       bins = bins;
       made = made_of;
-      holds = subst (λ (s : FileState). HoldsUnder store s.synced log.synced (tree, 0)) (sym made_of.whole)
+      holds = subst (λ (s : FileState). HiveFilesHold store s.synced log.synced (tree, 0)) (sym made_of.whole)
           (created_holds store root bins log.synced tree (ap (λ (l : List ℕ). length l) (sym sector_is) ∙ long) read size within);
     }

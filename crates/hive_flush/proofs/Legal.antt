@@ -5,8 +5,8 @@ use Rattle.std.proofs.lemmas.Option.{none-some}
 use Rattle.refusals.specs.declared.refusal.Refusal.{Refusal}
 use Rattle.refusals.specs.declared.refusal.Refusal.TheVariants as refusal
 use Rattle.refusals.specs.declared.limits.TheConstants.{MOST_BINS_BYTES, MOST_WEIGHT}
-use Rattle.hive_emit.specs.Emitting.{EmitRefused}
-use Rattle.hive_flush.specs.Standing.{IsRefusedFor}
+use Rattle.hive_emit.specs.EmittedKeys.{EmitRefused}
+use Rattle.hive_flush.specs.Decoders.{IsRefusedFor}
 use Rattle.reg_tree.specs.Maps.{TreeMap, IsTree, weight}
 use Rattle.reg_tree.specs.Judgement.{changed, legal_in}
 use Rattle.reg_tree.specs.declared.op.Op.{Op}
@@ -15,7 +15,7 @@ use Rattle.reg_tree.specs.declared.element.Element.{Element}
 use Rattle.crash_model.specs.Changes.{applied, ops_on, replay}
 use Rattle.crash_model.proofs.Replays.{applied-append, ops_on-append}
 use Rattle.change_codec.specs.ModelChanges.{TimedOp, is_legal, tree_rules, timed_element, timed_elements}
-use Rattle.hive_flush.specs.HiveStates.{led_to}
+use Rattle.hive_flush.specs.HiveStates.{tree_after_changes}
 
 -- ---- two lists of changes as one
 
@@ -23,7 +23,7 @@ timed-append : (xs ys : List Element) → timed_elements (xs ++ ys) ≡ timed_el
 timed-append [] ys = refl
 timed-append (x ∷ xs) ys = ap (λ (l : List (List (ℕ × TimedOp))). timed_element x ∷ l) (timed-append xs ys)
 
-pub led_on : (hive : ℕ) (xs ys : List Element) (tree : TreeMap) → led_to hive (xs ++ ys) tree ≡ led_to hive ys (led_to hive xs tree)
+pub led_on : (hive : ℕ) (xs ys : List Element) (tree : TreeMap) → tree_after_changes hive (xs ++ ys) tree ≡ tree_after_changes hive ys (tree_after_changes hive xs tree)
 led_on hive xs ys tree =
     ap (λ (l : List (List (ℕ × TimedOp))). applied tree_rules (ops_on hive l) tree) (timed-append xs ys)
     ∙ ap (λ (l : List TimedOp). applied tree_rules l tree) (ops_on-append hive (timed_elements xs) (timed_elements ys))
@@ -79,4 +79,4 @@ emit_told total least refusal.Fixed le x = elim x [ ]
 
 -- changes that are legal are refused for memory alone
 pub legal_told : (most total : ℕ) (why : Refusal) → total ≤ most → (why ≡ refusal.NoMemory) ⊎ ((why ≡ refusal.TooLarge) × (most < total)) → why ≡ refusal.NoMemory
-legal_told most total why light told = ⊎_elim (λ none. none) (λ large. absurd (omega (arith, light, large.1))) told
+legal_told most total why light hive_refusal = ⊎_elim (λ none. none) (λ large. absurd (omega (arith, light, large.1))) hive_refusal

@@ -1,6 +1,6 @@
 pub mod Readying
 pub mod Going
-pub mod Standing
+pub mod TreeDecoder
 pub mod Opened
 pub mod Adopting
 pub mod Replayed

@@ -3,29 +3,29 @@ use Rattle.std.proofs.Common.{◌≡◌, inl, inr, ℕ, ◌+◌, ◌≤◌, List
 use Rattle.std.proofs.lemmas.Bool.{cases_Bool, MatchBool-at_true, MatchBool-at_false}
 use Rattle.std.proofs.lemmas.List.{get_or-take, length-drop}
 use Rattle.std.specs.Bool.{MatchBool}
-use Rattle.hive_load.specs.Limits.{StandsWithin}
+use Rattle.hive_load.specs.Limits.{BinsEncodeTreeInLimits}
 use Rattle.reg_tree.specs.Maps.{TreeMap}
 use Rattle.base_block.specs.declared.block.BaseBlock.{BaseBlock}
 use Rattle.base_block.specs.Judgements.{IsPrimary}
 use Rattle.dirty_vector.specs.Pages.{Pages, clean_pages, dirty_count}
 use Rattle.disk_model.specs.FileState.{FileState, at_rest}
-use Rattle.dirt_log.specs.WholeLog.{IsCovered, IsWhole, block_of, page_bytes_in, pages_in, repaired}
-use Rattle.dirt_log.specs.Held.{IsInUse, is_clean_file}
-use Rattle.hive_files.specs.Finding.{HasHive, IsFound, IsFoundClean, IsFoundUnclean, as_primary}
-use Rattle.hive_files.specs.declared.found.Found.{Found}
-use Rattle.hive_flush_model.proofs.Holding.{same_parts}
+use Rattle.dirt_log.specs.WholeLog.{IsCovered, LogIsWhole, block_of, page_bytes_in, pages_in, repaired}
+use Rattle.dirt_log.specs.FileContents.{FilesDecodeTo, is_clean_file}
+use Rattle.hive_files.specs.Contents.{FilesHaveHive, FilesContain, CleanFileContains, UncleanFilesContain, as_primary}
+use Rattle.hive_files.specs.declared.contents.HiveContents.{HiveContents}
+use Rattle.hive_flush_model.proofs.StoredTrees.{same_parts}
 use Rattle.hive_flush_model.proofs.Moving.{repair_begins}
 use Rattle.std.proofs.Math.Seq.{take-length}
-use Rattle.hive_flush_model.specs.Holding.{Standing, tree_under}
-use Rattle.hive_flush_model.specs.Plans.{IsBehind, IsReady}
+use Rattle.hive_flush_model.specs.StoredTrees.{TreeDecoder, tree_under}
+use Rattle.hive_flush_model.specs.Plans.{IsBehind, PlanFitsImage}
 use Rattle.hive_writer.specs.declared.writer.HiveWriter.{HiveWriter}
 use Rattle.std.specs.Prelude.{if◌then◌else◌}
-use Rattle.hive_writer.specs.Writing.{IsFlushing, calls_left, dirty_from, plan_of, work_of}
-use Rattle.hive_flush.specs.HiveStates.{IsOnBy, marked_pages, most_repairs, repairs_at}
+use Rattle.hive_writer.specs.WriterSteps.{IsFlushing, calls_left, dirty_from, plan_of, work_of}
+use Rattle.hive_flush.specs.HiveStates.{FilesMatchWriter, marked_pages, most_repairs, repairs_at}
 use Rattle.hive_files.specs.Blocks.{IsPlanned}
-use Rattle.hive_flush.specs.Planned.{block_again, clean_writer, unclean_writer, repair_plan}
-use Rattle.hive_flush.specs.Standing.{HoldsUnder, IsRight, no_tree, with_tree}
-use Rattle.hive_flush.proofs.Standing.{gives, gives_right}
+use Rattle.hive_flush.specs.NextBlocks.{block_again, clean_writer, unclean_writer, repair_plan}
+use Rattle.hive_flush.specs.Decoders.{HiveFilesHold, DecoderIsSound, empty_decoder, decoder_with}
+use Rattle.hive_flush.proofs.TreeDecoder.{gives, gives_right}
 
 pub match_at_true : {b : Bool} (P Q : Type 0) → b ≡ true → P → MatchBool b P Q
 match_at_true P Q e x = subst (λ (b : Bool). MatchBool b P Q) (sym e) x
@@ -36,9 +36,9 @@ match_at_false P Q e x = subst (λ (b : Bool). MatchBool b P Q) (sym e) x
 -- ---- what is in use is what was found
 
 -- the block in use, but perhaps for its type and its sum, is the one that was found
-pub record InUse (primary log : List ℕ) (found : Found) : Type 0 where
+pub record InUse (primary log : List ℕ) (found : HiveContents) : Type 0 where
   pub block : BaseBlock
-  pub in_use : IsInUse primary log block found.bins.items
+  pub in_use : FilesDecodeTo primary log block found.bins.items
   pub root : block.root ≡ found.block.root
   pub minor : block.minor ≡ found.block.minor
   pub store : block.store ≡ found.block.store
@@ -49,14 +49,14 @@ pub record InUse (primary log : List ℕ) (found : Found) : Type 0 where
 pub true_false : (b : Bool) → b ≡ true → b ≡ false → ⊥
 true_false b t f = absurd cc
 
-pub in_use : (primary log : List ℕ) (found : Found) → IsFound primary log found → InUse primary log found
+pub in_use : (primary log : List ℕ) (found : HiveContents) → FilesContain primary log found → InUse primary log found
 in_use primary log found f = elim (cases_Bool found.is_clean) [
   | inl clean ↦
-      let x : IsFoundClean primary found = MatchBool-at_true _ _ clean f.parts in
+      let x : CleanFileContains primary found = MatchBool-at_true _ _ clean f.parts in
       let file : is_clean_file primary ≡ true = sym f.clean ∙ clean in
       record { block = found.block; in_use = match_at_true _ _ file x.own; root = refl; minor = refl; store = refl; applied = refl; own = λ any. x.judged; sector = λ other. absurd (true_false (is_clean_file primary) file other) }
   | inr unclean ↦
-      let x : IsFoundUnclean primary log found = MatchBool-at_false _ _ unclean f.parts in
+      let x : UncleanFilesContain primary log found = MatchBool-at_false _ _ unclean f.parts in
       let file : is_clean_file primary ≡ false = sym f.clean ∙ unclean in
       let is : found.block ≡ as_primary (block_of log) = x.by_log.block in
       record {
@@ -72,22 +72,22 @@ in_use primary log found f = elim (cases_Bool found.is_clean) [
 ]
 
 -- what files hold is of the store that was found, and stands in what was found
-pub found_agrees : (primary log : List ℕ) (found : Found) (store : List ℕ) (held : TreeMap × ℕ) → IsFound primary log found → HoldsUnder store primary log held
-    → (found.block.store ≡ store) × StandsWithin found.bins.items found.block.root found.block.minor held.0
+pub found_agrees : (primary log : List ℕ) (found : HiveContents) (store : List ℕ) (held : TreeMap × ℕ) → FilesContain primary log found → HiveFilesHold store primary log held
+    → (found.block.store ≡ store) × BinsEncodeTreeInLimits found.bins.items found.block.root found.block.minor held.0
 found_agrees primary log found store held f h =
     let u = in_use primary log found f in
     let same = same_parts primary log h.block u.block h.bins found.bins.items h.in_use u.in_use in
     let root : h.block.root ≡ found.block.root = ap (λ (b : BaseBlock). b.root) same.0 ∙ u.root in
     let minor : h.block.minor ≡ found.block.minor = ap (λ (b : BaseBlock). b.minor) same.0 ∙ u.minor in (
       sym u.store ∙ sym (ap (λ (b : BaseBlock). b.store) same.0) ∙ h.store_is,
-      subst (λ (n : ℕ). StandsWithin found.bins.items found.block.root n held.0) minor
-          (subst (λ (n : ℕ). StandsWithin found.bins.items n h.block.minor held.0) root
-          (subst (λ (l : List ℕ). StandsWithin l h.block.root h.block.minor held.0) same.1 h.tree)),
+      subst (λ (n : ℕ). BinsEncodeTreeInLimits found.bins.items found.block.root n held.0) minor
+          (subst (λ (n : ℕ). BinsEncodeTreeInLimits found.bins.items n h.block.minor held.0) root
+          (subst (λ (l : List ℕ). BinsEncodeTreeInLimits l h.block.root h.block.minor held.0) same.1 h.tree)),
     )
 
 -- and what stands in it the files hold
-pub found_holds : (primary log : List ℕ) (found : Found) (store : List ℕ) (tree : TreeMap) (n : ℕ) → IsFound primary log found → found.block.store ≡ store
-    → StandsWithin found.bins.items found.block.root found.block.minor tree → found.block.applied.0 ≡ n → HoldsUnder store primary log (tree, n)
+pub found_holds : (primary log : List ℕ) (found : HiveContents) (store : List ℕ) (tree : TreeMap) (n : ℕ) → FilesContain primary log found → found.block.store ≡ store
+    → BinsEncodeTreeInLimits found.bins.items found.block.root found.block.minor tree → found.block.applied.0 ≡ n → HiveFilesHold store primary log (tree, n)
 found_holds primary log found store tree n f is within number =
     let u = in_use primary log found f in
     record {
@@ -97,22 +97,22 @@ found_holds primary log found store tree n f is within number =
       own = u.own;
       sector = u.sector;
       store_is = u.store ∙ is;
-      tree = subst (λ (m : ℕ). StandsWithin found.bins.items u.block.root m tree) (sym u.minor) (subst (λ (r : ℕ). StandsWithin found.bins.items r found.block.minor tree) (sym u.root) within);
+      tree = subst (λ (m : ℕ). BinsEncodeTreeInLimits found.bins.items u.block.root m tree) (sym u.minor) (subst (λ (r : ℕ). BinsEncodeTreeInLimits found.bins.items r found.block.minor tree) (sym u.root) within);
       number = u.applied ∙ number;
     }
 
 -- ---- the files are as the stage says
 
-rule : List ℕ → BaseBlock → TreeMap → Standing TreeMap
-rule bins block tree = with_tree no_tree bins block.root block.minor block.store tree
+rule : List ℕ → BaseBlock → TreeMap → TreeDecoder TreeMap
+rule bins block tree = decoder_with empty_decoder bins block.root block.minor block.store tree
 
-rule_right : (bins : List ℕ) (block : BaseBlock) (tree : TreeMap) → StandsWithin bins block.root block.minor tree → IsRight block.store (rule bins block tree)
+rule_right : (bins : List ℕ) (block : BaseBlock) (tree : TreeMap) → BinsEncodeTreeInLimits bins block.root block.minor tree → DecoderIsSound block.store (rule bins block tree)
 unfolding rule
-rule_right bins block tree within = gives_right no_tree bins block.root block.minor block.store tree block.store (λ b r m s t e. absurd cc) refl within
+rule_right bins block tree within = gives_right empty_decoder bins block.root block.minor block.store tree block.store (λ b r m s t e. absurd cc) refl within
 
 rule_gives : (bins : List ℕ) (block : BaseBlock) (tree : TreeMap) → tree_under (rule bins block tree) block bins ≡ Some tree
 unfolding rule
-rule_gives bins block tree = gives no_tree bins block.root block.minor block.store tree
+rule_gives bins block tree = gives empty_decoder bins block.root block.minor block.store tree
 
 -- a clean primary file is behind its own bins data
 behind_own : (primary : List ℕ) (bins : List ℕ) (size : ℕ) → 4096 + size ≤ length primary → bins ≡ take size (drop 4096 primary) → IsBehind bins (clean_pages size) primary
@@ -121,11 +121,11 @@ behind_own primary bins size long part = record {
   covered = λ page lt clean. omega (arith, lt, long, length-drop 4096 primary);
 }
 
-pub clean_on : (hive : ℕ) (primary : List ℕ) (found : Found) (tree : TreeMap) (log : FileState) → is_clean_file primary ≡ true → IsFoundClean primary found
-    → StandsWithin found.bins.items found.block.root found.block.minor tree
-    → ((stands : Standing TreeMap) → tree_under stands (clean_writer hive found.block).block found.bins.items ≡ Some tree
-    → IsReady stands (tree, found.block.applied.0) found.bins.items found.pages (plan_of (clean_writer hive found.block) found.bins.items found.pages))
-    → IsOnBy (clean_writer hive found.block) found.bins.items found.pages (tree, found.block.applied.0) (tree, found.block.applied.0) (at_rest primary) log
+pub clean_on : (hive : ℕ) (primary : List ℕ) (found : HiveContents) (tree : TreeMap) (log : FileState) → is_clean_file primary ≡ true → CleanFileContains primary found
+    → BinsEncodeTreeInLimits found.bins.items found.block.root found.block.minor tree
+    → ((stands : TreeDecoder TreeMap) → tree_under stands (clean_writer hive found.block).block found.bins.items ≡ Some tree
+    → PlanFitsImage stands (tree, found.block.applied.0) found.bins.items found.pages (plan_of (clean_writer hive found.block) found.bins.items found.pages))
+    → FilesMatchWriter (clean_writer hive found.block) found.bins.items found.pages (tree, found.block.applied.0) (tree, found.block.applied.0) (at_rest primary) log
 clean_on hive primary found tree log clean x within ready =
     let stands = rule found.bins.items found.block tree in
     let size = found.block.bins_size in
@@ -151,13 +151,13 @@ clean_on hive primary found tree log clean x within ready =
       rests = λ working. tt;
     }
 
-pub unclean_on : (hive : ℕ) (primary log : List ℕ) (found : Found) (tree : TreeMap) → is_clean_file primary ≡ false → IsFoundUnclean primary log found
-    → StandsWithin found.bins.items found.block.root found.block.minor tree
-    → ((stands : Standing TreeMap) (memory : TreeMap × ℕ) → found.block ≡ as_primary (block_of log) → IsWhole log → IsCovered (length (drop 4096 primary)) (pages_in log)
+pub unclean_on : (hive : ℕ) (primary log : List ℕ) (found : HiveContents) (tree : TreeMap) → is_clean_file primary ≡ false → UncleanFilesContain primary log found
+    → BinsEncodeTreeInLimits found.bins.items found.block.root found.block.minor tree
+    → ((stands : TreeDecoder TreeMap) (memory : TreeMap × ℕ) → found.block ≡ as_primary (block_of log) → LogIsWhole log → IsCovered (length (drop 4096 primary)) (pages_in log)
     → tree_under stands (block_of log) (repaired (drop 4096 primary) (pages_in log) (page_bytes_in log)) ≡ Some memory.0 → (block_of log).applied.0 ≡ memory.1
-    → IsReady stands memory (repaired (drop 4096 primary) (pages_in log) (page_bytes_in log)) (pages_in log) (repair_plan found.block log)
+    → PlanFitsImage stands memory (repaired (drop 4096 primary) (pages_in log) (page_bytes_in log)) (pages_in log) (repair_plan found.block log)
     × IsBehind (repaired (drop 4096 primary) (pages_in log) (page_bytes_in log)) (pages_in log) primary)
-    → IsOnBy (unclean_writer hive found.block) found.bins.items found.pages (tree, found.block.applied.0) (tree, found.block.applied.0) (at_rest primary) (at_rest log)
+    → FilesMatchWriter (unclean_writer hive found.block) found.bins.items found.pages (tree, found.block.applied.0) (tree, found.block.applied.0) (at_rest primary) (at_rest log)
 unclean_on hive primary log found tree clean x within fits =
     let stands = rule found.bins.items found.block tree in
     let block = found.block in
@@ -169,9 +169,9 @@ unclean_on hive primary log found tree clean x within fits =
     sym (ap (λ (n : ℕ). stands found.bins.items n block.minor block.store) root ∙ ap (λ (n : ℕ). stands found.bins.items (block_of log).root n block.store) (ap (λ (b : BaseBlock). b.minor) is)
     ∙ ap (stands found.bins.items (block_of log).root (block_of log).minor) (ap (λ (b : BaseBlock). b.store) is)) ∙ rule_gives found.bins.items block tree in
     let made = fits stands (tree, block.applied.0) is by.whole by.covered (subst (λ (l : List ℕ). tree_under stands (block_of log) l ≡ Some tree) by.image given) (sym (ap (λ (b : BaseBlock). b.applied.0) is)) in
-    let ready : IsReady stands (tree, block.applied.0) found.bins.items found.pages plan =
-    subst (λ (v : Pages). IsReady stands (tree, block.applied.0) found.bins.items v plan) (sym x.by_log.pages)
-    (subst (λ (l : List ℕ). IsReady stands (tree, block.applied.0) l (pages_in log) plan) (sym by.image) made.0) in
+    let ready : PlanFitsImage stands (tree, block.applied.0) found.bins.items found.pages plan =
+    subst (λ (v : Pages). PlanFitsImage stands (tree, block.applied.0) found.bins.items v plan) (sym x.by_log.pages)
+    (subst (λ (l : List ℕ). PlanFitsImage stands (tree, block.applied.0) l (pages_in log) plan) (sym by.image) made.0) in
     let behind : IsBehind found.bins.items found.pages primary =
     subst (λ (v : Pages). IsBehind found.bins.items v primary) (sym x.by_log.pages) (subst (λ (l : List ℕ). IsBehind l (pages_in log) primary) (sym by.image) made.1) in
     record {
@@ -232,26 +232,26 @@ few_left writer hive block is_clean total pages w not = elim (cases_Bool is_clea
 ]
 
 -- few calls of a repair are left, and none where the primary file was found clean
-pub repairs_few : (primary log : List ℕ) (found : Found) (hive : ℕ) (writer : HiveWriter) → IsWriterFor writer hive found.block found.is_clean → IsFound primary log found → repairs_at found.pages writer.stage ≤ most_repairs primary log
+pub repairs_few : (primary log : List ℕ) (found : HiveContents) (hive : ℕ) (writer : HiveWriter) → IsWriterFor writer hive found.block found.is_clean → FilesContain primary log found → repairs_at found.pages writer.stage ≤ most_repairs primary log
 repairs_few primary log found hive writer w f = elim (cases_Bool found.is_clean) [
   | inl e ↦
       subst (λ (b : Bool). repairs_at found.pages writer.stage ≤ (if b then 0 else marked_pages log + 3)) (sym e ∙ f.clean)
       (subst (λ (x : HiveWriter). repairs_at found.pages x.stage ≤ 0) (sym (w.clean e)) (omega arith))
   | inr e ↦
-      let unclean : IsFoundUnclean primary log found = MatchBool-at_false _ _ e f.parts in
+      let unclean : UncleanFilesContain primary log found = MatchBool-at_false _ _ e f.parts in
       subst (λ (b : Bool). repairs_at found.pages writer.stage ≤ (if b then 0 else marked_pages log + 3)) (sym e ∙ f.clean)
       (subst (λ (x : HiveWriter). repairs_at found.pages x.stage ≤ marked_pages log + 3) (sym (w.unclean e))
       (subst (λ (v : Pages). dirty_from found.pages 0 + 3 ≤ dirty_count v + 3) unclean.by_log.pages (omega arith)))
 ]
 
-pub clean_ready : (writer : HiveWriter) (hive : ℕ) (block : BaseBlock) (image bins : List ℕ) (pages : Pages) (tree : TreeMap) (stands : Standing TreeMap) → writer ≡ clean_writer hive block → image ≡ bins
-    → ((s : Standing TreeMap) (memory : TreeMap × ℕ) → tree_under s writer.block image ≡ Some memory.0 → writer.block.applied.0 ≡ memory.1 → IsReady s memory image pages (plan_of writer image pages))
-    → tree_under stands (clean_writer hive block).block bins ≡ Some tree → IsReady stands (tree, block.applied.0) bins pages (plan_of (clean_writer hive block) bins pages)
+pub clean_ready : (writer : HiveWriter) (hive : ℕ) (block : BaseBlock) (image bins : List ℕ) (pages : Pages) (tree : TreeMap) (stands : TreeDecoder TreeMap) → writer ≡ clean_writer hive block → image ≡ bins
+    → ((s : TreeDecoder TreeMap) (memory : TreeMap × ℕ) → tree_under s writer.block image ≡ Some memory.0 → writer.block.applied.0 ≡ memory.1 → PlanFitsImage s memory image pages (plan_of writer image pages))
+    → tree_under stands (clean_writer hive block).block bins ≡ Some tree → PlanFitsImage stands (tree, block.applied.0) bins pages (plan_of (clean_writer hive block) bins pages)
 clean_ready writer hive block image bins pages tree stands is same ready given =
-    let first = subst (λ (w : HiveWriter). (s : Standing TreeMap) (memory : TreeMap × ℕ) → tree_under s w.block image ≡ Some memory.0 → w.block.applied.0 ≡ memory.1 → IsReady s memory image pages (plan_of w image pages)) is ready in
-    let second = subst (λ (l : List ℕ). (s : Standing TreeMap) (memory : TreeMap × ℕ) → tree_under s (clean_writer hive block).block l ≡ Some memory.0 → block.applied.0 ≡ memory.1
-    → IsReady s memory l pages (plan_of (clean_writer hive block) l pages)) same first in
+    let first = subst (λ (w : HiveWriter). (s : TreeDecoder TreeMap) (memory : TreeMap × ℕ) → tree_under s w.block image ≡ Some memory.0 → w.block.applied.0 ≡ memory.1 → PlanFitsImage s memory image pages (plan_of w image pages)) is ready in
+    let second = subst (λ (l : List ℕ). (s : TreeDecoder TreeMap) (memory : TreeMap × ℕ) → tree_under s (clean_writer hive block).block l ≡ Some memory.0 → block.applied.0 ≡ memory.1
+    → PlanFitsImage s memory l pages (plan_of (clean_writer hive block) l pages)) same first in
     second stands (tree, block.applied.0) given refl
 
-pub has_hive : (store primary log : List ℕ) (held : TreeMap × ℕ) → HoldsUnder store primary log held → HasHive primary log
+pub has_hive : (store primary log : List ℕ) (held : TreeMap × ℕ) → HiveFilesHold store primary log held → FilesHaveHive primary log
 has_hive store primary log held h = record { block = h.block; bins = h.bins; in_use = h.in_use; own = h.own; sector = h.sector }

@@ -4,14 +4,14 @@ use Rattle.base_block.specs.declared.block.BaseBlock.{BaseBlock}
 use Rattle.base_block.specs.declared.fields.SequenceNumber.{SequenceNumber}
 use Rattle.base_block.specs.Layout.{block_at, sector_of}
 use Rattle.base_block.specs.Numbers.{number_after}
-use Rattle.hive_flush_model.specs.Plans.{raised_block}
+use Rattle.hive_flush_model.specs.Plans.{marked_block}
 
 numbered : BaseBlock → ℕ → BaseBlock
 numbered b n = record b { primary = record { 0 = n }; sum_is_right = true }
 
 -- the raised sector reads as the raised block
-pub raised_reads : (b : BaseBlock) (next : SequenceNumber) (sector : List ℕ) → sector ≡ sector_of (raised_block b) → next.0 ≡ number_after b.secondary.0
-    → block_at sector ≡ record b { primary = next; sum_is_right = true } → block_at (sector_of (raised_block b)) ≡ record (raised_block b) { sum_is_right = true }
+pub raised_reads : (b : BaseBlock) (next : SequenceNumber) (sector : List ℕ) → sector ≡ sector_of (marked_block b) → next.0 ≡ number_after b.secondary.0
+    → block_at sector ≡ record b { primary = next; sum_is_right = true } → block_at (sector_of (marked_block b)) ≡ record (marked_block b) { sum_is_right = true }
 unfolding numbered
 raised_reads b next sector is n reads = ap block_at (sym is) ∙ reads ∙ ap (numbered b) n
 

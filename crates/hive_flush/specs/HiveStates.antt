@@ -7,19 +7,19 @@ use Rattle.reg_tree.specs.Maps.{TreeMap}
 use Rattle.reg_tree.specs.declared.element.Element.{Element}
 use Rattle.disk_model.specs.FileState.{FileState}
 use Rattle.disk_model.specs.StoreFiles.{primary_file, log_file}
-use Rattle.hive_flush_model.specs.Holding.{Standing}
-use Rattle.hive_flush_model.specs.Plans.{Plan, IsReady}
-use Rattle.hive_flush_model.specs.States.{RestsIn, is_on_in}
+use Rattle.hive_flush_model.specs.StoredTrees.{TreeDecoder}
+use Rattle.hive_flush_model.specs.Plans.{FlushPlan, PlanFitsImage}
+use Rattle.hive_flush_model.specs.States.{PrimaryIsSyncedIn, files_match_phase}
 use Rattle.dirty_vector.specs.Pages.{Pages, clean_pages, dirty_count}
-use Rattle.dirt_log.specs.Held.{is_clean_file}
+use Rattle.dirt_log.specs.FileContents.{is_clean_file}
 use Rattle.dirt_log.specs.WholeLog.{pages_in}
 use Rattle.hive_writer.specs.declared.writer.HiveWriter.{HiveWriter}
 use Rattle.hive_writer.specs.declared.stage.Purpose.TheVariants as purpose
-use Rattle.hive_writer.specs.declared.stage.Stage.{Stage}
-use Rattle.hive_writer.specs.declared.stage.Stage.TheVariants as stage
-use Rattle.hive_writer.specs.Writing.{EndsWith, IsFlushing, calls_left, dirty_from, choice_at, phase_in, plan_of, work_of}
-use Rattle.hive_flush.specs.Standing.{IsRight}
-use Rattle.hive_flush.specs.Planned.{block_again}
+use Rattle.hive_writer.specs.declared.stage.FlushStage.{FlushStage}
+use Rattle.hive_writer.specs.declared.stage.FlushStage.TheVariants as stage
+use Rattle.hive_writer.specs.WriterSteps.{PlanEndsWith, IsFlushing, calls_left, dirty_from, choice_at, phase_in, plan_of, work_of}
+use Rattle.hive_flush.specs.Decoders.{DecoderIsSound}
+use Rattle.hive_flush.specs.NextBlocks.{block_again}
 use Rattle.hive_flush.specs.declared.hive.HiveFile.{HiveFile}
 
 -- the tree in memory, and the number of the last change in it
@@ -27,57 +27,57 @@ abbrev pub memory_of : HiveFile → TreeMap × ℕ
 memory_of file = (file.tree, file.writer.block.applied.0)
 
 -- the tree and number that surely stand
-abbrev pub now_of : HiveFile → TreeMap × ℕ
-now_of file = (file.held.value, file.writer.base.applied.0)
+abbrev pub durable_of : HiveFile → TreeMap × ℕ
+durable_of file = (file.held.value, file.writer.base.applied.0)
 
 -- what surely stands in the files, and what may be on its way
-abbrev pub files_of : HiveFile → Choice (TreeMap × ℕ)
-files_of file = choice_at file.writer.stage (now_of file) (memory_of file)
+abbrev pub file_choice : HiveFile → Choice (TreeMap × ℕ)
+file_choice file = choice_at file.writer.stage (durable_of file) (memory_of file)
 
 -- the tree that changes lead to on a hive's tree: their operations on the hive, one after another, each at its change's moment
-abbrev pub led_to : ℕ → List Element → TreeMap → TreeMap
-led_to hive changes tree = applied tree_rules (ops_on hive (timed_elements changes)) tree
+abbrev pub tree_after_changes : ℕ → List Element → TreeMap → TreeMap
+tree_after_changes hive changes tree = applied tree_rules (ops_on hive (timed_elements changes)) tree
 
 -- the changes' operations on a hive are legal on its tree, each where its turn comes
-abbrev pub AreLegalOn : ℕ → List Element → TreeMap → Type 0
-AreLegalOn hive changes tree = AreLegal tree_rules (ops_on hive (timed_elements changes)) tree
+abbrev pub ChangesAreLegalOn : ℕ → List Element → TreeMap → Type 0
+ChangesAreLegalOn hive changes tree = AreLegal tree_rules (ops_on hive (timed_elements changes)) tree
 
 -- the number of the hive in its store, and the store
-abbrev pub place_of : HiveFile → ℕ
-place_of file = file.writer.hive
+abbrev pub hive_number : HiveFile → ℕ
+hive_number file = file.writer.hive
 
 abbrev pub store_of : HiveFile → List ℕ
 store_of file = file.writer.block.store
 
 -- no repair is left
-abbrev pub IsWhole : HiveFile → Type 0
-IsWhole file = IsFlushing file.writer.stage
+abbrev pub HiveIsRepaired : HiveFile → Type 0
+HiveIsRepaired file = IsFlushing file.writer.stage
 
 -- The primary file and the log are as a writer's stage says, for an image, its pages, and what surely stands and is in memory:
 -- for some rule that is right in the store, and a plan by it that the image fits and that is, of a flush, the one that the
 -- writer follows. As long as the device hasn't failed, the primary file rests where no write of it is on its way.
-pub record IsOnBy (writer : HiveWriter) (image : List ℕ) (pages : Pages) (now memory : TreeMap × ℕ) (primary log : FileState) : Type 0 where
-  pub stands : Standing TreeMap
-  pub right : IsRight writer.block.store stands
-  pub plan : Plan
-  pub ready : IsReady stands memory image pages plan
-  pub ends : EndsWith writer.block plan
+pub record FilesMatchWriter (writer : HiveWriter) (image : List ℕ) (pages : Pages) (now memory : TreeMap × ℕ) (primary log : FileState) : Type 0 where
+  pub stands : TreeDecoder TreeMap
+  pub right : DecoderIsSound writer.block.store stands
+  pub plan : FlushPlan
+  pub ready : PlanFitsImage stands memory image pages plan
+  pub ends : PlanEndsWith writer.block plan
   pub flush : IsFlushing writer.stage → plan ≡ plan_of writer image pages
-  pub on : is_on_in stands (work_of plan image pages now memory) (phase_in (length plan.text) writer.stage) primary log
-  pub rests : writer.failed ≡ false → RestsIn (phase_in 0 writer.stage) primary
+  pub on : files_match_phase stands (work_of plan image pages now memory) (phase_in (length plan.encoding) writer.stage) primary log
+  pub rests : writer.failed ≡ false → PrimaryIsSyncedIn (phase_in 0 writer.stage) primary
 
 -- the primary file and the log are as the hive's stage says
-abbrev pub IsOn : HiveFile → FileState → FileState → Type 0
-IsOn file primary log = IsOnBy file.writer file.bins.items file.pages (now_of file) (memory_of file) primary log
+abbrev pub FilesMatchHive : HiveFile → FileState → FileState → Type 0
+FilesMatchHive file primary log = FilesMatchWriter file.writer file.bins.items file.pages (durable_of file) (memory_of file) primary log
 
 -- from one moment to another the two files go on as the hive's stages say
-abbrev pub GoesOn : HiveFile → HiveFile → (ℕ → FileState) → (ℕ → FileState) → Type 0
-GoesOn old new before after =
-    IsOn old (before (primary_file (place_of old))) (before (log_file (place_of old))) → IsOn new (after (primary_file (place_of old))) (after (log_file (place_of old)))
+abbrev pub FilesFollowHive : HiveFile → HiveFile → (ℕ → FileState) → (ℕ → FileState) → Type 0
+FilesFollowHive old new before after =
+    FilesMatchHive old (before (primary_file (hive_number old))) (before (log_file (hive_number old))) → FilesMatchHive new (after (primary_file (hive_number old))) (after (log_file (hive_number old)))
 
 -- two files that are as the hive's stage says are so still
-abbrev pub StaysOn : HiveFile → HiveFile → Type 0
-StaysOn old new = (primary log : FileState) → IsOn old primary log → IsOn new primary log
+abbrev pub KeepsMatch : HiveFile → HiveFile → Type 0
+KeepsMatch old new = (primary log : FileState) → FilesMatchHive old primary log → FilesMatchHive new primary log
 
 -- The device has failed in a step.
 abbrev pub IsBroken : HiveFile → Type 0
@@ -85,7 +85,7 @@ IsBroken file = file.writer.failed ≡ true
 
 -- What was in memory stands, no page differs, and the next flush ends with the next numbers, the rest of the block being as
 -- it was.
-pub record Settled (old new : HiveFile) : Type 0 where
+pub record MemoryIsDurable (old new : HiveFile) : Type 0 where
   pub held : new.held.value ≡ old.tree
   pub tree : new.tree ≡ old.tree
   pub bins : new.bins.items ≡ old.bins.items
@@ -101,10 +101,10 @@ abbrev pub marked_pages : List ℕ → ℕ
 marked_pages log = dirty_count (pages_in log)
 
 -- how many calls of a repair are left at a stage, at most: none where no repair is
-abbrev pub repairs_at : Pages → Stage → ℕ
-repairs_at pages (stage.Paging purpose.Repair page) = dirty_from pages page + 3
-repairs_at pages (stage.Paged purpose.Repair) = 2
-repairs_at pages (stage.Finished purpose.Repair) = 1
+abbrev pub repairs_at : Pages → FlushStage → ℕ
+repairs_at pages (stage.WritingPages purpose.Repair page) = dirty_from pages page + 3
+repairs_at pages (stage.PagesSynced purpose.Repair) = 2
+repairs_at pages (stage.HeaderWritten purpose.Repair) = 1
 repairs_at pages _ = 0
 
 abbrev pub repairs_left : HiveFile → ℕ
@@ -116,4 +116,4 @@ most_repairs primary log = if is_clean_file primary then 0 else marked_pages log
 
 -- a flush's calls that are left, or those of a whole one
 abbrev pub steps_left : HiveFile → ℕ
-steps_left file = calls_left (length (plan_of file.writer file.bins.items file.pages).text) file.pages file.writer.stage
+steps_left file = calls_left (length (plan_of file.writer file.bins.items file.pages).encoding) file.pages file.writer.stage

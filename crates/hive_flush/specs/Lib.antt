@@ -1,5 +1,5 @@
-pub mod Standing
-pub mod Planned
+pub mod Decoders
+pub mod NextBlocks
 pub mod HiveStates
-pub mod Created
+pub mod Creation
 pub mod Times

@@ -6,19 +6,19 @@ ghost use Rattle.disk_model.specs.declared.progress.Progress.TheVariants as Prog
 ghost use Rattle.reg_tree.specs.Maps.{TreeMap};
 ghost use Rattle.refusals.specs.declared.refusal.Refusal.TheVariants.{DiskFault, Faulted};
 ghost use Rattle.disk_model.specs.Call.{OneCall, HasFailed};
-ghost use Rattle.disk_model.specs.StoreFiles.{IsOfHive};
-ghost use Rattle.hive_files.specs.Pieces.{WritesPieces};
-ghost use Rattle.hive_flush_model.specs.Holding.{Standing, tree_under};
-ghost use Rattle.hive_flush_model.specs.Plans.{IsReady};
-ghost use Rattle.hive_writer.specs.Writing.{plan_of};
-ghost use Rattle.hive_writer.specs.declared.stage.Stage.TheVariants as stage;
-ghost use Rattle.hive_flush.specs.HiveStates.{GoesOn, IsBroken, IsWhole, Settled, dirty_pages, files_of, memory_of, place_of, repairs_left, steps_left, store_of};
+ghost use Rattle.disk_model.specs.StoreFiles.{IsFileOfHive};
+ghost use Rattle.hive_files.specs.Chunks.{KeepsWritesShort};
+ghost use Rattle.hive_flush_model.specs.StoredTrees.{TreeDecoder, tree_under};
+ghost use Rattle.hive_flush_model.specs.Plans.{PlanFitsImage};
+ghost use Rattle.hive_writer.specs.WriterSteps.{plan_of};
+ghost use Rattle.hive_writer.specs.declared.stage.FlushStage.TheVariants as stage;
+ghost use Rattle.hive_flush.specs.HiveStates.{FilesFollowHive, IsBroken, HiveIsRepaired, MemoryIsDurable, dirty_pages, file_choice, memory_of, hive_number, repairs_left, steps_left, store_of};
 ghost use Rattle.hive_flush.specs.Times.{time_of};
 
+use crate::flush_plan::{next_block, plan_fits};
 use crate::hive::HiveFile;
-use crate::planning::{next_block, plan_fits};
 use disk_model::{Disk, Progress};
-use hive_writer::{Purpose, Stage};
+use hive_writer::{FlushStage, Purpose};
 use refusals::Refusal;
 use reg_tree::Tree;
 use std::snapshot::Snapshot;
@@ -40,7 +40,7 @@ impl HiveFile {
 
     /// The number of the last change that surely stands in the files.
     pub fn applied(&self) -> u64
-        ensures { result ≡ (files_of self.now).now.1 }
+        ensures { result ≡ (file_choice self.now).now.1 }
     {
         self.writer.base.applied.0
     }
@@ -59,17 +59,17 @@ impl HiveFile {
     /// Takes no memory. Refused with `DiskFault` where the device failed in the call, and with `Faulted` exactly where it had
     /// failed in an earlier one: nothing is done then.
     pub fn step<D: Disk>(&mut self, disk: &mut D) -> Result<Progress, Refusal>
-        requires whole { IsWhole self.old }
-        ensures on { D.faithful disk.new → GoesOn self.old self.new
+        requires whole { HiveIsRepaired self.old }
+        ensures on { D.faithful disk.new → FilesFollowHive self.old self.new
             (D.state_at disk.old (D.clock disk.old)) (D.state_at disk.new (D.clock disk.new)) }
-        ensures says { Says (HiveSays (memory_of self.old)) result (files_of self.old) (files_of
+        ensures says { Says (HiveSays (memory_of self.old)) result (file_choice self.old) (file_choice
             self.new) }
         ensures memory { memory_of self.new ≡ memory_of self.old }
         ensures time { time_of self.new ≡ time_of self.old }
-        ensures place { place_of self.new ≡ place_of self.old }
+        ensures place { hive_number self.new ≡ hive_number self.old }
         ensures store { store_of self.new ≡ store_of self.old }
-        ensures whole { IsWhole self.new }
-        ensures few { (files_of self.old).next ≡ None →
+        ensures whole { HiveIsRepaired self.new }
+        ensures few { (file_choice self.old).next ≡ None →
             steps_left self.old ≤ 2 * dirty_pages self.old + 7 }
         ensures falls { result ≡ Ok Progress.More → steps_left self.new < steps_left self.old }
         ensures left { result ≡ Ok Progress.More → 0 < steps_left self.new }
@@ -77,10 +77,10 @@ impl HiveFile {
         ensures refused { IfErr result (λ why. (why ≡ DiskFault) ⊎ (why ≡ Faulted)) }
         ensures faulted { (result ≡ Err Faulted) ↔ IsBroken self.old }
         ensures broken { IsBroken self.new ↔ (IsBroken self.old ⊎ (result ≡ Err DiskFault)) }
-        ensures still { IsBroken self.old → (self.new ≡ self.old) × (disk.new ≡ disk.old) }
-        ensures call { OneCall (IsOfHive (place_of self.old)) (D.state_at disk.old) (D.state_at
+        ensures no_change { IsBroken self.old → (self.new ≡ self.old) × (disk.new ≡ disk.old) }
+        ensures call { OneCall (IsFileOfHive (hive_number self.old)) (D.state_at disk.old) (D.state_at
             disk.new) (D.clock disk.old) (D.clock disk.new) }
-        ensures pieces { D.faithful disk.new → WritesPieces (D.state_at disk.old)
+        ensures chunks { D.faithful disk.new → KeepsWritesShort (D.state_at disk.old)
             (D.state_at disk.new) (D.clock disk.old) (D.clock disk.new) }
         ensures failures { HasFailed result (D.failures disk.old) (D.failures disk.new) }
         ensures faithful { D.faithful disk.new → D.faithful disk.old }
@@ -88,7 +88,7 @@ impl HiveFile {
         plan_fits(&self.writer, &self.bins, &self.pages);
         match self.writer.step::<D, Tree>(disk, &self.bins, &self.pages) {
             Ok(Progress::Done) => {
-                self.settle();
+                self.mark_durable();
                 Ok(Progress::Done)
             }
             Ok(Progress::More) => Ok(Progress::More),
@@ -99,36 +99,37 @@ impl HiveFile {
 
     /// Whether no repair is left.
     pub fn is_whole(&self) -> bool
-        ensures { IsTrue result ↔ IsWhole self.now }
+        ensures { IsTrue result ↔ HiveIsRepaired self.now }
     {
         !matches!(
             self.writer.stage,
-            Stage::Paging(Purpose::Repair, _)
-                | Stage::Paged(Purpose::Repair)
-                | Stage::Finished(Purpose::Repair)
+            FlushStage::WritingPages(Purpose::Repair, _)
+                | FlushStage::PagesSynced(Purpose::Repair)
+                | FlushStage::HeaderWritten(Purpose::Repair)
         )
     }
 
     /// Whether a flush is on its way.
     pub fn is_halfway(&self) -> bool
-        ensures { (result ≡ false) ↔ ((files_of self.now).next ≡ None) }
+        ensures { (result ≡ false) ↔ ((file_choice self.now).next ≡ None) }
     {
         match self.writer.stage {
-            Stage::Quiet => false,
-            Stage::Logging(_) | Stage::Logged | Stage::Raised => true,
-            Stage::Paging(purpose, _) | Stage::Paged(purpose) | Stage::Finished(purpose) => {
-                matches!(purpose, Purpose::Flush)
-            }
+            FlushStage::AtRest => false,
+            FlushStage::WritingLog(_) | FlushStage::LogSynced | FlushStage::PrimaryMarkedDirty =>
+                true,
+            FlushStage::WritingPages(purpose, _)
+            | FlushStage::PagesSynced(purpose)
+            | FlushStage::HeaderWritten(purpose) => { matches!(purpose, Purpose::Flush) }
         }
     }
 
     /// Whether nothing is on its way and no repair is left: changes may be absorbed.
     pub fn is_at_rest(&self) -> bool
-        ensures rest { result ≡ true → (files_of self.now).next ≡ None }
-        ensures whole { result ≡ true → IsWhole self.now }
-        ensures busy { IsWhole self.now → (files_of self.now).next ≡ None → result ≡ true }
+        ensures rest { result ≡ true → (file_choice self.now).next ≡ None }
+        ensures whole { result ≡ true → HiveIsRepaired self.now }
+        ensures not_idle { HiveIsRepaired self.now → (file_choice self.now).next ≡ None → result ≡ true }
     {
-        matches!(self.writer.stage, Stage::Quiet)
+        matches!(self.writer.stage, FlushStage::AtRest)
     }
 
     /// One step of the repair of a hive that was opened unclean: at most one device call. `More` where others follow, `Done`
@@ -136,27 +137,27 @@ impl HiveFile {
     ///
     /// Takes no memory. Refused as [`step`](HiveFile::step) is.
     pub fn repair_step<D: Disk>(&mut self, disk: &mut D) -> Result<Progress, Refusal>
-        ensures on { D.faithful disk.new → GoesOn self.old self.new
+        ensures on { D.faithful disk.new → FilesFollowHive self.old self.new
             (D.state_at disk.old (D.clock disk.old)) (D.state_at disk.new (D.clock disk.new)) }
-        ensures files { files_of self.new ≡ files_of self.old }
+        ensures files { file_choice self.new ≡ file_choice self.old }
         ensures memory { memory_of self.new ≡ memory_of self.old }
         ensures time { time_of self.new ≡ time_of self.old }
-        ensures place { place_of self.new ≡ place_of self.old }
+        ensures place { hive_number self.new ≡ hive_number self.old }
         ensures store { store_of self.new ≡ store_of self.old }
-        ensures whole { (result ≡ Ok Progress.Done) → IsWhole self.new }
-        ensures idle { (result ≡ Ok Progress.Idle) → IsWhole self.old }
+        ensures whole { (result ≡ Ok Progress.Done) → HiveIsRepaired self.new }
+        ensures idle { (result ≡ Ok Progress.Idle) → HiveIsRepaired self.old }
         ensures falls { result ≡ Ok Progress.More → steps_left self.new < steps_left self.old }
         ensures left { result ≡ Ok Progress.More → 0 < steps_left self.new }
-        ensures repairs { OnOk result (¬ (IsWhole self.old) →
+        ensures repairs { OnOk result (¬ (HiveIsRepaired self.old) →
             repairs_left self.new < repairs_left self.old) }
-        ensures ready { IsWhole self.old → (self.new ≡ self.old) × (disk.new ≡ disk.old) }
+        ensures ready { HiveIsRepaired self.old → (self.new ≡ self.old) × (disk.new ≡ disk.old) }
         ensures refused { IfErr result (λ why. (why ≡ DiskFault) ⊎ (why ≡ Faulted)) }
         ensures faulted { (result ≡ Err Faulted) ↔ IsBroken self.old }
         ensures broken { IsBroken self.new ↔ (IsBroken self.old ⊎ (result ≡ Err DiskFault)) }
-        ensures still { IsBroken self.old → (self.new ≡ self.old) × (disk.new ≡ disk.old) }
-        ensures call { OneCall (IsOfHive (place_of self.old)) (D.state_at disk.old) (D.state_at
+        ensures no_change { IsBroken self.old → (self.new ≡ self.old) × (disk.new ≡ disk.old) }
+        ensures call { OneCall (IsFileOfHive (hive_number self.old)) (D.state_at disk.old) (D.state_at
             disk.new) (D.clock disk.old) (D.clock disk.new) }
-        ensures pieces { D.faithful disk.new → WritesPieces (D.state_at disk.old)
+        ensures chunks { D.faithful disk.new → KeepsWritesShort (D.state_at disk.old)
             (D.state_at disk.new) (D.clock disk.old) (D.clock disk.new) }
         ensures failures { HasFailed result (D.failures disk.old) (D.failures disk.new) }
         ensures faithful { D.faithful disk.new → D.faithful disk.old }
@@ -172,7 +173,7 @@ impl HiveFile {
             .repair_step::<D, Tree>(disk, &self.bins, &self.pages)
         {
             Ok(Progress::Done) => {
-                self.settle();
+                self.mark_durable();
                 Ok(Progress::Done)
             }
             Ok(Progress::More) => Ok(Progress::More),
@@ -182,13 +183,13 @@ impl HiveFile {
     }
 
     // what was in memory stands: no page differs, and the next flush is planned
-    fn settle(&mut self)
-        requires quiet { self.old.writer.stage ≡ stage.Quiet }
-        ensures settled { Settled self.old self.new }
-        ensures fits { (stands : Standing TreeMap) (memory : TreeMap × ℕ) →
+    fn mark_durable(&mut self)
+        requires quiet { self.old.writer.stage ≡ stage.AtRest }
+        ensures settled { MemoryIsDurable self.old self.new }
+        ensures fits { (stands : TreeDecoder TreeMap) (memory : TreeMap × ℕ) →
             tree_under stands self.new.writer.block self.new.bins.items ≡ Some memory.0 →
             self.new.writer.block.applied.0 ≡ memory.1 →
-            IsReady stands memory self.new.bins.items self.new.pages
+            PlanFitsImage stands memory self.new.bins.items self.new.pages
             (plan_of self.new.writer self.new.bins.items self.new.pages) }
     {
         self.held = Snapshot::of(&self.tree);

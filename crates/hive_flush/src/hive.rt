@@ -3,7 +3,7 @@ ghost use Rattle.std.specs.Prelude.{◌≡◌, ◌≤◌, length};
 ghost use Rattle.refusals.specs.declared.limits.TheConstants.{MOST_WEIGHT};
 ghost use Rattle.reg_tree.specs.Maps.{weight};
 ghost use Rattle.hive_files.specs.Blocks.{IsPlanned};
-ghost use Rattle.hive_flush.specs.Planned.{IsSteady};
+ghost use Rattle.hive_flush.specs.NextBlocks.{IsSteady};
 
 use dirty_vector::DirtyVector;
 use hive_writer::HiveWriter;

@@ -5,42 +5,42 @@ ghost use Rattle.crash_model.specs.Promises.{HiveOn};
 ghost use Rattle.reg_tree.specs.Maps.{TreeMap};
 ghost use Rattle.disk_model.specs.FileState.{FileState, IsSound, Leaves};
 ghost use Rattle.disk_model.specs.Sector.{IsHonest};
-ghost use Rattle.hive_flush.specs.Standing.{HoldsUnder};
-ghost use Rattle.hive_flush.specs.HiveStates.{IsBroken, IsOn, files_of, memory_of, store_of};
+ghost use Rattle.hive_flush.specs.Decoders.{HiveFilesHold};
+ghost use Rattle.hive_flush.specs.HiveStates.{IsBroken, FilesMatchHive, file_choice, memory_of, store_of};
 ghost use Rattle.hive_flush.specs.declared.hive.HiveFile.{HiveFile};
 
-use hive_flush_model::laws::on_leaves;
+use hive_flush_model::laws::crash_leaves_choice;
 use reg_tree::Tree;
 
 /// A law: where the two files are as a hive's stage says, whatever a crash may leave of both, with an honest first sector of
 /// the primary file, holds what surely stands or what is on its way, as a hive of its store.
 pub fn files_hold()
-    ensures { (file : HiveFile) (primary log : FileState) → IsOn file primary log →
-        HiveOn (HoldsUnder (store_of file)) (files_of file)
+    ensures { (file : HiveFile) (primary log : FileState) → FilesMatchHive file primary log →
+        HiveOn (HiveFilesHold (store_of file)) (file_choice file)
         (λ c. Leaves primary c × IsHonest primary c) (Leaves log) }
 {
-    on_leaves::<Tree>();
+    crash_leaves_choice::<Tree>();
 }
 
 /// A law: where the two files are as a hive's stage says, what a read gives of the primary file has an honest first sector, as long
 /// as the device hasn't failed in a step of the hive.
 pub fn reads_are_honest()
     ensures { (file : HiveFile) (primary log : FileState) → IsSound primary → ¬ (IsBroken file) →
-        IsOn file primary log → IsHonest primary primary.seen }
+        FilesMatchHive file primary log → IsHonest primary primary.seen }
 {
     hive_flush_model::laws::reads_are_honest::<Tree>();
 }
 
 /// A law: two files hold at most one tree and number as a hive of a store.
-pub fn one_is_held()
+pub fn at_most_one_tree()
     ensures { (store primary log : List ℕ) (x y : TreeMap × ℕ) →
-        HoldsUnder store primary log x → HoldsUnder store primary log y → x ≡ y }
+        HiveFilesHold store primary log x → HiveFilesHold store primary log y → x ≡ y }
 {
     hive_records::one_tree();
 }
 
 /// A law: what is on its way to a hive's files, if anything, is what is in memory, and its number isn't below that of what stands.
 pub fn memory_is_ahead()
-    ensures own { (file : HiveFile) → IsOfMemory (files_of file) (memory_of file) }
-    ensures ahead { (file : HiveFile) → (files_of file).now.1 ≤ (memory_of file).1 }
+    ensures own { (file : HiveFile) → IsOfMemory (file_choice file) (memory_of file) }
+    ensures ahead { (file : HiveFile) → (file_choice file).now.1 ≤ (memory_of file).1 }
 {}

@@ -4,19 +4,19 @@ ghost use Rattle.crash_model.specs.Promises.{settled};
 ghost use Rattle.refusals.specs.declared.refusal.Refusal.TheVariants.{DiskFault, NoMemory};
 ghost use Rattle.disk_model.specs.Call.{Extends};
 ghost use Rattle.disk_model.specs.FileState.{FileState, at_rest};
-ghost use Rattle.disk_model.specs.StoreFiles.{IsOfHive as IsFileOf, primary_file, log_file};
-ghost use Rattle.disk_model.specs.Unwritten.{OnlySyncs};
-ghost use Rattle.hive_files.specs.Finding.{IsFound};
-ghost use Rattle.hive_files.specs.Frames.{FailsBy};
-ghost use Rattle.hive_flush.specs.Standing.{HoldsUnder, IsNoneHeld, IsOfHive, NothingHeld, as_told};
-ghost use Rattle.hive_flush.specs.Planned.{clean_writer, unclean_writer};
-ghost use Rattle.hive_flush.specs.HiveStates.{IsBroken, IsOn, IsWhole, files_of, marked_pages, memory_of, most_repairs, place_of, repairs_left, steps_left, store_of};
+ghost use Rattle.disk_model.specs.StoreFiles.{IsFileOfHive, primary_file, log_file};
+ghost use Rattle.disk_model.specs.ReadOnly.{OnlySyncs};
+ghost use Rattle.hive_files.specs.Contents.{FilesContain};
+ghost use Rattle.hive_files.specs.Frames.{RefusalHasCause};
+ghost use Rattle.hive_flush.specs.Decoders.{HiveFilesHold, FilesHoldNone, RefusalNamesHive, RefusesHiveFiles, as_hive_refusal};
+ghost use Rattle.hive_flush.specs.NextBlocks.{clean_writer, unclean_writer};
+ghost use Rattle.hive_flush.specs.HiveStates.{IsBroken, FilesMatchHive, HiveIsRepaired, file_choice, marked_pages, memory_of, most_repairs, hive_number, repairs_left, steps_left, store_of};
 
+use crate::flush_plan::{next_block, plan_fits, repair_fits};
 use crate::hive::HiveFile;
-use crate::planning::{next_block, plan_fits, repair_fits};
 use base_block::BaseBlock;
 use disk_model::Disk;
-use hive_files::{Found, find};
+use hive_files::{HiveContents, find};
 use hive_load::laws::refused_bins_exclude_trees;
 use hive_load::load_bins;
 use hive_writer::HiveWriter;
@@ -46,29 +46,29 @@ impl HiveFile {
         hive: u8,
         store: Uuid,
     ) -> Result<HiveFile, Refusal>
-        ensures held { IfOk result (λ file. D.faithful disk.new → HoldsUnder store
+        ensures held { IfOk result (λ file. D.faithful disk.new → HiveFilesHold store
             (D.state_at disk.old (D.clock disk.old) (primary_file hive)).seen
             (D.state_at disk.old (D.clock disk.old) (log_file hive)).seen (memory_of file)) }
-        ensures settled { IfOk result (λ file. files_of file ≡ settled (memory_of file)) }
-        ensures on { IfOk result (λ file. D.faithful disk.new → IsOn file
+        ensures settled { IfOk result (λ file. file_choice file ≡ settled (memory_of file)) }
+        ensures on { IfOk result (λ file. D.faithful disk.new → FilesMatchHive file
             (D.state_at disk.new (D.clock disk.new) (primary_file hive))
             (D.state_at disk.new (D.clock disk.new) (log_file hive))) }
-        ensures place { IfOk result (λ file. place_of file ≡ hive) }
+        ensures place { IfOk result (λ file. hive_number file ≡ hive) }
         ensures store { IfOk result (λ file. store_of file ≡ store) }
         ensures sound { IfOk result (λ file. IsBroken file → ⊥) }
-        ensures few { IfOk result (λ file. D.faithful disk.new → ¬ (IsWhole file) →
+        ensures few { IfOk result (λ file. D.faithful disk.new → ¬ (HiveIsRepaired file) →
             steps_left file ≤ marked_pages
             (D.state_at disk.old (D.clock disk.old) (log_file hive)).seen + 3) }
         ensures repairs { IfOk result (λ file. D.faithful disk.new → repairs_left file ≤ most_repairs
             (D.state_at disk.old (D.clock disk.old) (primary_file hive)).seen
             (D.state_at disk.old (D.clock disk.old) (log_file hive)).seen) }
-        ensures fails { IfErr result (FailsBy (D.failures disk.old < D.failures disk.new)
-            (NothingHeld (D.faithful disk.new) hive store
+        ensures fails { IfErr result (RefusalHasCause (D.failures disk.old < D.failures disk.new)
+            (RefusesHiveFiles (D.faithful disk.new) hive store
             (D.state_at disk.old (D.clock disk.old) (primary_file hive)).seen
             (D.state_at disk.old (D.clock disk.old) (log_file hive)).seen)) }
         ensures synced { D.faithful disk.new → OnlySyncs (D.state_at disk.old) (D.state_at disk.new)
             (D.clock disk.old) (D.clock disk.new) }
-        ensures others { (f : ℕ) → ¬ (IsFileOf hive f) →
+        ensures others { (f : ℕ) → ¬ (IsFileOfHive hive f) →
             D.state_at disk.new (D.clock disk.new) f ≡ D.state_at disk.old (D.clock disk.old) f }
         ensures time { Extends (D.state_at disk.old) (D.state_at disk.new) (D.clock disk.old)
             (D.clock disk.new) }
@@ -76,30 +76,30 @@ impl HiveFile {
         ensures faithful { D.faithful disk.new → D.faithful disk.old }
     {
         match find(alloc, disk, hive) {
-            Ok(found) => of_found(alloc, found, hive, store),
-            Err(why) => Err(found_told(why, hive)),
+            Ok(found) => of_contents(alloc, found, hive, store),
+            Err(why) => Err(file_refusal(why, hive)),
         }
     }
 }
 
 // a refusal of a hive's files: that of the device stays
-fn found_told(why: Refusal, hive: u8) -> Refusal
+fn file_refusal(why: Refusal, hive: u8) -> Refusal
     ensures fault { why ≡ DiskFault → result ≡ DiskFault }
     ensures memory { why ≡ NoMemory → result ≡ NoMemory }
-    ensures told { (why ≡ DiskFault → ⊥) → (result ≡ NoMemory) ⊎ IsOfHive hive result }
-    ensures cause { (why ≡ DiskFault → ⊥) → result ≡ as_told hive why }
+    ensures hive_refusal { (why ≡ DiskFault → ⊥) → (result ≡ NoMemory) ⊎ RefusalNamesHive hive result }
+    ensures cause { (why ≡ DiskFault → ⊥) → result ≡ as_hive_refusal hive why }
 {
     if why == Refusal::DiskFault {
         return why;
     }
-    told(why, hive)
+    hive_refusal(why, hive)
 }
 
 // a refusal that tells of a hive, with its number
-fn told(why: Refusal, hive: u8) -> Refusal
+fn hive_refusal(why: Refusal, hive: u8) -> Refusal
     ensures memory { why ≡ NoMemory → result ≡ NoMemory }
-    ensures told { (result ≡ NoMemory) ⊎ IsOfHive hive result }
-    ensures cause { result ≡ as_told hive why }
+    ensures hive_refusal { (result ≡ NoMemory) ⊎ RefusalNamesHive hive result }
+    ensures cause { result ≡ as_hive_refusal hive why }
 {
     match why {
         Refusal::NoMemory => Refusal::NoMemory,
@@ -113,23 +113,28 @@ fn told(why: Refusal, hive: u8) -> Refusal
 }
 
 // the hive of what was found in its files
-fn of_found(alloc: Global, found: Found, hive: u8, store: Uuid) -> Result<HiveFile, Refusal>
-    ensures held { IfOk result (λ file. (primary log : List ℕ) → IsFound primary log found →
-        HoldsUnder store primary log (memory_of file)) }
-    ensures settled { IfOk result (λ file. files_of file ≡ settled (memory_of file)) }
+fn of_contents(
+    alloc: Global,
+    found: HiveContents,
+    hive: u8,
+    store: Uuid,
+) -> Result<HiveFile, Refusal>
+    ensures held { IfOk result (λ file. (primary log : List ℕ) → FilesContain primary log found →
+        HiveFilesHold store primary log (memory_of file)) }
+    ensures settled { IfOk result (λ file. file_choice file ≡ settled (memory_of file)) }
     ensures on { IfOk result (λ file. (primary log : List ℕ) (p l : FileState) →
-        IsFound primary log found → p ≡ at_rest primary →
-        (found.is_clean ≡ false → l ≡ at_rest log) → IsOn file p l) }
-    ensures place { IfOk result (λ file. place_of file ≡ hive) }
+        FilesContain primary log found → p ≡ at_rest primary →
+        (found.is_clean ≡ false → l ≡ at_rest log) → FilesMatchHive file p l) }
+    ensures place { IfOk result (λ file. hive_number file ≡ hive) }
     ensures store { IfOk result (λ file. store_of file ≡ store) }
     ensures sound { IfOk result (λ file. IsBroken file → ⊥) }
-    ensures few { IfOk result (λ file. (primary log : List ℕ) → IsFound primary log found →
-        ¬ (IsWhole file) → steps_left file ≤ marked_pages log + 3) }
-    ensures repairs { IfOk result (λ file. (primary log : List ℕ) → IsFound primary log found →
+    ensures few { IfOk result (λ file. (primary log : List ℕ) → FilesContain primary log found →
+        ¬ (HiveIsRepaired file) → steps_left file ≤ marked_pages log + 3) }
+    ensures repairs { IfOk result (λ file. (primary log : List ℕ) → FilesContain primary log found →
         repairs_left file ≤ most_repairs primary log) }
-    ensures fails { IfErr result (λ why. (why ≡ NoMemory) ⊎ (IsOfHive hive why
-        × ((primary log : List ℕ) → IsFound primary log found →
-        IsNoneHeld hive store primary log why))) }
+    ensures fails { IfErr result (λ why. (why ≡ NoMemory) ⊎ (RefusalNamesHive hive why
+        × ((primary log : List ℕ) → FilesContain primary log found →
+        FilesHoldNone hive store primary log why))) }
 {
     if found.block.store != store {
         return Err(Refusal::HiveDamaged {
@@ -137,7 +142,7 @@ fn of_found(alloc: Global, found: Found, hive: u8, store: Uuid) -> Result<HiveFi
             cause: Cause::BadStore,
         });
     }
-    let Found {
+    let HiveContents {
         block,
         bins,
         pages,
@@ -146,7 +151,7 @@ fn of_found(alloc: Global, found: Found, hive: u8, store: Uuid) -> Result<HiveFi
     refused_bins_exclude_trees();
     let (tree, bins) = match load_bins(alloc, bins, block.root, block.minor) {
         Ok(loaded) => loaded,
-        Err(why) => return Err(told(why, hive)),
+        Err(why) => return Err(hive_refusal(why, hive)),
     };
     let held = Snapshot::of(&tree);
     let writer = writer_for(block, hive, is_clean);

@@ -1,4 +1,4 @@
--- The function `held` and the relation `Holds` are one.
+-- The function `held` and the relation `FilesHoldTree` are one.
 use Rattle.std.proofs.Common.{◌≡◌, ◌⊎◌, inl, inr, ℕ, zero, suc, ◌+◌, ◌*◌, ◌/◌, ◌%◌, ◌<◌, ◌≤◌, Bool, true, false, eqb, leb, List, length, take, drop, refl, sym, ap, ◌∙◌, subst, arith, Option, Some, None}
 use Rattle.std.specs.Prelude.{◌&&◌, ◌||◌, not, codes, nat_eq, if◌then◌else◌}
 use Rattle.std.specs.Cmp.Lexicographic.{pointwise, same_text}
@@ -8,12 +8,12 @@ use Rattle.std.proofs.lemmas.Option.{same_Some, none-some}
 use Rattle.base_block.specs.declared.block.BaseBlock.{BaseBlock}
 use Rattle.base_block.specs.Judgements.{IsUsable, IsPrimaryVersion, IsPrimary, IsLog}
 use Rattle.dirty_vector.specs.Pages.{Pages, is_dirty, dirty_count}
-use Rattle.dirt_log.specs.LogText.{bitmap_end, pages_at}
-use Rattle.dirt_log.specs.WholeLog.{IsWhole, IsCovered, block_of, pages_in, page_bytes_in, repaired}
-use Rattle.dirt_log.specs.Held.{is_clean_file, IsOwn, IsRepaired}
-use Rattle.hive_flush_model.specs.Holding.{Standing, tree_under, Holds}
-use Rattle.hive_flush_model.proofs.Holding.{true_false}
-use Rattle.hive_flush_model.specs.Decided.{is_usable, is_of_version, is_primary, is_log, is_whole, covers_below, with_number, held_by_clean, held_by_log, held}
+use Rattle.dirt_log.specs.LogEncoding.{bitmap_end, pages_at}
+use Rattle.dirt_log.specs.WholeLog.{LogIsWhole, IsCovered, block_of, pages_in, page_bytes_in, repaired}
+use Rattle.dirt_log.specs.FileContents.{is_clean_file, PrimaryDecodesTo, LogRepairsTo}
+use Rattle.hive_flush_model.specs.StoredTrees.{TreeDecoder, tree_under, FilesHoldTree}
+use Rattle.hive_flush_model.proofs.StoredTrees.{true_false}
+use Rattle.hive_flush_model.specs.Decisions.{is_usable, is_of_version, is_primary, is_log, is_whole, covers_below, with_number, held_by_clean, held_by_log, held}
 
 or_left : (x y : Bool) → x ≡ true → (x || y) ≡ true
 or_left x y e = ap (λ (b : Bool). b || y) e
@@ -38,7 +38,7 @@ log_test b h = and_from _ _ (usable_test b h.0) (and_from _ _ h.1 (and_from _ _ 
   | inr e ↦ or_right (eqb b.file_type.0 1) (eqb b.file_type.0 2) (eq-eqb b.file_type.0 2 e)
 ])))
 
-whole_test : (log : List ℕ) → IsWhole log → is_whole log ≡ true
+whole_test : (log : List ℕ) → LogIsWhole log → is_whole log ≡ true
 whole_test log h =
     let b = block_of log in
     let len = 512 * dirty_count (pages_in log) in
@@ -60,33 +60,33 @@ covers_test len v (suc n) le h = and_from _ _ (covers_test len v n (omega arith)
 some_pair : {T : Type 0} (tree : Option T) (k : ℕ) (x : T × ℕ) → tree ≡ Some x.0 → k ≡ x.1 → with_number k tree ≡ Some x
 some_pair tree k x e f = ap (with_number k) e ∙ ap (λ (n : ℕ). Some (x.0, n)) f
 
-pub held_is : {T : Type 0} (stands : Standing T) (p l : List ℕ) (x : T × ℕ) → Holds stands p l x → held stands p l ≡ Some x
+pub held_is : {T : Type 0} (decode : TreeDecoder T) (p l : List ℕ) (x : T × ℕ) → FilesHoldTree decode p l x → held decode p l ≡ Some x
 unfolding held
-held_is stands p l x h = elim (cases_Bool (is_clean_file p)) [
+held_is decode p l x h = elim (cases_Bool (is_clean_file p)) [
   | inl e ↦
-      let own = MatchBool-at_true (IsOwn p h.block h.bins) (IsRepaired p l h.block h.bins) e h.in_use in
+      let own = MatchBool-at_true (PrimaryDecodesTo p h.block h.bins) (LogRepairsTo p l h.block h.bins) e h.in_use in
       let b = block_of p in
       let kind : IsPrimary b = subst (λ (c : BaseBlock). IsPrimary c) own.read (h.own e) in
       let long : 4096 + b.bins_size ≤ length p = subst (λ (c : BaseBlock). 4096 + c.bins_size ≤ length p) own.read own.long in
       let part = take b.bins_size (drop 4096 p) in
       let test : (is_primary b && leb (4096 + b.bins_size) (length p)) ≡ true = and_from _ _ (primary_test b kind) (le-leb (4096 + b.bins_size) (length p) long) in
       let bins : h.bins ≡ part = own.part ∙ ap (λ (c : BaseBlock). take c.bins_size (drop 4096 p)) own.read in
-      ap (λ (t : Bool). if t then held_by_clean stands p else held_by_log stands p l) e
-      ∙ ap (λ (t : Bool). if t then with_number b.applied.0 (tree_under stands b part) else None) test
-      ∙ some_pair (tree_under stands b part) b.applied.0 x
-      (sym (ap (tree_under stands b) bins) ∙ sym (ap (λ (c : BaseBlock). tree_under stands c h.bins) own.read) ∙ h.tree)
+      ap (λ (t : Bool). if t then held_by_clean decode p else held_by_log decode p l) e
+      ∙ ap (λ (t : Bool). if t then with_number b.applied.0 (tree_under decode b part) else None) test
+      ∙ some_pair (tree_under decode b part) b.applied.0 x
+      (sym (ap (tree_under decode b) bins) ∙ sym (ap (λ (c : BaseBlock). tree_under decode c h.bins) own.read) ∙ h.tree)
       (sym (ap (λ (c : BaseBlock). c.applied.0) own.read) ∙ h.number)
   | inr e ↦
-      let fixed = MatchBool-at_false (IsOwn p h.block h.bins) (IsRepaired p l h.block h.bins) e h.in_use in
+      let fixed = MatchBool-at_false (PrimaryDecodesTo p h.block h.bins) (LogRepairsTo p l h.block h.bins) e h.in_use in
       let b = block_of l in
       let bins = drop 4096 p in
       let image = repaired bins (pages_in l) (page_bytes_in l) in
       let test : (leb 512 (length p) && (is_whole l && covers_below (length bins) (pages_in l) (b.bins_size / 512))) ≡ true =
       and_from _ _ (le-leb 512 (length p) (h.sector e)) (and_from _ _ (whole_test l fixed.whole) (covers_test (length bins) (pages_in l) (b.bins_size / 512) (omega arith) fixed.covered)) in
-      ap (λ (t : Bool). if t then held_by_clean stands p else held_by_log stands p l) e
-      ∙ ap (λ (t : Bool). if t then with_number b.applied.0 (tree_under stands b image) else None) test
-      ∙ some_pair (tree_under stands b image) b.applied.0 x
-      (sym (ap (tree_under stands b) fixed.image) ∙ sym (ap (λ (c : BaseBlock). tree_under stands c h.bins) fixed.read) ∙ h.tree)
+      ap (λ (t : Bool). if t then held_by_clean decode p else held_by_log decode p l) e
+      ∙ ap (λ (t : Bool). if t then with_number b.applied.0 (tree_under decode b image) else None) test
+      ∙ some_pair (tree_under decode b image) b.applied.0 x
+      (sym (ap (tree_under decode b) fixed.image) ∙ sym (ap (λ (c : BaseBlock). tree_under decode c h.bins) fixed.read) ∙ h.tree)
       (sym (ap (λ (c : BaseBlock). c.applied.0) fixed.read) ∙ h.number)
 ]
 
@@ -125,7 +125,7 @@ log_back b e =
     let d = and_parts _ _ c.1 in
     (usable_back b a.0, c.0, version_back b d.0, elim (or_cases (eqb b.file_type.0 1) (eqb b.file_type.0 2) d.1) [ inl k ↦ inl (eqb-true b.file_type.0 1 k) | inr k ↦ inr (eqb-true b.file_type.0 2 k) ])
 
-whole_back : (log : List ℕ) → is_whole log ≡ true → IsWhole log
+whole_back : (log : List ℕ) → is_whole log ≡ true → LogIsWhole log
 whole_back log e =
     let b = block_of log in
     let len = 512 * dirty_count (pages_in log) in
@@ -160,19 +160,19 @@ told_if : {T : Type 0} (test : Bool) (tree : Option T) (k : ℕ) (x : T × ℕ) 
 told_if true tree k x e = let t = told tree k x e in (refl, t.0, t.1)
 told_if false tree k x e = absurd (none-some x e)
 
-pub is_held : {T : Type 0} (stands : Standing T) (p l : List ℕ) (x : T × ℕ) → held stands p l ≡ Some x → Holds stands p l x
+pub is_held : {T : Type 0} (decode : TreeDecoder T) (p l : List ℕ) (x : T × ℕ) → held decode p l ≡ Some x → FilesHoldTree decode p l x
 unfolding held
-is_held stands p l x e = elim (cases_Bool (is_clean_file p)) [
+is_held decode p l x e = elim (cases_Bool (is_clean_file p)) [
   | inl clean ↦
       let b = block_of p in
       let bins = take b.bins_size (drop 4096 p) in
-      let t = told_if (is_primary b && leb (4096 + b.bins_size) (length p)) (tree_under stands b bins) b.applied.0 x
-      (sym (ap (λ (t : Bool). if t then held_by_clean stands p else held_by_log stands p l) clean) ∙ e) in
+      let t = told_if (is_primary b && leb (4096 + b.bins_size) (length p)) (tree_under decode b bins) b.applied.0 x
+      (sym (ap (λ (t : Bool). if t then held_by_clean decode p else held_by_log decode p l) clean) ∙ e) in
       let a = and_parts _ _ t.0 in
       record {
         block = b;
         bins = bins;
-        in_use = subst (λ (t : Bool). MatchBool t (IsOwn p b bins) (IsRepaired p l b bins)) (sym clean) (record { read = refl; long = leb-true (4096 + b.bins_size) (length p) a.1; part = refl });
+        in_use = subst (λ (t : Bool). MatchBool t (PrimaryDecodesTo p b bins) (LogRepairsTo p l b bins)) (sym clean) (record { read = refl; long = leb-true (4096 + b.bins_size) (length p) a.1; part = refl });
         own = λ _. primary_back b a.0;
         sector = λ unclean. absurd (true_false (is_clean_file p) clean unclean);
         tree = t.1;
@@ -183,14 +183,14 @@ is_held stands p l x e = elim (cases_Bool (is_clean_file p)) [
       let v = pages_in l in
       let old = drop 4096 p in
       let bins = repaired old v (page_bytes_in l) in
-      let t = told_if (leb 512 (length p) && (is_whole l && covers_below (length old) v (b.bins_size / 512))) (tree_under stands b bins) b.applied.0 x
-      (sym (ap (λ (t : Bool). if t then held_by_clean stands p else held_by_log stands p l) unclean) ∙ e) in
+      let t = told_if (leb 512 (length p) && (is_whole l && covers_below (length old) v (b.bins_size / 512))) (tree_under decode b bins) b.applied.0 x
+      (sym (ap (λ (t : Bool). if t then held_by_clean decode p else held_by_log decode p l) unclean) ∙ e) in
       let a = and_parts _ _ t.0 in
       let c = and_parts _ _ a.1 in
       record {
         block = b;
         bins = bins;
-        in_use = subst (λ (t : Bool). MatchBool t (IsOwn p b bins) (IsRepaired p l b bins)) (sym unclean)
+        in_use = subst (λ (t : Bool). MatchBool t (PrimaryDecodesTo p b bins) (LogRepairsTo p l b bins)) (sym unclean)
             (record { whole = whole_back l c.0; read = refl; covered = covers_back (length old) v (b.bins_size / 512) c.1; image = refl });
         own = λ clean. absurd (true_false (is_clean_file p) clean unclean);
         sector = λ _. leb-true 512 (length p) a.0;

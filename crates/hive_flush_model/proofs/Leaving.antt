@@ -8,7 +8,7 @@ use Rattle.std.proofs.lemmas.Grind.{same_number_lists}
 use Rattle.std.proofs.lemmas.List.{get_or-take, get_or-drop, get_or_past, take_all}
 use Rattle.crash_model.specs.Promises.{Choice, HiveOn}
 use Rattle.crash_model.specs.Promises as promises
-use Rattle.disk_model.specs.FileState.{FileState, Range, Leaves, IsWritten, Covers, at_rest}
+use Rattle.disk_model.specs.FileState.{FileState, WrittenRange, Leaves, IsWritten, Covers, at_rest}
 use Rattle.disk_model.specs.Sector.{HasRightSum, last_sector, IsHonest}
 use Rattle.disk_model.proofs.Leaves.{left_at_rest}
 use Rattle.base_block.specs.declared.block.BaseBlock.{BaseBlock}
@@ -16,26 +16,26 @@ use Rattle.base_block.specs.Judgements.{IsUsable, IsPrimary}
 use Rattle.base_block.specs.Layout.{block_at, is_clean_block}
 use Rattle.dirty_vector.specs.Pages.{Pages, is_dirty}
 use Rattle.dirt_log.specs.WholeLog.{IsCovered, block_of}
-use Rattle.dirt_log.specs.Held.{is_clean_file, SameWhereClean}
-use Rattle.hive_flush_model.specs.Holding.{Standing, tree_under, Holds, IsCleanOf}
-use Rattle.hive_flush_model.specs.Plans.{Plan, IsBehind, IsReady}
-use Rattle.hive_flush_model.specs.Phases.{Purpose, Purpose.Flush, Purpose.Repair, Phase, Phase.Quiet, Phase.Logging, Phase.Logged, Phase.Raised, Phase.Paging, Phase.Paged, Phase.Finished, Work, choice_for, choice_in}
-use Rattle.hive_flush_model.specs.States.{AreAll, IsSectorOnWay, AreInDirty, ArePagesOnWay, Shows, HasLog, IsQuiet, IsLogged, IsPaging, IsPaged, is_on_in}
-use Rattle.hive_flush_model.proofs.Holding.{holds_clean, holds_repaired, clean_same, clean_long, wrong_unclean, sector_unclean, true_false}
+use Rattle.dirt_log.specs.FileContents.{is_clean_file, SameWhereClean}
+use Rattle.hive_flush_model.specs.StoredTrees.{TreeDecoder, tree_under, FilesHoldTree, CleanPrimaryHolds}
+use Rattle.hive_flush_model.specs.Plans.{FlushPlan, IsBehind, PlanFitsImage}
+use Rattle.hive_flush_model.specs.Phases.{Purpose, Purpose.Flush, Purpose.Repair, FlushPhase, FlushPhase.AtRest, FlushPhase.WritingLog, FlushPhase.LogSynced, FlushPhase.PrimaryMarkedDirty, FlushPhase.WritingPages, FlushPhase.PagesSynced, FlushPhase.HeaderWritten, FlushState, choice_for, choice_in}
+use Rattle.hive_flush_model.specs.States.{AreAll, IsSectorOnWay, AreInDirty, ArePagesOnWay, Shows, HasLog, IsAtRest, IsLogSynced, IsWritingPages, ArePagesSynced, files_match_phase}
+use Rattle.hive_flush_model.proofs.StoredTrees.{holds_clean, holds_repaired, clean_same, clean_long, wrong_unclean, sector_unclean, true_false}
 
 -- ---- a first sector on its way
 
-pub sector_covers : (sector : List ℕ) (rs : List Range) (q : ℕ) → length sector ≡ 512 → AreAll sector rs → IsWritten rs q → q < 512
+pub sector_covers : (sector : List ℕ) (rs : List WrittenRange) (q : ℕ) → length sector ≡ 512 → AreAll sector rs → IsWritten rs q → q < 512
 sector_covers sector [] q size all w = absurd w
-sector_covers sector (r ∷ rs) q size all (inl covers) = let c : Covers (record { from = 0; bytes = sector }) q = subst (λ (r : Range). Covers r q) all.0 covers in omega (arith, c.1, size)
+sector_covers sector (r ∷ rs) q size all (inl covers) = let c : Covers (record { from = 0; bytes = sector }) q = subst (λ (r : WrittenRange). Covers r q) all.0 covers in omega (arith, c.1, size)
 sector_covers sector (r ∷ rs) q size all (inr w) = sector_covers sector rs q size all.1 w
 
-last_same : (sector s : List ℕ) (rs : List Range) → length sector ≡ 512 → AreAll sector rs → last_sector rs ≡ Some s → s ≡ sector
+last_same : (sector s : List ℕ) (rs : List WrittenRange) → length sector ≡ 512 → AreAll sector rs → last_sector rs ≡ Some s → s ≡ sector
 last_same sector s [] size all e = absurd (none-some s e)
 last_same sector s (r ∷ rs) size all e =
     let test : ((0 == 0) && nat_le 512 (length sector)) ≡ true = grind (arith, nat_tests) in
     let is : last_sector (r ∷ rs) ≡ Some sector =
-    ap (λ (q : Range). last_sector (q ∷ rs)) all.0 ∙ ap (λ (b : Bool). if b then Some (take 512 sector) else last_sector rs) test ∙ ap (λ (l : List ℕ). Some l) (take_all 512 sector (omega (arith, size))) in
+    ap (λ (q : WrittenRange). last_sector (q ∷ rs)) all.0 ∙ ap (λ (b : Bool). if b then Some (take 512 sector) else last_sector rs) test ∙ ap (λ (l : List ℕ). Some l) (take_all 512 sector (omega (arith, size))) in
     same_Some s sector (sym e ∙ is)
 
 -- the same but for the first sector
@@ -82,12 +82,12 @@ three body sector c p long on left (inr (inr wrong)) = inr (inr wrong)
 
 -- ---- pages on their way
 
-pub dirty_covers : (v : Pages) (rs : List Range) (q : ℕ) → AreInDirty v rs → IsWritten rs q → 4096 ≤ q
+pub dirty_covers : (v : Pages) (rs : List WrittenRange) (q : ℕ) → AreInDirty v rs → IsWritten rs q → 4096 ≤ q
 dirty_covers v [] q all w = absurd w
 dirty_covers v (r ∷ rs) q all (inl covers) = omega (arith, all.0.behind, covers.0)
 dirty_covers v (r ∷ rs) q all (inr w) = dirty_covers v rs q all.1 w
 
-pub dirty_page : (v : Pages) (rs : List Range) (i : ℕ) → AreInDirty v rs → IsWritten rs (4096 + i) → is_dirty v (i / 512) ≡ true
+pub dirty_page : (v : Pages) (rs : List WrittenRange) (i : ℕ) → AreInDirty v rs → IsWritten rs (4096 + i) → is_dirty v (i / 512) ≡ true
 dirty_page v [] i all w = absurd w
 dirty_page v (r ∷ rs) i all (inl covers) = all.0.dirty i covers
 dirty_page v (r ∷ rs) i all (inr w) = dirty_page v rs i all.1 w
@@ -119,7 +119,7 @@ shows_behind image v c size shows = record {
   covered = λ page lt off. omega (arith, (shows (512 * page + 511) (omega (arith, lt, size))).0, length-drop 4096 c);
 }
 
-module _ {T : Type 0} (stands : Standing T) (memory : T × ℕ) (image : List ℕ) (v : Pages) (plan : Plan) (ready : IsReady stands memory image v plan) where
+module _ {T : Type 0} (decode : TreeDecoder T) (memory : T × ℕ) (image : List ℕ) (v : Pages) (plan : FlushPlan) (ready : PlanFitsImage decode memory image v plan) where
   pub some_bins : 0 < length image
   some_bins = elim (cases_lt 0 (length image)) [ inl lt ↦ lt | inr none ↦ absurd (ready.own.0.bins_size.1 (omega (arith, none, ready.size, ready.bins))) ]
 
@@ -132,7 +132,7 @@ module _ {T : Type 0} (stands : Standing T) (memory : T × ℕ) (image : List �
   same_usable : (b : BaseBlock) → IsUsable b → IsUsable (record b { sum_is_right = true })
   same_usable b u = record { signature = u.signature; bins_size = u.bins_size; within = u.within }
 
-  pub clean_of : (c : List ℕ) → Shows image (length image) c → take 512 c ≡ plan.final → IsCleanOf stands c memory
+  pub clean_of : (c : List ℕ) → Shows image (length image) c → take 512 c ≡ plan.final → CleanPrimaryHolds decode c memory
   clean_of c shows e =
       let block : block_of c ≡ record plan.block { sum_is_right = true } = ap block_at e ∙ ready.final_reads in
       let long = shows_long c shows in
@@ -144,53 +144,53 @@ module _ {T : Type 0} (stands : Standing T) (memory : T × ℕ) (image : List �
         clean = and_from _ _ (le-leb 512 (length c) (omega (arith, long))) (ap is_clean_block block ∙ eq-eqb plan.block.primary.0 plan.block.secondary.0 ready.equal);
         own = subst (λ (b : BaseBlock). IsPrimary b) (sym block) (same_usable plan.block ready.own.0, ready.own.1, ready.own.2);
         long = omega (arith, size, long);
-        tree = ap (λ (n : ℕ). tree_under stands (block_of c) (take n (drop 4096 c))) size ∙ ap (tree_under stands (block_of c)) bins
-            ∙ ap (λ (b : BaseBlock). tree_under stands b image) block ∙ ready.tree;
+        tree = ap (λ (n : ℕ). tree_under decode (block_of c) (take n (drop 4096 c))) size ∙ ap (tree_under decode (block_of c)) bins
+            ∙ ap (λ (b : BaseBlock). tree_under decode b image) block ∙ ready.tree;
         number = ap (λ (b : BaseBlock). b.applied.0) block ∙ ready.number;
       }
 
 -- ---- the law
 
-pub left_log : (text : List ℕ) (l : FileState) (c : List ℕ) → HasLog text l → Leaves l c → take (length text) c ≡ text
-left_log text l c has left =
+pub left_log : (encoding : List ℕ) (l : FileState) (c : List ℕ) → HasLog encoding l → Leaves l c → take (length encoding) c ≡ encoding
+left_log encoding l c has left =
     let e : c ≡ l.synced = left_at_rest l.synced c (subst (λ (s : FileState). Leaves s c) has.rest left) in
-    ap (take (length text)) e ∙ has.front
+    ap (take (length encoding)) e ∙ has.front
 
 pub left_same : (p : FileState) (c : List ℕ) → p ≡ at_rest p.synced → Leaves p c → c ≡ p.synced
 left_same p c rest left = left_at_rest p.synced c (subst (λ (s : FileState). Leaves s c) rest left)
 
-module _ {T : Type 0} (stands : Standing T) (h : Work T) (p l : FileState) (c d : List ℕ) (left : Leaves p c) (honest : IsHonest p c) (log : Leaves l d) where
-  quiet_holds : IsQuiet stands h p → Holds stands c d h.now
-  quiet_holds on = holds_clean stands c d h.now (subst (λ (xs : List ℕ). IsCleanOf stands xs h.now) (sym (left_same p c on.rest left)) on.clean)
+module _ {T : Type 0} (decode : TreeDecoder T) (h : FlushState T) (p l : FileState) (c d : List ℕ) (left : Leaves p c) (honest : IsHonest p c) (log : Leaves l d) where
+  quiet_holds : IsAtRest decode h p → FilesHoldTree decode c d h.now
+  quiet_holds on = holds_clean decode c d h.now (subst (λ (xs : List ℕ). CleanPrimaryHolds decode xs h.now) (sym (left_same p c on.rest left)) on.clean)
 
-  logged_holds : IsLogged stands h p l → Holds stands c d h.now ⊎ Holds stands c d h.memory
+  logged_holds : IsLogSynced decode h p l → FilesHoldTree decode c d h.now ⊎ FilesHoldTree decode c d h.memory
   logged_holds on =
       let beside = left_beside p.synced h.plan.raised c p on.ready.raised_long on.sector left in
-      let fixed : is_clean_file c ≡ false → Holds stands c d h.memory = λ unclean.
-      holds_repaired stands h.memory h.image h.pages h.plan c d on.ready unclean (omega (arith, beside.size, clean_long p.synced on.clean.clean)) (beside_behind h.image h.pages p.synced c beside on.behind) (left_log h.plan.text l d on.text log) in
+      let fixed : is_clean_file c ≡ false → FilesHoldTree decode c d h.memory = λ unclean.
+      holds_repaired decode h.memory h.image h.pages h.plan c d on.ready unclean (omega (arith, beside.size, clean_long p.synced on.clean.clean)) (beside_behind h.image h.pages p.synced c beside on.behind) (left_log h.plan.encoding l d on.encoding log) in
       elim (three p.synced h.plan.raised c p on.ready.raised_long on.sector left honest) [
-        | inl old ↦ inl (holds_clean stands c d h.now (subst (λ (xs : List ℕ). IsCleanOf stands xs h.now) (sym old) on.clean))
+        | inl old ↦ inl (holds_clean decode c d h.now (subst (λ (xs : List ℕ). CleanPrimaryHolds decode xs h.now) (sym old) on.clean))
         | inr z ↦ elim z [
           | inl new ↦ inr (fixed (sector_unclean c h.plan.raised new on.ready.raised_unclean))
           | inr wrong ↦ inr (fixed (wrong_unclean c wrong))
         ]
       ]
 
-  paging_holds : (n : ℕ) → IsPaging stands h n p l → Holds stands c d h.memory
+  paging_holds : (n : ℕ) → IsWritingPages decode h n p l → FilesHoldTree decode c d h.memory
   paging_holds n on =
-      holds_repaired stands h.memory h.image h.pages h.plan c d on.ready (pages_unclean h.image h.pages p c on.pages left) (omega (arith, on.pages.sector, left.no_shorter))
-      (pages_behind h.image h.pages p c (whole_pages stands h.memory h.image h.pages h.plan on.ready) on.pages left) (left_log h.plan.text l d on.text log)
+      holds_repaired decode h.memory h.image h.pages h.plan c d on.ready (pages_unclean h.image h.pages p c on.pages left) (omega (arith, on.pages.sector, left.no_shorter))
+      (pages_behind h.image h.pages p c (whole_pages decode h.memory h.image h.pages h.plan on.ready) on.pages left) (left_log h.plan.encoding l d on.encoding log)
 
-  paged_holds : IsPaged stands h p l → Holds stands c d h.memory
+  paged_holds : ArePagesSynced decode h p l → FilesHoldTree decode c d h.memory
   paged_holds on =
       let beside = left_beside p.synced h.plan.final c p on.ready.final_long on.sector left in
-      let fixed : is_clean_file c ≡ false → Holds stands c d h.memory = λ unclean.
-      holds_repaired stands h.memory h.image h.pages h.plan c d on.ready unclean
-      (omega (arith, beside.size, shows_long stands h.memory h.image h.pages h.plan on.ready p.synced on.shows)) (beside_behind h.image h.pages p.synced c beside (shows_behind h.image h.pages p.synced on.ready.size on.shows)) (left_log h.plan.text l d on.text log) in
+      let fixed : is_clean_file c ≡ false → FilesHoldTree decode c d h.memory = λ unclean.
+      holds_repaired decode h.memory h.image h.pages h.plan c d on.ready unclean
+      (omega (arith, beside.size, shows_long decode h.memory h.image h.pages h.plan on.ready p.synced on.shows)) (beside_behind h.image h.pages p.synced c beside (shows_behind h.image h.pages p.synced on.ready.size on.shows)) (left_log h.plan.encoding l d on.encoding log) in
       elim (three p.synced h.plan.final c p on.ready.final_long on.sector left honest) [
         | inl old ↦ fixed (ap is_clean_file old ∙ on.unclean)
         | inr z ↦ elim z [
-          | inl new ↦ holds_clean stands c d h.memory (clean_of stands h.memory h.image h.pages h.plan on.ready c (beside_shows h.image p.synced c beside on.shows) new)
+          | inl new ↦ holds_clean decode c d h.memory (clean_of decode h.memory h.image h.pages h.plan on.ready c (beside_shows h.image p.synced c beside on.shows) new)
           | inr wrong ↦ fixed (wrong_unclean c wrong)
         ]
       ]
@@ -198,22 +198,22 @@ module _ {T : Type 0} (stands : Standing T) (h : Work T) (p l : FileState) (c d 
       beside_shows : (image body c : List ℕ) → IsBeside body c → Shows image (length image) body → Shows image (length image) c
       beside_shows image body c b shows i lt = (omega (arith, (shows i lt).0, b.size), b.rest (4096 + i) (omega arith) ∙ (shows i lt).1)
 
-either : {T : Type 0} (stands : Standing T) (now memory : T × ℕ) (c d : List ℕ) → Holds stands c d now ⊎ Holds stands c d memory
-    → (x : T × ℕ) × promises.Leaves (promises.under_way now memory) x × Holds stands c d x
-either stands now memory c d (inl h) = (now, inl refl, h)
-either stands now memory c d (inr h) = (memory, inr refl, h)
+either : {T : Type 0} (decode : TreeDecoder T) (now memory : T × ℕ) (c d : List ℕ) → FilesHoldTree decode c d now ⊎ FilesHoldTree decode c d memory
+    → (x : T × ℕ) × promises.Leaves (promises.under_way now memory) x × FilesHoldTree decode c d x
+either decode now memory c d (inl h) = (now, inl refl, h)
+either decode now memory c d (inr h) = (memory, inr refl, h)
 
-by_purpose : {T : Type 0} (stands : Standing T) (purpose : Purpose) (now memory : T × ℕ) (c d : List ℕ) → Holds stands c d memory
-    → (x : T × ℕ) × promises.Leaves (choice_for purpose now memory) x × Holds stands c d x
-by_purpose stands Flush now memory c d h = either stands now memory c d (inr h)
-by_purpose stands Repair now memory c d h = (memory, inl refl, h)
+by_purpose : {T : Type 0} (decode : TreeDecoder T) (purpose : Purpose) (now memory : T × ℕ) (c d : List ℕ) → FilesHoldTree decode c d memory
+    → (x : T × ℕ) × promises.Leaves (choice_for purpose now memory) x × FilesHoldTree decode c d x
+by_purpose decode Flush now memory c d h = either decode now memory c d (inr h)
+by_purpose decode Repair now memory c d h = (memory, inl refl, h)
 
-pub leaves_in : {T : Type 0} (stands : Standing T) (h : Work T) (phase : Phase) (p l : FileState) → is_on_in stands h phase p l
-    → HiveOn (Holds stands) (choice_in phase h.now h.memory) (λ c. Leaves p c × IsHonest p c) (Leaves l)
-leaves_in stands h Quiet p l on c d pc ld = (h.now, inl refl, quiet_holds stands h p l c d pc.0 pc.1 ld on)
-leaves_in stands h (Logging n) p l on c d pc ld = either stands h.now h.memory c d (inl (quiet_holds stands h p l c d pc.0 pc.1 ld on.quiet))
-leaves_in stands h Logged p l on c d pc ld = either stands h.now h.memory c d (logged_holds stands h p l c d pc.0 pc.1 ld on)
-leaves_in stands h Raised p l on c d pc ld = either stands h.now h.memory c d (logged_holds stands h p l c d pc.0 pc.1 ld on.logged)
-leaves_in stands h (Paging purpose n) p l on c d pc ld = by_purpose stands purpose h.now h.memory c d (paging_holds stands h p l c d pc.0 pc.1 ld n on)
-leaves_in stands h (Paged purpose) p l on c d pc ld = by_purpose stands purpose h.now h.memory c d (paged_holds stands h p l c d pc.0 pc.1 ld on)
-leaves_in stands h (Finished purpose) p l on c d pc ld = by_purpose stands purpose h.now h.memory c d (paged_holds stands h p l c d pc.0 pc.1 ld on.paged)
+pub leaves_in : {T : Type 0} (decode : TreeDecoder T) (h : FlushState T) (phase : FlushPhase) (p l : FileState) → files_match_phase decode h phase p l
+    → HiveOn (FilesHoldTree decode) (choice_in phase h.now h.memory) (λ c. Leaves p c × IsHonest p c) (Leaves l)
+leaves_in decode h AtRest p l on c d pc ld = (h.now, inl refl, quiet_holds decode h p l c d pc.0 pc.1 ld on)
+leaves_in decode h (WritingLog n) p l on c d pc ld = either decode h.now h.memory c d (inl (quiet_holds decode h p l c d pc.0 pc.1 ld on.quiet))
+leaves_in decode h LogSynced p l on c d pc ld = either decode h.now h.memory c d (logged_holds decode h p l c d pc.0 pc.1 ld on)
+leaves_in decode h PrimaryMarkedDirty p l on c d pc ld = either decode h.now h.memory c d (logged_holds decode h p l c d pc.0 pc.1 ld on.logged)
+leaves_in decode h (WritingPages purpose n) p l on c d pc ld = by_purpose decode purpose h.now h.memory c d (paging_holds decode h p l c d pc.0 pc.1 ld n on)
+leaves_in decode h (PagesSynced purpose) p l on c d pc ld = by_purpose decode purpose h.now h.memory c d (paged_holds decode h p l c d pc.0 pc.1 ld on)
+leaves_in decode h (HeaderWritten purpose) p l on c d pc ld = by_purpose decode purpose h.now h.memory c d (paged_holds decode h p l c d pc.0 pc.1 ld on.paged)

@@ -1,4 +1,4 @@
-pub mod Holding
+pub mod StoredTrees
 pub mod Leaving
 pub mod Moving
 pub mod Planning

@@ -8,12 +8,12 @@ use Rattle.disk_model.proofs.Steps.{length-put}
 use Rattle.disk_model.proofs.Put.{get_or-put_outside, get_or-put_inside}
 use Rattle.disk_model.proofs.Leaves.{length-put_within}
 use Rattle.dirty_vector.specs.Pages.{Pages}
-use Rattle.dirt_log.specs.Held.{is_clean_file}
-use Rattle.hive_flush_model.specs.Holding.{Standing}
-use Rattle.hive_flush_model.specs.Phases.{Work}
-use Rattle.hive_flush_model.specs.States.{IsSectorOnWay, ArePagesOnWay, Shows, LogHas, HasLog, IsQuiet, IsLogging, IsLogged, IsRaised, IsPaging, IsPaged, IsFinished}
-use Rattle.hive_flush_model.specs.Plans.{IsBehind, IsReady, Marks, AreClean, AreDirty}
-use Rattle.hive_flush_model.proofs.Holding.{clean_long, sector_unclean}
+use Rattle.dirt_log.specs.FileContents.{is_clean_file}
+use Rattle.hive_flush_model.specs.StoredTrees.{TreeDecoder}
+use Rattle.hive_flush_model.specs.Phases.{FlushState}
+use Rattle.hive_flush_model.specs.States.{IsSectorOnWay, ArePagesOnWay, Shows, LogHas, HasLog, IsAtRest, IsWritingLog, IsLogSynced, IsPrimaryMarkedDirty, IsWritingPages, ArePagesSynced, IsHeaderWritten}
+use Rattle.hive_flush_model.specs.Plans.{IsBehind, PlanFitsImage, ChangesAreMarked, AreClean, AreDirty}
+use Rattle.hive_flush_model.proofs.StoredTrees.{clean_long, sector_unclean}
 use Rattle.hive_flush_model.proofs.Leaving.{left_beside, beside_behind, pages_unclean, pages_behind, shows_behind, whole_pages, shows_long, clean_of}
 
 -- ---- bytes
@@ -32,35 +32,35 @@ part_keeps offset bytes old seen part q lt out = part.elsewhere q (omega (arith,
 
 -- ---- the log
 
-pub log_more : (n : ℕ) (text piece seen : List ℕ) → LogHas n text seen → n + length piece ≤ length text → piece ≡ take (length piece) (drop n text) → LogHas (n + length piece) text (put seen n piece)
-log_more n text piece seen has fits is = record {
+pub log_more : (n : ℕ) (encoding chunk seen : List ℕ) → LogHas n encoding seen → n + length chunk ≤ length encoding → chunk ≡ take (length chunk) (drop n encoding) → LogHas (n + length chunk) encoding (put seen n chunk)
+log_more n encoding chunk seen has fits is = record {
   within = fits;
   long = long;
-  front = same_number_lists _ _ (omega (arith, length-take (n + length piece) (put seen n piece), length-take (n + length piece) text, long, fits))
-      (λ k lt. let below : k < n + length piece = omega (arith, lt, length-take (n + length piece) (put seen n piece)) in
-      get_or-take (n + length piece) (put seen n piece) k 0 below
+  front = same_number_lists _ _ (omega (arith, length-take (n + length chunk) (put seen n chunk), length-take (n + length chunk) encoding, long, fits))
+      (λ k lt. let below : k < n + length chunk = omega (arith, lt, length-take (n + length chunk) (put seen n chunk)) in
+      get_or-take (n + length chunk) (put seen n chunk) k 0 below
       ∙ elim (cases_lt k n) [
-        | inl front ↦ get_or-put_outside seen n piece k (omega (arith, front, has.long)) (λ covers. omega (arith, covers.0, front))
-            ∙ sym (get_or-take n seen k 0 front) ∙ ap (λ (xs : List ℕ). get_or xs k 0) has.front ∙ get_or-take n text k 0 front
+        | inl front ↦ get_or-put_outside seen n chunk k (omega (arith, front, has.long)) (λ covers. omega (arith, covers.0, front))
+            ∙ sym (get_or-take n seen k 0 front) ∙ ap (λ (xs : List ℕ). get_or xs k 0) has.front ∙ get_or-take n encoding k 0 front
         | inr back ↦
             let place : n + (k - n) ≡ k = omega (arith, back) in
-            get_or-put_inside seen n piece k back below
-            ∙ ap (λ (xs : List ℕ). get_or xs (k - n) 0) is ∙ get_or-take (length piece) (drop n text) (k - n) 0 (omega (arith, back, below))
-            ∙ get_or-drop n text (k - n) 0 ∙ ap (λ (i : ℕ). get_or text i 0) place
+            get_or-put_inside seen n chunk k back below
+            ∙ ap (λ (xs : List ℕ). get_or xs (k - n) 0) is ∙ get_or-take (length chunk) (drop n encoding) (k - n) 0 (omega (arith, back, below))
+            ∙ get_or-drop n encoding (k - n) 0 ∙ ap (λ (i : ℕ). get_or encoding i 0) place
       ]
-      ∙ sym (get_or-take (n + length piece) text k 0 below));
+      ∙ sym (get_or-take (n + length chunk) encoding k 0 below));
 }
   where
-    long : n + length piece ≤ length (put seen n piece)
-    long = elim (cases_lt 0 (length piece)) [ inl some ↦ put_reaches seen piece n some | inr none ↦ omega (arith, none, has.long, put_grows seen piece n) ]
+    long : n + length chunk ≤ length (put seen n chunk)
+    long = elim (cases_lt 0 (length chunk)) [ inl some ↦ put_reaches seen chunk n some | inr none ↦ omega (arith, none, has.long, put_grows seen chunk n) ]
 
-pub log_stays : (n : ℕ) (text piece old seen : List ℕ) → LogHas n text old → PutsPart n piece old seen → LogHas n text seen
-log_stays n text piece old seen has part = record {
+pub log_stays : (n : ℕ) (encoding chunk old seen : List ℕ) → LogHas n encoding old → PutsPart n chunk old seen → LogHas n encoding seen
+log_stays n encoding chunk old seen has part = record {
   within = has.within;
   long = omega (arith, has.long, part.no_shorter);
-  front = same_number_lists _ _ (omega (arith, length-take n seen, length-take n text, has.long, part.no_shorter, has.within))
+  front = same_number_lists _ _ (omega (arith, length-take n seen, length-take n encoding, has.long, part.no_shorter, has.within))
       (λ k lt. let below : k < n = omega (arith, lt, length-take n seen) in
-      get_or-take n seen k 0 below ∙ part_keeps n piece old seen part k (omega (arith, below, has.long)) (λ covers. omega (arith, covers.0, below))
+      get_or-take n seen k 0 below ∙ part_keeps n chunk old seen part k (omega (arith, below, has.long)) (λ covers. omega (arith, covers.0, below))
       ∙ sym (get_or-take n old k 0 below) ∙ ap (λ (xs : List ℕ). get_or xs k 0) has.front);
 }
 
@@ -81,57 +81,57 @@ sector_stays body sector seen p size long sound on =
 sector_at_rest : (body sector : List ℕ) → IsSectorOnWay body sector (at_rest body)
 sector_at_rest body sector = record { synced = refl; least = refl; greatest = refl; ranges = tt }
 
-module _ {T : Type 0} (stands : Standing T) (w : Work T) where
+module _ {T : Type 0} (decode : TreeDecoder T) (w : FlushState T) where
   -- ---- the log's calls
 
-  pub begins : (p l : FileState) → IsReady stands w.memory w.image w.pages w.plan → IsQuiet stands w p → IsLogging stands w 0 p l
-  begins p l ready on = record { ready = ready; quiet = on; text = record { within = omega arith; long = omega arith; front = refl } }
+  pub begins : (p l : FileState) → PlanFitsImage decode w.memory w.image w.pages w.plan → IsAtRest decode w p → IsWritingLog decode w 0 p l
+  begins p l ready on = record { ready = ready; quiet = on; encoding = record { within = omega arith; long = omega arith; front = refl } }
 
-  pub log_written : (n : ℕ) (piece : List ℕ) (p l new : FileState) → IsLogging stands w n p l → n + length piece ≤ length w.plan.text → piece ≡ take (length piece) (drop n w.plan.text)
-      → Writes n piece l new → IsLogging stands w (n + length piece) p new
-  log_written n piece p l new on fits is done = subst (λ (s : FileState). IsLogging stands w (n + length piece) p s) (sym done)
-      (record { ready = on.ready; quiet = on.quiet; text = log_more n w.plan.text piece l.seen on.text fits is })
+  pub log_written : (n : ℕ) (chunk : List ℕ) (p l new : FileState) → IsWritingLog decode w n p l → n + length chunk ≤ length w.plan.encoding → chunk ≡ take (length chunk) (drop n w.plan.encoding)
+      → Writes n chunk l new → IsWritingLog decode w (n + length chunk) p new
+  log_written n chunk p l new on fits is done = subst (λ (s : FileState). IsWritingLog decode w (n + length chunk) p s) (sym done)
+      (record { ready = on.ready; quiet = on.quiet; encoding = log_more n w.plan.encoding chunk l.seen on.encoding fits is })
 
-  pub log_failed : (n : ℕ) (piece : List ℕ) (p l new : FileState) → IsLogging stands w n p l → MayWrite n piece l new → IsLogging stands w n p new
-  log_failed n piece p l new on (inl same) = subst (λ (s : FileState). IsLogging stands w n p s) (sym same) on
-  log_failed n piece p l new on (inr part) = subst (λ (s : FileState). IsLogging stands w n p s) (sym part.2)
-      (record { ready = on.ready; quiet = on.quiet; text = log_stays n w.plan.text piece l.seen part.0 on.text part.1 })
+  pub log_failed : (n : ℕ) (chunk : List ℕ) (p l new : FileState) → IsWritingLog decode w n p l → MayWrite n chunk l new → IsWritingLog decode w n p new
+  log_failed n chunk p l new on (inl same) = subst (λ (s : FileState). IsWritingLog decode w n p s) (sym same) on
+  log_failed n chunk p l new on (inr part) = subst (λ (s : FileState). IsWritingLog decode w n p s) (sym part.2)
+      (record { ready = on.ready; quiet = on.quiet; encoding = log_stays n w.plan.encoding chunk l.seen part.0 on.encoding part.1 })
 
-  pub log_synced : (p l new : FileState) → IsLogging stands w (length w.plan.text) p l → Syncs l new → IsLogged stands w p new
-  log_synced p l new on done = subst (λ (s : FileState). IsLogged stands w p s) (sym done)
+  pub log_synced : (p l new : FileState) → IsWritingLog decode w (length w.plan.encoding) p l → Syncs l new → IsLogSynced decode w p new
+  log_synced p l new on done = subst (λ (s : FileState). IsLogSynced decode w p s) (sym done)
       (record {
         ready = on.ready;
         sector = subst (λ (s : FileState). IsSectorOnWay p.synced w.plan.raised s) (sym on.quiet.rest) (sector_at_rest p.synced w.plan.raised);
         clean = on.quiet.clean;
         behind = on.quiet.behind;
-        text = record { rest = refl; front = on.text.front ∙ take_all (length w.plan.text) w.plan.text (omega arith) };
+        encoding = record { rest = refl; front = on.encoding.front ∙ take_all (length w.plan.encoding) w.plan.encoding (omega arith) };
       })
 
   -- ---- the raised sector
 
-  raised_stays : (p l : FileState) (seen : List ℕ) → IsSound p → IsLogged stands w p l → IsLogged stands w (after_write p 0 w.plan.raised seen) l
+  raised_stays : (p l : FileState) (seen : List ℕ) → IsSound p → IsLogSynced decode w p l → IsLogSynced decode w (after_write p 0 w.plan.raised seen) l
   raised_stays p l seen sound on = record {
     ready = on.ready;
     sector = sector_stays p.synced w.plan.raised seen p on.ready.raised_long (clean_long p.synced on.clean.clean) sound on.sector;
     clean = on.clean;
     behind = on.behind;
-    text = on.text;
+    encoding = on.encoding;
   }
 
-  pub raised_written : (p l new : FileState) → IsSound p → IsLogged stands w p l → Writes 0 w.plan.raised p new → IsRaised stands w new l
-  raised_written p l new sound on done = subst (λ (s : FileState). IsRaised stands w s l) (sym done)
+  pub raised_written : (p l new : FileState) → IsSound p → IsLogSynced decode w p l → Writes 0 w.plan.raised p new → IsPrimaryMarkedDirty decode w new l
+  raised_written p l new sound on done = subst (λ (s : FileState). IsPrimaryMarkedDirty decode w s l) (sym done)
       (record { logged = raised_stays p l (put p.seen 0 w.plan.raised) sound on; shown = put_sector p.seen w.plan.raised on.ready.raised_long })
 
-  pub raised_failed : (p l new : FileState) → IsSound p → IsLogged stands w p l → MayWrite 0 w.plan.raised p new → IsLogged stands w new l
-  raised_failed p l new sound on (inl same) = subst (λ (s : FileState). IsLogged stands w s l) (sym same) on
-  raised_failed p l new sound on (inr part) = subst (λ (s : FileState). IsLogged stands w s l) (sym part.2) (raised_stays p l part.0 sound on)
+  pub raised_failed : (p l new : FileState) → IsSound p → IsLogSynced decode w p l → MayWrite 0 w.plan.raised p new → IsLogSynced decode w new l
+  raised_failed p l new sound on (inl same) = subst (λ (s : FileState). IsLogSynced decode w s l) (sym same) on
+  raised_failed p l new sound on (inr part) = subst (λ (s : FileState). IsLogSynced decode w s l) (sym part.2) (raised_stays p l part.0 sound on)
 
-  pub raised_synced : (p l new : FileState) → IsSound p → IsRaised stands w p l → Syncs p new → IsPaging stands w 0 new l
+  pub raised_synced : (p l new : FileState) → IsSound p → IsPrimaryMarkedDirty decode w p l → Syncs p new → IsWritingPages decode w 0 new l
   raised_synced p l new sound on done =
       let beside = left_beside p.synced w.plan.raised p.seen p on.logged.ready.raised_long on.logged.sector sound.left in
       let behind = beside_behind w.image w.pages p.synced p.seen beside on.logged.behind in
       let long : 512 ≤ length p.seen = omega (arith, beside.size, clean_long p.synced on.logged.clean.clean) in
-      subst (λ (s : FileState). IsPaging stands w 0 s l) (sym done)
+      subst (λ (s : FileState). IsWritingPages decode w 0 s l) (sym done)
       (record {
         ready = on.logged.ready;
         pages = record {
@@ -144,7 +144,7 @@ module _ {T : Type 0} (stands : Standing T) (w : Work T) where
         };
         within = omega arith;
         shows = λ i lt. absurd (omega (arith, lt));
-        text = on.logged.text;
+        encoding = on.logged.encoding;
       })
 
   -- ---- the pages
@@ -160,26 +160,26 @@ module _ {T : Type 0} (stands : Standing T) (w : Work T) where
   }
 
   -- clean bytes behind what is written are shown too
-  shows_clean : (n a : ℕ) (p : FileState) → IsReady stands w.memory w.image w.pages w.plan → IsSound p → ArePagesOnWay w.image w.pages p → a ≤ length w.image → AreClean w.pages n a
+  shows_clean : (n a : ℕ) (p : FileState) → PlanFitsImage decode w.memory w.image w.pages w.plan → IsSound p → ArePagesOnWay w.image w.pages p → a ≤ length w.image → AreClean w.pages n a
       → Shows w.image n p.seen → Shows w.image a p.seen
   shows_clean n a p ready sound on within clean shows i lt = elim (cases_lt i n) [
     | inl before ↦ shows i before
     | inr after ↦
-        let behind = pages_behind w.image w.pages p p.seen (whole_pages stands w.memory w.image w.pages w.plan ready) on sound.left in
+        let behind = pages_behind w.image w.pages p p.seen (whole_pages decode w.memory w.image w.pages w.plan ready) on sound.left in
         let inside : i < w.pages.bins_size = omega (arith, lt, within, ready.size) in
-        let whole = whole_pages stands w.memory w.image w.pages w.plan ready in (
+        let whole = whole_pages decode w.memory w.image w.pages w.plan ready in (
           omega (arith, behind.covered (i / 512) (omega (arith, inside, whole)) (clean i after lt), length-drop 4096 p.seen),
           sym (get_or-drop 4096 p.seen i 0) ∙ behind.same i inside (clean i after lt),
         )
   ]
 
-  pub page_written : (n a m : ℕ) (p l new : FileState) → IsSound p → IsPaging stands w n p l → n ≤ a → a + m ≤ length w.image → AreClean w.pages n a → AreDirty w.pages a (a + m)
-      → Writes (4096 + a) (take m (drop a w.image)) p new → IsPaging stands w (a + m) new l
+  pub page_written : (n a m : ℕ) (p l new : FileState) → IsSound p → IsWritingPages decode w n p l → n ≤ a → a + m ≤ length w.image → AreClean w.pages n a → AreDirty w.pages a (a + m)
+      → Writes (4096 + a) (take m (drop a w.image)) p new → IsWritingPages decode w (a + m) new l
   page_written n a m p l new sound on from within clean dirty done =
       let bytes = take m (drop a w.image) in
       let size : length bytes ≡ m = omega (arith, length-take m (drop a w.image), length-drop a w.image, within) in
       let before = shows_clean n a p on.ready sound on.pages (omega (arith, within)) clean on.shows in
-      subst (λ (s : FileState). IsPaging stands w (a + m) s l) (sym done)
+      subst (λ (s : FileState). IsWritingPages decode w (a + m) s l) (sym done)
       (record {
         ready = on.ready;
         pages = pages_stay a m (put p.seen (4096 + a) bytes) p dirty on.pages;
@@ -200,12 +200,12 @@ module _ {T : Type 0} (stands : Standing T) (w : Work T) where
                     ∙ ap (λ (k : ℕ). get_or w.image k 0) back,
               )
         ];
-        text = on.text;
+        encoding = on.encoding;
       })
 
-  pub page_failed : (n a m : ℕ) (p l new : FileState) → IsPaging stands w n p l → n ≤ a → AreDirty w.pages a (a + m) → MayWrite (4096 + a) (take m (drop a w.image)) p new → IsPaging stands w n new l
-  page_failed n a m p l new on from dirty (inl same) = subst (λ (s : FileState). IsPaging stands w n s l) (sym same) on
-  page_failed n a m p l new on from dirty (inr part) = subst (λ (s : FileState). IsPaging stands w n s l) (sym part.2)
+  pub page_failed : (n a m : ℕ) (p l new : FileState) → IsWritingPages decode w n p l → n ≤ a → AreDirty w.pages a (a + m) → MayWrite (4096 + a) (take m (drop a w.image)) p new → IsWritingPages decode w n new l
+  page_failed n a m p l new on from dirty (inl same) = subst (λ (s : FileState). IsWritingPages decode w n s l) (sym same) on
+  page_failed n a m p l new on from dirty (inr part) = subst (λ (s : FileState). IsWritingPages decode w n s l) (sym part.2)
       (record {
         ready = on.ready;
         pages = pages_stay a m part.0 p dirty on.pages;
@@ -214,55 +214,55 @@ module _ {T : Type 0} (stands : Standing T) (w : Work T) where
           omega (arith, (on.shows i lt).0, part.1.no_shorter),
           part_keeps (4096 + a) (take m (drop a w.image)) p.seen part.0 part.1 (4096 + i) (on.shows i lt).0 (λ covers. omega (arith, covers.0, lt, from)) ∙ (on.shows i lt).1,
         );
-        text = on.text;
+        encoding = on.encoding;
       })
 
-  pub pages_synced : (n : ℕ) (p l new : FileState) → IsSound p → IsPaging stands w n p l → AreClean w.pages n (length w.image) → Syncs p new → IsPaged stands w new l
-  pages_synced n p l new sound on clean done = subst (λ (s : FileState). IsPaged stands w s l) (sym done)
+  pub pages_synced : (n : ℕ) (p l new : FileState) → IsSound p → IsWritingPages decode w n p l → AreClean w.pages n (length w.image) → Syncs p new → ArePagesSynced decode w new l
+  pages_synced n p l new sound on clean done = subst (λ (s : FileState). ArePagesSynced decode w s l) (sym done)
       (record {
         ready = on.ready;
         sector = sector_at_rest p.seen w.plan.final;
         unclean = pages_unclean w.image w.pages p p.seen on.pages sound.left;
         shows = shows_clean n (length w.image) p on.ready sound on.pages (omega arith) clean on.shows;
-        text = on.text;
+        encoding = on.encoding;
       })
 
   -- ---- the last sector
 
-  final_stays : (p l : FileState) (seen : List ℕ) → IsSound p → IsPaged stands w p l → IsPaged stands w (after_write p 0 w.plan.final seen) l
+  final_stays : (p l : FileState) (seen : List ℕ) → IsSound p → ArePagesSynced decode w p l → ArePagesSynced decode w (after_write p 0 w.plan.final seen) l
   final_stays p l seen sound on = record {
     ready = on.ready;
-    sector = sector_stays p.synced w.plan.final seen p on.ready.final_long (omega (arith, shows_long stands w.memory w.image w.pages w.plan on.ready p.synced on.shows)) sound on.sector;
+    sector = sector_stays p.synced w.plan.final seen p on.ready.final_long (omega (arith, shows_long decode w.memory w.image w.pages w.plan on.ready p.synced on.shows)) sound on.sector;
     unclean = on.unclean;
     shows = on.shows;
-    text = on.text;
+    encoding = on.encoding;
   }
 
-  pub final_written : (p l new : FileState) → IsSound p → IsPaged stands w p l → Writes 0 w.plan.final p new → IsFinished stands w new l
-  final_written p l new sound on done = subst (λ (s : FileState). IsFinished stands w s l) (sym done)
+  pub final_written : (p l new : FileState) → IsSound p → ArePagesSynced decode w p l → Writes 0 w.plan.final p new → IsHeaderWritten decode w new l
+  final_written p l new sound on done = subst (λ (s : FileState). IsHeaderWritten decode w s l) (sym done)
       (record { paged = final_stays p l (put p.seen 0 w.plan.final) sound on; shown = put_sector p.seen w.plan.final on.ready.final_long })
 
-  pub final_failed : (p l new : FileState) → IsSound p → IsPaged stands w p l → MayWrite 0 w.plan.final p new → IsPaged stands w new l
-  final_failed p l new sound on (inl same) = subst (λ (s : FileState). IsPaged stands w s l) (sym same) on
-  final_failed p l new sound on (inr part) = subst (λ (s : FileState). IsPaged stands w s l) (sym part.2) (final_stays p l part.0 sound on)
+  pub final_failed : (p l new : FileState) → IsSound p → ArePagesSynced decode w p l → MayWrite 0 w.plan.final p new → ArePagesSynced decode w new l
+  final_failed p l new sound on (inl same) = subst (λ (s : FileState). ArePagesSynced decode w s l) (sym same) on
+  final_failed p l new sound on (inr part) = subst (λ (s : FileState). ArePagesSynced decode w s l) (sym part.2) (final_stays p l part.0 sound on)
 
-  pub final_synced : (v : Pages) (p l new : FileState) → IsSound p → IsFinished stands w p l → v.bins_size ≡ length w.image → Syncs p new
-      → IsQuiet stands (record w { now = w.memory; pages = v }) new
+  pub final_synced : (v : Pages) (p l new : FileState) → IsSound p → IsHeaderWritten decode w p l → v.bins_size ≡ length w.image → Syncs p new
+      → IsAtRest decode (record w { now = w.memory; pages = v }) new
   final_synced v p l new sound on size done =
       let beside = left_beside p.synced w.plan.final p.seen p on.paged.ready.final_long on.paged.sector sound.left in
       let shows : Shows w.image (length w.image) p.seen = λ i lt. (omega (arith, (on.paged.shows i lt).0, beside.size), beside.rest (4096 + i) (omega arith) ∙ (on.paged.shows i lt).1) in
-      subst (λ (s : FileState). IsQuiet stands (record w { now = w.memory; pages = v }) s) (sym done)
+      subst (λ (s : FileState). IsAtRest decode (record w { now = w.memory; pages = v }) s) (sym done)
       (record {
         rest = refl;
-        clean = clean_of stands w.memory w.image w.pages w.plan on.paged.ready p.seen shows on.shown;
+        clean = clean_of decode w.memory w.image w.pages w.plan on.paged.ready p.seen shows on.shown;
         behind = shows_behind w.image v p.seen (sym size) shows;
       })
 
   -- ---- without a call
 
-  pub repair_begins : (p l : FileState) → IsReady stands w.memory w.image w.pages w.plan → p ≡ at_rest p.synced → is_clean_file p.synced ≡ false → 512 ≤ length p.synced
-      → IsBehind w.image w.pages p.synced → HasLog w.plan.text l → IsPaging stands w 0 p l
-  repair_begins p l ready rest unclean long behind text = record {
+  pub repair_begins : (p l : FileState) → PlanFitsImage decode w.memory w.image w.pages w.plan → p ≡ at_rest p.synced → is_clean_file p.synced ≡ false → 512 ≤ length p.synced
+      → IsBehind w.image w.pages p.synced → HasLog w.plan.encoding l → IsWritingPages decode w 0 p l
+  repair_begins p l ready rest unclean long behind encoding = record {
     ready = ready;
     pages = subst (λ (s : FileState). ArePagesOnWay w.image w.pages s) (sym rest) (record {
       unclean = unclean;
@@ -274,10 +274,10 @@ module _ {T : Type 0} (stands : Standing T) (w : Work T) where
     });
     within = omega arith;
     shows = λ i lt. absurd (omega (arith, lt));
-    text = text;
+    encoding = encoding;
   }
 
-  pub absorbed : (memory : T × ℕ) (image : List ℕ) (v : Pages) (p : FileState) → Marks w.image w.pages image v → IsQuiet stands w p → IsQuiet stands (record w { memory = memory; image = image; pages = v }) p
+  pub absorbed : (memory : T × ℕ) (image : List ℕ) (v : Pages) (p : FileState) → ChangesAreMarked w.image w.pages image v → IsAtRest decode w p → IsAtRest decode (record w { memory = memory; image = image; pages = v }) p
   absorbed memory image v p marks on = record {
     rest = on.rest;
     clean = on.clean;

@@ -1,5 +1,5 @@
-pub mod Holding
+pub mod StoredTrees
 pub mod Plans
 pub mod Phases
 pub mod States
-pub mod Decided
+pub mod Decisions

@@ -2,7 +2,7 @@
 use Rattle.std.specs.Prelude.{ℕ, List}
 use Rattle.crash_model.specs.Promises.{Choice, settled, under_way}
 use Rattle.dirty_vector.specs.Pages.{Pages}
-use Rattle.hive_flush_model.specs.Plans.{Plan}
+use Rattle.hive_flush_model.specs.Plans.{FlushPlan}
 
 -- whose pages are written: those of a flush, or those of a log that repairs
 pub data Purpose : Type 0 where
@@ -11,28 +11,28 @@ pub data Purpose : Type 0 where
 
 -- Each phase but the first names what the last call that was done has done: so many bytes of the log written, the log
 -- synced, the raised sector written, then synced (so many bytes of the image stand), the pages synced, the last sector written.
-pub data Phase : Type 0 where
-  Quiet : Phase
-  Logging : ℕ → Phase
-  Logged : Phase
-  Raised : Phase
-  Paging : Purpose → ℕ → Phase
-  Paged : Purpose → Phase
-  Finished : Purpose → Phase
+pub data FlushPhase : Type 0 where
+  AtRest : FlushPhase
+  WritingLog : ℕ → FlushPhase
+  LogSynced : FlushPhase
+  PrimaryMarkedDirty : FlushPhase
+  WritingPages : Purpose → ℕ → FlushPhase
+  PagesSynced : Purpose → FlushPhase
+  HeaderWritten : Purpose → FlushPhase
 
 -- What surely stands in the files; what is in memory, with its image and the pages in which the primary file may differ
 -- from it; and what the flush writes.
-pub record Work (T : Type 0) : Type 0 where
+pub record FlushState (T : Type 0) : Type 0 where
   pub now : T × ℕ
   pub memory : T × ℕ
   pub image : List ℕ
   pub pages : Pages
-  pub plan : Plan
+  pub plan : FlushPlan
 
 -- a hive with its files: the work, and how far it is
 pub record Hive (T : Type 0) : Type 0 where
-  pub work : Work T
-  pub phase : Phase
+  pub work : FlushState T
+  pub phase : FlushPhase
 
 -- what the files hold while pages are written: a flush is under way; a repair changes nothing that is held
 abbrev pub choice_for : {T : Type 0} → Purpose → T × ℕ → T × ℕ → Choice (T × ℕ)
@@ -40,14 +40,14 @@ choice_for Flush now memory = under_way now memory
 choice_for Repair now memory = settled memory
 
 -- what the files surely hold in a phase, and what may be on its way
-abbrev pub choice_in : {T : Type 0} → Phase → T × ℕ → T × ℕ → Choice (T × ℕ)
-choice_in Quiet now memory = settled now
-choice_in (Logging n) now memory = under_way now memory
-choice_in Logged now memory = under_way now memory
-choice_in Raised now memory = under_way now memory
-choice_in (Paging purpose n) now memory = choice_for purpose now memory
-choice_in (Paged purpose) now memory = choice_for purpose now memory
-choice_in (Finished purpose) now memory = choice_for purpose now memory
+abbrev pub choice_in : {T : Type 0} → FlushPhase → T × ℕ → T × ℕ → Choice (T × ℕ)
+choice_in AtRest now memory = settled now
+choice_in (WritingLog n) now memory = under_way now memory
+choice_in LogSynced now memory = under_way now memory
+choice_in PrimaryMarkedDirty now memory = under_way now memory
+choice_in (WritingPages purpose n) now memory = choice_for purpose now memory
+choice_in (PagesSynced purpose) now memory = choice_for purpose now memory
+choice_in (HeaderWritten purpose) now memory = choice_for purpose now memory
 
 abbrev pub choice : {T : Type 0} → Hive T → Choice (T × ℕ)
 choice hive = choice_in hive.phase hive.work.now hive.work.memory

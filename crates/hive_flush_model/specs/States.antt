@@ -1,15 +1,15 @@
 -- What each phase of a flush or a repair says of the states of the two files on the disk.
 use Rattle.std.specs.Prelude.{◌≡◌, ⊤, ℕ, ◌+◌, ◌-◌, ◌/◌, ◌<◌, ◌≤◌, true, false, List, [], ◌∷◌, length, take, drop, slice_index}
-use Rattle.disk_model.specs.FileState.{FileState, Range, Covers, at_rest}
+use Rattle.disk_model.specs.FileState.{FileState, WrittenRange, Covers, at_rest}
 use Rattle.dirty_vector.specs.Pages.{Pages, is_dirty}
 use Rattle.dirt_log.specs.WholeLog.{IsCovered}
-use Rattle.dirt_log.specs.Held.{is_clean_file, SameWhereClean}
-use Rattle.hive_flush_model.specs.Holding.{Standing, IsCleanOf}
-use Rattle.hive_flush_model.specs.Plans.{IsBehind, IsReady}
-use Rattle.hive_flush_model.specs.Phases.{Work, Hive, Phase, Phase.Quiet, Phase.Logging, Phase.Logged, Phase.Raised, Phase.Paging, Phase.Paged, Phase.Finished}
+use Rattle.dirt_log.specs.FileContents.{is_clean_file, SameWhereClean}
+use Rattle.hive_flush_model.specs.StoredTrees.{TreeDecoder, CleanPrimaryHolds}
+use Rattle.hive_flush_model.specs.Plans.{IsBehind, PlanFitsImage}
+use Rattle.hive_flush_model.specs.Phases.{FlushState, Hive, FlushPhase, FlushPhase.AtRest, FlushPhase.WritingLog, FlushPhase.LogSynced, FlushPhase.PrimaryMarkedDirty, FlushPhase.WritingPages, FlushPhase.PagesSynced, FlushPhase.HeaderWritten}
 
 -- each range is this sector at the file's beginning
-abbrev pub AreAll : List ℕ → List Range → Type 0
+abbrev pub AreAll : List ℕ → List WrittenRange → Type 0
 AreAll sector [] = ⊤
 AreAll sector (range ∷ ranges) = (range ≡ record { from = 0; bytes = sector }) × AreAll sector ranges
 
@@ -21,11 +21,11 @@ pub record IsSectorOnWay (body sector : List ℕ) (primary : FileState) : Type 0
   pub ranges : AreAll sector primary.ranges
 
 -- the range lies behind the base block, in dirty pages alone
-pub record IsInDirty (pages : Pages) (range : Range) : Type 0 where
+pub record IsInDirty (pages : Pages) (range : WrittenRange) : Type 0 where
   pub behind : 4096 ≤ range.from
   pub dirty : (i : ℕ) → Covers range (4096 + i) → is_dirty pages (i / 512) ≡ true
 
-abbrev pub AreInDirty : Pages → List Range → Type 0
+abbrev pub AreInDirty : Pages → List WrittenRange → Type 0
 AreInDirty pages [] = ⊤
 AreInDirty pages (range ∷ ranges) = IsInDirty pages range × AreInDirty pages ranges
 
@@ -44,83 +44,83 @@ abbrev pub Shows : List ℕ → ℕ → List ℕ → Type 0
 Shows image n file = (i : ℕ) → i < n → (4096 + i < length file) × (slice_index file (4096 + i) ≡ slice_index image i)
 
 -- a read of the log gives the text's first n bytes at its beginning
-pub record LogHas (n : ℕ) (text seen : List ℕ) : Type 0 where
-  pub within : n ≤ length text
+pub record LogHas (n : ℕ) (encoding seen : List ℕ) : Type 0 where
+  pub within : n ≤ length encoding
   pub long : n ≤ length seen
-  pub front : take n seen ≡ take n text
+  pub front : take n seen ≡ take n encoding
 
 -- the log is at rest, and the text stands at its beginning; what an older log left may follow
-pub record HasLog (text : List ℕ) (log : FileState) : Type 0 where
+pub record HasLog (encoding : List ℕ) (log : FileState) : Type 0 where
   pub rest : log ≡ at_rest log.synced
-  pub front : take (length text) log.synced ≡ text
+  pub front : take (length encoding) log.synced ≡ encoding
 
 -- the primary file is at rest, clean, holds what stands, and is behind the image
-pub record IsQuiet {T : Type 0} (stands : Standing T) (work : Work T) (primary : FileState) : Type 0 where
+pub record IsAtRest {T : Type 0} (decode : TreeDecoder T) (work : FlushState T) (primary : FileState) : Type 0 where
   pub rest : primary ≡ at_rest primary.synced
-  pub clean : IsCleanOf stands primary.synced work.now
+  pub clean : CleanPrimaryHolds decode primary.synced work.now
   pub behind : IsBehind work.image work.pages primary.synced
 
 -- the log is written to this place, and the primary file untouched
-pub record IsLogging {T : Type 0} (stands : Standing T) (work : Work T) (n : ℕ) (primary log : FileState) : Type 0 where
-  pub ready : IsReady stands work.memory work.image work.pages work.plan
-  pub quiet : IsQuiet stands work primary
-  pub text : LogHas n work.plan.text log.seen
+pub record IsWritingLog {T : Type 0} (decode : TreeDecoder T) (work : FlushState T) (n : ℕ) (primary log : FileState) : Type 0 where
+  pub ready : PlanFitsImage decode work.memory work.image work.pages work.plan
+  pub quiet : IsAtRest decode work primary
+  pub encoding : LogHas n work.plan.encoding log.seen
 
 -- the log is synced; the raised sector may be on its way
-pub record IsLogged {T : Type 0} (stands : Standing T) (work : Work T) (primary log : FileState) : Type 0 where
-  pub ready : IsReady stands work.memory work.image work.pages work.plan
+pub record IsLogSynced {T : Type 0} (decode : TreeDecoder T) (work : FlushState T) (primary log : FileState) : Type 0 where
+  pub ready : PlanFitsImage decode work.memory work.image work.pages work.plan
   pub sector : IsSectorOnWay primary.synced work.plan.raised primary
-  pub clean : IsCleanOf stands primary.synced work.now
+  pub clean : CleanPrimaryHolds decode primary.synced work.now
   pub behind : IsBehind work.image work.pages primary.synced
-  pub text : HasLog work.plan.text log
+  pub encoding : HasLog work.plan.encoding log
 
 -- the same, and a read gives the raised sector
-pub record IsRaised {T : Type 0} (stands : Standing T) (work : Work T) (primary log : FileState) : Type 0 where
-  pub logged : IsLogged stands work primary log
+pub record IsPrimaryMarkedDirty {T : Type 0} (decode : TreeDecoder T) (work : FlushState T) (primary log : FileState) : Type 0 where
+  pub logged : IsLogSynced decode work primary log
   pub shown : take 512 primary.seen ≡ work.plan.raised
 
 -- the primary file is unclean, and the image is written to this place
-pub record IsPaging {T : Type 0} (stands : Standing T) (work : Work T) (n : ℕ) (primary log : FileState) : Type 0 where
-  pub ready : IsReady stands work.memory work.image work.pages work.plan
+pub record IsWritingPages {T : Type 0} (decode : TreeDecoder T) (work : FlushState T) (n : ℕ) (primary log : FileState) : Type 0 where
+  pub ready : PlanFitsImage decode work.memory work.image work.pages work.plan
   pub pages : ArePagesOnWay work.image work.pages primary
   pub within : n ≤ length work.image
   pub shows : Shows work.image n primary.seen
-  pub text : HasLog work.plan.text log
+  pub encoding : HasLog work.plan.encoding log
 
 -- the whole image is synced; the last sector may be on its way
-pub record IsPaged {T : Type 0} (stands : Standing T) (work : Work T) (primary log : FileState) : Type 0 where
-  pub ready : IsReady stands work.memory work.image work.pages work.plan
+pub record ArePagesSynced {T : Type 0} (decode : TreeDecoder T) (work : FlushState T) (primary log : FileState) : Type 0 where
+  pub ready : PlanFitsImage decode work.memory work.image work.pages work.plan
   pub sector : IsSectorOnWay primary.synced work.plan.final primary
   pub unclean : is_clean_file primary.synced ≡ false
   pub shows : Shows work.image (length work.image) primary.synced
-  pub text : HasLog work.plan.text log
+  pub encoding : HasLog work.plan.encoding log
 
 -- the same, and a read gives the last sector
-pub record IsFinished {T : Type 0} (stands : Standing T) (work : Work T) (primary log : FileState) : Type 0 where
-  pub paged : IsPaged stands work primary log
+pub record IsHeaderWritten {T : Type 0} (decode : TreeDecoder T) (work : FlushState T) (primary log : FileState) : Type 0 where
+  pub paged : ArePagesSynced decode work primary log
   pub shown : take 512 primary.seen ≡ work.plan.final
 
 -- the two files are as a phase says
-abbrev pub is_on_in : {T : Type 0} → Standing T → Work T → Phase → FileState → FileState → Type 0
-is_on_in stands work Quiet primary log = IsQuiet stands work primary
-is_on_in stands work (Logging n) primary log = IsLogging stands work n primary log
-is_on_in stands work Logged primary log = IsLogged stands work primary log
-is_on_in stands work Raised primary log = IsRaised stands work primary log
-is_on_in stands work (Paging cause n) primary log = IsPaging stands work n primary log
-is_on_in stands work (Paged cause) primary log = IsPaged stands work primary log
-is_on_in stands work (Finished cause) primary log = IsFinished stands work primary log
+abbrev pub files_match_phase : {T : Type 0} → TreeDecoder T → FlushState T → FlushPhase → FileState → FileState → Type 0
+files_match_phase decode work AtRest primary log = IsAtRest decode work primary
+files_match_phase decode work (WritingLog n) primary log = IsWritingLog decode work n primary log
+files_match_phase decode work LogSynced primary log = IsLogSynced decode work primary log
+files_match_phase decode work PrimaryMarkedDirty primary log = IsPrimaryMarkedDirty decode work primary log
+files_match_phase decode work (WritingPages cause n) primary log = IsWritingPages decode work n primary log
+files_match_phase decode work (PagesSynced cause) primary log = ArePagesSynced decode work primary log
+files_match_phase decode work (HeaderWritten cause) primary log = IsHeaderWritten decode work primary log
 
 -- the primary file and the log are as the hive's phase says
-abbrev pub is_on : {T : Type 0} → Standing T → Hive T → FileState → FileState → Type 0
-is_on stands hive primary log = is_on_in stands hive.work hive.phase primary log
+abbrev pub is_on : {T : Type 0} → TreeDecoder T → Hive T → FileState → FileState → Type 0
+is_on decode hive primary log = files_match_phase decode hive.work hive.phase primary log
 
 -- Behind the sync of the log, and behind that of the pages, the primary file is at rest, as long as no write of its first sector has
 -- failed.
-abbrev pub RestsIn : Phase → FileState → Type 0
-RestsIn Quiet primary = ⊤
-RestsIn (Logging n) primary = ⊤
-RestsIn Logged primary = primary ≡ at_rest primary.synced
-RestsIn Raised primary = ⊤
-RestsIn (Paging cause n) primary = ⊤
-RestsIn (Paged cause) primary = primary ≡ at_rest primary.synced
-RestsIn (Finished cause) primary = ⊤
+abbrev pub PrimaryIsSyncedIn : FlushPhase → FileState → Type 0
+PrimaryIsSyncedIn AtRest primary = ⊤
+PrimaryIsSyncedIn (WritingLog n) primary = ⊤
+PrimaryIsSyncedIn LogSynced primary = primary ≡ at_rest primary.synced
+PrimaryIsSyncedIn PrimaryMarkedDirty primary = ⊤
+PrimaryIsSyncedIn (WritingPages cause n) primary = ⊤
+PrimaryIsSyncedIn (PagesSynced cause) primary = primary ≡ at_rest primary.synced
+PrimaryIsSyncedIn (HeaderWritten cause) primary = ⊤

@@ -1,4 +1,4 @@
-//! The laws. Throughout `stands` is any rule that gives the tree, if any, of bins data, a root and a minor version.
+//! The laws. Throughout `decode` is any rule that gives the tree, if any, of bins data, a root and a minor version.
 ghost use Rattle.std.specs.Prelude.{◌≡◌, ◌↔◌, ◌+◌, ◌≤◌, ◌<◌, ◌^◌, ℕ, true, false, List, length, take, drop, Some, IsTrue};
 ghost use Rattle.crash_model.specs.Promises.{HiveOn};
 ghost use Rattle.crash_model.specs.Files.{HoldsBy};
@@ -7,175 +7,175 @@ ghost use Rattle.disk_model.specs.Sector.{IsHonest, HasRightSum};
 ghost use Rattle.base_block.specs.declared.block.BaseBlock.{BaseBlock};
 ghost use Rattle.base_block.specs.Layout.{block_at};
 ghost use Rattle.dirty_vector.specs.Pages.{Pages};
-ghost use Rattle.dirt_log.specs.Held.{is_clean_file};
-ghost use Rattle.dirt_log.specs.LogText.{pages_from};
+ghost use Rattle.dirt_log.specs.FileContents.{is_clean_file};
+ghost use Rattle.dirt_log.specs.LogEncoding.{pages_from};
 ghost use Rattle.dirt_log.specs.WholeLog.{
-  IsWhole,
+  LogIsWhole,
   IsCovered,
   IsLoggable,
-  ReadsAs,
+  LogDecodesTo,
   block_as_read,
   block_of,
   pages_in,
   page_bytes_in,
   repaired,
 };
-ghost use Rattle.hive_flush_model.specs.Decided.{held};
-ghost use Rattle.hive_flush_model.specs.Holding.{Standing, tree_under, Holds};
-ghost use Rattle.hive_flush_model.specs.Plans.{raised_block, Plan, IsReady, IsBehind, Marks, AreClean, AreDirty};
+ghost use Rattle.hive_flush_model.specs.Decisions.{held};
+ghost use Rattle.hive_flush_model.specs.StoredTrees.{TreeDecoder, tree_under, FilesHoldTree};
+ghost use Rattle.hive_flush_model.specs.Plans.{marked_block, FlushPlan, PlanFitsImage, IsBehind, ChangesAreMarked, AreClean, AreDirty};
 ghost use Rattle.hive_flush_model.specs.Phases.{
   Purpose,
   Hive,
-  Work,
-  Phase,
-  Phase.Quiet,
-  Phase.Logging,
-  Phase.Logged,
-  Phase.Raised,
-  Phase.Paging,
-  Phase.Paged,
-  Phase.Finished,
+  FlushState,
+  FlushPhase,
+  FlushPhase.AtRest,
+  FlushPhase.WritingLog,
+  FlushPhase.LogSynced,
+  FlushPhase.PrimaryMarkedDirty,
+  FlushPhase.WritingPages,
+  FlushPhase.PagesSynced,
+  FlushPhase.HeaderWritten,
   choice,
 };
-ghost use Rattle.hive_flush_model.specs.States.{HasLog, RestsIn, is_on, is_on_in};
+ghost use Rattle.hive_flush_model.specs.States.{HasLog, PrimaryIsSyncedIn, is_on, files_match_phase};
 
 /// Two files hold at most one tree and number, which the function `held` gives.
-pub fn one_is_held<T>()
-    ensures one { (stands : Standing T) (p l : List ℕ) (x y : T × ℕ) →
-        Holds stands p l x → Holds stands p l y → x ≡ y }
-    ensures decided { (stands : Standing T) (p l : List ℕ) (x : T × ℕ) →
-        Holds stands p l x ↔ (held stands p l ≡ Some x) }
+pub fn at_most_one_tree<T>()
+    ensures one { (decode : TreeDecoder T) (p l : List ℕ) (x y : T × ℕ) →
+        FilesHoldTree decode p l x → FilesHoldTree decode p l y → x ≡ y }
+    ensures decided { (decode : TreeDecoder T) (p l : List ℕ) (x : T × ℕ) →
+        FilesHoldTree decode p l x ↔ (held decode p l ≡ Some x) }
 {}
 
 /// In each phase of a flush and of a repair: whatever a crash may leave of both files, with an honest
 /// first sector of the primary file, holds what the hive's choice leaves; also by the function `held`.
-pub fn on_leaves<T>()
-    ensures related { (stands : Standing T) (hive : Hive T) (p l : FileState) →
-        is_on stands hive p l →
-        HiveOn (Holds stands) (choice hive) (λ c. Leaves p c × IsHonest p c) (Leaves l) }
-    ensures decided { (stands : Standing T) (hive : Hive T) (p l : FileState) →
-        is_on stands hive p l →
-        HiveOn (HoldsBy (held stands)) (choice hive) (λ c. Leaves p c × IsHonest p c) (Leaves l) }
+pub fn crash_leaves_choice<T>()
+    ensures related { (decode : TreeDecoder T) (hive : Hive T) (p l : FileState) →
+        is_on decode hive p l →
+        HiveOn (FilesHoldTree decode) (choice hive) (λ c. Leaves p c × IsHonest p c) (Leaves l) }
+    ensures decided { (decode : TreeDecoder T) (hive : Hive T) (p l : FileState) →
+        is_on decode hive p l →
+        HiveOn (HoldsBy (held decode)) (choice hive) (λ c. Leaves p c × IsHonest p c) (Leaves l) }
 {}
 
 /// What a read gives of the primary file has an honest first sector in each phase, as long as no write of that sector has failed.
 pub fn reads_are_honest<T>()
-    ensures { (stands : Standing T) (work : Work T) (phase : Phase) (p l : FileState) →
-        IsSound p → is_on_in stands work phase p l → RestsIn phase p → IsHonest p p.seen }
+    ensures { (decode : TreeDecoder T) (work : FlushState T) (phase : FlushPhase) (p l : FileState) →
+        IsSound p → files_match_phase decode work phase p l → PrimaryIsSyncedIn phase p → IsHonest p p.seen }
 {}
 
 /// Where no device call is made: a flush and a repair begin, and a quiet hive absorbs.
 pub fn without_calls<T>()
-    ensures begins { (stands : Standing T) (work : Work T) (p l : FileState) →
-        IsReady stands work.memory work.image work.pages work.plan →
-        is_on_in stands work Quiet p l → is_on_in stands work (Logging 0) p l }
-    ensures repair { (stands : Standing T) (work : Work T) (p l : FileState) (purpose : Purpose) →
-        IsReady stands work.memory work.image work.pages work.plan → p ≡ at_rest p.synced →
+    ensures begins { (decode : TreeDecoder T) (work : FlushState T) (p l : FileState) →
+        PlanFitsImage decode work.memory work.image work.pages work.plan →
+        files_match_phase decode work AtRest p l → files_match_phase decode work (WritingLog 0) p l }
+    ensures repair { (decode : TreeDecoder T) (work : FlushState T) (p l : FileState) (purpose : Purpose) →
+        PlanFitsImage decode work.memory work.image work.pages work.plan → p ≡ at_rest p.synced →
         is_clean_file p.synced ≡ false → 512 ≤ length p.synced →
-        IsBehind work.image work.pages p.synced → HasLog work.plan.text l →
-        is_on_in stands work (Paging purpose 0) p l }
-    ensures absorb { (stands : Standing T) (work : Work T) (memory : T × ℕ) (image : List ℕ)
-        (pages : Pages) (p l : FileState) → Marks work.image work.pages image pages →
-        is_on_in stands work Quiet p l →
-        is_on_in stands (record work { memory = memory; image = image; pages = pages }) Quiet p l }
+        IsBehind work.image work.pages p.synced → HasLog work.plan.encoding l →
+        files_match_phase decode work (WritingPages purpose 0) p l }
+    ensures absorb { (decode : TreeDecoder T) (work : FlushState T) (memory : T × ℕ) (image : List ℕ)
+        (pages : Pages) (p l : FileState) → ChangesAreMarked work.image work.pages image pages →
+        files_match_phase decode work AtRest p l →
+        files_match_phase decode (record work { memory = memory; image = image; pages = pages }) AtRest p l }
 {}
 
 /// The calls on the log: a piece is written behind the last one, and the whole text is synced.
 pub fn log_calls<T>()
-    ensures written { (stands : Standing T) (work : Work T) (n : ℕ) (piece : List ℕ)
-        (p l new : FileState) → is_on_in stands work (Logging n) p l →
-        n + length piece ≤ length work.plan.text →
-        piece ≡ take (length piece) (drop n work.plan.text) →
-        Writes n piece l new → is_on_in stands work (Logging (n + length piece)) p new }
-    ensures failed { (stands : Standing T) (work : Work T) (n : ℕ) (piece : List ℕ)
-        (p l new : FileState) → is_on_in stands work (Logging n) p l →
-        MayWrite n piece l new → is_on_in stands work (Logging n) p new }
-    ensures synced { (stands : Standing T) (work : Work T) (p l new : FileState) →
-        is_on_in stands work (Logging (length work.plan.text)) p l →
-        Syncs l new → is_on_in stands work Logged p new }
+    ensures written { (decode : TreeDecoder T) (work : FlushState T) (n : ℕ) (chunk : List ℕ)
+        (p l new : FileState) → files_match_phase decode work (WritingLog n) p l →
+        n + length chunk ≤ length work.plan.encoding →
+        chunk ≡ take (length chunk) (drop n work.plan.encoding) →
+        Writes n chunk l new → files_match_phase decode work (WritingLog (n + length chunk)) p new }
+    ensures failed { (decode : TreeDecoder T) (work : FlushState T) (n : ℕ) (chunk : List ℕ)
+        (p l new : FileState) → files_match_phase decode work (WritingLog n) p l →
+        MayWrite n chunk l new → files_match_phase decode work (WritingLog n) p new }
+    ensures synced { (decode : TreeDecoder T) (work : FlushState T) (p l new : FileState) →
+        files_match_phase decode work (WritingLog (length work.plan.encoding)) p l →
+        Syncs l new → files_match_phase decode work LogSynced p new }
 {}
 
 /// The calls on the first sector with the raised primary number. From its sync on the log decides.
-pub fn raised_calls<T>()
-    ensures written { (stands : Standing T) (work : Work T) (p l new : FileState) →
-        IsSound p → is_on_in stands work Logged p l →
-        Writes 0 work.plan.raised p new → is_on_in stands work Raised new l }
-    ensures failed { (stands : Standing T) (work : Work T) (p l new : FileState) →
-        IsSound p → is_on_in stands work Logged p l →
-        MayWrite 0 work.plan.raised p new → is_on_in stands work Logged new l }
-    ensures synced { (stands : Standing T) (work : Work T) (p l new : FileState)
+pub fn marking_calls<T>()
+    ensures written { (decode : TreeDecoder T) (work : FlushState T) (p l new : FileState) →
+        IsSound p → files_match_phase decode work LogSynced p l →
+        Writes 0 work.plan.raised p new → files_match_phase decode work PrimaryMarkedDirty new l }
+    ensures failed { (decode : TreeDecoder T) (work : FlushState T) (p l new : FileState) →
+        IsSound p → files_match_phase decode work LogSynced p l →
+        MayWrite 0 work.plan.raised p new → files_match_phase decode work LogSynced new l }
+    ensures synced { (decode : TreeDecoder T) (work : FlushState T) (p l new : FileState)
         (purpose : Purpose) →
-        IsSound p → is_on_in stands work Raised p l →
-        Syncs p new → is_on_in stands work (Paging purpose 0) new l }
+        IsSound p → files_match_phase decode work PrimaryMarkedDirty p l →
+        Syncs p new → files_match_phase decode work (WritingPages purpose 0) new l }
 {}
 
 /// The calls on the pages: each write is of dirty pages alone, with clean ones alone left out before it.
 pub fn page_calls<T>()
-    ensures written { (stands : Standing T) (work : Work T) (n from count : ℕ) (p l new : FileState)
-        (purpose : Purpose) → IsSound p → is_on_in stands work (Paging purpose n) p l → n ≤ from →
+    ensures written { (decode : TreeDecoder T) (work : FlushState T) (n from count : ℕ) (p l new : FileState)
+        (purpose : Purpose) → IsSound p → files_match_phase decode work (WritingPages purpose n) p l → n ≤ from →
         from + count ≤ length work.image → AreClean work.pages n from →
         AreDirty work.pages from (from + count) →
         Writes (4096 + from) (take count (drop from work.image)) p new →
-        is_on_in stands work (Paging purpose (from + count)) new l }
-    ensures failed { (stands : Standing T) (work : Work T) (n from count : ℕ) (p l new : FileState)
-        (purpose : Purpose) → is_on_in stands work (Paging purpose n) p l → n ≤ from →
+        files_match_phase decode work (WritingPages purpose (from + count)) new l }
+    ensures failed { (decode : TreeDecoder T) (work : FlushState T) (n from count : ℕ) (p l new : FileState)
+        (purpose : Purpose) → files_match_phase decode work (WritingPages purpose n) p l → n ≤ from →
         AreDirty work.pages from (from + count) →
         MayWrite (4096 + from) (take count (drop from work.image)) p new →
-        is_on_in stands work (Paging purpose n) new l }
-    ensures synced { (stands : Standing T) (work : Work T) (n : ℕ) (p l new : FileState)
-        (purpose : Purpose) → IsSound p → is_on_in stands work (Paging purpose n) p l →
+        files_match_phase decode work (WritingPages purpose n) new l }
+    ensures synced { (decode : TreeDecoder T) (work : FlushState T) (n : ℕ) (p l new : FileState)
+        (purpose : Purpose) → IsSound p → files_match_phase decode work (WritingPages purpose n) p l →
         AreClean work.pages n (length work.image) → Syncs p new →
-        is_on_in stands work (Paged purpose) new l }
+        files_match_phase decode work (PagesSynced purpose) new l }
 {}
 
 /// The calls on the last first sector. After its sync what was in memory stands, and no page differs.
-pub fn final_calls<T>()
-    ensures written { (stands : Standing T) (work : Work T) (p l new : FileState)
+pub fn header_calls<T>()
+    ensures written { (decode : TreeDecoder T) (work : FlushState T) (p l new : FileState)
         (purpose : Purpose) →
-        IsSound p → is_on_in stands work (Paged purpose) p l →
-        Writes 0 work.plan.final p new → is_on_in stands work (Finished purpose) new l }
-    ensures failed { (stands : Standing T) (work : Work T) (p l new : FileState)
+        IsSound p → files_match_phase decode work (PagesSynced purpose) p l →
+        Writes 0 work.plan.final p new → files_match_phase decode work (HeaderWritten purpose) new l }
+    ensures failed { (decode : TreeDecoder T) (work : FlushState T) (p l new : FileState)
         (purpose : Purpose) →
-        IsSound p → is_on_in stands work (Paged purpose) p l →
-        MayWrite 0 work.plan.final p new → is_on_in stands work (Paged purpose) new l }
-    ensures synced { (stands : Standing T) (work : Work T) (pages : Pages) (p l new : FileState)
-        (purpose : Purpose) → IsSound p → is_on_in stands work (Finished purpose) p l →
+        IsSound p → files_match_phase decode work (PagesSynced purpose) p l →
+        MayWrite 0 work.plan.final p new → files_match_phase decode work (PagesSynced purpose) new l }
+    ensures synced { (decode : TreeDecoder T) (work : FlushState T) (pages : Pages) (p l new : FileState)
+        (purpose : Purpose) → IsSound p → files_match_phase decode work (HeaderWritten purpose) p l →
         pages.bins_size ≡ length work.image → Syncs p new →
-        is_on_in stands (record work { now = work.memory; pages = pages }) Quiet new l }
+        files_match_phase decode (record work { now = work.memory; pages = pages }) AtRest new l }
 {}
 
 /// Plans can be made. For a flush from what writing sectors and the log ensures: the raised number,
 /// which may wrap, never is the one below it. For a repair from a whole log that covers an unclean
 /// primary file.
 pub fn plans<T>()
-    ensures flush { (stands : Standing T) (memory : T × ℕ) (image : List ℕ) (pages : Pages)
-        (old : BaseBlock) (plan : Plan) → length image ≡ pages.bins_size →
+    ensures flush { (decode : TreeDecoder T) (memory : T × ℕ) (image : List ℕ) (pages : Pages)
+        (old : BaseBlock) (plan : FlushPlan) → length image ≡ pages.bins_size →
         IsLoggable plan.block pages → plan.block.file_type.0 ≡ 0 →
-        tree_under stands plan.block image ≡ Some memory.0 → plan.block.applied.0 ≡ memory.1 →
+        tree_under decode plan.block image ≡ Some memory.0 → plan.block.applied.0 ≡ memory.1 →
         old.secondary.0 < 2 ^ 32 → length plan.raised ≡ 512 →
         block_at plan.raised
-        ≡ record (raised_block old) { sum_is_right = true } →
+        ≡ record (marked_block old) { sum_is_right = true } →
         length plan.final ≡ 512 → block_at plan.final ≡ record plan.block { sum_is_right = true } →
-        ReadsAs plan.text (block_as_read plan.block) pages (pages_from image pages 0) →
-        IsReady stands memory image pages plan }
-    ensures repair { (stands : Standing T) (memory : T × ℕ) (old : BaseBlock)
-        (primary log raised final : List ℕ) → IsWhole log →
+        LogDecodesTo plan.encoding (block_as_read plan.block) pages (pages_from image pages 0) →
+        PlanFitsImage decode memory image pages plan }
+    ensures repair { (decode : TreeDecoder T) (memory : T × ℕ) (old : BaseBlock)
+        (primary log raised final : List ℕ) → LogIsWhole log →
         IsCovered (length (drop 4096 primary)) (pages_in log) →
-        tree_under stands (block_of log) (repaired (drop 4096 primary) (pages_in log)
+        tree_under decode (block_of log) (repaired (drop 4096 primary) (pages_in log)
         (page_bytes_in log))
         ≡ Some memory.0 → (block_of log).applied.0 ≡ memory.1 →
         old.secondary.0 < 2 ^ 32 → length raised ≡ 512 →
         block_at raised
-        ≡ record (raised_block old) { sum_is_right = true } →
+        ≡ record (marked_block old) { sum_is_right = true } →
         length final ≡ 512 →
         block_at final
         ≡ record (block_of log) { file_type = record { 0 = 0 }; sum_is_right = true } →
-        IsReady stands memory (repaired (drop 4096 primary) (pages_in log) (page_bytes_in log))
+        PlanFitsImage decode memory (repaired (drop 4096 primary) (pages_in log) (page_bytes_in log))
         (pages_in log) (record {
           block = record (block_of log) { file_type = record { 0 = 0 } };
           raised = raised;
           final = final;
-          text = log;
+          encoding = log;
         })
         × IsBehind (repaired (drop 4096 primary) (pages_in log) (page_bytes_in log)) (pages_in log)
         primary }

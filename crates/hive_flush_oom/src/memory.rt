@@ -1,8 +1,8 @@
 //! A hive's calls with memory refused: what is refused changes nothing, and the call made again is as if nothing had been.
-ghost use Rattle.hive_flush.specs.HiveStates.{IsWhole};
+ghost use Rattle.hive_flush.specs.HiveStates.{HiveIsRepaired};
 
-use crate::timing::text;
-use change_codec::ChangeText;
+use crate::timing::encoded;
+use change_codec::EncodedChange;
 use disk_model::{Disk, MemDisk, Plan, Progress};
 use hive_flush::HiveFile;
 use refusals::Refusal;
@@ -27,7 +27,7 @@ const CALLS: usize = 64;
 
 // A disk, and whether a call was refused memory.
 #[derive(Drop)]
-struct Desk {
+struct HiveDriver {
     disk: MemDisk,
     was_refused: bool,
 }
@@ -36,23 +36,23 @@ struct Desk {
 pub(crate) fn status(alloc: Global) -> Result<u8, Fault> {
     let tree = Tree::fresh(alloc)?;
     let mut changes = Vec::new(alloc);
-    changes.push(text(alloc, &creation(alloc)?)?)?;
+    changes.push(encoded(alloc, &creation(alloc)?)?)?;
     let mut disk = MemDisk::new(alloc, Arc::new(alloc, Plan::new())?);
     disk.room(FILES, ROOM, CALLS)?;
-    let mut desk = Desk {
+    let mut driver = HiveDriver {
         disk,
         was_refused: false,
     };
-    desk.create(alloc, &tree)?;
-    let mut file = desk.open(alloc)?;
-    desk.absorb(alloc, &mut file, &changes)?;
-    desk.flush(&mut file)?;
-    let file = desk.open(alloc)?;
+    driver.create(alloc, &tree)?;
+    let mut file = driver.open(alloc)?;
+    driver.absorb(alloc, &mut file, &changes)?;
+    driver.flush(&mut file)?;
+    let file = driver.open(alloc)?;
     let path = Path::parse(alloc, &[u16::from(b'K')])?;
     if file.applied() != 1 || file.tree().query_info(&path).is_err() {
         return Err(Fault::Otherwise("another tree"));
     }
-    Ok(u8::from(desk.was_refused))
+    Ok(u8::from(driver.was_refused))
 }
 
 // a change that creates the key K
@@ -62,7 +62,7 @@ fn creation(alloc: Global) -> Result<Element, Fault> {
     Ok(Element { moment: 7, ops })
 }
 
-impl Desk {
+impl HiveDriver {
     fn create(&mut self, alloc: Global, tree: &Tree) -> Result<(), Fault> {
         match HiveFile::create(alloc, &mut self.disk, 0, Uuid::nil(), tree) {
             Err(Refusal::NoMemory) => {
@@ -90,9 +90,9 @@ impl Desk {
         &mut self,
         alloc: Global,
         file: &mut HiveFile,
-        changes: &[ChangeText],
+        changes: &[EncodedChange],
     ) -> Result<(), Fault>
-        ensures { IsWhole file.old → IsWhole file.new }
+        ensures { HiveIsRepaired file.old → HiveIsRepaired file.new }
     {
         if !file.is_at_rest() || file.number() != 0 {
             return Err(Fault::Otherwise("a hive that is busy"));
@@ -121,7 +121,7 @@ impl Desk {
 /// Makes steps of a flush until it is done, at most so many.
 #[cycle(flushing)]
 pub(crate) fn flushed(disk: &mut MemDisk, file: &mut HiveFile, most: u32) -> Result<(), Fault>
-    requires { IsWhole file.old }
+    requires { HiveIsRepaired file.old }
 {
     if most == 0 {
         return Err(Fault::Otherwise("more steps"));

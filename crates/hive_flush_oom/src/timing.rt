@@ -1,7 +1,7 @@
 //! How long a flush of one changed value takes, and what it writes.
 use crate::memory::flushed;
 use base_block::{BaseBlock, SequenceNumber};
-use change_codec::ChangeText;
+use change_codec::EncodedChange;
 use dirty_vector::PAGE_BYTES;
 use disk_model::{Disk, MemDisk, Plan};
 use hive_emit::{Emitted, emit};
@@ -47,7 +47,7 @@ pub(crate) fn play<R: Print + CpuClock>(rt: &R, alloc: Global, line: &str) -> Re
     let mut disk = made(alloc, values, bytes as u32)?;
     let mut file = HiveFile::open(alloc, &mut disk, 0, Uuid::nil())?;
     let mut changes = Vec::new(alloc);
-    changes.push(text(alloc, &change(alloc, values / 2)?)?)?;
+    changes.push(encoded(alloc, &change(alloc, values / 2)?)?)?;
     if !file.is_at_rest() || file.number() != 0 {
         return Err(Fault::Otherwise("a hive that is busy"));
     }
@@ -65,9 +65,9 @@ pub(crate) fn play<R: Print + CpuClock>(rt: &R, alloc: Global, line: &str) -> Re
         .len(LOG)?
         .saturating_add(2 * SECTOR_BYTES)
         .saturating_add(pages.saturating_mul(PAGE_BYTES) as u64);
-    let absorbing = absorbed.saturating_sub(start).as_micros();
+    let application = absorbed.saturating_sub(start).as_micros();
     let flushing = end.saturating_sub(absorbed).as_micros();
-    println!(rt; "{size} {absorbing} {flushing} {pages} {written}")?;
+    println!(rt; "{size} {application} {flushing} {pages} {written}")?;
     Ok(())
 }
 
@@ -107,11 +107,11 @@ fn setting(alloc: Global, number: usize, tells: u8) -> Result<Op, Fault> {
 }
 
 /// A change as it is kept.
-pub(crate) fn text(alloc: Global, change: &Element) -> Result<ChangeText, Fault> {
+pub(crate) fn encoded(alloc: Global, change: &Element) -> Result<EncodedChange, Fault> {
     if change.text_len() >= u64::from(u32::MAX) {
         return Err(Fault::Otherwise("a change that is too long"));
     }
-    Ok(ChangeText::of(alloc, change)?)
+    Ok(EncodedChange::of(alloc, change)?)
 }
 
 // changes the value of a number

@@ -1,8 +1,8 @@
 //! A hive on a disk in memory.
-ghost use Rattle.hive_flush.specs.HiveStates.{IsWhole};
+ghost use Rattle.hive_flush.specs.HiveStates.{HiveIsRepaired};
 
 use base_block::{BaseBlock, SequenceNumber};
-use change_codec::ChangeText;
+use change_codec::EncodedChange;
 use disk_model::{Disk, MemDisk, Plan, Progress, Tear};
 use hive_emit::{Emitted, emit};
 use hive_flush::HiveFile;
@@ -104,7 +104,7 @@ pub fn flushed(
         return Err(Refusal::TooLarge);
     }
     let mut changes = Vec::new(alloc);
-    changes.push(ChangeText::of(alloc, &element)?)?;
+    changes.push(EncodedChange::of(alloc, &element)?)?;
     match file.absorb(alloc, &changes, &[], number) {
         Ok(()) => flush_on(file, disk, 0, MANY),
         Err(why) => Err(why),
@@ -114,7 +114,7 @@ pub fn flushed(
 // flushes on behind so many steps, with at most so many more
 #[cycle(flushing)]
 fn flush_on(file: &mut HiveFile, disk: &mut MemDisk, made: u32, most: u32) -> Result<u32, Refusal>
-    requires { IsWhole file.old }
+    requires { HiveIsRepaired file.old }
 {
     if most == 0 {
         return Err(Refusal::Faulted);

@@ -7,7 +7,7 @@ use Rattle.std.proofs.lemmas.Map.Made.{length-le_from_is_member}
 use Rattle.hive_tree_model.specs.Lists.{IsIn}
 use Rattle.hive_tree_model.proofs.Basics.{decided, clash, yes_if}
 use Rattle.hive_cells.specs.Tiles.{IsAllocatedCell}
-use Rattle.hive_load_parts.specs.Reading.{marks_of, set_flags, Spreads}
+use Rattle.hive_load_parts.specs.CellReads.{marks_of, set_flags, Spreads}
 use Rattle.hive_load.specs.Limits.{AreAllCells}
 
 -- the offsets at which flags are set, from a place on

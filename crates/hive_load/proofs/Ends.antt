@@ -11,21 +11,21 @@ use Rattle.reg_tree_parts.specs.Orders.{path_order}
 use Rattle.reg_tree_parts.specs.Rows.{Row}
 use Rattle.reg_tree_parts.specs.Nodes.{Entries, entries_weight, IsNode}
 use Rattle.reg_tree.specs.Maps.{TreeMap, row, weight}
-use Rattle.reg_tree.specs.Spellable.{IsSpellable, IsSpellableAt, IsSpellableRow}
+use Rattle.reg_tree.specs.Encodable.{IsEncodable, IsEncodableAt, IsEncodableRow}
 use Rattle.hive_cells.specs.Tiles.{Tiles}
 use Rattle.hive_cells.specs.Bins.{Cells, Shows}
 use Rattle.hive_tree_model.specs.Lists.{IsIn}
-use Rattle.hive_tree_model.specs.Keys.{Parts, Keys, none, key, lent_cells}
+use Rattle.hive_tree_model.specs.Keys.{KeyParts, Keys, none, key, lent_cells}
 use Rattle.hive_tree_model.specs.Trees.{same, row_in, row_from}
-use Rattle.hive_tree_model.specs.Stands.{Fits, Named, Stands}
-use Rattle.hive_tree_model.specs.Faults.{Deeper}
-use Rattle.hive_tree_model.specs.Loads.{Marks, Loaded, Told}
+use Rattle.hive_tree_model.specs.Encodings.{CellsMatchKeys, Named, CellsEncodeTree}
+use Rattle.hive_tree_model.specs.Faults.{HasDeeperKey}
+use Rattle.hive_tree_model.specs.Loads.{CellMarks, Loaded, HasFault}
 use Rattle.hive_tree_model.proofs.Basics.{decided, never, yes_if, no_if, some_same, some_none}
 use Rattle.hive_tree_model.proofs.Depths.{deep}
 use Rattle.hive_tree_model.proofs.Settled.{settled, lent_met}
 use Rattle.hive_records.specs.Bytes.{AreBytes, HoldBytes}
 use Rattle.hive_records.specs.KeyNodes.{keys_in, trail_in, lends_in}
-use Rattle.hive_records.specs.Images.{splits, StandsFor, FaultIn}
+use Rattle.hive_records.specs.Images.{splits, BinsEncodeTree, FaultIn}
 use Rattle.hive_records.proofs.NodesOf.{tree_of_node}
 use Rattle.hive_records.proofs.Keys.{keys_trail, keys_lends, keys_named}
 use Rattle.hive_records.proofs.Spelled.{row_spelled, cells_bytes}
@@ -33,11 +33,11 @@ use Rattle.hive_records.proofs.Images.{same_cells, one_image, image_fault}
 use Rattle.hive_load_parts.specs.Descriptors.{descriptor_in}
 use Rattle.hive_load.specs.Answers.{IsShallow, LoadsKey, RefusesKey}
 use Rattle.hive_load.specs.Roots.{LoadsRoot, RefusesRoot}
-use Rattle.hive_load.specs.Limits.{IsWithin, LoadRefused}
+use Rattle.hive_load.specs.Limits.{TreeIsInLimits, LoadRefused}
 
 -- ---- rows at the end of paths
 
-step_no : (at : ℕ) (p : Parts Row) (below after : Keys Row) (n : List ℕ) (path : List (List ℕ)) → same n p.name ≡ false → row_in (key at p below after) (n ∷ path) ≡ row_in after (n ∷ path)
+step_no : (at : ℕ) (p : KeyParts Row) (below after : Keys Row) (n : List ℕ) (path : List (List ℕ)) → same n p.name ≡ false → row_in (key at p below after) (n ∷ path) ≡ row_in after (n ∷ path)
 step_no at p below after n [] e = no_if (same n p.name) (Some p.row) (row_in after (n ∷ [])) e
 step_no at p below after n (m ∷ path) e = no_if (same n p.name) (row_in below (m ∷ path)) (row_in after (n ∷ m ∷ path)) e
 
@@ -71,18 +71,18 @@ row_is P (key at p below after) h (n ∷ m ∷ path) r e = elim (decided (same n
 
 -- ---- the root
 
-module _ (split : Bool) (cells : Cells) (old new : Marks) (root : ℕ) (unset : (at : ℕ) → old at ≡ false) where
+module _ (split : Bool) (cells : Cells) (old new : CellMarks) (root : ℕ) (unset : (at : ℕ) → old at ≡ false) where
   none_yet : old ≡ (λ at. false)
   none_yet = λ i at. unset at i
 
   pub root_refused : (levels : ℕ) (why : Refusal) → levels ≡ suc MOST_PATH_NAMES → RefusesKey split cells old levels root why → RefusesRoot split cells root why
   root_refused levels why e (inl h) = inl h
   root_refused levels why e (inr (inl (g, d))) = inr (inl (g, (d.0, d.1, d.2, d.3, d.4, let most = d.5 in omega (arith, most, e))))
-  root_refused levels why e (inr (inr t)) = inr (inr (inl (subst (λ (m : Marks). Told (trail_in split cells) (keys_in split cells) (refusal.HiveDamaged 0 cause.BadName) (refusal.HiveDamaged 0 cause.Shared) m root why) none_yet t)))
+  root_refused levels why e (inr (inr t)) = inr (inr (inl (subst (λ (m : CellMarks). HasFault (trail_in split cells) (keys_in split cells) (refusal.HiveDamaged 0 cause.BadName) (refusal.HiveDamaged 0 cause.Shared) m root why) none_yet t)))
 
   module _ (has : List (ℕ × List ℕ)) (levels : ℕ) (node : Entries) (l : LoadsKey split cells old new [] has levels root node) where
     loaded : Loaded (keys_in split cells) (λ at. false) new root l.parts l.below
-    loaded = subst (λ (m : Marks). Loaded (keys_in split cells) m new root l.parts l.below) none_yet l.loaded
+    loaded = subst (λ (m : CellMarks). Loaded (keys_in split cells) m new root l.parts l.below) none_yet l.loaded
 
     pub root_loaded : levels ≡ suc MOST_PATH_NAMES → ((at : ℕ) → IsSome (descriptor_in has at) → new at ≡ false) → LoadsRoot split cells root node
     root_loaded e apart = record {
@@ -106,7 +106,7 @@ module _ (split : Bool) (cells : Cells) (old new : Marks) (root : ℕ) (unset : 
 module _ (bytes : List ℕ) (root minor : ℕ) (split : Bool) (is_split : split ≡ splits minor) (cells : Cells) (shows : Shows bytes cells) where
   pub refused_for : (why : Refusal) → RefusesRoot split cells root why → LoadRefused bytes root minor why
   refused_for why (inl e) = inl e
-  refused_for why (inr (inl (e, d))) = inr (inl (e, inr (cells, shows, subst (λ (b : Bool). Deeper (keys_in b cells) root MOST_PATH_NAMES) is_split d)))
+  refused_for why (inr (inl (e, d))) = inr (inl (e, inr (cells, shows, subst (λ (b : Bool). HasDeeperKey (keys_in b cells) root MOST_PATH_NAMES) is_split d)))
   refused_for why (inr (inr f)) = inr (inr (cells, shows, subst (λ (b : Bool). FaultIn b cells root why) is_split f))
 
   module _ (node : Entries) (l : LoadsRoot split cells root node) (is : IsNode node) where
@@ -116,10 +116,10 @@ module _ (bytes : List ℕ) (root minor : ℕ) (split : Bool) (is_split : split 
     row_there : (path : List (List ℕ)) → row (finite.from_sorted node) path ≡ row_from l.parts.row l.below path
     row_there path = get-from_sorted path_order node path is.rises ∙ l.is_node path
 
-    pub stands_for : Tiles bytes → StandsFor bytes root minor (finite.from_sorted node)
-    stands_for tiles = (tiles, cells, shows, subst (λ (b : Bool). Stands (keys_in b cells) root (finite.from_sorted node)) is_split (l.parts, l.below, l.whole, tree_of_node l.parts l.below node is.rises l.whole.named l.is_node, l.apart))
+    pub stands_for : Tiles bytes → BinsEncodeTree bytes root minor (finite.from_sorted node)
+    stands_for tiles = (tiles, cells, shows, subst (λ (b : Bool). CellsEncodeTree (keys_in b cells) root (finite.from_sorted node)) is_split (l.parts, l.below, l.whole, tree_of_node l.parts l.below node is.rises l.whole.named l.is_node, l.apart))
 
-    named_rows : (keys : Keys Row) → Fits (keys_in split cells) keys → Named keys → EachRow (λ r. 0 < length r.name) keys
+    named_rows : (keys : Keys Row) → CellsMatchKeys (keys_in split cells) keys → Named keys → EachRow (λ r. 0 < length r.name) keys
     named_rows none fits named = tt
     named_rows (key at p below after) fits named = (has_name p.row.name (λ e. named.0 (keys_named split cells at p fits.0 ∙ ap folded e)), named_rows below fits.2 named.2, named_rows after fits.3 named.3)
       where
@@ -127,20 +127,20 @@ module _ (bytes : List ℕ) (root minor : ℕ) (split : Bool) (is_split : split 
         has_name [] h = absurd (h refl)
         has_name (u ∷ units) h = omega arith
 
-    spelled_rows : HoldBytes cells → (keys : Keys Row) → Fits (keys_in split cells) keys → EachRow IsSpellableRow keys
+    spelled_rows : HoldBytes cells → (keys : Keys Row) → CellsMatchKeys (keys_in split cells) keys → EachRow IsEncodableRow keys
     spelled_rows held none fits = tt
     spelled_rows held (key at p below after) fits = (row_spelled cells held split at p fits.0, spelled_rows held below fits.2, spelled_rows held after fits.3)
 
-    spelled_at : HoldBytes cells → (path : List (List ℕ)) (r : Row) → row_from l.parts.row l.below path ≡ Some r → IsSpellableAt path r
-    spelled_at held [] r e = record { shallow = omega arith; named = λ h. absurd (omega (arith, h)); spelled = subst IsSpellableRow (some_same l.parts.row r e) (row_spelled cells held split root l.parts l.whole.read) }
+    spelled_at : HoldBytes cells → (path : List (List ℕ)) (r : Row) → row_from l.parts.row l.below path ≡ Some r → IsEncodableAt path r
+    spelled_at held [] r e = record { shallow = omega arith; named = λ h. absurd (omega (arith, h)); spelled = subst IsEncodableRow (some_same l.parts.row r e) (row_spelled cells held split root l.parts l.whole.read) }
     spelled_at held (n ∷ path) r e = record {
       shallow = shallow_row MOST_PATH_NAMES l.below l.shallow (n ∷ path) r e;
       named = λ _. row_is (λ (q : Row). 0 < length q.name) l.below (named_rows l.below l.whole.fits l.whole.named) (n ∷ path) r e;
-      spelled = row_is IsSpellableRow l.below (spelled_rows held l.below l.whole.fits) (n ∷ path) r e;
+      spelled = row_is IsEncodableRow l.below (spelled_rows held l.below l.whole.fits) (n ∷ path) r e;
     }
 
-    pub is_spellable : AreBytes bytes → IsSpellable (finite.from_sorted node)
-    is_spellable bytes_are = record { rows = λ path r e. spelled_at (cells_bytes bytes cells bytes_are shows) path r (sym (row_there path) ∙ e) }
+    pub is_encodable : AreBytes bytes → IsEncodable (finite.from_sorted node)
+    is_encodable bytes_are = record { rows = λ path r e. spelled_at (cells_bytes bytes cells bytes_are shows) path r (sym (row_there path) ∙ e) }
 
     weight_is : weight (finite.from_sorted node) ≡ entries_weight node
     weight_is = ap entries_weight (entries-from_sorted path_order node is.rises)
@@ -149,7 +149,7 @@ module _ (bytes : List ℕ) (root minor : ℕ) (split : Bool) (is_split : split 
     path_short [] r e = omega arith
     path_short (n ∷ path) r e = shallow_row MOST_PATH_NAMES l.below l.shallow (n ∷ path) r e
 
-    pub is_within : entries_weight node ≤ MOST_WEIGHT → IsWithin (finite.from_sorted node)
+    pub is_within : entries_weight node ≤ MOST_WEIGHT → TreeIsInLimits (finite.from_sorted node)
     is_within light = record {
       light = subst (λ (n : ℕ). n ≤ MOST_WEIGHT) (sym weight_is) light;
       shallow = λ path r e. path_short path r (sym (row_there path) ∙ e);
@@ -160,14 +160,14 @@ module _ (bytes : List ℕ) (root minor : ℕ) (split : Bool) (is_split : split 
 
 -- ---- a refusal excludes trees
 
-pub excluded : (bytes : List ℕ) (root minor : ℕ) (why : Refusal) → LoadRefused bytes root minor why → why ≢ refusal.NoMemory → (tree : TreeMap) → StandsFor bytes root minor tree → IsWithin tree → ⊥
+pub excluded : (bytes : List ℕ) (root minor : ℕ) (why : Refusal) → LoadRefused bytes root minor why → why ≢ refusal.NoMemory → (tree : TreeMap) → BinsEncodeTree bytes root minor tree → TreeIsInLimits tree → ⊥
 excluded bytes root minor why (inl e) some tree s w = some e
 excluded bytes root minor why (inr (inl (e, inl h))) some tree s w =
     let same : tree ≡ h.0 = one_image bytes root minor tree h.0 s h.1 in
     let heavy : MOST_WEIGHT < weight tree = subst (λ (t : TreeMap). MOST_WEIGHT < weight t) (sym same) h.2 in
     let light = w.light in absurd (omega (arith, heavy, light))
 excluded bytes root minor why (inr (inl (e, inr d))) some tree s w =
-    let here : Stands (keys_in (splits minor) d.0) root tree = subst (λ (z : Cells). Stands (keys_in (splits minor) z) root tree) (same_cells bytes s.1 d.0 s.2 d.1) s.3 in
+    let here : CellsEncodeTree (keys_in (splits minor) d.0) root tree = subst (λ (z : Cells). CellsEncodeTree (keys_in (splits minor) z) root tree) (same_cells bytes s.1 d.0 s.2 d.1) s.3 in
     let found : (path : List (List ℕ)) × (r : Row) × (row tree path ≡ Some r) × (MOST_PATH_NAMES < length path) = deep (keys_in (splits minor) d.0) root tree here MOST_PATH_NAMES d.2 in
     let short = w.shallow found.0 found.1 found.2 in
     let long = found.3 in absurd (omega (arith, short, long))

@@ -8,25 +8,25 @@ use Rattle.reg_tree.specs.Maps.{TreeMap, row, weight}
 use Rattle.hive_cells.specs.Tiles.{IsAllocatedCell, DataRefused}
 use Rattle.hive_cells.specs.Bins.{Cells, Shows}
 use Rattle.hive_tree_model.specs.Lists.{IsIn}
-use Rattle.hive_tree_model.specs.Faults.{Deeper}
+use Rattle.hive_tree_model.specs.Faults.{HasDeeperKey}
 use Rattle.hive_records.specs.KeyNodes.{keys_in}
-use Rattle.hive_records.specs.Images.{splits, StandsFor, FaultFor}
+use Rattle.hive_records.specs.Images.{splits, BinsEncodeTree, FaultFor}
 
 -- a tree of at most the greatest weight, in which no path has more names than one may have
-pub record IsWithin (tree : TreeMap) : Type 0 where
+pub record TreeIsInLimits (tree : TreeMap) : Type 0 where
   pub light : weight tree ≤ MOST_WEIGHT
   pub shallow : (path : List (List ℕ)) (key : Row) → row tree path ≡ Some key → length path ≤ MOST_PATH_NAMES
 
 -- the data stand, from the root's offset on, for the tree, and it is within the limits
-abbrev pub StandsWithin : List ℕ → ℕ → ℕ → TreeMap → Type 0
-StandsWithin bytes root minor tree = StandsFor bytes root minor tree × IsWithin tree
+abbrev pub BinsEncodeTreeInLimits : List ℕ → ℕ → ℕ → TreeMap → Type 0
+BinsEncodeTreeInLimits bytes root minor tree = BinsEncodeTree bytes root minor tree × TreeIsInLimits tree
 
 -- a tree stands that weighs too much; a key that can be read lies too deep
 abbrev pub IsTooHeavy : List ℕ → ℕ → ℕ → Type 0
-IsTooHeavy bytes root minor = (tree : TreeMap) × StandsFor bytes root minor tree × (MOST_WEIGHT < weight tree)
+IsTooHeavy bytes root minor = (tree : TreeMap) × BinsEncodeTree bytes root minor tree × (MOST_WEIGHT < weight tree)
 
 abbrev pub IsTooDeep : List ℕ → ℕ → ℕ → Type 0
-IsTooDeep bytes root minor = (cells : Cells) × Shows bytes cells × Deeper (keys_in (splits minor) cells) root MOST_PATH_NAMES
+IsTooDeep bytes root minor = (cells : Cells) × Shows bytes cells × HasDeeperKey (keys_in (splits minor) cells) root MOST_PATH_NAMES
 
 -- why data are refused: memory was not given, a limit is passed, or a fault stands in them
 abbrev pub LoadRefused : List ℕ → ℕ → ℕ → Refusal → Type 0

@@ -1,6 +1,6 @@
 //! The tree of hive bins data as they stand in a file.
 ghost use Rattle.std.specs.Prelude.{◌≡◌, IfOk, IfErr};
-ghost use Rattle.hive_load.specs.Limits.{StandsWithin, BinsRefused};
+ghost use Rattle.hive_load.specs.Limits.{BinsEncodeTreeInLimits, BinsRefused};
 
 use crate::tree::load;
 use hive_cells::{Image, Looks};
@@ -20,7 +20,7 @@ pub fn load_bins(
     minor: u32,
 ) -> Result<(Tree, Vec<u8>), Refusal>
     ensures same { IfOk result (λ loaded. loaded.1.items ≡ bins.items) }
-    ensures stands { IfOk result (λ loaded. StandsWithin bins.items root minor loaded.0) }
+    ensures stands { IfOk result (λ loaded. BinsEncodeTreeInLimits bins.items root minor loaded.0) }
     ensures refused { IfErr result (BinsRefused bins.items root minor) }
 {
     let image = match Image::open(alloc, bins) {

@@ -2,9 +2,9 @@
 ghost use Rattle.std.specs.Prelude.{◌≡◌, ◌≤◌, ◌*◌, length, IfOk, MatchResult};
 ghost use Rattle.hive_cells.specs.Bins.{Cells, Shows};
 ghost use Rattle.reg_tree_parts.specs.Nodes.{subkey_entries, AreNodes, IsNode};
-ghost use Rattle.hive_load_parts.specs.Reading.{marks_of, Spreads};
+ghost use Rattle.hive_load_parts.specs.CellReads.{marks_of, Spreads};
 ghost use Rattle.hive_load_parts.specs.Descriptors.{AreDescriptors};
-ghost use Rattle.hive_load.specs.Answers.{LoadsKey, RefusesKey, LoadsKeys, RefusesKeys, LoadWorks};
+ghost use Rattle.hive_load.specs.Answers.{LoadsKey, RefusesKey, LoadsKeys, RefusesKeys, LooksAreBounded};
 
 use crate::siblings::node_of;
 use hive_cells::{Image, Looks};
@@ -36,7 +36,7 @@ pub(crate) fn load_key(
     ensures covers { length seen.new ≡ length seen.old }
     ensures known { AreDescriptors image.now.bytes known.new }
     ensures spreads { Spreads image.now.bytes seen.old seen.new }
-    ensures works { LoadWorks looks.old looks.new seen.old seen.new result }
+    ensures works { LooksAreBounded looks.old looks.new seen.old seen.new result }
 {
     let (key, offsets) = match key(alloc, image, seen, looks, known, split, at) {
         Ok(read) => read,
@@ -83,7 +83,7 @@ fn load_keys(
     ensures covers { length seen.new ≡ length seen.old }
     ensures known { AreDescriptors image.now.bytes known.new }
     ensures spreads { Spreads image.now.bytes seen.old seen.new }
-    ensures works { LoadWorks looks.old looks.new seen.old seen.new result }
+    ensures works { LooksAreBounded looks.old looks.new seen.old seen.new result }
 {
     let mut nodes = Vec::new(alloc);
     for at in offsets {

@@ -2,9 +2,9 @@
 ghost use Rattle.std.specs.Prelude.{◌≡◌, ◌≤◌, ◌+◌, ◌*◌, ◌/◌, false, ℕ, List, length, IfOk, IfErr, MatchResult};
 ghost use Rattle.hive_cells.specs.Bins.{Cells, Shows};
 ghost use Rattle.reg_tree_parts.specs.Nodes.{IsNode};
-ghost use Rattle.hive_load_parts.specs.Reading.{marks_of};
-ghost use Rattle.hive_records.specs.Images.{StandsFor};
-ghost use Rattle.hive_load.specs.Limits.{IsWithin, LoadRefused, AreAllCells};
+ghost use Rattle.hive_load_parts.specs.CellReads.{marks_of};
+ghost use Rattle.hive_records.specs.Images.{BinsEncodeTree};
+ghost use Rattle.hive_load.specs.Limits.{TreeIsInLimits, LoadRefused, AreAllCells};
 ghost use Rattle.hive_load.specs.Roots.{LoadsRoot, RefusesRoot};
 
 use crate::keys::load_key;
@@ -78,8 +78,8 @@ pub fn load(
     minor: u32,
     looks: &mut Looks,
 ) -> Result<Tree, Refusal>
-    ensures stands { IfOk result (λ tree. StandsFor image.now.bytes root minor tree) }
-    ensures within { IfOk result IsWithin }
+    ensures stands { IfOk result (λ tree. BinsEncodeTree image.now.bytes root minor tree) }
+    ensures within { IfOk result TreeIsInLimits }
     ensures refused { IfErr result (LoadRefused image.now.bytes root minor) }
     ensures looks { (cells : List ℕ) → AreAllCells image.now.bytes cells →
         looks.new ≤ looks.old + 2 * length cells + 2 }

@@ -5,7 +5,7 @@
 //! where memory was refused, and 2 where a wrong answer was given.
 #![tactic(auto)]
 
-use hive_load_tests::hives::{NO, Says, hive};
+use hive_load_tests::hives::{NIL, Says, hive};
 use hive_load_tests::listings::listed;
 use refusals::Refusal;
 use std::alloc::Global;
@@ -15,7 +15,7 @@ use std::process::ExitCode;
 const CELLS: [Says; 11] = [
     Says::Key(b"R", (2, 1), (2, 3), 6),
     Says::List(b"ri", 4, &[8, 9]),
-    Says::Key(b"k", (0, NO), (0, NO), 6),
+    Says::Key(b"k", (0, NIL), (0, NIL), 6),
     Says::Values(&[5, 4]),
     Says::Small(b"x", b"four"),
     Says::Large(b"w", 5, 7),
@@ -23,7 +23,7 @@ const CELLS: [Says; 11] = [
     Says::Bytes(b"fives and more"),
     Says::List(b"lh", 8, &[2]),
     Says::List(b"li", 4, &[10]),
-    Says::Key(b"j", (0, NO), (0, NO), NO),
+    Says::Key(b"j", (0, NIL), (0, NIL), NIL),
 ];
 
 // the text of the tree that they stand for

@@ -14,7 +14,7 @@ use Rattle.hive_tree_model.proofs.Basics.{never, clash, decided, same_is, same_o
 use Rattle.hive_records.specs.Names.{all_apart}
 use Rattle.hive_records.specs.Values.{map_of}
 use Rattle.hive_records.proofs.StepsAgain.{both, second_not}
-use Rattle.hive_load_parts.specs.Reading.{names_in}
+use Rattle.hive_load_parts.specs.CellReads.{names_in}
 use Rattle.hive_load_parts.proofs.Loops.{split_here}
 
 swapped : (n m : List ℕ) → same n m ≡ same m n

@@ -5,7 +5,7 @@ use Rattle.std.proofs.lemmas.Bool.{cases_lt, cases_eq}
 use Rattle.std.proofs.lemmas.List.{length-set, get_or-set_same, get_or-set_other, get_or_past, ext_get_or}
 use Rattle.std.proofs.lemmas.List.FromFn.{length-map-range_with_len, get_or-map-range_with_len}
 use Rattle.std.proofs.lemmas.Nat.Bits.{bit_at-zero}
-use Rattle.hive_cells.specs.Starts.{PutsStart}
+use Rattle.hive_cells.specs.Starts.{SetsStartBit}
 use Rattle.hive_cells.proofs.Bits.{put_one}
 use Rattle.hive_load_parts.specs.Bits.{bit_of, bits_of}
 
@@ -26,7 +26,7 @@ pub flag_set : (words : List ℕ) (slot : ℕ) → slot < length (bits_of words)
     bits_of (set words (slot / 64) (bit_or (get_or words (slot / 64) 0) (1 * 2 ^ (slot % 64) % 18446744073709551616))) ≡ set (bits_of words) slot true
 flag_set words slot h =
     let within : slot < 64 * length words = (let e = length_bits words in omega (arith, e, h)) in
-    let put : PutsStart words new slot true = put_one words slot true refl within in
+    let put : SetsStartBit words new slot true = put_one words slot true refl within in
     ext_get_or false (bits_of new) (set (bits_of words) slot true)
     (length_bits new ∙ ap (λ n. 64 * n) put.len ∙ sym (length_bits words) ∙ sym (length-set (bits_of words) slot true))
     (λ k lt. flag_is new k ∙ by_slot put k (cases_eq k slot))
@@ -34,7 +34,7 @@ flag_set words slot h =
     new : List ℕ
     new = set words (slot / 64) (bit_or (get_or words (slot / 64) 0) (1 * 2 ^ (slot % 64) % 18446744073709551616))
 
-    by_slot : PutsStart words (set words (slot / 64) (bit_or (get_or words (slot / 64) 0) (1 * 2 ^ (slot % 64) % 18446744073709551616))) slot true → (k : ℕ) → (k ≡ slot) ⊎ (k ≢ slot) →
+    by_slot : SetsStartBit words (set words (slot / 64) (bit_or (get_or words (slot / 64) 0) (1 * 2 ^ (slot % 64) % 18446744073709551616))) slot true → (k : ℕ) → (k ≡ slot) ⊎ (k ≢ slot) →
         bit_of (set words (slot / 64) (bit_or (get_or words (slot / 64) 0) (1 * 2 ^ (slot % 64) % 18446744073709551616))) k ≡ get_or (set (bits_of words) slot true) k false
     by_slot put k (inl e) = ap (bit_of (set words (slot / 64) (bit_or (get_or words (slot / 64) 0) (1 * 2 ^ (slot % 64) % 18446744073709551616)))) e ∙ put.here
         ∙ sym (get_or-set_same (bits_of words) slot true false h) ∙ ap (λ i. get_or (set (bits_of words) slot true) i false) (sym e)

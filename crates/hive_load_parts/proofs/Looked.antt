@@ -7,12 +7,12 @@ use Rattle.refusals.specs.declared.refusal.Refusal.TheVariants as refusal
 use Rattle.refusals.specs.declared.refusal.Cause.TheVariants as cause
 use Rattle.hive_cells.specs.Tiles.{IsAllocatedCell, cell_data}
 use Rattle.hive_tree_model.specs.Lists.{IsIn}
-use Rattle.hive_tree_model.specs.Loads.{Marks, Marked}
+use Rattle.hive_tree_model.specs.Loads.{CellMarks, Marked}
 use Rattle.hive_tree_model.proofs.Basics.{decided, clash, yes_if, no_if}
 use Rattle.hive_records.specs.Readers.{Read, own_if, look}
 use Rattle.hive_cells.specs.Bins.{Cells, Shows}
 use Rattle.hive_records.specs.Follows.{Meets, Follows}
-use Rattle.hive_load_parts.specs.Reading.{marks_of}
+use Rattle.hive_load_parts.specs.CellReads.{marks_of}
 
 pub found_if : (bytes : List ℕ) (at : ℕ) (o : Option (List ℕ)) → MatchOption o (¬ IsAllocatedCell bytes at) (λ its. IsAllocatedCell bytes at × (its ≡ cell_data bytes at)) → IsAllocatedCell bytes at → (d : List ℕ) → d ≡ cell_data bytes at → o ≡ Some d
 found_if bytes at None h a d e = absurd (h a)
@@ -30,13 +30,13 @@ missed : (bytes : List ℕ) (cells : Cells) → Shows bytes cells → (at : ℕ)
 unfolding look
 missed bytes cells shows at n = ap (own_if at) (missed_if bytes at (cells at) (shows at) n)
 
-pub no_cell : (bytes : List ℕ) (cells : Cells) → Shows bytes cells → (at : ℕ) (r : Refusal) → r ≡ refusal.HiveDamaged 0 cause.BadOffset → (¬ IsAllocatedCell bytes at) → (old new : Marks) → Follows (look at) cells old new (Err r)
+pub no_cell : (bytes : List ℕ) (cells : Cells) → Shows bytes cells → (at : ℕ) (r : Refusal) → r ≡ refusal.HiveDamaged 0 cause.BadOffset → (¬ IsAllocatedCell bytes at) → (old new : CellMarks) → Follows (look at) cells old new (Err r)
 no_cell bytes cells shows at r e n old new = inr (inl (ap (λ (z : Read (List ℕ)). z.says) (missed bytes cells shows at n) ∙ ap Err (sym e)))
 
 marked_slot : (seen : List Bool) (at : ℕ) → at % 8 ≡ 0 → marks_of seen at ≡ slice_index_or seen (at / 8) false
 marked_slot seen at e = yes_if (at % 8 == 0) (slice_index_or seen (at / 8) false) false (eq-eqb (at % 8) 0 e)
 
-pub met_again : (bytes : List ℕ) (cells : Cells) → Shows bytes cells → (at : ℕ) → IsAllocatedCell bytes at → (d : List ℕ) → d ≡ cell_data bytes at → (seen : List Bool) → at % 8 ≡ 0 → slice_index_or seen (at / 8) false ≡ true → (new : Marks) →
+pub met_again : (bytes : List ℕ) (cells : Cells) → Shows bytes cells → (at : ℕ) → IsAllocatedCell bytes at → (d : List ℕ) → d ≡ cell_data bytes at → (seen : List Bool) → at % 8 ≡ 0 → slice_index_or seen (at / 8) false ≡ true → (new : CellMarks) →
     Follows (look at) cells (marks_of seen) new (Err (refusal.HiveDamaged 0 cause.Shared))
 met_again bytes cells shows at a d e seen eights is new = inr (inr (refl, subst (λ (z : Read (List ℕ)). Meets (marks_of seen) z.own) (sym (looked bytes cells shows at a d e)) (inl (at, inl refl, marked_slot seen at eights ∙ is))))
 

@@ -1,7 +1,7 @@
 -- Flags that are set one after another.
 use Rattle.std.proofs.Common.{◌≡◌, ◌⊎◌, ◌+◌, inl, inr, ℕ, List, Bool, true, sym, subst, arith}
 use Rattle.hive_cells.specs.Tiles.{IsAllocatedCell}
-use Rattle.hive_load_parts.specs.Reading.{marks_of, set_flags, Spreads}
+use Rattle.hive_load_parts.specs.CellReads.{marks_of, set_flags, Spreads}
 
 pub spreads_none : (bytes : List ℕ) (seen : List Bool) → Spreads bytes seen seen
 spreads_none bytes seen = record { more = omega arith; cells = λ at h. inl h }

@@ -3,15 +3,15 @@ use Rattle.std.proofs.Common.{◌≡◌, ◌-◌, ◌^◌, ◌==◌, nat_le, nat
 use Rattle.refusals.specs.declared.refusal.Refusal.{Refusal}
 use Rattle.refusals.specs.declared.refusal.Refusal.TheVariants as refusal
 use Rattle.hive_tree_model.proofs.Basics.{never, ok_same, ok_err}
-use Rattle.hive_tree_model.specs.Loads.{Marks}
+use Rattle.hive_tree_model.specs.Loads.{CellMarks}
 use Rattle.hive_cells.specs.Bins.{Cells}
 use Rattle.hive_records.specs.Readers.{Reader, done, choice, look, own_if, ◌⟫◌}
-use Rattle.hive_records.specs.Values.{piece, segment_bytes, big_data, value_at}
+use Rattle.hive_records.specs.Values.{cell_prefix, segment_bytes, big_data, value_at}
 use Rattle.hive_records.specs.Follows.{Follows}
 use Rattle.hive_records.specs.Heads.{value_fault, IsValueRec}
-use Rattle.hive_records.specs.GoesOn.{units_of, data_from, value_from}
+use Rattle.hive_records.specs.RecordReaders.{units_of, data_from, value_from}
 use Rattle.hive_records.specs.declared.value_record.ValueRec.{ValueRec}
-use Rattle.hive_records.proofs.GoesOn.{value_out, value_on}
+use Rattle.hive_records.proofs.RecordReaders.{value_out, value_on}
 use Rattle.hive_records.proofs.Follow.{follows_on, follows_out}
 use Rattle.hive_load_parts.proofs.Kit.{moved, says_err, done_follows}
 
@@ -20,11 +20,11 @@ there_if at None bytes e = ok_err bytes (refusal.HiveDamaged 0 _) (sym e)
 there_if at (Some d) bytes e = ap Some (ok_same d bytes e)
 
 -- a cell that was looked at is there
-pub looked_at : (at : ℕ) (cells : Cells) (old new : Marks) (bytes : List ℕ) → Follows (look at) cells old new (Ok bytes) → cells at ≡ Some bytes
+pub looked_at : (at : ℕ) (cells : Cells) (old new : CellMarks) (bytes : List ℕ) → Follows (look at) cells old new (Ok bytes) → cells at ≡ Some bytes
 unfolding look
 looked_at at cells old new bytes h = there_if at (cells at) bytes h.0
 
-module _ (split : Bool) (at : ℕ) (cells : Cells) (old mid new : Marks) where
+module _ (split : Bool) (at : ℕ) (cells : Cells) (old mid new : CellMarks) where
   pub value_unseen : (r : Refusal) → Follows (look at) cells old new (Err r) → Follows (value_at split at) cells old new (Err r)
   value_unseen r h = follows_out (look at) _ cells old new new r h
 
@@ -48,7 +48,7 @@ module _ (split : Bool) (at : ℕ) (cells : Cells) (old mid new : Marks) where
 
 -- ---- data
 
-module _ {A : Type 0} (cells : Cells) (old new : Marks) (r : Result A Refusal) where
+module _ {A : Type 0} (cells : Cells) (old new : CellMarks) (r : Result A Refusal) where
   pub chosen : (b : Bool) (m n : Reader A) → b ≡ true → Follows m cells old new r → Follows (choice b m n) cells old new r
   unfolding choice
   chosen true m n e h = h
@@ -64,19 +64,19 @@ unfolding choice
 two_tests true b m n = refl
 two_tests false b m n = refl
 
-module _ (split : Bool) (size offset : ℕ) (small : List ℕ) (cells : Cells) (old new : Marks) where
+module _ (split : Bool) (size offset : ℕ) (small : List ℕ) (cells : Cells) (old new : CellMarks) where
   pub data_small : (d : List ℕ) → nat_le (2 ^ 31) size ≡ true → take (size - 2 ^ 31) small ≡ d → Follows (data_from split size offset small) cells old old (Ok d)
   data_small d e f = chosen cells old old (Ok d) (nat_le (2 ^ 31) size) _ _ e (done_follows (take (size - 2 ^ 31) small) d cells old f)
 
   pub data_empty : (d : List ℕ) → nat_le (2 ^ 31) size ≡ false → (size == 0) ≡ true → [] ≡ d → Follows (data_from split size offset small) cells old old (Ok d)
   data_empty d e f g = not_chosen cells old old (Ok d) (nat_le (2 ^ 31) size) _ _ e (chosen cells old old (Ok d) (size == 0) _ _ f (done_follows [] d cells old g))
 
-  far : (r : Result (List ℕ) Refusal) → nat_le (2 ^ 31) size ≡ false → (size == 0) ≡ false → Follows (choice (split && nat_lt segment_bytes size) (big_data size offset) (piece size offset)) cells old new r → Follows (data_from split size offset small) cells old new r
+  far : (r : Result (List ℕ) Refusal) → nat_le (2 ^ 31) size ≡ false → (size == 0) ≡ false → Follows (choice (split && nat_lt segment_bytes size) (big_data size offset) (cell_prefix size offset)) cells old new r → Follows (data_from split size offset small) cells old new r
   far r e f h = not_chosen cells old new r (nat_le (2 ^ 31) size) _ _ e (not_chosen cells old new r (size == 0) _ _ f
-      (subst (λ (m : Reader (List ℕ)). Follows m cells old new r) (sym (two_tests split (nat_lt segment_bytes size) (big_data size offset) (piece size offset))) h))
+      (subst (λ (m : Reader (List ℕ)). Follows m cells old new r) (sym (two_tests split (nat_lt segment_bytes size) (big_data size offset) (cell_prefix size offset))) h))
 
   pub data_big : (r : Result (List ℕ) Refusal) → nat_le (2 ^ 31) size ≡ false → (size == 0) ≡ false → (split && nat_lt segment_bytes size) ≡ true → Follows (big_data size offset) cells old new r → Follows (data_from split size offset small) cells old new r
   data_big r e f g h = far r e f (chosen cells old new r (split && nat_lt segment_bytes size) _ _ g h)
 
-  pub data_piece : (r : Result (List ℕ) Refusal) → nat_le (2 ^ 31) size ≡ false → (size == 0) ≡ false → (split && nat_lt segment_bytes size) ≡ false → Follows (piece size offset) cells old new r → Follows (data_from split size offset small) cells old new r
+  pub data_piece : (r : Result (List ℕ) Refusal) → nat_le (2 ^ 31) size ≡ false → (size == 0) ≡ false → (split && nat_lt segment_bytes size) ≡ false → Follows (cell_prefix size offset) cells old new r → Follows (data_from split size offset small) cells old new r
   data_piece r e f g h = far r e f (not_chosen cells old new r (split && nat_lt segment_bytes size) _ _ g h)

@@ -19,8 +19,8 @@ AreDescriptors bytes kept = (at : ℕ) (descriptor : List ℕ) → descriptor_in
     (cells : Cells) → Shows bytes cells → descriptor_at at cells ≡ record { own = []; lent = at ∷ []; says = Ok descriptor }
 
 -- the descriptors of just these security cells are kept beside those of before
-abbrev pub Keeps : List (ℕ × List ℕ) → List (ℕ × List ℕ) → List ℕ → Type 0
-Keeps old new lent = (at : ℕ) → IsSome (descriptor_in new at) ↔ (IsSome (descriptor_in old at) ⊎ IsIn at lent)
+abbrev pub KeepsDescriptors : List (ℕ × List ℕ) → List (ℕ × List ℕ) → List ℕ → Type 0
+KeepsDescriptors old new lent = (at : ℕ) → IsSome (descriptor_in new at) ↔ (IsSome (descriptor_in old at) ⊎ IsIn at lent)
 
 -- the answer is what the security cell at an offset says, which is lent
 abbrev pub SaysLent : ℕ → Cells → Result (List ℕ) Refusal → Type 0

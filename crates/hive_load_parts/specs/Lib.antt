@@ -1,5 +1,5 @@
-pub mod Reading
+pub mod CellReads
 pub mod Nodes
-pub mod Told
+pub mod PartsOfKey
 pub mod Descriptors
 pub mod Bits

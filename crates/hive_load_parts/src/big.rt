@@ -2,13 +2,13 @@
 ghost use Rattle.std.specs.Prelude.{◌≡◌, ◌<◌, ◌≤◌, ◌*◌, ◌^◌, length};
 ghost use Rattle.hive_records.specs.Readers.{each};
 ghost use Rattle.hive_records.specs.Numbers.{words_from};
-ghost use Rattle.hive_records.specs.Values.{piece, piece_sizes, segments_of, big_data};
-ghost use Rattle.hive_load_parts.specs.Reading.{Spreads, Reads, Works, joined_pieces, size_at};
+ghost use Rattle.hive_records.specs.Values.{cell_prefix, segment_sizes, segments_of, big_data};
+ghost use Rattle.hive_load_parts.specs.CellReads.{Spreads, AnswersLikeReader, Works, joined_prefixes, size_at};
 
-use crate::cells::{look_once, piece};
+use crate::cells::{cell_prefix, look_once};
 use crate::flags::Flags;
 use hive_cells::{Image, Looks};
-use hive_records::{BigData, SEGMENT_BYTES, segment_count, word_at};
+use hive_records::{BigData, SEGMENT_BYTES, segment_count, u32_at};
 use refusals::{Cause, Refusal};
 use std::alloc::Global;
 
@@ -28,7 +28,7 @@ pub(crate) fn big_data(
     at: u32,
 ) -> Result<Vec<u8>, Refusal>
     requires covers { length image.now.bytes ≤ 8 * length seen.old }
-    ensures reads { Reads (λ bytes. bytes.items) (big_data size at) image.now.bytes seen.old seen.new
+    ensures reads { AnswersLikeReader (λ bytes. bytes.items) (big_data size at) image.now.bytes seen.old seen.new
         result }
     ensures covers { length seen.new ≡ length seen.old }
     ensures spreads { Spreads image.now.bytes seen.old seen.new }
@@ -64,8 +64,8 @@ fn segments(
 ) -> Result<Vec<u8>, Refusal>
     requires covers { length image.now.bytes ≤ 8 * length seen.old }
     requires fits { 4 * segments_of size ≤ length list.now }
-    ensures reads { Reads (λ bytes. bytes.items) (joined_pieces
-        (piece_sizes size (words_from list.now 0 4 (segments_of size)))) image.now.bytes seen.old
+    ensures reads { AnswersLikeReader (λ bytes. bytes.items) (joined_prefixes
+        (segment_sizes size (words_from list.now 0 4 (segments_of size)))) image.now.bytes seen.old
         seen.new result }
     ensures covers { length seen.new ≡ length seen.old }
     ensures spreads { Spreads image.now.bytes seen.old seen.new }
@@ -75,8 +75,8 @@ fn segments(
     let mut bytes = Vec::new(alloc);
     for index in 0..count {
         let len = size_at(size, count, index);
-        let at = word_at(list, OFFSET * index);
-        let part = match piece(image, seen, looks, len, at) {
+        let at = u32_at(list, OFFSET * index);
+        let part = match cell_prefix(image, seen, looks, len, at) {
             Ok(part) => part,
             Err(refusal) => return Err(refusal),
         };

@@ -1,8 +1,8 @@
 //! Cells, each looked at once.
 ghost use Rattle.std.specs.Prelude.{◌≡◌, ◌<◌, ◌≤◌, ◌*◌, length, OnOk};
 ghost use Rattle.hive_records.specs.Readers.{look};
-ghost use Rattle.hive_records.specs.Values.{piece};
-ghost use Rattle.hive_load_parts.specs.Reading.{Spreads, Reads, Works, marks_of, set_flags};
+ghost use Rattle.hive_records.specs.Values.{cell_prefix};
+ghost use Rattle.hive_load_parts.specs.CellReads.{Spreads, AnswersLikeReader, Works, marks_of, set_flags};
 
 use crate::flags::Flags;
 use hive_cells::{Image, Looks};
@@ -33,7 +33,7 @@ pub(crate) fn look_once<'a>(
     at: u32,
 ) -> Result<&'a [u8], Refusal>
     requires covers { length image.now.bytes ≤ 8 * length seen.old }
-    ensures reads { Reads (λ lent. lent.now) (look at) image.now.bytes seen.old seen.new result }
+    ensures reads { AnswersLikeReader (λ lent. lent.now) (look at) image.now.bytes seen.old seen.new result }
     ensures covers { length seen.new ≡ length seen.old }
     ensures spreads { Spreads image.now.bytes seen.old seen.new }
     ensures more { OnOk result (set_flags seen.old < set_flags seen.new) }
@@ -53,7 +53,7 @@ pub(crate) fn look_once<'a>(
 
 /// The first bytes of the cell at an offset, which has so many.
 #[tactic(auto, using(crate::proofs::Spread::spreads_on))]
-pub(crate) fn piece<'a>(
+pub(crate) fn cell_prefix<'a>(
     image: &'a Image,
     seen: &mut Flags,
     looks: &mut Looks,
@@ -61,7 +61,7 @@ pub(crate) fn piece<'a>(
     at: u32,
 ) -> Result<&'a [u8], Refusal>
     requires covers { length image.now.bytes ≤ 8 * length seen.old }
-    ensures reads { Reads (λ lent. lent.now) (piece size at) image.now.bytes seen.old seen.new
+    ensures reads { AnswersLikeReader (λ lent. lent.now) (cell_prefix size at) image.now.bytes seen.old seen.new
         result }
     ensures covers { length seen.new ≡ length seen.old }
     ensures spreads { Spreads image.now.bytes seen.old seen.new }

@@ -1,7 +1,7 @@
 //! Descriptors that were read, each held once however many keys name its security cell.
 ghost use Rattle.std.specs.Prelude.{◌≡◌, ◌≢◌, ℕ, List, [], ◌∷◌, true, false, IfOk, IfErr, IsSome, Some, None};
 ghost use Rattle.hive_load_parts.specs.Descriptors.{descriptor_in};
-ghost use Rattle.hive_load_parts.specs.Reading.{marks_of};
+ghost use Rattle.hive_load_parts.specs.CellReads.{marks_of};
 
 use crate::cells::is_marked;
 use crate::flags::Flags;

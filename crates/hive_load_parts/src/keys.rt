@@ -1,16 +1,16 @@
 //! Keys, each with all that is its own alone.
 ghost use Rattle.std.specs.Prelude.{◌≡◌, ◌≢◌, ◌<◌, ◌≤◌, ◌+◌, ◌*◌, length, OnOk};
 ghost use Rattle.hive_cells.specs.Bins.{Cells, Shows};
-ghost use Rattle.hive_tree_model.specs.Loads.{Marks};
-ghost use Rattle.hive_records.specs.Numbers.{nowhere};
+ghost use Rattle.hive_tree_model.specs.Loads.{CellMarks};
+ghost use Rattle.hive_records.specs.Numbers.{nil_offset};
 ghost use Rattle.hive_records.specs.KeyNodes.{class_at, descriptor_at, key_at, lends_in};
-ghost use Rattle.hive_load_parts.specs.Descriptors.{AreDescriptors, Keeps, SaysLent};
-ghost use Rattle.hive_load_parts.specs.Reading.{Spreads, Reads, FollowsIn, Works, KeyWorks, set_flags};
+ghost use Rattle.hive_load_parts.specs.Descriptors.{AreDescriptors, KeepsDescriptors, SaysLent};
+ghost use Rattle.hive_load_parts.specs.CellReads.{Spreads, AnswersLikeReader, FollowsIn, Works, KeyWorks, set_flags};
 
-use crate::cells::{look_once, piece};
+use crate::cells::{cell_prefix, look_once};
 use crate::descriptors::Descriptors;
 use crate::flags::Flags;
-use crate::lists::kids;
+use crate::lists::subkey_list;
 use crate::names::name_of;
 use crate::values::values;
 use hive_cells::{Image, Looks};
@@ -20,9 +20,9 @@ use reg_tree_parts::{Data, Descriptor, Key};
 use std::alloc::Global;
 
 // the offset of none
-const NOWHERE: u32 = 0xffff_ffff;
+const NIL: u32 = 0xffff_ffff;
 
-const _: () = prove!(NOWHERE == 0xffff_ffff);
+const _: () = prove!(NIL == 0xffff_ffff);
 
 // the class of a length
 #[tactic(auto, using(crate::proofs::Spread::spreads_on))]
@@ -35,7 +35,7 @@ fn class(
     at: u32,
 ) -> Result<Data, Refusal>
     requires covers { length image.now.bytes ≤ 8 * length seen.old }
-    ensures reads { Reads (λ class. class) (class_at len at) image.now.bytes seen.old seen.new result }
+    ensures reads { AnswersLikeReader (λ class. class) (class_at len at) image.now.bytes seen.old seen.new result }
     ensures covers { length seen.new ≡ length seen.old }
     ensures spreads { Spreads image.now.bytes seen.old seen.new }
     ensures works { Works looks.old looks.new seen.old seen.new result }
@@ -43,7 +43,7 @@ fn class(
     if len == 0 {
         return Ok(Data::new(alloc, &[])?);
     }
-    let bytes = match piece(image, seen, looks, len as usize, at) {
+    let bytes = match cell_prefix(image, seen, looks, len as usize, at) {
         Ok(bytes) => bytes,
         Err(refusal) => return Err(refusal),
     };
@@ -52,7 +52,7 @@ fn class(
 
 // the descriptor in the security cell at an offset, which is lent and so not marked
 fn security(alloc: Global, image: &Image, looks: &mut Looks, at: u32) -> Result<Descriptor, Refusal>
-    requires { at ≢ nowhere }
+    requires { at ≢ nil_offset }
     ensures reads { (cells : Cells) → Shows image.now.bytes cells → SaysLent at cells result }
     ensures look { looks.new ≤ looks.old + 1 }
 {
@@ -76,14 +76,14 @@ fn descriptor(
     at: u32,
 ) -> Result<Descriptor, Refusal>
     requires { AreDescriptors image.now.bytes known.old }
-    ensures reads { (cells : Cells) → Shows image.now.bytes cells → (marks : Marks) → FollowsIn
+    ensures reads { (cells : Cells) → Shows image.now.bytes cells → (marks : CellMarks) → FollowsIn
         (λ its. its) (descriptor_at at) cells marks marks result }
     ensures known { AreDescriptors image.now.bytes known.new }
     ensures keeps { (cells : Cells) → Shows image.now.bytes cells →
-        OnOk result (Keeps known.old known.new (descriptor_at at cells).lent) }
+        OnOk result (KeepsDescriptors known.old known.new (descriptor_at at cells).lent) }
     ensures look { looks.new ≤ looks.old + 1 }
 {
-    if at == NOWHERE {
+    if at == NIL {
         return Ok(Descriptor::new(alloc, &[])?);
     }
     if let Some(descriptor) = known.get(at)? {
@@ -115,7 +115,7 @@ pub fn key(
 ) -> Result<(Key, Vec<u32>), Refusal>
     requires covers { length image.now.bytes ≤ 8 * length seen.old }
     requires known { AreDescriptors image.now.bytes known.old }
-    ensures reads { Reads (λ its. (its.0, its.1.items)) (key_at split at) image.now.bytes seen.old
+    ensures reads { AnswersLikeReader (λ its. (its.0, its.1.items)) (key_at split at) image.now.bytes seen.old
         seen.new result }
     ensures covers { length seen.new ≡ length seen.old }
     ensures spreads { Spreads image.now.bytes seen.old seen.new }
@@ -123,7 +123,7 @@ pub fn key(
     ensures more { OnOk result (set_flags seen.old < set_flags seen.new) }
     ensures known { AreDescriptors image.now.bytes known.new }
     ensures keeps { (cells : Cells) → Shows image.now.bytes cells →
-        OnOk result (Keeps known.old known.new (lends_in split cells at)) }
+        OnOk result (KeepsDescriptors known.old known.new (lends_in split cells at)) }
 {
     let cell = match look_once(image, seen, looks, at) {
         Ok(cell) => cell,
@@ -153,13 +153,20 @@ pub fn key(
         Ok(values) => values,
         Err(refusal) => return Err(refusal),
     };
-    let kids = match kids(alloc, image, seen, looks, node.subkey_count, node.subkeys) {
-        Ok(kids) => kids,
+    let subkey_list = match subkey_list(
+        alloc,
+        image,
+        seen,
+        looks,
+        node.subkey_count,
+        node.subkeys,
+    ) {
+        Ok(subkey_list) => subkey_list,
         Err(refusal) => return Err(refusal),
     };
     let name = name_of(alloc, &node.name)?;
     let key = Key::new(
         alloc, name, class, node.flags, descriptor, node.time, values,
     )?;
-    Ok((key, kids))
+    Ok((key, subkey_list))
 }

@@ -2,12 +2,12 @@
 ghost use Rattle.std.specs.Prelude.{◌≡◌, ◌⊎◌, ℕ, Bool, List, [], ◌∷◌, ◌++◌, map, Ok, Err};
 ghost use Rattle.hive_cells.specs.Bins.{Cells};
 ghost use Rattle.hive_load_parts.specs.Nodes.{AreListed};
-ghost use Rattle.hive_load_parts.specs.Told.{parts_at};
+ghost use Rattle.hive_load_parts.specs.PartsOfKey.{parts_at};
 ghost use Rattle.hive_records.specs.Follows.{Follows};
 ghost use Rattle.hive_records.specs.KeyNodes.{key_at, keys_in, trail_in};
 ghost use Rattle.hive_records.specs.Nodes.{AreNodesOf, IsNodeOf};
-ghost use Rattle.hive_tree_model.specs.Keys.{Keys, Parts, names};
-ghost use Rattle.hive_tree_model.specs.Loads.{Marked, Marks, Told, with_last};
+ghost use Rattle.hive_tree_model.specs.Keys.{Keys, KeyParts, names};
+ghost use Rattle.hive_tree_model.specs.Loads.{Marked, CellMarks, HasFault, with_last};
 ghost use Rattle.reg_tree_parts.specs.Nodes.{Entries};
 ghost use Rattle.reg_tree_parts.specs.Rows.{Row};
 ghost use Rattle.refusals.specs.declared.refusal.Refusal.{Refusal};
@@ -16,14 +16,14 @@ ghost use Rattle.refusals.specs.declared.refusal.Cause.TheVariants.{BadName, Sha
 
 /// A law: a key that was read has the parts that the law of shapes asks for, and its own cells are marked; a refusal of
 /// one is want of memory, or a fault that the law tells of, under the marks of before.
-pub fn keys_are_told()
-    ensures parts { (split : Bool) (cells : Cells) (at : ℕ) (old new : Marks) (row : Row)
-        (kids : List ℕ) → Follows (key_at split at) cells old new (Ok (row, kids)) →
-        (keys_in split cells at ≡ Ok (parts_at split cells at row kids))
+pub fn keys_are_read()
+    ensures parts { (split : Bool) (cells : Cells) (at : ℕ) (old new : CellMarks) (row : Row)
+        (subkey_list : List ℕ) → Follows (key_at split at) cells old new (Ok (row, subkey_list)) →
+        (keys_in split cells at ≡ Ok (parts_at split cells at row subkey_list))
         × Marked old new (trail_in split cells at) }
-    ensures refused { (split : Bool) (cells : Cells) (at : ℕ) (old new : Marks) (why : Refusal) →
+    ensures refused { (split : Bool) (cells : Cells) (at : ℕ) (old new : CellMarks) (why : Refusal) →
         Follows (key_at split at) cells old new (Err why) → (why ≡ NoMemory)
-        ⊎ Told (trail_in split cells) (keys_in split cells) (HiveDamaged 0 BadName)
+        ⊎ HasFault (trail_in split cells) (keys_in split cells) (HiveDamaged 0 BadName)
         (HiveDamaged 0 Shared) old at why }
 {}
 
@@ -32,7 +32,7 @@ pub fn keys_are_told()
 pub fn nodes_as_listed()
     ensures rows { (nodes : List (List ℕ × Entries)) (keys : Keys Row) →
         AreListed nodes keys → AreNodesOf nodes keys }
-    ensures more { (nodes : List (List ℕ × Entries)) (keys : Keys Row) (at : ℕ) (parts : Parts Row)
+    ensures more { (nodes : List (List ℕ × Entries)) (keys : Keys Row) (at : ℕ) (parts : KeyParts Row)
         (below : Keys Row) (node : Entries) → AreListed nodes keys → IsNodeOf node parts below →
         AreListed (nodes ++ (parts.name, node) ∷ []) (with_last keys at parts below) }
     ensures names { (nodes : List (List ℕ × Entries)) (keys : Keys Row) →

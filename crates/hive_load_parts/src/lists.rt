@@ -1,14 +1,14 @@
 //! Lists of subkeys.
 ghost use Rattle.std.specs.Prelude.{◌≡◌, ◌≤◌, ◌*◌, length, IfOk};
 ghost use Rattle.hive_records.specs.Readers.{each};
-ghost use Rattle.hive_records.specs.Lists.{leaf_at, kids_at};
-ghost use Rattle.hive_records.specs.GoesOn.{elements_of, list_from};
-ghost use Rattle.hive_load_parts.specs.Reading.{Spreads, Reads, Works, joined_leaves};
+ghost use Rattle.hive_records.specs.Lists.{leaf_at, subkeys_at};
+ghost use Rattle.hive_records.specs.RecordReaders.{elements_of, list_from};
+ghost use Rattle.hive_load_parts.specs.CellReads.{Spreads, AnswersLikeReader, Works, joined_leaves};
 
 use crate::cells::look_once;
 use crate::flags::Flags;
 use hive_cells::{Image, Looks};
-use hive_records::{SubkeyList, word_at};
+use hive_records::{SubkeyList, u32_at};
 use refusals::{Cause, Refusal};
 use std::alloc::{AllocError, Global};
 
@@ -20,7 +20,7 @@ fn elements(alloc: Global, list: &SubkeyList) -> Result<Vec<u32>, AllocError>
 {
     let mut found = Vec::new(alloc);
     for index in 0..list.count as usize {
-        found.push(word_at(list.elements, list.stride * index))?;
+        found.push(u32_at(list.elements, list.stride * index))?;
     }
     Ok(found)
 }
@@ -35,7 +35,7 @@ fn leaf(
     at: u32,
 ) -> Result<Vec<u32>, Refusal>
     requires covers { length image.now.bytes ≤ 8 * length seen.old }
-    ensures reads { Reads (λ kids. kids.items) (leaf_at at) image.now.bytes seen.old seen.new result }
+    ensures reads { AnswersLikeReader (λ subkey_list. subkey_list.items) (leaf_at at) image.now.bytes seen.old seen.new result }
     ensures covers { length seen.new ≡ length seen.old }
     ensures spreads { Spreads image.now.bytes seen.old seen.new }
     ensures works { Works looks.old looks.new seen.old seen.new result }
@@ -64,21 +64,21 @@ fn leaves(
     lists: &[u32],
 ) -> Result<Vec<u32>, Refusal>
     requires covers { length image.now.bytes ≤ 8 * length seen.old }
-    ensures reads { Reads (λ kids. kids.items) (joined_leaves lists.now) image.now.bytes seen.old
+    ensures reads { AnswersLikeReader (λ subkey_list. subkey_list.items) (joined_leaves lists.now) image.now.bytes seen.old
         seen.new result }
     ensures covers { length seen.new ≡ length seen.old }
     ensures spreads { Spreads image.now.bytes seen.old seen.new }
     ensures works { Works looks.old looks.new seen.old seen.new result }
 {
-    let mut kids = Vec::new(alloc);
+    let mut subkey_list = Vec::new(alloc);
     for at in lists {
         let more = match leaf(alloc, image, seen, looks, *at) {
             Ok(more) => more,
             Err(refusal) => return Err(refusal),
         };
-        kids.extend_from_slice(&more)?;
+        subkey_list.extend_from_slice(&more)?;
     }
-    Ok(kids)
+    Ok(subkey_list)
 }
 
 // the subkeys that a list leads to
@@ -93,7 +93,7 @@ fn listed(
     requires covers { length image.now.bytes ≤ 8 * length seen.old }
     requires wide { 4 ≤ list.now.stride }
     requires fits { list.now.stride * list.now.count ≤ length list.now.elements.now }
-    ensures reads { Reads (λ kids. kids.items) (list_from list.now) image.now.bytes seen.old seen.new
+    ensures reads { AnswersLikeReader (λ subkey_list. subkey_list.items) (list_from list.now) image.now.bytes seen.old seen.new
         result }
     ensures covers { length seen.new ≡ length seen.old }
     ensures spreads { Spreads image.now.bytes seen.old seen.new }
@@ -108,7 +108,7 @@ fn listed(
 
 /// The subkeys of a key that says how many they are and where their list is.
 #[tactic(auto, using(crate::proofs::Spread::spreads_on))]
-pub(crate) fn kids(
+pub(crate) fn subkey_list(
     alloc: Global,
     image: &Image,
     seen: &mut Flags,
@@ -117,7 +117,7 @@ pub(crate) fn kids(
     at: u32,
 ) -> Result<Vec<u32>, Refusal>
     requires covers { length image.now.bytes ≤ 8 * length seen.old }
-    ensures reads { Reads (λ kids. kids.items) (kids_at count at) image.now.bytes seen.old seen.new
+    ensures reads { AnswersLikeReader (λ subkey_list. subkey_list.items) (subkeys_at count at) image.now.bytes seen.old seen.new
         result }
     ensures covers { length seen.new ≡ length seen.old }
     ensures spreads { Spreads image.now.bytes seen.old seen.new }

@@ -1,6 +1,6 @@
 //! Names as a tree holds them.
 ghost use Rattle.std.specs.Prelude.{◌≡◌, IfOk};
-ghost use Rattle.hive_records.specs.GoesOn.{units_of};
+ghost use Rattle.hive_records.specs.RecordReaders.{units_of};
 
 use hive_records::StoredName;
 use reg_names::Name;

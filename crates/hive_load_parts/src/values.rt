@@ -5,16 +5,16 @@ ghost use Rattle.refusals.specs.declared.refusal.Cause.TheVariants.{BadName};
 ghost use Rattle.hive_records.specs.Readers.{each};
 ghost use Rattle.hive_records.specs.Numbers.{words_from};
 ghost use Rattle.hive_records.specs.Names.{all_apart};
-ghost use Rattle.hive_records.specs.GoesOn.{data_from};
+ghost use Rattle.hive_records.specs.RecordReaders.{data_from};
 ghost use Rattle.hive_records.specs.Values.{segment_bytes, value_at, values_at, map_of};
-ghost use Rattle.hive_load_parts.specs.Reading.{Spreads, Reads, Works, names_in};
+ghost use Rattle.hive_load_parts.specs.CellReads.{Spreads, AnswersLikeReader, Works, names_in};
 
 use crate::big::big_data;
-use crate::cells::{look_once, piece};
+use crate::cells::{cell_prefix, look_once};
 use crate::flags::Flags;
 use crate::names::name_of;
 use hive_cells::{Image, Looks};
-use hive_records::{SEGMENT_BYTES, ValueRec, word_at};
+use hive_records::{SEGMENT_BYTES, ValueRec, u32_at};
 use refusals::{Cause, Refusal};
 use reg_tree_parts::{Data, Value, Values};
 use std::alloc::Global;
@@ -40,7 +40,7 @@ fn data_of(
     value: &ValueRec,
 ) -> Result<Data, Refusal>
     requires covers { length image.now.bytes ≤ 8 * length seen.old }
-    ensures reads { Reads (λ its. its) (data_from split value.now.size value.now.offset
+    ensures reads { AnswersLikeReader (λ its. its) (data_from split value.now.size value.now.offset
         value.now.small.now) image.now.bytes seen.old seen.new result }
     ensures covers { length seen.new ≡ length seen.old }
     ensures spreads { Spreads image.now.bytes seen.old seen.new }
@@ -61,7 +61,7 @@ fn data_of(
         };
         return Ok(Data::from_vec(bytes)?);
     }
-    let bytes = match piece(image, seen, looks, value.size as usize, value.offset) {
+    let bytes = match cell_prefix(image, seen, looks, value.size as usize, value.offset) {
         Ok(bytes) => bytes,
         Err(refusal) => return Err(refusal),
     };
@@ -86,7 +86,7 @@ pub(crate) fn value(
     at: u32,
 ) -> Result<Value, Refusal>
     requires covers { length image.now.bytes ≤ 8 * length seen.old }
-    ensures reads { Reads (λ value. value) (value_at split at) image.now.bytes seen.old seen.new
+    ensures reads { AnswersLikeReader (λ value. value) (value_at split at) image.now.bytes seen.old seen.new
         result }
     ensures covers { length seen.new ≡ length seen.old }
     ensures spreads { Spreads image.now.bytes seen.old seen.new }
@@ -124,7 +124,7 @@ pub(crate) fn values(
     at: u32,
 ) -> Result<Values, Refusal>
     requires covers { length image.now.bytes ≤ 8 * length seen.old }
-    ensures reads { Reads (λ values. values) (values_at split count at) image.now.bytes seen.old
+    ensures reads { AnswersLikeReader (λ values. values) (values_at split count at) image.now.bytes seen.old
         seen.new result }
     ensures covers { length seen.new ≡ length seen.old }
     ensures spreads { Spreads image.now.bytes seen.old seen.new }
@@ -160,7 +160,7 @@ fn listed(
 ) -> Result<Vec<Value>, Refusal>
     requires covers { length image.now.bytes ≤ 8 * length seen.old }
     requires fits { 4 * count ≤ length list.now }
-    ensures reads { Reads (λ found. found.items) (each (value_at split)
+    ensures reads { AnswersLikeReader (λ found. found.items) (each (value_at split)
         (words_from list.now 0 4 count)) image.now.bytes seen.old seen.new result }
     ensures covers { length seen.new ≡ length seen.old }
     ensures spreads { Spreads image.now.bytes seen.old seen.new }
@@ -168,7 +168,7 @@ fn listed(
 {
     let mut found = Vec::new(alloc);
     for index in 0..count as usize {
-        let at = word_at(list, OFFSET * index);
+        let at = u32_at(list, OFFSET * index);
         let value = match value(alloc, image, seen, looks, split, at) {
             Ok(value) => value,
             Err(refusal) => return Err(refusal),

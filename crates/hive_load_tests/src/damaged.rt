@@ -1,5 +1,5 @@
 //! Hives that stand for no tree.
-use crate::hives::{NO, Says, hive};
+use crate::hives::{NIL, Says, hive};
 use crate::listings::{listed_from, refused};
 use refusals::{Cause, Refusal};
 use std::alloc::Global;
@@ -30,18 +30,18 @@ const SHARED: Option<Refusal> = Some(Refusal::HiveDamaged {
 });
 
 // a root with one subkey or two, whose list is in the next cell
-const ONE: Says = Says::Key(b"R", (1, 1), (0, NO), NO);
+const ONE: Says = Says::Key(b"R", (1, 1), (0, NIL), NIL);
 
-const TWO: Says = Says::Key(b"R", (2, 1), (0, NO), NO);
+const TWO: Says = Says::Key(b"R", (2, 1), (0, NIL), NIL);
 
 // keys without anything
-const A: Says = Says::Key(b"a", (0, NO), (0, NO), NO);
+const A: Says = Says::Key(b"a", (0, NIL), (0, NIL), NIL);
 
-const B: Says = Says::Key(b"b", (0, NO), (0, NO), NO);
+const B: Says = Says::Key(b"b", (0, NIL), (0, NIL), NIL);
 
-const OTHER_A: Says = Says::Key(b"A", (0, NO), (0, NO), NO);
+const OTHER_A: Says = Says::Key(b"A", (0, NIL), (0, NIL), NIL);
 
-const NAMELESS: Says = Says::Key(b"", (0, NO), (0, NO), NO);
+const NAMELESS: Says = Says::Key(b"", (0, NIL), (0, NIL), NIL);
 
 // cells, why they are refused, and what is wrong with them
 const FAULTS: [(&[Says], Option<Refusal>, &str); 12] = [
@@ -86,7 +86,7 @@ const FAULTS: [(&[Says], Option<Refusal>, &str); 12] = [
         "a key listed twice",
     ),
     (
-        &[ONE, Says::List(b"li", 4, &[NO])],
+        &[ONE, Says::List(b"li", 4, &[NIL])],
         BAD_OFFSET,
         "a subkey that is no cell",
     ),
@@ -97,7 +97,7 @@ const FAULTS: [(&[Says], Option<Refusal>, &str); 12] = [
     ),
     (
         &[
-            Says::Key(b"R", (0, NO), (2, 1), NO),
+            Says::Key(b"R", (0, NIL), (2, 1), NIL),
             Says::Values(&[2, 3]),
             Says::Large(b"v", 5, 4),
             Says::Large(b"w", 5, 4),
@@ -108,7 +108,7 @@ const FAULTS: [(&[Says], Option<Refusal>, &str); 12] = [
     ),
     (
         &[
-            Says::Key(b"R", (0, NO), (1, 1), 3),
+            Says::Key(b"R", (0, NIL), (1, 1), 3),
             Says::Values(&[2]),
             Says::Large(b"v", 5, 3),
             Says::Security(b"sd"),
@@ -118,9 +118,9 @@ const FAULTS: [(&[Says], Option<Refusal>, &str); 12] = [
     ),
     (
         &[
-            Says::Key(b"R", (1, 1), (0, NO), 3),
+            Says::Key(b"R", (1, 1), (0, NIL), 3),
             Says::List(b"li", 4, &[2]),
-            Says::Key(b"a", (0, NO), (1, 4), NO),
+            Says::Key(b"a", (0, NIL), (1, 4), NIL),
             Says::Security(b"sd"),
             Says::Values(&[5]),
             Says::Large(b"v", 5, 3),

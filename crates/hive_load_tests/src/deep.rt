@@ -1,5 +1,5 @@
 //! Keys one below the other.
-use crate::hives::{NO, hive, put_list, put_plain_key};
+use crate::hives::{NIL, hive, put_list, put_plain_key};
 use crate::listings::refused;
 use refusals::Refusal;
 use std::alloc::{AllocError, Global};
@@ -13,7 +13,7 @@ fn chain(alloc: Global, keys: usize) -> Result<Vec<u8>, AllocError> {
         put_plain_key(&mut bytes, cell, b"k", 1, list);
         put_list(&mut bytes, list, b"li", 4, &[cell.saturating_add(2)]);
     }
-    put_plain_key(&mut bytes, keys.saturating_mul(2), b"k", 0, NO);
+    put_plain_key(&mut bytes, keys.saturating_mul(2), b"k", 0, NIL);
     Ok(bytes)
 }
 

@@ -3,7 +3,7 @@ use byteorder::{ByteOrder, LittleEndian};
 use std::alloc::{AllocError, Global};
 
 /// The number of no cell.
-pub const NO: usize = usize::MAX;
+pub const NIL: usize = usize::MAX;
 
 const BIN: usize = 4096;
 
@@ -23,7 +23,7 @@ fn place(cell: usize) -> usize {
 
 /// The offset of a cell, or of none.
 pub fn offset(cell: usize) -> u32 {
-    if cell == NO {
+    if cell == NIL {
         return 0xffff_ffff;
     }
     u32::try_from(place(cell)).unwrap_or(0xffff_ffff)
@@ -39,13 +39,13 @@ pub fn put(bytes: &mut Vec<u8>, at: usize, what: &[u8]) {
 }
 
 // the same of a number of four bytes, and of two
-fn put_word(bytes: &mut Vec<u8>, at: usize, word: u32) {
+fn put_u32(bytes: &mut Vec<u8>, at: usize, word: u32) {
     let mut field = [0; 4];
     LittleEndian::write_u32(&mut field, word);
     put(bytes, at, &field);
 }
 
-fn put_half(bytes: &mut Vec<u8>, at: usize, half: usize) {
+fn put_u16(bytes: &mut Vec<u8>, at: usize, half: usize) {
     let mut field = [0; 2];
     LittleEndian::write_u16(&mut field, u16::try_from(half).unwrap_or(0));
     put(bytes, at, &field);
@@ -55,12 +55,12 @@ fn put_half(bytes: &mut Vec<u8>, at: usize, half: usize) {
 fn put_bin(bytes: &mut Vec<u8>, bin: usize) {
     let at = bin.saturating_mul(BIN);
     put(bytes, at, b"hbin");
-    put_word(bytes, at.saturating_add(4), u32::try_from(at).unwrap_or(0));
-    put_word(bytes, at.saturating_add(8), 4096);
-    put_word(bytes, at.saturating_add(4000), 96);
+    put_u32(bytes, at.saturating_add(4), u32::try_from(at).unwrap_or(0));
+    put_u32(bytes, at.saturating_add(8), 4096);
+    put_u32(bytes, at.saturating_add(4000), 96);
     let first = bin.saturating_mul(CELLS_IN_BIN);
     for cell in 0..CELLS_IN_BIN {
-        put_word(bytes, place(first.saturating_add(cell)), 0xffff_ff80);
+        put_u32(bytes, place(first.saturating_add(cell)), 0xffff_ff80);
     }
 }
 
@@ -87,25 +87,25 @@ fn put_key(
     bytes: &mut Vec<u8>,
     at: usize,
     name: &[u8],
-    kids: (u32, usize),
+    subkey_list: (u32, usize),
     values: (u32, usize),
     security: usize,
 ) {
     put(bytes, at, b"nk\x20\0");
-    put_word(bytes, at.saturating_add(4), 7);
-    put_word(bytes, at.saturating_add(20), kids.0);
-    put_word(bytes, at.saturating_add(28), offset(kids.1));
-    put_word(bytes, at.saturating_add(36), values.0);
-    put_word(bytes, at.saturating_add(40), offset(values.1));
-    put_word(bytes, at.saturating_add(44), offset(security));
-    put_word(bytes, at.saturating_add(48), 0xffff_ffff);
-    put_half(bytes, at.saturating_add(72), name.len());
+    put_u32(bytes, at.saturating_add(4), 7);
+    put_u32(bytes, at.saturating_add(20), subkey_list.0);
+    put_u32(bytes, at.saturating_add(28), offset(subkey_list.1));
+    put_u32(bytes, at.saturating_add(36), values.0);
+    put_u32(bytes, at.saturating_add(40), offset(values.1));
+    put_u32(bytes, at.saturating_add(44), offset(security));
+    put_u32(bytes, at.saturating_add(48), 0xffff_ffff);
+    put_u16(bytes, at.saturating_add(72), name.len());
     put(bytes, at.saturating_add(76), name);
 }
 
 fn put_cells(bytes: &mut Vec<u8>, at: usize, stride: usize, cells: &[usize]) {
     for (i, cell) in cells.iter().enumerate() {
-        put_word(
+        put_u32(
             bytes,
             at.saturating_add(i.saturating_mul(stride)),
             offset(*cell),
@@ -117,22 +117,22 @@ fn put_cells(bytes: &mut Vec<u8>, at: usize, stride: usize, cells: &[usize]) {
 pub fn put_list(bytes: &mut Vec<u8>, cell: usize, letters: &[u8], stride: usize, cells: &[usize]) {
     let at = place(cell).saturating_add(4);
     put(bytes, at, letters);
-    put_half(bytes, at.saturating_add(2), cells.len());
+    put_u16(bytes, at.saturating_add(2), cells.len());
     put_cells(bytes, at.saturating_add(4), stride, cells);
 }
 
 /// A key without values and security cell.
 pub fn put_plain_key(bytes: &mut Vec<u8>, cell: usize, name: &[u8], count: u32, list: usize) {
     let at = place(cell).saturating_add(4);
-    put_key(bytes, at, name, (count, list), (0, NO), NO);
+    put_key(bytes, at, name, (count, list), (0, NIL), NIL);
 }
 
 fn put_value(bytes: &mut Vec<u8>, at: usize, name: &[u8], size: u32) {
     put(bytes, at, b"vk");
-    put_half(bytes, at.saturating_add(2), name.len());
-    put_word(bytes, at.saturating_add(4), size);
-    put_word(bytes, at.saturating_add(12), 3);
-    put_half(bytes, at.saturating_add(16), 1);
+    put_u16(bytes, at.saturating_add(2), name.len());
+    put_u32(bytes, at.saturating_add(4), size);
+    put_u32(bytes, at.saturating_add(12), 3);
+    put_u16(bytes, at.saturating_add(16), 1);
     put(bytes, at.saturating_add(20), name);
 }
 
@@ -144,20 +144,27 @@ fn put_small(bytes: &mut Vec<u8>, at: usize, name: &[u8], its: &[u8]) {
 
 fn put_large(bytes: &mut Vec<u8>, at: usize, name: &[u8], size: u32, cell: usize) {
     put_value(bytes, at, name, size);
-    put_word(bytes, at.saturating_add(8), offset(cell));
+    put_u32(bytes, at.saturating_add(8), offset(cell));
 }
 
 fn put_security(bytes: &mut Vec<u8>, at: usize, descriptor: &[u8]) {
     let size = u32::try_from(descriptor.len()).unwrap_or(0);
     put(bytes, at, b"sk");
-    put_word(bytes, at.saturating_add(16), size);
+    put_u32(bytes, at.saturating_add(16), size);
     put(bytes, at.saturating_add(20), descriptor);
 }
 
 fn put_says(bytes: &mut Vec<u8>, cell: usize, says: Says) {
     let at = place(cell).saturating_add(4);
     match says {
-        Says::Key(name, kids, values, security) => put_key(bytes, at, name, kids, values, security),
+        Says::Key(name, subkey_list, values, security) => put_key(
+            bytes,
+            at,
+            name,
+            subkey_list,
+            values,
+            security,
+        ),
         Says::List(letters, stride, cells) => put_list(bytes, cell, letters, stride, cells),
         Says::Values(cells) => put_cells(bytes, at, 4, cells),
         Says::Small(name, its) => put_small(bytes, at, name, its),

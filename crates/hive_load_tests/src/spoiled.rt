@@ -1,5 +1,5 @@
 //! A small hive with each byte spoiled in turn.
-use crate::hives::{NO, Says, hive, put};
+use crate::hives::{NIL, Says, hive, put};
 use crate::listings::listed;
 use refusals::Refusal;
 use std::alloc::{AllocError, Global};
@@ -8,7 +8,7 @@ use std::alloc::{AllocError, Global};
 const SMALL: [Says; 7] = [
     Says::Key(b"R", (1, 1), (1, 3), 6),
     Says::List(b"lh", 8, &[2]),
-    Says::Key(b"k", (0, NO), (0, NO), 6),
+    Says::Key(b"k", (0, NIL), (0, NIL), 6),
     Says::Values(&[4]),
     Says::Large(b"w", 5, 5),
     Says::Bytes(b"fives"),

@@ -1,38 +1,38 @@
 //! Hives that stand for a tree.
-use crate::hives::{NO, Says, hive};
+use crate::hives::{NIL, Says, hive};
 use crate::listings::listed;
 use refusals::Refusal;
 use std::alloc::Global;
 
 // a root alone
-const ALONE: &[Says] = &[Says::Key(b"R", (0, NO), (0, NO), NO)];
+const ALONE: &[Says] = &[Says::Key(b"R", (0, NIL), (0, NIL), NIL)];
 
 // two subkeys, not in order
 const TWO: &[Says] = &[
-    Says::Key(b"R", (2, 1), (0, NO), NO),
+    Says::Key(b"R", (2, 1), (0, NIL), NIL),
     Says::List(b"li", 4, &[3, 2]),
-    Says::Key(b"a", (0, NO), (0, NO), NO),
-    Says::Key(b"B", (0, NO), (0, NO), NO),
+    Says::Key(b"a", (0, NIL), (0, NIL), NIL),
+    Says::Key(b"B", (0, NIL), (0, NIL), NIL),
 ];
 
 // a list of lists, one of each kind
 const LISTS: &[Says] = &[
-    Says::Key(b"R", (4, 1), (0, NO), NO),
+    Says::Key(b"R", (4, 1), (0, NIL), NIL),
     Says::List(b"ri", 4, &[2, 3, 4]),
     Says::List(b"li", 4, &[5, 6]),
     Says::List(b"lf", 8, &[7]),
     Says::List(b"lh", 8, &[8]),
-    Says::Key(b"c", (0, NO), (0, NO), NO),
-    Says::Key(b"a", (0, NO), (0, NO), NO),
-    Says::Key(b"d", (0, NO), (0, NO), NO),
-    Says::Key(b"b", (0, NO), (0, NO), NO),
+    Says::Key(b"c", (0, NIL), (0, NIL), NIL),
+    Says::Key(b"a", (0, NIL), (0, NIL), NIL),
+    Says::Key(b"d", (0, NIL), (0, NIL), NIL),
+    Says::Key(b"b", (0, NIL), (0, NIL), NIL),
 ];
 
 // values, one of them in a cell, and two keys that name one security cell
 const FULL: &[Says] = &[
     Says::Key(b"R", (1, 1), (2, 3), 6),
     Says::List(b"lh", 8, &[2]),
-    Says::Key(b"k", (0, NO), (0, NO), 6),
+    Says::Key(b"k", (0, NIL), (0, NIL), 6),
     Says::Values(&[5, 4]),
     Says::Small(b"x", b"four"),
     Says::Large(b"w", 5, 7),
@@ -42,12 +42,12 @@ const FULL: &[Says] = &[
 
 // three levels
 const LEVELS: &[Says] = &[
-    Says::Key(b"R", (1, 1), (0, NO), NO),
+    Says::Key(b"R", (1, 1), (0, NIL), NIL),
     Says::List(b"li", 4, &[2]),
-    Says::Key(b"a", (2, 3), (0, NO), NO),
+    Says::Key(b"a", (2, 3), (0, NIL), NIL),
     Says::List(b"li", 4, &[4, 5]),
-    Says::Key(b"c", (0, NO), (0, NO), NO),
-    Says::Key(b"b", (0, NO), (0, NO), NO),
+    Says::Key(b"c", (0, NIL), (0, NIL), NIL),
+    Says::Key(b"b", (0, NIL), (0, NIL), NIL),
 ];
 
 // cells, and the tree that they stand for

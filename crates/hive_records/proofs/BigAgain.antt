@@ -3,15 +3,15 @@ use Rattle.std.proofs.Common.{◌≡◌, ◌<◌, ◌-◌, ◌*◌, ◌^◌, ℕ
 use Rattle.std.proofs.lemmas.Bool.{lt-leb}
 use Rattle.std.specs.List.{AllByRecursion}
 use Rattle.reg_tree_parts.specs.declared.value.Value.{Value}
-use Rattle.hive_cells.specs.Tiles.{word_at}
+use Rattle.hive_cells.specs.Tiles.{u32_at}
 use Rattle.hive_records.specs.Readers.{Reader, look, each}
 use Rattle.hive_cells.specs.Bins.{Cells}
-use Rattle.hive_records.specs.Numbers.{half_at, words_from, begins_with}
-use Rattle.hive_records.specs.Values.{piece, segments_of, piece_sizes, big_data, data_of, value_at}
-use Rattle.hive_records.specs.Fields.{Gives, Holds}
-use Rattle.hive_records.specs.ListTexts.{offsets_text, AreOffsets}
-use Rattle.hive_records.specs.ValueTexts.{large_value, Fits}
-use Rattle.hive_records.specs.BigTexts.{Segment, big_text, segment_places, together, AreFull}
+use Rattle.hive_records.specs.Numbers.{u16_at, words_from, begins_with}
+use Rattle.hive_records.specs.Values.{cell_prefix, segments_of, segment_sizes, big_data, data_of, value_at}
+use Rattle.hive_records.specs.Fields.{Gives, CellHolds}
+use Rattle.hive_records.specs.ListEncodings.{offsets_bytes, AreOffsets}
+use Rattle.hive_records.specs.ValueEncodings.{large_value, ValueIsEncodable}
+use Rattle.hive_records.specs.BigDataEncodings.{Segment, big_data_bytes, segment_offsets, joined_segments, AreFull}
 use Rattle.hive_records.proofs.StepsAgain.{both, gives_on, gives_last, gives_rule, gives_yes, gives_no, gives_look}
 use Rattle.hive_records.proofs.NumbersAgain.{half_back, word_back}
 use Rattle.hive_records.proofs.WordsAgain.{offsets_back, offsets_length}
@@ -19,97 +19,97 @@ use Rattle.hive_records.proofs.ValuesAgain.{piece_back, value_reads}
 use Rattle.hive_records.proofs.ManyAgain.{map_length, each_given}
 
 abbrev pieces : List Segment → List (ℕ × ℕ)
-pieces segments = map (λ (s : Segment). (length s.text, s.at)) segments
+pieces segments = map (λ (s : Segment). (length s.encoding, s.at)) segments
 
-sizes_back : (segments : List Segment) → AreFull segments → piece_sizes (length (together segments)) (segment_places segments) ≡ pieces segments
+sizes_back : (segments : List Segment) → AreFull segments → segment_sizes (length (joined_segments segments)) (segment_offsets segments) ≡ pieces segments
 sizes_back [] h = absurd h
-sizes_back (s ∷ []) h = ap (λ (n : ℕ). (n, s.at) ∷ []) (let l = length-append s.text [] in omega (arith, l))
+sizes_back (s ∷ []) h = ap (λ (n : ℕ). (n, s.at) ∷ []) (let l = length-append s.encoding [] in omega (arith, l))
 sizes_back (s ∷ t ∷ rest) h =
-    ap (λ (n : ℕ). (n, s.at) ∷ piece_sizes (length (together (s ∷ t ∷ rest)) - 16_344) (segment_places (t ∷ rest))) (sym h.0)
-    ∙ ap (λ (n : ℕ). (length s.text, s.at) ∷ piece_sizes n (segment_places (t ∷ rest))) (let l = length-append s.text (together (t ∷ rest)) in let e = h.0 in omega (arith, l, e))
-    ∙ ap (λ (z : List (ℕ × ℕ)). (length s.text, s.at) ∷ z) (sizes_back (t ∷ rest) h.1)
+    ap (λ (n : ℕ). (n, s.at) ∷ segment_sizes (length (joined_segments (s ∷ t ∷ rest)) - 16_344) (segment_offsets (t ∷ rest))) (sym h.0)
+    ∙ ap (λ (n : ℕ). (length s.encoding, s.at) ∷ segment_sizes n (segment_offsets (t ∷ rest))) (let l = length-append s.encoding (joined_segments (t ∷ rest)) in let e = h.0 in omega (arith, l, e))
+    ∙ ap (λ (z : List (ℕ × ℕ)). (length s.encoding, s.at) ∷ z) (sizes_back (t ∷ rest) h.1)
 
-count_back : (segments : List Segment) → AreFull segments → segments_of (length (together segments)) ≡ length segments
+count_back : (segments : List Segment) → AreFull segments → segments_of (length (joined_segments segments)) ≡ length segments
 count_back [] h = absurd h
-count_back (s ∷ []) h = let l = length-append s.text [] in let a = h.0 in let b = h.1 in omega (arith, l, a, b)
-count_back (s ∷ t ∷ rest) h = let l = length-append s.text (together (t ∷ rest)) in let e = h.0 in let r = count_back (t ∷ rest) h.1 in omega (arith, l, e, r)
+count_back (s ∷ []) h = let l = length-append s.encoding [] in let a = h.0 in let b = h.1 in omega (arith, l, a, b)
+count_back (s ∷ t ∷ rest) h = let l = length-append s.encoding (joined_segments (t ∷ rest)) in let e = h.0 in let r = count_back (t ∷ rest) h.1 in omega (arith, l, e, r)
 
-all_pieces : (cells : Cells) (segments : List Segment) → AllByRecursion (λ (s : Segment). Holds cells s.at s.text) segments → AllByRecursion (λ (s : Segment). Gives (piece (length s.text) s.at) cells (s.at ∷ []) [] s.text) segments
+all_pieces : (cells : Cells) (segments : List Segment) → AllByRecursion (λ (s : Segment). CellHolds cells s.at s.encoding) segments → AllByRecursion (λ (s : Segment). Gives (cell_prefix (length s.encoding) s.at) cells (s.at ∷ []) [] s.encoding) segments
 all_pieces cells [] h = tt
-all_pieces cells (s ∷ segments) h = (piece_back cells s.at s.text h.0, all_pieces cells segments h.1)
+all_pieces cells (s ∷ segments) h = (piece_back cells s.at s.encoding h.0, all_pieces cells segments h.1)
 
-one_each : (segments : List Segment) → flat_map (λ (s : Segment). s.at ∷ []) segments ≡ segment_places segments
+one_each : (segments : List Segment) → flat_map (λ (s : Segment). s.at ∷ []) segments ≡ segment_offsets segments
 one_each [] = refl
 one_each (s ∷ segments) = ap (λ (z : List ℕ). s.at ∷ z) (one_each segments)
 
-joined : (segments : List Segment) → flat_map (λ (p : List ℕ). p) (map (λ (s : Segment). s.text) segments) ≡ together segments
+joined : (segments : List Segment) → flat_map (λ (p : List ℕ). p) (map (λ (s : Segment). s.encoding) segments) ≡ joined_segments segments
 joined [] = refl
-joined (s ∷ segments) = ap (λ (z : List ℕ). s.text ++ z) (joined segments)
+joined (s ∷ segments) = ap (λ (z : List ℕ). s.encoding ++ z) (joined segments)
 
 abbrev one_piece : ℕ × ℕ → Reader (List ℕ)
-one_piece s = piece s.0 s.1
+one_piece s = cell_prefix s.0 s.1
 
-module _ (cells : Cells) (to list : ℕ) (segments : List Segment) (more rest : List ℕ) (full : AreFull segments) (few : length segments < 2 ^ 16) (near : list < 2 ^ 32) (are : AreOffsets (segment_places segments)) where
+module _ (cells : Cells) (to list : ℕ) (segments : List Segment) (more rest : List ℕ) (full : AreFull segments) (few : length segments < 2 ^ 16) (near : list < 2 ^ 32) (are : AreOffsets (segment_offsets segments)) where
   abbrev bytes : List ℕ
-  bytes = big_text segments list ++ more
+  bytes = big_data_bytes segments list ++ more
 
   abbrev listing : List ℕ
-  listing = offsets_text (segment_places segments) ++ rest
+  listing = offsets_bytes (segment_offsets segments) ++ rest
 
   abbrev size : ℕ
-  size = length (together segments)
+  size = length (joined_segments segments)
 
   begins : begins_with bytes 0x6264 8 ≡ true
-  unfolding half_at
+  unfolding u16_at
   begins = both (leb 8 (length bytes)) true (le-leb 8 (length bytes) (omega arith)) refl
 
-  count : half_at bytes 2 ≡ segments_of size
-  unfolding half_at
+  count : u16_at bytes 2 ≡ segments_of size
+  unfolding u16_at
   count = half_back (length segments) [] few ∙ sym (count_back segments full)
 
-  list_back : word_at bytes 4 ≡ list
-  unfolding word_at
+  list_back : u32_at bytes 4 ≡ list
+  unfolding u32_at
   list_back = word_back list more near
 
   enough : leb (4 * segments_of size) (length listing) ≡ true
   enough = subst (λ (n : ℕ). leb (4 * n) (length listing) ≡ true) (sym (count_back segments full))
-      (le-leb (4 * length segments) (length listing) (let l = length-append (offsets_text (segment_places segments)) rest in let n = offsets_length (segment_places segments) in let m = map_length (λ (s : Segment). s.at) segments in omega (arith, l, n, m)))
+      (le-leb (4 * length segments) (length listing) (let l = length-append (offsets_bytes (segment_offsets segments)) rest in let n = offsets_length (segment_offsets segments) in let m = map_length (λ (s : Segment). s.at) segments in omega (arith, l, n, m)))
 
-  words : words_from listing 0 4 (segments_of size) ≡ segment_places segments
-  words = ap (words_from listing 0 4) (count_back segments full ∙ sym (map_length (λ (s : Segment). s.at) segments)) ∙ offsets_back (segment_places segments) rest are
+  words : words_from listing 0 4 (segments_of size) ≡ segment_offsets segments
+  words = ap (words_from listing 0 4) (count_back segments full ∙ sym (map_length (λ (s : Segment). s.at) segments)) ∙ offsets_back (segment_offsets segments) rest are
 
-  each_piece : AllByRecursion (λ (s : Segment). Holds cells s.at s.text) segments → Gives (each one_piece (piece_sizes size (words_from listing 0 4 (segments_of size)))) cells (segment_places segments) [] (map (λ (s : Segment). s.text) segments)
+  each_piece : AllByRecursion (λ (s : Segment). CellHolds cells s.at s.encoding) segments → Gives (each one_piece (segment_sizes size (words_from listing 0 4 (segments_of size)))) cells (segment_offsets segments) [] (map (λ (s : Segment). s.encoding) segments)
   each_piece held =
-      subst (λ (ps : List (ℕ × ℕ)). Gives (each one_piece ps) cells (segment_places segments) [] (map (λ (s : Segment). s.text) segments)) (sym (ap (piece_sizes size) words ∙ sizes_back segments full))
-      (subst (λ (o : List ℕ). Gives (each one_piece (pieces segments)) cells o [] (map (λ (s : Segment). s.text) segments)) (one_each segments)
-      (each_given one_piece (λ (s : Segment). (length s.text, s.at)) (λ (s : Segment). s.at ∷ []) (λ (s : Segment). s.text) cells segments (all_pieces cells segments held)))
+      subst (λ (ps : List (ℕ × ℕ)). Gives (each one_piece ps) cells (segment_offsets segments) [] (map (λ (s : Segment). s.encoding) segments)) (sym (ap (segment_sizes size) words ∙ sizes_back segments full))
+      (subst (λ (o : List ℕ). Gives (each one_piece (pieces segments)) cells o [] (map (λ (s : Segment). s.encoding) segments)) (one_each segments)
+      (each_given one_piece (λ (s : Segment). (length s.encoding, s.at)) (λ (s : Segment). s.at ∷ []) (λ (s : Segment). s.encoding) cells segments (all_pieces cells segments held)))
 
-  pub big_given : cells to ≡ Some bytes → cells list ≡ Some listing → AllByRecursion (λ (s : Segment). Holds cells s.at s.text) segments → Gives (big_data size to) cells (to ∷ list ∷ segment_places segments) [] (together segments)
+  pub big_given : cells to ≡ Some bytes → cells list ≡ Some listing → AllByRecursion (λ (s : Segment). CellHolds cells s.at s.encoding) segments → Gives (big_data size to) cells (to ∷ list ∷ segment_offsets segments) [] (joined_segments segments)
   big_given here there held =
-      subst (λ (z : List ℕ). Gives (big_data size to) cells (to ∷ list ∷ segment_places segments) [] z) (joined segments)
+      subst (λ (z : List ℕ). Gives (big_data size to) cells (to ∷ list ∷ segment_offsets segments) [] z) (joined segments)
       (gives_on _ (gives_look to cells bytes here)
       (gives_on _ (gives_rule (begins_with bytes 0x6264 8) _ cells begins)
-      (gives_on _ (gives_rule (eqb (half_at bytes 2) (segments_of size)) _ cells (eq-eqb (half_at bytes 2) (segments_of size) count))
-      (gives_on _ (gives_look_so (word_at bytes 4) list_back)
+      (gives_on _ (gives_rule (eqb (u16_at bytes 2) (segments_of size)) _ cells (eq-eqb (u16_at bytes 2) (segments_of size) count))
+      (gives_on _ (gives_look_so (u32_at bytes 4) list_back)
       (gives_on _ (gives_rule (leb (4 * segments_of size) (length listing)) _ cells enough)
       (gives_last (λ ps. flat_map (λ (p : List ℕ). p) ps) (each_piece held)))))))
     where
       gives_look_so : (n : ℕ) → n ≡ list → Gives (look n) cells (list ∷ []) [] listing
       gives_look_so n e = subst (λ (m : ℕ). Gives (look m) cells (list ∷ []) [] listing) (sym e) (gives_look list cells listing there)
 
-big_in : (cells : Cells) (its bytes own : List ℕ) → 16_344 < length its → length its < 2 ^ 31 → Gives (big_data (length its) (word_at bytes 8)) cells own [] its → Gives (data_of true (length its) bytes) cells own [] its
+big_in : (cells : Cells) (its bytes own : List ℕ) → 16_344 < length its → length its < 2 ^ 31 → Gives (big_data (length its) (u32_at bytes 8)) cells own [] its → Gives (data_of true (length its) bytes) cells own [] its
 big_in cells its bytes own big few given =
     gives_no _ (leb (2 ^ 31) (length its)) (lt-leb (2 ^ 31) (length its) few)
     (gives_no _ (eqb (length its) 0) (ne_eqb (length its) 0 (λ e. omega (arith, big, e)))
     (gives_yes _ true refl (gives_yes _ (ltb 16_344 (length its)) (lt-ltb 16_344 (length its) big) given)))
 
-pub big_again : (cells : Cells) (at to list : ℕ) (value : Value) (segments : List Segment) → Fits value → 16_344 < length value.«data» → length value.«data» < 2 ^ 31 → to < 2 ^ 32 → list < 2 ^ 32 →
-    value.«data» ≡ together segments → AreFull segments → length segments < 2 ^ 16 → AreOffsets (segment_places segments) →
-    Holds cells at (large_value value to) → Holds cells to (big_text segments list) → Holds cells list (offsets_text (segment_places segments)) → AllByRecursion (λ (s : Segment). Holds cells s.at s.text) segments →
-    Gives (value_at true at) cells (at ∷ to ∷ list ∷ segment_places segments) [] value
-unfolding word_at
+pub big_again : (cells : Cells) (at to list : ℕ) (value : Value) (segments : List Segment) → ValueIsEncodable value → 16_344 < length value.«data» → length value.«data» < 2 ^ 31 → to < 2 ^ 32 → list < 2 ^ 32 →
+    value.«data» ≡ joined_segments segments → AreFull segments → length segments < 2 ^ 16 → AreOffsets (segment_offsets segments) →
+    CellHolds cells at (large_value value to) → CellHolds cells to (big_data_bytes segments list) → CellHolds cells list (offsets_bytes (segment_offsets segments)) → AllByRecursion (λ (s : Segment). CellHolds cells s.at s.encoding) segments →
+    Gives (value_at true at) cells (at ∷ to ∷ list ∷ segment_offsets segments) [] value
+unfolding u32_at
 big_again cells at to list value segments fits big small near near_list e full few are h g l held =
-    value_reads value (length value.«data») _ _ _ _ h.0 true cells at (to ∷ list ∷ segment_places segments) value.«data» fits (omega (arith, small)) h.1
-    (big_in cells value.«data» (large_value value to ++ h.0) (to ∷ list ∷ segment_places segments) big small
-    (subst (λ (n : ℕ). Gives (big_data (length value.«data») n) cells (to ∷ list ∷ segment_places segments) [] value.«data») (sym (word_back to [] near))
-    (subst (λ (d : List ℕ). Gives (big_data (length d) to) cells (to ∷ list ∷ segment_places segments) [] d) (sym e) (big_given cells to list segments g.0 l.0 full few near_list are g.1 l.1 held))))
+    value_reads value (length value.«data») _ _ _ _ h.0 true cells at (to ∷ list ∷ segment_offsets segments) value.«data» fits (omega (arith, small)) h.1
+    (big_in cells value.«data» (large_value value to ++ h.0) (to ∷ list ∷ segment_offsets segments) big small
+    (subst (λ (n : ℕ). Gives (big_data (length value.«data») n) cells (to ∷ list ∷ segment_offsets segments) [] value.«data») (sym (word_back to [] near))
+    (subst (λ (d : List ℕ). Gives (big_data (length d) to) cells (to ∷ list ∷ segment_offsets segments) [] d) (sym e) (big_given cells to list segments g.0 l.0 full few near_list are g.1 l.1 held))))

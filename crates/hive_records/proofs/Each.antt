@@ -1,7 +1,7 @@
 -- Readers joined in another order, and loops.
 use Rattle.std.proofs.Common.{◌≡◌, ℕ, List, [], ◌∷◌, ◌++◌, refl, ◌∙◌, ap, sym, subst, Ok, Err, Result, append_assoc, append-nil}
 use Rattle.refusals.specs.declared.refusal.Refusal.{Refusal}
-use Rattle.hive_tree_model.specs.Loads.{Marks}
+use Rattle.hive_tree_model.specs.Loads.{CellMarks}
 use Rattle.hive_tree_model.proofs.Loading.{none_marked}
 use Rattle.hive_records.specs.Readers.{Read, Reader, done, joined_if, each, ◌⟫◌}
 use Rattle.hive_cells.specs.Bins.{Cells}
@@ -60,30 +60,30 @@ module _ {A B : Type 0} (f : A → Reader B) where
   unfolding each
   each_one x = λ i. f x ⟫ λ y. done_bind [] (λ (ys : List B). done (y ∷ ys)) i
 
-  moved : (m n : Reader (List B)) → m ≡ n → (cells : Cells) (a c : Marks) (r : Result (List B) Refusal) → Follows n cells a c r → Follows m cells a c r
+  moved : (m n : Reader (List B)) → m ≡ n → (cells : Cells) (a c : CellMarks) (r : Result (List B) Refusal) → Follows n cells a c r → Follows m cells a c r
   moved m n e cells a c r h = subst (λ (z : Reader (List B)). Follows z cells a c r) (sym e) h
 
-  done_so : {X : Type 0} (x : X) (cells : Cells) (m : Marks) → Follows (done x) cells m m (Ok x)
+  done_so : {X : Type 0} (x : X) (cells : Cells) (m : CellMarks) → Follows (done x) cells m m (Ok x)
   unfolding done
   done_so x cells m = (refl, none_marked m)
 
-  pub each_starts : (cells : Cells) (m : Marks) → Follows (each f []) cells m m (Ok [])
+  pub each_starts : (cells : Cells) (m : CellMarks) → Follows (each f []) cells m m (Ok [])
   unfolding each
   each_starts cells m = done_so [] cells m
 
-  one_follows : (x : A) (cells : Cells) (b c : Marks) (y : B) → Follows (f x) cells b c (Ok y) → Follows (each f (x ∷ [])) cells b c (Ok (y ∷ []))
+  one_follows : (x : A) (cells : Cells) (b c : CellMarks) (y : B) → Follows (f x) cells b c (Ok y) → Follows (each f (x ∷ [])) cells b c (Ok (y ∷ []))
   one_follows x cells b c y h = moved (each f (x ∷ [])) (f x ⟫ λ y. done (y ∷ [])) (each_one x) cells b c (Ok (y ∷ [])) (follows_on (f x) (λ y. done (y ∷ [])) cells b c c y (Ok (y ∷ [])) h (done_so (y ∷ []) cells c))
 
-  pub each_goes_on : (first : List A) (x : A) (cells : Cells) (a b c : Marks) (ys : List B) (y : B) → Follows (each f first) cells a b (Ok ys) → Follows (f x) cells b c (Ok y) → Follows (each f (first ++ x ∷ [])) cells a c (Ok (ys ++ y ∷ []))
+  pub each_goes_on : (first : List A) (x : A) (cells : Cells) (a b c : CellMarks) (ys : List B) (y : B) → Follows (each f first) cells a b (Ok ys) → Follows (f x) cells b c (Ok y) → Follows (each f (first ++ x ∷ [])) cells a c (Ok (ys ++ y ∷ []))
   each_goes_on first x cells a b c ys y h g = moved (each f (first ++ x ∷ [])) (each f first ⟫ λ us. each f (x ∷ []) ⟫ λ vs. done (us ++ vs)) (each_parts first (x ∷ [])) cells a c (Ok (ys ++ y ∷ []))
       (follows_on (each f first) (λ us. each f (x ∷ []) ⟫ λ vs. done (us ++ vs)) cells a b c ys (Ok (ys ++ y ∷ [])) h
       (follows_on (each f (x ∷ [])) (λ vs. done (ys ++ vs)) cells b c c (y ∷ []) (Ok (ys ++ y ∷ [])) (one_follows x cells b c y g) (done_so (ys ++ y ∷ []) cells c)))
 
-  stops : (x : A) (rest : List A) (cells : Cells) (b c : Marks) (e : Refusal) → Follows (f x) cells b c (Err e) → Follows (each f (x ∷ rest)) cells b c (Err e)
+  stops : (x : A) (rest : List A) (cells : Cells) (b c : CellMarks) (e : Refusal) → Follows (f x) cells b c (Err e) → Follows (each f (x ∷ rest)) cells b c (Err e)
   unfolding each
   stops x rest cells b c e g = follows_out (f x) (λ y. each f rest ⟫ λ ys. done (y ∷ ys)) cells b c c e g
 
-  pub each_stops : (first : List A) (x : A) (rest : List A) (cells : Cells) (a b c : Marks) (ys : List B) (e : Refusal) → Follows (each f first) cells a b (Ok ys) → Follows (f x) cells b c (Err e) → Follows (each f (first ++ x ∷ rest)) cells a c (Err e)
+  pub each_stops : (first : List A) (x : A) (rest : List A) (cells : Cells) (a b c : CellMarks) (ys : List B) (e : Refusal) → Follows (each f first) cells a b (Ok ys) → Follows (f x) cells b c (Err e) → Follows (each f (first ++ x ∷ rest)) cells a c (Err e)
   each_stops first x rest cells a b c ys e h g = moved (each f (first ++ x ∷ rest)) (each f first ⟫ λ us. each f (x ∷ rest) ⟫ λ vs. done (us ++ vs)) (each_parts first (x ∷ rest)) cells a c (Err e)
       (follows_on (each f first) (λ us. each f (x ∷ rest) ⟫ λ vs. done (us ++ vs)) cells a b c ys (Err e) h
       (follows_out (each f (x ∷ rest)) (λ vs. done (ys ++ vs)) cells b c c e (stops x rest cells b c e g)))

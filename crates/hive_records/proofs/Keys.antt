@@ -5,25 +5,25 @@ use Rattle.reg_names.specs.Names.{folded}
 use Rattle.refusals.specs.declared.refusal.Refusal.{Refusal}
 use Rattle.reg_tree_parts.specs.Rows.{Row}
 use Rattle.hive_tree_model.specs.Lists.{IsIn}
-use Rattle.hive_tree_model.specs.Keys.{Parts}
+use Rattle.hive_tree_model.specs.Keys.{KeyParts}
 use Rattle.hive_tree_model.specs.Cells.{IsLocal, IsThere}
-use Rattle.hive_tree_model.specs.Stands.{NamesBy}
+use Rattle.hive_tree_model.specs.Encodings.{NamesBy}
 use Rattle.hive_tree_model.specs.Faults.{IsTrail, IsLentTrail}
 use Rattle.hive_tree_model.proofs.Basics.{ok_same, in_front, in_back, in_either}
-use Rattle.hive_cells.specs.Tiles.{word_at}
+use Rattle.hive_cells.specs.Tiles.{u32_at}
 use Rattle.hive_records.specs.Readers.{Read}
 use Rattle.hive_cells.specs.Bins.{Cells}
-use Rattle.hive_records.specs.Numbers.{nowhere}
+use Rattle.hive_records.specs.Numbers.{nil_offset}
 use Rattle.hive_records.specs.Names.{name_in}
-use Rattle.hive_records.specs.Values.{piece, segment_bytes, big_data, data_of, value_at, values_at}
-use Rattle.hive_records.specs.Lists.{is_plain, is_indirect, offsets_in, leaf_in, list_in, kids_at}
+use Rattle.hive_records.specs.Values.{cell_prefix, segment_bytes, big_data, data_of, value_at, values_at}
+use Rattle.hive_records.specs.Lists.{is_plain, is_indirect, offsets_in, leaf_in, list_in, subkeys_at}
 use Rattle.hive_records.specs.KeyNodes.{descriptor_at, class_at, key_at, parts_if, parts_of, keys_in, trail_in, lends_in}
 use Rattle.hive_records.proofs.Local.{Local, local_done, local_barred, local_choice, local_rule, local_look, local_look_lent, local_bind, local_each, never_ok}
 
 local_name : (latin : Bool) (bytes : List ℕ) → Local (name_in latin bytes)
 local_name latin bytes = local_choice latin (local_done _) (local_bind (local_rule _ _) (λ _. (local_done _)))
 
-local_piece : (size at : ℕ) → Local (piece size at)
+local_piece : (size at : ℕ) → Local (cell_prefix size at)
 local_piece size at = local_bind (local_look _) (λ bytes. local_bind (local_rule _ _) (λ _. (local_done _)))
 
 local_big : (size at : ℕ) → Local (big_data size at)
@@ -31,10 +31,10 @@ local_big size at = local_bind (local_look _) (λ bytes. local_bind (local_rule 
 
 local_data : (split : Bool) (size : ℕ) (bytes : List ℕ) → Local (data_of split size bytes)
 local_data split size bytes = local_choice (nat_le (2 ^ 31) size) (local_bind (local_rule _ _) (λ _. (local_done _)))
-    (local_choice (size == 0) (local_done _) (local_choice split (local_choice (nat_lt segment_bytes size) (local_big size (word_at bytes 8)) (local_piece size (word_at bytes 8))) (local_piece size (word_at bytes 8))))
+    (local_choice (size == 0) (local_done _) (local_choice split (local_choice (nat_lt segment_bytes size) (local_big size (u32_at bytes 8)) (local_piece size (u32_at bytes 8))) (local_piece size (u32_at bytes 8))))
 
 local_value : (split : Bool) (at : ℕ) → Local (value_at split at)
-local_value split at = local_bind (local_look _) (λ bytes. local_bind (local_rule _ _) (λ _. local_bind (local_rule _ _) (λ _. local_bind (local_name _ _) (λ name. local_bind (local_data split (word_at bytes 4) bytes) (λ its. (local_done _))))))
+local_value split at = local_bind (local_look _) (λ bytes. local_bind (local_rule _ _) (λ _. local_bind (local_rule _ _) (λ _. local_bind (local_name _ _) (λ name. local_bind (local_data split (u32_at bytes 4) bytes) (λ its. (local_done _))))))
 
 pub local_values : (split : Bool) (count list : ℕ) → Local (values_at split count list)
 local_values split count list = local_choice (count == 0) (local_done _) (local_bind (local_look _) (λ bytes. local_bind (local_rule _ _) (λ _. local_bind (local_each (local_value split) _) (λ values. local_bind (local_rule _ _) (λ _. (local_done _))))))
@@ -48,11 +48,11 @@ local_leaf bytes = local_choice (is_plain bytes) (local_offsets 4 bytes) (local_
 local_list : (bytes : List ℕ) → Local (list_in bytes)
 local_list bytes = local_choice (is_indirect bytes) (local_bind (local_offsets 4 bytes) (λ leaves. local_bind (local_each (λ at. local_bind (local_look _) (λ b. local_leaf b)) leaves) (λ lists. (local_done _)))) (local_leaf bytes)
 
-pub local_kids : (count list : ℕ) → Local (kids_at count list)
-local_kids count list = local_choice (count == 0) (local_done _) (local_bind (local_look _) (λ bytes. local_bind (local_list bytes) (λ kids. local_bind (local_rule _ _) (λ _. (local_done _)))))
+pub local_subkeys : (count list : ℕ) → Local (subkeys_at count list)
+local_subkeys count list = local_choice (count == 0) (local_done _) (local_bind (local_look _) (λ bytes. local_bind (local_list bytes) (λ subkey_list. local_bind (local_rule _ _) (λ _. (local_done _)))))
 
 pub local_descriptor : (at : ℕ) → Local (descriptor_at at)
-local_descriptor at = local_choice (at == nowhere) (local_done _) (local_bind (local_look_lent _) (λ bytes. local_bind (local_rule _ _) (λ _. local_bind (local_rule _ _) (λ _. (local_done _)))))
+local_descriptor at = local_choice (at == nil_offset) (local_done _) (local_bind (local_look_lent _) (λ bytes. local_bind (local_rule _ _) (λ _. local_bind (local_rule _ _) (λ _. (local_done _)))))
 
 pub local_class : (size at : ℕ) → Local (class_at size at)
 local_class size at = local_choice (size == 0) (local_done _) (local_piece size at)
@@ -68,22 +68,22 @@ local_key split at =
     local_bind (local_class _ _) (λ class.
     local_bind (local_descriptor _) (λ descriptor.
     local_bind (local_values split _ _) (λ values.
-    local_bind (local_kids _ _) (λ kids.
+    local_bind (local_subkeys _ _) (λ subkey_list.
     (local_done _)))))))))))
 
 -- what parts that are read have
-record Had (own lent : List ℕ) (says : Result (Row × List ℕ) Refusal) (parts : Parts Row) : Type 0 where
+record Had (own lent : List ℕ) (says : Result (Row × List ℕ) Refusal) (parts : KeyParts Row) : Type 0 where
   pair : Row × List ℕ
   said : says ≡ Ok pair
   own_is : parts.own ≡ own
   lent_is : parts.lent ≡ lent
   name_is : parts.name ≡ folded ((parts.row).name)
 
-had : (own lent : List ℕ) (says : Result (Row × List ℕ) Refusal) (parts : Parts Row) → parts_if own lent says ≡ Ok parts → Had own lent says parts
+had : (own lent : List ℕ) (says : Result (Row × List ℕ) Refusal) (parts : KeyParts Row) → parts_if own lent says ≡ Ok parts → Had own lent says parts
 had own lent (Err r) parts e = never_ok r parts e
-had own lent (Ok x) parts e = moved (record { name = folded ((x.0).name); row = x.0; kids = x.1; own = own; lent = lent }) parts (ok_same _ parts e) (record { pair = x; said = refl; own_is = refl; lent_is = refl; name_is = refl })
+had own lent (Ok x) parts e = moved (record { name = folded ((x.0).name); row = x.0; subkey_list = x.1; own = own; lent = lent }) parts (ok_same _ parts e) (record { pair = x; said = refl; own_is = refl; lent_is = refl; name_is = refl })
   where
-    moved : (p q : Parts Row) → p ≡ q → Had own lent (Ok x) p → Had own lent (Ok x) q
+    moved : (p q : KeyParts Row) → p ≡ q → Had own lent (Ok x) p → Had own lent (Ok x) q
     moved p q same h = subst (Had own lent (Ok x)) same h
 
 pub keys_local : (split : Bool) → IsLocal (keys_in split)

@@ -20,7 +20,7 @@ pub mod ChildAgain
 pub mod Spelled
 pub mod Units
 pub mod Puts
-pub mod GoesOn
+pub mod RecordReaders
 pub mod ListsGoOn
 pub mod Samples
 pub mod Sizes

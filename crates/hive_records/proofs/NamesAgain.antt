@@ -1,10 +1,10 @@
 -- Names that are written read back.
 use Rattle.std.proofs.Common.{◌≡◌, ◌*◌, ◌%◌, ℕ, Bool, true, false, List, [], ◌∷◌, length, refl, arith, eqb, eq-eqb}
 use Rattle.hive_cells.specs.Bins.{Cells}
-use Rattle.hive_records.specs.Numbers.{half_at}
+use Rattle.hive_records.specs.Numbers.{u16_at}
 use Rattle.hive_records.specs.Names.{pairs, name_in}
 use Rattle.hive_records.specs.Fields.{Gives}
-use Rattle.hive_records.specs.Spellings.{wide, spelled, AreUnits}
+use Rattle.hive_records.specs.NameEncodings.{wide, spelled, AreUnits}
 use Rattle.hive_records.proofs.StepsAgain.{gives_on, gives_done, gives_same, gives_rule, gives_yes, gives_no}
 use Rattle.hive_records.proofs.NumbersAgain.{half_back}
 
@@ -13,7 +13,7 @@ wide_length [] = refl
 wide_length (u ∷ name) = let e = wide_length name in omega (arith, e)
 
 wide_back : (name : List ℕ) → AreUnits name → pairs (wide name) ≡ name
-unfolding half_at
+unfolding u16_at
 wide_back [] h = refl
 wide_back (u ∷ name) h = λ i. half_back u [] h.0 i ∷ wide_back name h.1 i
 

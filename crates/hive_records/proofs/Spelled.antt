@@ -15,22 +15,22 @@ use Rattle.reg_tree_parts.specs.declared.value.Value.{Value}
 use Rattle.reg_tree_parts.specs.Orders.{name_order}
 use Rattle.reg_tree_parts.specs.Rows.{Row, ValueMap}
 use Rattle.reg_tree.specs.Maps.{TreeMap}
-use Rattle.reg_tree.specs.Spellable.{stored_len, IsSpellableName, IsSpellableValue, IsSpellableRow}
-use Rattle.hive_cells.specs.Tiles.{word_at, cell_data, cell_size, IsAllocatedCell}
+use Rattle.reg_tree.specs.Encodable.{stored_len, IsEncodableName, IsEncodableValue, IsEncodableRow}
+use Rattle.hive_cells.specs.Tiles.{u32_at, cell_data, cell_size, IsAllocatedCell}
 use Rattle.hive_cells.specs.Bins.{Cells, Shows}
-use Rattle.hive_tree_model.specs.Keys.{Parts}
-use Rattle.hive_tree_model.specs.Chains.{Spells}
+use Rattle.hive_tree_model.specs.Keys.{KeyParts}
+use Rattle.hive_tree_model.specs.Chains.{PathReachesRow}
 use Rattle.hive_tree_model.specs.Trees.{same}
 use Rattle.hive_tree_model.proofs.Basics.{ok_same, never, clash, decided, yes_if, no_if, some_same, some_none, same_is, names_total}
 use Rattle.hive_tree_model.proofs.ChainsAre.{chains}
 use Rattle.hive_records.specs.Bytes.{AreBytes, HoldBytes}
 use Rattle.hive_records.specs.Readers.{Read, Reader, done, refuse, joined_if, own_if, look, choice, rule, barred, each, ◌⟫◌}
-use Rattle.hive_records.specs.Numbers.{half_at}
+use Rattle.hive_records.specs.Numbers.{u16_at}
 use Rattle.hive_records.specs.Names.{has_flag, pairs, name_in}
 use Rattle.hive_records.specs.Values.{data_of, value_at, map_of, values_at}
 use Rattle.hive_records.specs.KeyNodes.{flags_of, class_at, descriptor_at, key_at, parts_if, keys_in}
-use Rattle.hive_records.specs.Lists.{kids_at}
-use Rattle.hive_records.specs.Images.{StandsFor, splits}
+use Rattle.hive_records.specs.Lists.{subkeys_at}
+use Rattle.hive_records.specs.Images.{BinsEncodeTree, splits}
 use Rattle.hive_records.proofs.Local.{never_ok}
 
 -- ---- what all that a reader may give has
@@ -90,8 +90,8 @@ byte_small [] i h = omega arith
 byte_small (b ∷ bytes) zero h = h.0
 byte_small (b ∷ bytes) (suc i) h = byte_small bytes i h.1
 
-half_small : (bytes : List ℕ) (at : ℕ) → AreBytes bytes → half_at bytes at < 0x1_0000
-unfolding half_at
+half_small : (bytes : List ℕ) (at : ℕ) → AreBytes bytes → u16_at bytes at < 0x1_0000
+unfolding u16_at
 half_small bytes at h = omega (arith, byte_small bytes at h, byte_small bytes (at + 1) h)
 
 taken : (n : ℕ) (bytes : List ℕ) → AreBytes bytes → AreBytes (take n bytes)
@@ -131,56 +131,56 @@ pair_units [] h = (tt, omega arith)
 pair_units (a ∷ []) h = (tt, omega arith)
 pair_units (a ∷ b ∷ rest) h = ((omega (arith, h.0, h.1.0), (pair_units rest h.1.1).0), omega (arith, (pair_units rest h.1.1).1))
 
-name_latin : (bytes : List ℕ) → AreBytes bytes → length bytes ≤ 65535 → IsSpellableName bytes
+name_latin : (bytes : List ℕ) → AreBytes bytes → length bytes ≤ 65535 → IsEncodableName bytes
 name_latin bytes h short =
     let is : stored_len bytes ≡ length bytes = ap (λ (b : Bool). cond b (length bytes) (2 * length bytes)) (all_latin bytes h) in
     record { units = units_of bytes h; short = omega (arith, is) }
 
-name_wide : (bytes : List ℕ) → AreBytes bytes → length bytes ≤ 65535 → IsSpellableName (pairs bytes)
+name_wide : (bytes : List ℕ) → AreBytes bytes → length bytes ≤ 65535 → IsEncodableName (pairs bytes)
 name_wide bytes h short = record { units = (pair_units bytes h).0; short = omega (arith, stored_most (pairs bytes), (pair_units bytes h).1) }
 
-yields_name : (latin : Bool) (bytes : List ℕ) (cells : Cells) → AreBytes bytes → length bytes ≤ 65535 → Yields (name_in latin bytes) cells IsSpellableName
+yields_name : (latin : Bool) (bytes : List ℕ) (cells : Cells) → AreBytes bytes → length bytes ≤ 65535 → Yields (name_in latin bytes) cells IsEncodableName
 yields_name latin bytes cells h short = yields_choice latin
-    (λ e. yields_done bytes cells IsSpellableName (name_latin bytes h short))
-    (λ e. yields_on (yields_rule _ _ cells) (λ x rule_holds. yields_done (pairs bytes) cells IsSpellableName (name_wide bytes h short)))
+    (λ e. yields_done bytes cells IsEncodableName (name_latin bytes h short))
+    (λ e. yields_on (yields_rule _ _ cells) (λ x rule_holds. yields_done (pairs bytes) cells IsEncodableName (name_wide bytes h short)))
 
 -- ---- values
 
-yields_value : (split : Bool) (at : ℕ) (cells : Cells) → HoldBytes cells → Yields (value_at split at) cells (λ (v : Value). IsSpellableName v.name)
+yields_value : (split : Bool) (at : ℕ) (cells : Cells) → HoldBytes cells → Yields (value_at split at) cells (λ (v : Value). IsEncodableName v.name)
 yields_value split at cells held =
     yields_on (yields_look at cells held) (λ bytes are.
     yields_on (yields_rule _ _ cells) (λ x a.
     yields_on (yields_rule _ _ cells) (λ y b.
-    yields_on (yields_name _ _ cells (ranged bytes 20 (20 + half_at bytes 2) are) (omega (arith, short_range bytes 20 (half_at bytes 2), half_small bytes 2 are))) (λ name spelled.
-    yields_on (yields_any (data_of split (word_at bytes 4) bytes) cells) (λ its d.
-    yields_done _ cells (λ (v : Value). IsSpellableName v.name) spelled)))))
+    yields_on (yields_name _ _ cells (ranged bytes 20 (20 + u16_at bytes 2) are) (omega (arith, short_range bytes 20 (u16_at bytes 2), half_small bytes 2 are))) (λ name spelled.
+    yields_on (yields_any (data_of split (u32_at bytes 4) bytes) cells) (λ its d.
+    yields_done _ cells (λ (v : Value). IsEncodableName v.name) spelled)))))
 
 -- a value that is found stands under the fold of its name
-found_filed : (values : List Value) (name : List ℕ) (value : Value) → AllByRecursion (λ (v : Value). IsSpellableName v.name) values → find name_order name (map (λ (v : Value). (folded v.name, v)) values) ≡ Some value → IsSpellableValue name value
+found_filed : (values : List Value) (name : List ℕ) (value : Value) → AllByRecursion (λ (v : Value). IsEncodableName v.name) values → find name_order name (map (λ (v : Value). (folded v.name, v)) values) ≡ Some value → IsEncodableValue name value
 found_filed [] name value h e = some_none value e
 found_filed (v ∷ values) name value h e =
     let rest : Option Value = find name_order name (map (λ (w : Value). (folded w.name, w)) values) in
     elim (decided (same name (folded v.name))) [
       | inl here ↦
           let is : v ≡ value = some_same v value (sym (yes_if (same name (folded v.name)) (Some v) rest here) ∙ e) in
-          subst (λ (w : Value). IsSpellableValue name w) is (record { filed = sym (same_is name (folded v.name) here); spelled = h.0 })
+          subst (λ (w : Value). IsEncodableValue name w) is (record { filed = sym (same_is name (folded v.name) here); spelled = h.0 })
       | inr there ↦ found_filed values name value h.1 (sym (no_if (same name (folded v.name)) (Some v) rest there) ∙ e)
     ]
 
-abbrev AreSpellable : ValueMap → Type 0
-AreSpellable values = (name : List ℕ) (value : Value) → finite.get values name ≡ Some value → IsSpellableValue name value
+abbrev AreEncodable : ValueMap → Type 0
+AreEncodable values = (name : List ℕ) (value : Value) → finite.get values name ≡ Some value → IsEncodableValue name value
 
-map_spelled : (values : List Value) → AllByRecursion (λ (v : Value). IsSpellableName v.name) values → AreSpellable (map_of values)
+map_spelled : (values : List Value) → AllByRecursion (λ (v : Value). IsEncodableName v.name) values → AreEncodable (map_of values)
 map_spelled values h name value e = found_filed values name value h (sym (finite.get-from_entries names_total (map (λ (v : Value). (folded v.name, v)) values) name) ∙ e)
 
-yields_values : (split : Bool) (count list : ℕ) (cells : Cells) → HoldBytes cells → Yields (values_at split count list) cells AreSpellable
+yields_values : (split : Bool) (count list : ℕ) (cells : Cells) → HoldBytes cells → Yields (values_at split count list) cells AreEncodable
 yields_values split count list cells held = yields_choice (eqb count 0)
-    (λ e. yields_done (map_of []) cells AreSpellable (map_spelled [] tt))
+    (λ e. yields_done (map_of []) cells AreEncodable (map_spelled [] tt))
     (λ e. yields_on (yields_any (look list) cells) (λ bytes a.
     yields_on (yields_rule _ _ cells) (λ x b.
     yields_on (yields_each (λ at. yields_value split at cells held) _) (λ values spelled.
     yields_on (yields_rule _ _ cells) (λ y d.
-    yields_done (map_of values) cells AreSpellable (map_spelled values spelled))))))
+    yields_done (map_of values) cells AreEncodable (map_spelled values spelled))))))
 
 -- ---- keys
 
@@ -217,7 +217,7 @@ flags_unmarked stored free =
     and_high (flags_of stored) 2 5 ∙ ap (λ (n : ℕ). n * 2 ^ 5) none
 
 abbrev OfRow : Row × List ℕ → Type 0
-OfRow pair = IsSpellableRow pair.0
+OfRow pair = IsEncodableRow pair.0
 
 yields_key : (split : Bool) (at : ℕ) (cells : Cells) → HoldBytes cells → Yields (key_at split at) cells OfRow
 yields_key split at cells held =
@@ -225,26 +225,26 @@ yields_key split at cells held =
     yields_on (yields_rule _ _ cells) (λ x a.
     yields_on (yields_rule _ _ cells) (λ y b.
     yields_on (yields_barred _ _ cells) (λ z free.
-    yields_on (yields_name _ _ cells (ranged bytes 76 (76 + half_at bytes 72) are) (omega (arith, short_range bytes 76 (half_at bytes 72), half_small bytes 72 are))) (λ name spelled.
+    yields_on (yields_name _ _ cells (ranged bytes 76 (76 + u16_at bytes 72) are) (omega (arith, short_range bytes 76 (u16_at bytes 72), half_small bytes 72 are))) (λ name spelled.
     yields_on (yields_rule _ _ cells) (λ w apart.
-    yields_on (yields_class (half_at bytes 74) (word_at bytes 48) cells) (λ class short.
-    yields_on (yields_any (descriptor_at (word_at bytes 44)) cells) (λ descriptor d.
-    yields_on (yields_values split (word_at bytes 36) (word_at bytes 40) cells held) (λ values filed.
-    yields_on (yields_any (kids_at (word_at bytes 20) (word_at bytes 28)) cells) (λ kids k.
+    yields_on (yields_class (u16_at bytes 74) (u32_at bytes 48) cells) (λ class short.
+    yields_on (yields_any (descriptor_at (u32_at bytes 44)) cells) (λ descriptor d.
+    yields_on (yields_values split (u32_at bytes 36) (u32_at bytes 40) cells held) (λ values filed.
+    yields_on (yields_any (subkeys_at (u32_at bytes 20) (u32_at bytes 28)) cells) (λ subkey_list k.
     yields_done _ cells OfRow (record {
       name = spelled;
       no_backslash = no_backslash name apart;
-      flags = flags_small (half_at bytes 2) (half_small bytes 2 are);
-      unmarked = flags_unmarked (half_at bytes 2) free;
+      flags = flags_small (u16_at bytes 2) (half_small bytes 2 are);
+      unmarked = flags_unmarked (u16_at bytes 2) free;
       class = omega (arith, short, half_small bytes 74 are);
       values = filed;
     })))))))))))
 
-parts_row : (own lent : List ℕ) (says : Result (Row × List ℕ) Refusal) (parts : Parts Row) → parts_if own lent says ≡ Ok parts → ((pair : Row × List ℕ) → says ≡ Ok pair → OfRow pair) → IsSpellableRow parts.row
+parts_row : (own lent : List ℕ) (says : Result (Row × List ℕ) Refusal) (parts : KeyParts Row) → parts_if own lent says ≡ Ok parts → ((pair : Row × List ℕ) → says ≡ Ok pair → OfRow pair) → IsEncodableRow parts.row
 parts_row own lent (Err r) parts e h = never_ok r parts e
-parts_row own lent (Ok x) parts e h = subst (λ (p : Parts Row). IsSpellableRow p.row) (ok_same _ parts e) (h x refl)
+parts_row own lent (Ok x) parts e h = subst (λ (p : KeyParts Row). IsEncodableRow p.row) (ok_same _ parts e) (h x refl)
 
-pub row_spelled : (cells : Cells) → HoldBytes cells → (split : Bool) (at : ℕ) (parts : Parts Row) → keys_in split cells at ≡ Ok parts → IsSpellableRow parts.row
+pub row_spelled : (cells : Cells) → HoldBytes cells → (split : Bool) (at : ℕ) (parts : KeyParts Row) → keys_in split cells at ≡ Ok parts → IsEncodableRow parts.row
 row_spelled cells held split at parts e =
     let r : Read (Row × List ℕ) = key_at split at cells in
     parts_row r.own r.lent r.says parts e (λ pair said. (yields_key split at cells held).gives pair said)
@@ -258,10 +258,10 @@ shown_bytes bytes at (Some x) are h d e = subst AreBytes (sym h.1 ∙ some_same 
 pub cells_bytes : (bytes : List ℕ) (cells : Cells) → AreBytes bytes → Shows bytes cells → HoldBytes cells
 cells_bytes bytes cells are shows at d e = shown_bytes bytes at (cells at) are (shows at) d e
 
-spelled_on : (cells : Cells) (split : Bool) → HoldBytes cells → (at : ℕ) (path : List (List ℕ)) (row : Row) → Spells (keys_in split cells) at path row → IsSpellableRow row
-spelled_on cells split held at [] row s = subst (λ (r : Row). IsSpellableRow r) s.2 (row_spelled cells held split at s.0 s.1)
+spelled_on : (cells : Cells) (split : Bool) → HoldBytes cells → (at : ℕ) (path : List (List ℕ)) (row : Row) → PathReachesRow (keys_in split cells) at path row → IsEncodableRow row
+spelled_on cells split held at [] row s = subst (λ (r : Row). IsEncodableRow r) s.2 (row_spelled cells held split at s.0 s.1)
 spelled_on cells split held at (n ∷ path) row s = spelled_on cells split held s.1 path row s.7
 
-pub tree_spelled : (bytes : List ℕ) (root minor : ℕ) (tree : TreeMap) → AreBytes bytes → StandsFor bytes root minor tree → (path : List (List ℕ)) (key : Row) → finite.get tree path ≡ Some key → IsSpellableRow key
+pub tree_spelled : (bytes : List ℕ) (root minor : ℕ) (tree : TreeMap) → AreBytes bytes → BinsEncodeTree bytes root minor tree → (path : List (List ℕ)) (key : Row) → finite.get tree path ≡ Some key → IsEncodableRow key
 tree_spelled bytes root minor tree are s path key e =
     spelled_on s.1 (splits minor) (cells_bytes bytes s.1 are s.2) root path key ((chains (keys_in (splits minor) s.1) root tree s.3 path key).0 e)

@@ -4,17 +4,17 @@ use Rattle.std.specs.List.{list_any}
 use Rattle.std.proofs.lemmas.Bool.{eq-eqb, ne_eqb}
 use Rattle.std.proofs.Math.Seq.{drop-cons}
 use Rattle.reg_names.specs.Names.{fold_unit, folded}
-use Rattle.hive_records.specs.Numbers.{half_at}
+use Rattle.hive_records.specs.Numbers.{u16_at}
 use Rattle.hive_records.specs.Names.{pairs}
-use Rattle.hive_records.specs.ListTexts.{hash_from}
+use Rattle.hive_records.specs.ListEncodings.{hash_from}
 
 pub length_pairs : (bytes : List ℕ) → length (pairs bytes) ≡ length bytes / 2
 length_pairs [] = refl
 length_pairs (a ∷ []) = refl
 length_pairs (a ∷ b ∷ rest) = omega (arith, length_pairs rest)
 
-pub pair_at : (bytes : List ℕ) (i : ℕ) → i < length (pairs bytes) → get_or (pairs bytes) i 0 ≡ half_at bytes (2 * i)
-unfolding half_at
+pub pair_at : (bytes : List ℕ) (i : ℕ) → i < length (pairs bytes) → get_or (pairs bytes) i 0 ≡ u16_at bytes (2 * i)
+unfolding u16_at
 pair_at [] i h = absurd (omega arith)
 pair_at (a ∷ []) i h = absurd (omega arith)
 pair_at (a ∷ b ∷ rest) zero h = refl

@@ -5,18 +5,18 @@ use Rattle.hive_records.specs.Readers.{Reader}
 use Rattle.hive_cells.specs.Bins.{Cells}
 
 -- a number in two bytes, in four, in eight, the lowest first
-abbrev pub half : ℕ → List ℕ
-half n = little_bytes 2 n
+abbrev pub u16_bytes : ℕ → List ℕ
+u16_bytes n = little_bytes 2 n
 
-abbrev pub word : ℕ → List ℕ
-word n = little_bytes 4 n
+abbrev pub u32_bytes : ℕ → List ℕ
+u32_bytes n = little_bytes 4 n
 
-abbrev pub long : ℕ → List ℕ
-long n = little_bytes 8 n
+abbrev pub u64_bytes : ℕ → List ℕ
+u64_bytes n = little_bytes 8 n
 
 -- the cell at an offset is allocated, and its data begin with a text
-abbrev pub Holds : Cells → ℕ → List ℕ → Type 0
-Holds cells at text = (rest : List ℕ) × (cells at ≡ Some (text ++ rest))
+abbrev pub CellHolds : Cells → ℕ → List ℕ → Type 0
+CellHolds cells at encoding = (rest : List ℕ) × (cells at ≡ Some (encoding ++ rest))
 
 -- reading gives something, and this is the trail: the cells of the key's own that are looked at, and the lent ones
 pub record Gives {A : Type 0} (m : Reader A) (cells : Cells) (own lent : List ℕ) (x : A) : Type 0 where

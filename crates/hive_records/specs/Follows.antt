@@ -5,16 +5,16 @@ use Rattle.refusals.specs.declared.refusal.Refusal.{Refusal}
 use Rattle.refusals.specs.declared.refusal.Refusal.TheVariants as refusal
 use Rattle.refusals.specs.declared.refusal.Cause.TheVariants as cause
 use Rattle.hive_tree_model.specs.Lists.{IsIn, Once}
-use Rattle.hive_tree_model.specs.Loads.{Marks, Marked}
+use Rattle.hive_tree_model.specs.Loads.{CellMarks, Marked}
 use Rattle.hive_records.specs.Readers.{Reader}
 use Rattle.hive_cells.specs.Bins.{Cells}
 
 -- one of the cells was marked before, or stands twice among them
-abbrev pub Meets : Marks → List ℕ → Type 0
+abbrev pub Meets : CellMarks → List ℕ → Type 0
 Meets old cells = ((cell : ℕ) × IsIn cell cells × (old cell ≡ true)) ⊎ (Once cells → ⊥)
 
 -- the answer is what is read, and its cells are marked; or the refusal is the one that is read, or says that a cell was
 -- met again, or that memory was refused
-abbrev pub Follows : {A : Type 0} → Reader A → Cells → Marks → Marks → Result A Refusal → Type 0
+abbrev pub Follows : {A : Type 0} → Reader A → Cells → CellMarks → CellMarks → Result A Refusal → Type 0
 Follows m cells old new (Ok x) = ((m cells).says ≡ Ok x) × Marked old new (m cells).own
 Follows m cells old new (Err r) = (r ≡ refusal.NoMemory) ⊎ (((m cells).says ≡ Err r) ⊎ ((r ≡ refusal.HiveDamaged 0 cause.Shared) × Meets old (m cells).own))

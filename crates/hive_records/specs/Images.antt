@@ -6,9 +6,9 @@ use Rattle.refusals.specs.declared.refusal.Cause.TheVariants as cause
 use Rattle.reg_tree.specs.Maps.{TreeMap}
 use Rattle.hive_cells.specs.Tiles.{Tiles}
 use Rattle.hive_cells.specs.Bins.{Cells, Shows}
-use Rattle.hive_tree_model.specs.Stands.{Stands}
-use Rattle.hive_tree_model.specs.Faults.{Lends}
-use Rattle.hive_tree_model.specs.Loads.{Told}
+use Rattle.hive_tree_model.specs.Encodings.{CellsEncodeTree}
+use Rattle.hive_tree_model.specs.Faults.{LendsOwnCell}
+use Rattle.hive_tree_model.specs.Loads.{HasFault}
 use Rattle.hive_records.specs.KeyNodes.{keys_in, trail_in, lends_in}
 
 -- from minor version 4 on, big data lie in segments
@@ -16,14 +16,14 @@ abbrev pub splits : ℕ → Bool
 splits minor = nat_le 4 minor
 
 -- the data stand, from the root's offset on, for the tree
-abbrev pub StandsFor : List ℕ → ℕ → ℕ → TreeMap → Type 0
-StandsFor bytes root minor tree = Tiles bytes × (cells : Cells) × Shows bytes cells × Stands (keys_in (splits minor) cells) root tree
+abbrev pub BinsEncodeTree : List ℕ → ℕ → ℕ → TreeMap → Type 0
+BinsEncodeTree bytes root minor tree = Tiles bytes × (cells : Cells) × Shows bytes cells × CellsEncodeTree (keys_in (splits minor) cells) root tree
 
 -- a rule of records or of keys is broken in cells, and the refusal tells it
 abbrev pub FaultIn : Bool → Cells → ℕ → Refusal → Type 0
 FaultIn split cells root r =
-    Told (trail_in split cells) (keys_in split cells) (refusal.HiveDamaged 0 cause.BadName) (refusal.HiveDamaged 0 cause.Shared) (λ cell. false) root r
-    ⊎ ((r ≡ refusal.HiveDamaged 0 cause.Shared) × Lends (trail_in split cells) (lends_in split cells) (keys_in split cells) root)
+    HasFault (trail_in split cells) (keys_in split cells) (refusal.HiveDamaged 0 cause.BadName) (refusal.HiveDamaged 0 cause.Shared) (λ cell. false) root r
+    ⊎ ((r ≡ refusal.HiveDamaged 0 cause.Shared) × LendsOwnCell (trail_in split cells) (lends_in split cells) (keys_in split cells) root)
 
 -- so it is in the data. (A key deeper than the limit, or a tree over the weight, is no such fault: a tree stands there,
 -- but none within the limits.)

@@ -7,27 +7,27 @@ use Rattle.refusals.specs.declared.refusal.Refusal.{Refusal}
 use Rattle.refusals.specs.declared.refusal.Refusal.TheVariants as refusal
 use Rattle.refusals.specs.declared.refusal.Cause.TheVariants as cause
 use Rattle.reg_tree_parts.specs.Rows.{Row}
-use Rattle.hive_cells.specs.Tiles.{word_at}
-use Rattle.hive_tree_model.specs.Keys.{Parts, Reads}
+use Rattle.hive_cells.specs.Tiles.{u32_at}
+use Rattle.hive_tree_model.specs.Keys.{KeyParts, KeyReader}
 use Rattle.hive_records.specs.Readers.{Read, Reader, done, barred, rule, choice, look, look_lent, ◌⟫◌}
 use Rattle.hive_cells.specs.Bins.{Cells}
-use Rattle.hive_records.specs.Numbers.{nowhere, half_at, long_at, begins_with}
+use Rattle.hive_records.specs.Numbers.{nil_offset, u16_at, u64_at, begins_with}
 use Rattle.hive_records.specs.Names.{has_flag, name_in}
-use Rattle.hive_records.specs.Values.{piece, values_at}
-use Rattle.hive_records.specs.Lists.{kids_at}
+use Rattle.hive_records.specs.Values.{cell_prefix, values_at}
+use Rattle.hive_records.specs.Lists.{subkeys_at}
 
 -- the descriptor that a security cell holds; none for no cell. Links and the count are not read.
 abbrev pub descriptor_at : ℕ → Reader (List ℕ)
 descriptor_at at =
-    choice (at == nowhere) (done [])
+    choice (at == nil_offset) (done [])
     (look_lent at ⟫ λ bytes.
     rule (begins_with bytes 0x6b73 20) cause.BadRecord ⟫ λ _.
-    rule (nat_le (20 + word_at bytes 16) (length bytes)) cause.BadRecord ⟫ λ _.
-    done (slice_range bytes 20 (20 + word_at bytes 16)))
+    rule (nat_le (20 + u32_at bytes 16) (length bytes)) cause.BadRecord ⟫ λ _.
+    done (slice_range bytes 20 (20 + u32_at bytes 16)))
 
 -- the class of a length
 abbrev pub class_at : ℕ → ℕ → Reader (List ℕ)
-class_at size at = choice (size == 0) (done []) (piece size at)
+class_at size at = choice (size == 0) (done []) (cell_prefix size at)
 
 -- the flags of a row are those stored but for the one that says how the name is spelled
 abbrev pub flags_of : ℕ → ℕ
@@ -38,25 +38,25 @@ abbrev pub key_at : Bool → ℕ → Reader (Row × List ℕ)
 key_at split at =
     look at ⟫ λ bytes.
     rule (begins_with bytes 0x6b6e 76) cause.BadRecord ⟫ λ _.
-    rule (nat_le (76 + half_at bytes 72) (length bytes)) cause.BadRecord ⟫ λ _.
-    barred (has_flag 0x40 (half_at bytes 2)) refusal.Unsupported ⟫ λ _.
-    name_in (has_flag 0x20 (half_at bytes 2)) (slice_range bytes 76 (76 + half_at bytes 72)) ⟫ λ name.
+    rule (nat_le (76 + u16_at bytes 72) (length bytes)) cause.BadRecord ⟫ λ _.
+    barred (has_flag 0x40 (u16_at bytes 2)) refusal.Unsupported ⟫ λ _.
+    name_in (has_flag 0x20 (u16_at bytes 2)) (slice_range bytes 76 (76 + u16_at bytes 72)) ⟫ λ name.
     rule (not (list_any (λ u. u == 0x5c) name)) cause.BadName ⟫ λ _.
-    class_at (half_at bytes 74) (word_at bytes 48) ⟫ λ class.
-    descriptor_at (word_at bytes 44) ⟫ λ descriptor.
-    values_at split (word_at bytes 36) (word_at bytes 40) ⟫ λ values.
-    kids_at (word_at bytes 20) (word_at bytes 28) ⟫ λ kids.
-    done (record { name = name; class = class; flags = flags_of (half_at bytes 2); descriptor = descriptor; time = long_at bytes 4; values = values }, kids)
+    class_at (u16_at bytes 74) (u32_at bytes 48) ⟫ λ class.
+    descriptor_at (u32_at bytes 44) ⟫ λ descriptor.
+    values_at split (u32_at bytes 36) (u32_at bytes 40) ⟫ λ values.
+    subkeys_at (u32_at bytes 20) (u32_at bytes 28) ⟫ λ subkey_list.
+    done (record { name = name; class = class; flags = flags_of (u16_at bytes 2); descriptor = descriptor; time = u64_at bytes 4; values = values }, subkey_list)
 
 -- the same as the law of shapes asks for it
-abbrev pub parts_if : List ℕ → List ℕ → Result (Row × List ℕ) Refusal → Result (Parts Row) Refusal
-parts_if own lent (Ok x) = let row = x.0 in Ok (record { name = folded row.name; row = row; kids = x.1; own = own; lent = lent })
+abbrev pub parts_if : List ℕ → List ℕ → Result (Row × List ℕ) Refusal → Result (KeyParts Row) Refusal
+parts_if own lent (Ok x) = let row = x.0 in Ok (record { name = folded row.name; row = row; subkey_list = x.1; own = own; lent = lent })
 parts_if own lent (Err r) = Err r
 
-abbrev pub parts_of : Read (Row × List ℕ) → Result (Parts Row) Refusal
+abbrev pub parts_of : Read (Row × List ℕ) → Result (KeyParts Row) Refusal
 parts_of r = parts_if r.own r.lent r.says
 
-abbrev pub keys_in : Bool → Cells → Reads Row Refusal
+abbrev pub keys_in : Bool → Cells → KeyReader Row Refusal
 keys_in split cells at = parts_of (key_at split at cells)
 
 -- the cells that are looked at while a key is read

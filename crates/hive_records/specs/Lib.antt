@@ -11,11 +11,11 @@ pub mod Example
 pub mod Follows
 pub mod Heads
 pub mod Fields
-pub mod Spellings
-pub mod ValueTexts
-pub mod ListTexts
-pub mod KeyTexts
-pub mod BigTexts
+pub mod NameEncodings
+pub mod ValueEncodings
+pub mod ListEncodings
+pub mod KeyEncodings
+pub mod BigDataEncodings
 pub mod Wholes
-pub mod GoesOn
+pub mod RecordReaders
 pub mod Samples

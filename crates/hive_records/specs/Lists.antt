@@ -2,7 +2,7 @@
 use Rattle.std.specs.Prelude.{ℕ, ◌+◌, ◌*◌, ◌==◌, nat_le, Bool, ◌||◌, List, [], length, flat_map}
 use Rattle.refusals.specs.declared.refusal.Cause.TheVariants as cause
 use Rattle.hive_records.specs.Readers.{Reader, done, rule, choice, look, each, ◌⟫◌}
-use Rattle.hive_records.specs.Numbers.{half_at, words_from, begins_with}
+use Rattle.hive_records.specs.Numbers.{u16_at, words_from, begins_with}
 
 -- a list of offsets: li has an offset an element; lf and lh have four bytes more, which are not read
 abbrev pub is_plain : List ℕ → Bool
@@ -16,7 +16,7 @@ is_indirect bytes = begins_with bytes 0x6972 4
 
 -- the offsets in a list's data
 abbrev pub offsets_in : ℕ → List ℕ → Reader (List ℕ)
-offsets_in stride bytes = rule (nat_le (4 + stride * half_at bytes 2) (length bytes)) cause.BadList ⟫ λ _. done (words_from bytes 4 stride (half_at bytes 2))
+offsets_in stride bytes = rule (nat_le (4 + stride * u16_at bytes 2) (length bytes)) cause.BadList ⟫ λ _. done (words_from bytes 4 stride (u16_at bytes 2))
 
 abbrev pub leaf_in : List ℕ → Reader (List ℕ)
 leaf_in bytes = choice (is_plain bytes) (offsets_in 4 bytes) (rule (is_hinted bytes) cause.BadList ⟫ λ _. offsets_in 8 bytes)
@@ -31,10 +31,10 @@ list_in bytes = choice (is_indirect bytes)
     (leaf_in bytes)
 
 -- the subkeys of a key that says how many they are and where their list is
-abbrev pub kids_at : ℕ → ℕ → Reader (List ℕ)
-kids_at count list =
+abbrev pub subkeys_at : ℕ → ℕ → Reader (List ℕ)
+subkeys_at count list =
     choice (count == 0) (done [])
     (look list ⟫ λ bytes.
-    list_in bytes ⟫ λ kids.
-    rule (length kids == count) cause.BadList ⟫ λ _.
-    done kids)
+    list_in bytes ⟫ λ subkey_list.
+    rule (length subkey_list == count) cause.BadList ⟫ λ _.
+    done subkey_list)

@@ -22,8 +22,8 @@ no_offset = replicate 4 0xff
 -- a key's record by what differs from sample to sample, all of it below 0x100
 pub record Sample : Type 0 where
   pub flags : ℕ
-  pub kid_count : ℕ
-  pub kids : ℕ
+  pub subkey_total : ℕ
+  pub subkey_list : ℕ
   pub value_count : ℕ
   pub values : ℕ
   pub security : List ℕ
@@ -33,11 +33,11 @@ pub record Sample : Type 0 where
 
 -- nothing but a record, with a name in Latin-1
 abbrev pub bare : Sample
-bare = record { flags = 0x20; kid_count = 0; kids = 0; value_count = 0; values = 0; security = no_offset; class = 0; class_len = 0; name = [] }
+bare = record { flags = 0x20; subkey_total = 0; subkey_list = 0; value_count = 0; values = 0; security = no_offset; class = 0; class_len = 0; name = [] }
 
 abbrev pub key_bytes : Sample → List ℕ
 key_bytes s =
-    (0x6e ∷ 0x6b ∷ s.flags ∷ 0 ∷ []) ++ (replicate 16 0 ++ (small_word s.kid_count ++ (replicate 4 0 ++ (small_word s.kids ++ (replicate 4 0
+    (0x6e ∷ 0x6b ∷ s.flags ∷ 0 ∷ []) ++ (replicate 16 0 ++ (small_word s.subkey_total ++ (replicate 4 0 ++ (small_word s.subkey_list ++ (replicate 4 0
     ++ (small_word s.value_count ++ (small_word s.values ++ (s.security ++ (small_word s.class ++ (replicate 20 0
     ++ ((length s.name ∷ 0 ∷ s.class_len ∷ 0 ∷ []) ++ s.name)))))))))))
 
@@ -58,14 +58,14 @@ list_of_lists at = 0x72 ∷ 0x69 ∷ 1 ∷ 0 ∷ small_word at
 abbrev pub three_lists : List ℕ
 three_lists = (0x72 ∷ 0x69 ∷ 3 ∷ 0 ∷ []) ++ (small_word 48 ++ (small_word 56 ++ small_word 64))
 
-abbrev pub two_kids : List ℕ
-two_kids = (0x6c ∷ 0x69 ∷ 2 ∷ 0 ∷ []) ++ (small_word 48 ++ small_word 56)
+abbrev pub two_subkeys : List ℕ
+two_subkeys = (0x6c ∷ 0x69 ∷ 2 ∷ 0 ∷ []) ++ (small_word 48 ++ small_word 56)
 
 -- a root with a class, and three subkeys, to which a li, a lf and a lh lead below a ri. One has a name of two bytes
 -- a unit.
 abbrev pub every_list : Cells
 every_list = cells_of (
-    (32, key_bytes (record bare { flags = 0x2c; kid_count = 3; kids = 40; class = 72; class_len = 2 }))
+    (32, key_bytes (record bare { flags = 0x2c; subkey_total = 3; subkey_list = 40; class = 72; class_len = 2 }))
     ∷ (40, three_lists)
     ∷ (48, plain_list 80)
     ∷ (56, (0x6c ∷ 0x66 ∷ 1 ∷ 0 ∷ []) ++ (small_word 88 ++ (0x61 ∷ 0 ∷ 0 ∷ 0 ∷ [])))
@@ -124,26 +124,26 @@ values_alike = cells_of (
     ∷ [])
 
 abbrev pub no_list : Cells
-no_list = cells_of ((32, key_bytes (record bare { kid_count = 1; kids = 40 })) ∷ (40, replicate 8 0x78) ∷ [])
+no_list = cells_of ((32, key_bytes (record bare { subkey_total = 1; subkey_list = 40 })) ∷ (40, replicate 8 0x78) ∷ [])
 
 abbrev pub list_in_lists : Cells
-list_in_lists = cells_of ((32, key_bytes (record bare { kid_count = 1; kids = 40 })) ∷ (40, list_of_lists 48) ∷ (48, list_of_lists 56) ∷ (56, plain_list 64) ∷ (64, named (0x61 ∷ [])) ∷ [])
+list_in_lists = cells_of ((32, key_bytes (record bare { subkey_total = 1; subkey_list = 40 })) ∷ (40, list_of_lists 48) ∷ (48, list_of_lists 56) ∷ (56, plain_list 64) ∷ (64, named (0x61 ∷ [])) ∷ [])
 
 abbrev pub other_total : Cells
-other_total = cells_of ((32, key_bytes (record bare { kid_count = 2; kids = 40 })) ∷ (40, plain_list 48) ∷ (48, named (0x61 ∷ [])) ∷ [])
+other_total = cells_of ((32, key_bytes (record bare { subkey_total = 2; subkey_list = 40 })) ∷ (40, plain_list 48) ∷ (48, named (0x61 ∷ [])) ∷ [])
 
-abbrev pub nameless_kid : Cells
-nameless_kid = cells_of ((32, key_bytes (record bare { kid_count = 1; kids = 40 })) ∷ (40, plain_list 48) ∷ (48, named []) ∷ [])
+abbrev pub nameless_subkey : Cells
+nameless_subkey = cells_of ((32, key_bytes (record bare { subkey_total = 1; subkey_list = 40 })) ∷ (40, plain_list 48) ∷ (48, named []) ∷ [])
 
-abbrev pub kids_alike : Cells
-kids_alike = cells_of ((32, key_bytes (record bare { kid_count = 2; kids = 40 })) ∷ (40, two_kids) ∷ (48, named (0x61 ∷ [])) ∷ (56, named (0x41 ∷ [])) ∷ [])
+abbrev pub subkeys_alike : Cells
+subkeys_alike = cells_of ((32, key_bytes (record bare { subkey_total = 2; subkey_list = 40 })) ∷ (40, two_subkeys) ∷ (48, named (0x61 ∷ [])) ∷ (56, named (0x41 ∷ [])) ∷ [])
 
 -- a class in the key's own record; a key that is its own subkey; a class in the security cell
 abbrev pub cell_met_twice : Cells
 cell_met_twice = cells_of ((32, key_bytes (record bare { class = 32; class_len = 2 })) ∷ [])
 
 abbrev pub key_in_itself : Cells
-key_in_itself = cells_of ((32, key_bytes (record bare { kid_count = 1; kids = 40; name = 0x61 ∷ [] })) ∷ (40, plain_list 32) ∷ [])
+key_in_itself = cells_of ((32, key_bytes (record bare { subkey_total = 1; subkey_list = 40; name = 0x61 ∷ [] })) ∷ (40, plain_list 32) ∷ [])
 
 abbrev pub lent_and_own : Cells
 lent_and_own = cells_of ((32, key_bytes (record bare { security = small_word 40; class = 40; class_len = 2 })) ∷ (40, (0x73 ∷ 0x6b ∷ []) ++ replicate 18 0) ∷ [])

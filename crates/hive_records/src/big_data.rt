@@ -2,7 +2,7 @@
 ghost use Rattle.std.specs.Prelude.{◌≡◌, MatchResult, Some, None};
 ghost use Rattle.hive_records.specs.Values.{segments_of};
 
-use crate::numbers::{begins_with, half_at, word_at};
+use crate::numbers::{begins_with, u16_at, u32_at};
 use refusals::{Cause, Refusal};
 
 // `db`, as the number of these two bytes
@@ -47,13 +47,13 @@ impl BigData {
         if !begins_with(cell, LETTERS, FIELDS) {
             return Err(Refusal::from(Cause::BadRecord));
         }
-        let count = half_at(cell, 2);
+        let count = u16_at(cell, 2);
         if count as usize != segment_count(size) {
             return Err(Refusal::from(Cause::BadRecord));
         }
         Ok(BigData {
             count,
-            segments: word_at(cell, 4),
+            segments: u32_at(cell, 4),
         })
     }
 }

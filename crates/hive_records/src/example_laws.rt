@@ -2,7 +2,7 @@
 
 ghost use Rattle.std.specs.Prelude.{◌≡◌, ◌∷◌, [], true, Ok, Some};
 ghost use Rattle.hive_tree_model.specs.Keys.{none};
-ghost use Rattle.hive_tree_model.specs.Stands.{Stands};
+ghost use Rattle.hive_tree_model.specs.Encodings.{CellsEncodeTree};
 ghost use Rattle.hive_records.specs.Example.{one_cell, one_key, full_cells, two_keys, full_root, child_record, full_row, child_row, full_value};
 ghost use Rattle.hive_records.specs.KeyNodes.{keys_in};
 ghost use Rattle.refusals.specs.declared.refusal.Refusal.TheVariants as refusal;
@@ -10,12 +10,12 @@ ghost use Rattle.refusals.specs.declared.refusal.Cause.TheVariants as cause;
 ghost use Rattle.hive_records.specs.Values.{value_at};
 ghost use Rattle.hive_records.specs.Fields.{Gives};
 ghost use Rattle.hive_records.specs.Images.{FaultIn};
-ghost use Rattle.hive_records.specs.Samples.{every_list, four_keys, big_cells, big_value, no_cells, empty_cell, handle_in_place, odd_name, backslash_in_name, values_alike, no_list, list_in_lists, other_total, nameless_kid, kids_alike, cell_met_twice, key_in_itself, lent_and_own};
-ghost use Rattle.hive_records.specs.ValueTexts.{small_value};
-ghost use Rattle.hive_records.specs.ListTexts.{offsets_text, indirect};
-ghost use Rattle.hive_records.specs.Wholes.{root_places, child_places};
-ghost use Rattle.hive_records.specs.KeyTexts.{security_text, key_text};
-ghost use Rattle.hive_records.specs.Spellings.{name_text};
+ghost use Rattle.hive_records.specs.Samples.{every_list, four_keys, big_cells, big_value, no_cells, empty_cell, handle_in_place, odd_name, backslash_in_name, values_alike, no_list, list_in_lists, other_total, nameless_subkey, subkeys_alike, cell_met_twice, key_in_itself, lent_and_own};
+ghost use Rattle.hive_records.specs.ValueEncodings.{small_value};
+ghost use Rattle.hive_records.specs.ListEncodings.{offsets_bytes, indirect};
+ghost use Rattle.hive_records.specs.Wholes.{root_fields, child_fields};
+ghost use Rattle.hive_records.specs.KeyEncodings.{security_bytes, key_node_bytes};
+ghost use Rattle.hive_records.specs.NameEncodings.{name_bytes};
 
 /// Two images, so that none of this is empty.
 ///
@@ -23,28 +23,28 @@ ghost use Rattle.hive_records.specs.Spellings.{name_text};
 /// - `two`: a root with a value in its record, and one subkey behind two lists, both with one security cell, stand for
 ///   the tree of two keys.
 pub fn example()
-    ensures one { Stands (keys_in true one_cell) 32 one_key }
-    ensures two { Stands (keys_in true full_cells) 32 two_keys }
+    ensures one { CellsEncodeTree (keys_in true one_cell) 32 one_key }
+    ensures two { CellsEncodeTree (keys_in true full_cells) 32 two_keys }
 {}
 
 /// The texts of the records of an image that was spelled byte by byte.
-pub fn spelled_by_hand()
-    ensures root { key_text full_row root_places ≡ full_root }
-    ensures child { key_text child_row child_places ≡ child_record }
+pub fn records_by_hand()
+    ensures root { key_node_bytes full_row root_fields ≡ full_root }
+    ensures child { key_node_bytes child_row child_fields ≡ child_record }
     ensures value { full_cells 256 ≡ Some (small_value full_value) }
-    ensures values { full_cells 240 ≡ Some (offsets_text (256 ∷ [])) }
+    ensures values { full_cells 240 ≡ Some (offsets_bytes (256 ∷ [])) }
     ensures lists { full_cells 200 ≡ Some (indirect (208 ∷ [])) }
-    ensures security { full_cells 280 ≡ Some (security_text 0 0 0 (9 ∷ 8 ∷ [])) }
+    ensures security { full_cells 280 ≡ Some (security_bytes 0 0 0 (9 ∷ 8 ∷ [])) }
     ensures reads { keys_in true full_cells 120
         ≡ Ok (record {
           name = 0x41 ∷ [];
           row = child_row;
-          kids = [];
+          subkey_list = [];
           own = 120 ∷ [];
           lent = 280 ∷
               [];
         }) }
-    ensures wide { name_text (0x41 ∷ 0x100 ∷ []) ≡ 0x41 ∷ 0 ∷ 0 ∷ 1 ∷ [] }
+    ensures wide { name_bytes (0x41 ∷ 0x100 ∷ []) ≡ 0x41 ∷ 0 ∷ 0 ∷ 1 ∷ [] }
 {}
 
 /// Each kind of list, a class, a name of two bytes a unit, and big data.
@@ -52,7 +52,7 @@ pub fn spelled_by_hand()
 /// - `lists`: three subkeys below a ri, a li, a lf and a lh, of a root with a class.
 /// - `big`: data of 16,345 bytes in two segments.
 pub fn each_kind()
-    ensures lists { Stands (keys_in true every_list) 32 four_keys }
+    ensures lists { CellsEncodeTree (keys_in true every_list) 32 four_keys }
     ensures big { Gives (value_at true 32) big_cells (32 ∷ 64 ∷ 80 ∷ 96 ∷ 104 ∷ []) [] big_value }
 {}
 
@@ -71,8 +71,8 @@ pub fn each_refusal()
 
 /// One image for each fault between keys, or between the cells of one.
 pub fn each_fault()
-    ensures nameless { FaultIn true nameless_kid 32 (refusal.HiveDamaged 0 cause.BadName) }
-    ensures alike { FaultIn true kids_alike 32 (refusal.HiveDamaged 0 cause.BadName) }
+    ensures nameless { FaultIn true nameless_subkey 32 (refusal.HiveDamaged 0 cause.BadName) }
+    ensures alike { FaultIn true subkeys_alike 32 (refusal.HiveDamaged 0 cause.BadName) }
     ensures twice { FaultIn true cell_met_twice 32 (refusal.HiveDamaged 0 cause.Shared) }
     ensures itself { FaultIn true key_in_itself 32 (refusal.HiveDamaged 0 cause.Shared) }
     ensures lent { FaultIn true lent_and_own 32 (refusal.HiveDamaged 0 cause.Shared) }

@@ -1,7 +1,7 @@
 //! Hashes of names, as lists of subkeys have them.
 ghost use Rattle.std.specs.Prelude.{◌≡◌};
 ghost use Rattle.reg_names.specs.Names.{folded};
-ghost use Rattle.hive_records.specs.ListTexts.{hash_from};
+ghost use Rattle.hive_records.specs.ListEncodings.{hash_from};
 
 use reg_names::folded_unit;
 

@@ -8,29 +8,29 @@ ghost use Rattle.reg_tree_parts.specs.Orders.{name_order, path_order};
 ghost use Rattle.reg_tree_parts.specs.Rows.{Row};
 ghost use Rattle.reg_tree_parts.specs.Nodes.{Entries, entries_of};
 ghost use Rattle.reg_tree.specs.Maps.{TreeMap, IsTree, row};
-ghost use Rattle.reg_tree.specs.Spellable.{IsSpellableRow};
+ghost use Rattle.reg_tree.specs.Encodable.{IsEncodableRow};
 ghost use Rattle.hive_cells.specs.Changes.{StaysAt};
 ghost use Rattle.hive_tree_model.specs.Lists.{IsIn};
-ghost use Rattle.hive_tree_model.specs.Keys.{Parts, Keys, none, names, all_cells};
+ghost use Rattle.hive_tree_model.specs.Keys.{KeyParts, Keys, none, names, all_cells};
 ghost use Rattle.hive_tree_model.specs.Trees.{tree_of};
-ghost use Rattle.hive_tree_model.specs.Stands.{Whole, Named};
+ghost use Rattle.hive_tree_model.specs.Encodings.{Whole, Named};
 ghost use Rattle.hive_tree_model.specs.Cells.{IsLocal, IsThere};
 ghost use Rattle.hive_tree_model.specs.Faults.{IsTrail, IsLentTrail};
 ghost use Rattle.hive_tree_model.specs.Loads.{with_last};
 ghost use Rattle.hive_records.specs.Nodes.{IsNodeOf, AreNodesOf};
 ghost use Rattle.hive_records.specs.Bytes.{AreBytes, HoldBytes};
 ghost use Rattle.hive_records.specs.KeyNodes.{keys_in, trail_in, lends_in};
-ghost use Rattle.hive_records.specs.Images.{StandsFor, FaultFor};
+ghost use Rattle.hive_records.specs.Images.{BinsEncodeTree, FaultFor};
 ghost use Rattle.hive_cells.specs.Bins.{Cells, Shows};
 
 /// Hive bins data stand for at most one tree, and that is a tree; and for none where a fault stands in them.
 pub fn one_tree()
     ensures one { (bytes : List ℕ) (root minor : ℕ) (t u : TreeMap) →
-        StandsFor bytes root minor t → StandsFor bytes root minor u → t ≡ u }
+        BinsEncodeTree bytes root minor t → BinsEncodeTree bytes root minor u → t ≡ u }
     ensures is { (bytes : List ℕ) (root minor : ℕ) (tree : TreeMap) →
-        StandsFor bytes root minor tree → IsTree tree }
+        BinsEncodeTree bytes root minor tree → IsTree tree }
     ensures fault { (bytes : List ℕ) (root minor : ℕ) (tree : TreeMap) (refusal : Refusal) →
-        FaultFor bytes root minor refusal → StandsFor bytes root minor tree → ⊥ }
+        FaultFor bytes root minor refusal → BinsEncodeTree bytes root minor tree → ⊥ }
 {}
 
 /// What a key's cells say hangs on no cells but its own and the security cell that it names: the law of shapes applies.
@@ -46,7 +46,7 @@ pub fn keys_are_local()
 /// Where the cells that a key and those below it hang on stay, what they say stays.
 pub fn stays()
     ensures { (old new : List ℕ) (before after : Cells) → Shows old before → Shows new after →
-        (split : Bool) (at : ℕ) (parts : Parts Row) (below : Keys Row) →
+        (split : Bool) (at : ℕ) (parts : KeyParts Row) (below : Keys Row) →
         Whole (keys_in split before) at parts below → ((cell : ℕ) →
         IsIn cell ((parts.own ++ parts.lent) ++ all_cells below) → StaysAt old new cell) →
         Whole (keys_in split after) at parts below }
@@ -56,14 +56,14 @@ pub fn stays()
 /// the tree is the one that the keys make.
 pub fn nodes()
     ensures begins { AreNodesOf [] none }
-    ensures goes_on { (at : ℕ) (parts : Parts Row) (below first : Keys Row) (kids : List (List ℕ
+    ensures goes_on { (at : ℕ) (parts : KeyParts Row) (below first : Keys Row) (subkey_list : List (List ℕ
         × Entries)) (entries : Entries) →
-        AreNodesOf kids first → IsNodeOf entries parts below → (IsIn parts.name (names first) → ⊥) →
-        AreNodesOf (put name_order parts.name entries kids) (with_last first at parts below) }
-    ensures ends { (parts : Parts Row) (keys : Keys Row) (kids : List (List ℕ × Entries)) →
-        T (is_sorted name_order kids) →
-        AreNodesOf kids keys → IsNodeOf (entries_of parts.row kids) parts keys }
-    ensures tree { (parts : Parts Row) (keys : Keys Row) (entries : Entries) →
+        AreNodesOf subkey_list first → IsNodeOf entries parts below → (IsIn parts.name (names first) → ⊥) →
+        AreNodesOf (put name_order parts.name entries subkey_list) (with_last first at parts below) }
+    ensures ends { (parts : KeyParts Row) (keys : Keys Row) (subkey_list : List (List ℕ × Entries)) →
+        T (is_sorted name_order subkey_list) →
+        AreNodesOf subkey_list keys → IsNodeOf (entries_of parts.row subkey_list) parts keys }
+    ensures tree { (parts : KeyParts Row) (keys : Keys Row) (entries : Entries) →
         T (is_sorted path_order entries) → Named keys →
         IsNodeOf entries parts keys → finite.from_sorted entries ≡ tree_of parts keys }
 {}
@@ -74,13 +74,13 @@ pub fn nodes()
 ///   most as many, flags of 16 bits without 0x0020 and 0x0040, and each value under the fold of its name.
 /// - `cells`: the cells of data that are bytes hold bytes.
 /// - `tree`: so is each row of the tree that such data stand for.
-pub fn rows_are_spellable()
-    ensures row { (cells : Cells) → HoldBytes cells → (split : Bool) (at : ℕ) (parts : Parts Row) →
-        keys_in split cells at ≡ Ok parts → IsSpellableRow parts.row }
+pub fn rows_are_encodable()
+    ensures row { (cells : Cells) → HoldBytes cells → (split : Bool) (at : ℕ) (parts : KeyParts Row) →
+        keys_in split cells at ≡ Ok parts → IsEncodableRow parts.row }
     ensures cells { (bytes : List ℕ) (cells : Cells) → AreBytes bytes → Shows bytes cells →
         HoldBytes cells }
     ensures tree { (bytes : List ℕ) (root minor : ℕ) (tree : TreeMap) → AreBytes bytes →
-        StandsFor bytes root minor tree → (path : List (List ℕ)) (key : Row) →
+        BinsEncodeTree bytes root minor tree → (path : List (List ℕ)) (key : Row) →
         row tree path ≡ Some key →
-        IsSpellableRow key }
+        IsEncodableRow key }
 {}

@@ -4,16 +4,16 @@ ghost use Rattle.std.specs.Prelude.{◌≡◌, ◌≢◌, ◌∷◌, [], ℕ, Bo
 ghost use Rattle.refusals.specs.declared.refusal.Refusal.{Refusal};
 ghost use Rattle.hive_cells.specs.Bins.{Cells};
 ghost use Rattle.hive_records.specs.Readers.{look, ◌⟫◌};
-ghost use Rattle.hive_records.specs.Numbers.{nowhere};
+ghost use Rattle.hive_records.specs.Numbers.{nil_offset};
 ghost use Rattle.hive_records.specs.Values.{big_data, value_at};
-ghost use Rattle.hive_records.specs.Lists.{leaf_at, kids_at};
+ghost use Rattle.hive_records.specs.Lists.{leaf_at, subkeys_at};
 ghost use Rattle.hive_records.specs.KeyNodes.{descriptor_at, key_at};
 ghost use Rattle.hive_records.specs.Heads.{key_node_fault, IsKeyNode, value_fault, IsValueRec, security_fault, IsSecurity, list_fault, IsSubkeyList, big_fault, IsBigData};
-ghost use Rattle.hive_records.specs.GoesOn.{key_from, value_from, big_from, leaf_from, kids_from};
+ghost use Rattle.hive_records.specs.RecordReaders.{key_from, value_from, big_from, leaf_from, subkeys_from};
 ghost use Rattle.hive_records.specs.declared.key_node.KeyNode.{KeyNode};
 ghost use Rattle.hive_records.specs.declared.value_record.ValueRec.{ValueRec};
 ghost use Rattle.hive_records.specs.declared.security_cell.Security.{Security};
-ghost use Rattle.hive_records.specs.declared.subkey_list.SubkeyList.{SubkeyList};
+ghost use Rattle.hive_records.specs.declared.list_record.SubkeyList.{SubkeyList};
 ghost use Rattle.hive_records.specs.declared.big_data.BigData.{BigData};
 
 /// A key whose key node is refused by itself is refused for that, with no cell looked at but that one; any other key is
@@ -40,10 +40,10 @@ pub fn values_go_on()
 /// A descriptor is that of its security cell, which is lent; where that is refused by itself, it is refused for that.
 pub fn descriptors_go_on()
     ensures refused { (cells : Cells) (at : ℕ) (bytes : List ℕ) (refusal : Refusal) →
-        at ≢ nowhere → cells at ≡ Some bytes → security_fault bytes ≡ Some refusal →
+        at ≢ nil_offset → cells at ≡ Some bytes → security_fault bytes ≡ Some refusal →
         descriptor_at at cells ≡ record { own = []; lent = at ∷ []; says = Err refusal } }
     ensures read { (cells : Cells) (at : ℕ) (bytes : List ℕ) (security : Security) →
-        at ≢ nowhere → cells at ≡ Some bytes → security_fault bytes ≡ None →
+        at ≢ nil_offset → cells at ≡ Some bytes → security_fault bytes ≡ None →
         IsSecurity security bytes → descriptor_at at cells
         ≡ record { own = []; lent = at ∷ []; says = Ok security.descriptor.now } }
 {}
@@ -53,11 +53,11 @@ pub fn descriptors_go_on()
 pub fn lists_go_on()
     ensures refused { (cells : Cells) (count at : ℕ) (bytes : List ℕ) (refusal : Refusal) →
         count ≢ 0 → cells at ≡ Some bytes → list_fault bytes ≡ Some refusal →
-        kids_at count at cells ≡ record { own = at ∷ []; lent = []; says = Err refusal } }
+        subkeys_at count at cells ≡ record { own = at ∷ []; lent = []; says = Err refusal } }
     ensures read { (cells : Cells) (count at : ℕ) (bytes : List ℕ) (list : SubkeyList) →
         count ≢ 0 → cells at ≡ Some bytes → list_fault bytes ≡ None →
         IsSubkeyList list bytes →
-        kids_at count at cells ≡ (look at ⟫ λ _. kids_from count list) cells }
+        subkeys_at count at cells ≡ (look at ⟫ λ _. subkeys_from count list) cells }
     ensures leaf_refused { (cells : Cells) (at : ℕ) (bytes : List ℕ) (refusal : Refusal) →
         cells at ≡ Some bytes → list_fault bytes ≡ Some refusal →
         leaf_at at cells ≡ record { own = at ∷ []; lent = []; says = Err refusal } }

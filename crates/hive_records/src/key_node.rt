@@ -1,7 +1,7 @@
 //! Key nodes.
 ghost use Rattle.std.specs.Prelude.{◌≡◌, MatchResult, Some, None};
 
-use crate::numbers::{begins_with, half_at, has_flag, long_at, word_at};
+use crate::numbers::{begins_with, has_flag, u16_at, u32_at, u64_at};
 use crate::stored_name::StoredName;
 use refusals::{Cause, Refusal};
 
@@ -62,11 +62,11 @@ impl<'a> KeyNode<'a> {
         if !begins_with(cell, LETTERS, FIELDS) {
             return Err(Refusal::from(Cause::BadRecord));
         }
-        let end = FIELDS + half_at(cell, 72) as usize;
+        let end = FIELDS + u16_at(cell, 72) as usize;
         if cell.len() < end {
             return Err(Refusal::from(Cause::BadRecord));
         }
-        let stored = half_at(cell, 2);
+        let stored = u16_at(cell, 2);
         if has_flag(stored, PREDEFINED) {
             return Err(Refusal::Unsupported);
         }
@@ -78,14 +78,14 @@ impl<'a> KeyNode<'a> {
         }
         Ok(KeyNode {
             flags: if latin { stored - LATIN } else { stored },
-            time: long_at(cell, 4),
-            subkey_count: word_at(cell, 20),
-            subkeys: word_at(cell, 28),
-            value_count: word_at(cell, 36),
-            values: word_at(cell, 40),
-            security: word_at(cell, 44),
-            class: word_at(cell, 48),
-            class_len: half_at(cell, 74),
+            time: u64_at(cell, 4),
+            subkey_count: u32_at(cell, 20),
+            subkeys: u32_at(cell, 28),
+            value_count: u32_at(cell, 36),
+            values: u32_at(cell, 40),
+            security: u32_at(cell, 44),
+            class: u32_at(cell, 48),
+            class_len: u16_at(cell, 74),
             name,
         })
     }

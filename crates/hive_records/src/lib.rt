@@ -13,34 +13,34 @@ mod hashes;
 mod image_laws;
 mod joined_laws;
 mod key_node;
-mod key_places;
+mod key_node_fields;
+mod list_record;
 mod names;
 mod numbers;
 mod reading_laws;
+mod round_trip_laws;
 mod security_cell;
 mod stored_name;
-mod subkey_list;
-mod text_laws;
 mod value_record;
 mod writing;
 
 pub use big_data::{BigData, SEGMENT_BYTES, segment_count};
-pub use example_laws::{each_fault, each_kind, each_refusal, example, spelled_by_hand};
+pub use example_laws::{each_fault, each_kind, each_refusal, example, records_by_hand};
 pub use hashes::name_hash;
-pub use image_laws::{keys_are_local, nodes, one_tree, rows_are_spellable, stays};
+pub use image_laws::{keys_are_local, nodes, one_tree, rows_are_encodable, stays};
 pub use joined_laws::{big_data_go_on, descriptors_go_on, keys_go_on, lists_go_on, values_go_on};
 pub use key_node::KeyNode;
-pub use key_places::KeyPlaces;
+pub use key_node_fields::KeyNodeFields;
+pub use list_record::SubkeyList;
 pub use names::{is_latin, stored_len};
-pub use numbers::word_at;
+pub use numbers::u32_at;
 pub use reading_laws::{follows, loops};
-pub use security_cell::Security;
-pub use stored_name::StoredName;
-pub use subkey_list::SubkeyList;
-pub use text_laws::{
-    big_again, cells_again, keys_again, lists_again, many_again, names_again, texts_are_so_long,
+pub use round_trip_laws::{
+    big_again, cells_again, keys_again, lists_again, many_again, names_again, record_lengths,
     values_again, written_again,
 };
+pub use security_cell::Security;
+pub use stored_name::StoredName;
 pub use value_record::ValueRec;
 pub use writing::{
     put_big_data, put_hashed, put_hashed_head, put_indirect, put_key_node, put_large_value,

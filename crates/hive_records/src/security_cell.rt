@@ -1,7 +1,7 @@
 //! Security cells.
 ghost use Rattle.std.specs.Prelude.{◌≡◌, MatchResult, Some, None};
 
-use crate::numbers::{begins_with, word_at};
+use crate::numbers::{begins_with, u32_at};
 use refusals::{Cause, Refusal};
 
 // `sk`, as the number of these two bytes
@@ -34,7 +34,7 @@ impl<'a> Security<'a> {
         if !begins_with(cell, LETTERS, FIELDS) {
             return Err(Refusal::from(Cause::BadRecord));
         }
-        let end = FIELDS + word_at(cell, 16) as usize;
+        let end = FIELDS + u32_at(cell, 16) as usize;
         if cell.len() < end {
             return Err(Refusal::from(Cause::BadRecord));
         }

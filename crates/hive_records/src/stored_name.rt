@@ -3,7 +3,7 @@ ghost use Rattle.std.specs.Prelude.{◌≡◌, ◌<◌, ◌==◌, length, slice_
 ghost use Rattle.std.specs.List.{list_any};
 ghost use Rattle.hive_records.specs.Names.{pairs};
 
-use crate::numbers::half_at;
+use crate::numbers::u16_at;
 
 /// A name as it lies in a record: a byte a unit, which is Latin-1, or two, the lower first.
 #[derive(Drop)]
@@ -72,5 +72,5 @@ fn pair_at(bytes: &[u8], place: usize) -> u16
     requires { place < length (pairs bytes.now) }
     ensures { result ≡ slice_index (pairs bytes.now) place }
 {
-    half_at(bytes, 2 * place)
+    u16_at(bytes, 2 * place)
 }

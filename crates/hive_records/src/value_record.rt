@@ -1,7 +1,7 @@
 //! Records of values.
 ghost use Rattle.std.specs.Prelude.{◌≡◌, MatchResult, Some, None};
 
-use crate::numbers::{begins_with, half_at, has_flag, word_at};
+use crate::numbers::{begins_with, has_flag, u16_at, u32_at};
 use crate::stored_name::StoredName;
 use refusals::{Cause, Refusal};
 
@@ -52,24 +52,24 @@ impl<'a> ValueRec<'a> {
         if !begins_with(cell, LETTERS, FIELDS) {
             return Err(Refusal::from(Cause::BadRecord));
         }
-        let end = FIELDS + half_at(cell, 2) as usize;
+        let end = FIELDS + u16_at(cell, 2) as usize;
         if cell.len() < end {
             return Err(Refusal::from(Cause::BadRecord));
         }
-        let latin = has_flag(half_at(cell, 16), LATIN);
+        let latin = has_flag(u16_at(cell, 16), LATIN);
         let bytes = &cell[FIELDS..end];
         let name = StoredName { latin, bytes };
         if !name.is_even() {
             return Err(Refusal::from(Cause::BadName));
         }
-        let size = word_at(cell, 4);
+        let size = u32_at(cell, 4);
         if IN_RECORD <= size && size - IN_RECORD > MOST_IN_RECORD {
             return Err(Refusal::from(Cause::BadRecord));
         }
         Ok(ValueRec {
             size,
-            offset: word_at(cell, 8),
-            kind: word_at(cell, 12),
+            offset: u32_at(cell, 8),
+            kind: u32_at(cell, 12),
             small: &cell[8..12],
             name,
         })

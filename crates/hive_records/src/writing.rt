@@ -1,15 +1,15 @@
 //! The texts of records, each put behind some bytes. Where memory is refused, a beginning of the text may stand there.
 ghost use Rattle.std.specs.Prelude.{◌≡◌, ◌<◌, ◌≤◌, ◌^◌, ◌+◌, ◌++◌, true, false, OnOk, length};
-ghost use Rattle.hive_records.specs.Fields.{half, word, long};
-ghost use Rattle.hive_records.specs.Spellings.{is_latin, latin_flag, name_text, wide};
-ghost use Rattle.hive_records.specs.ValueTexts.{value_record, small_value, large_value};
+ghost use Rattle.hive_records.specs.Fields.{u16_bytes, u32_bytes, u64_bytes};
+ghost use Rattle.hive_records.specs.NameEncodings.{is_latin, latin_flag, name_bytes, wide};
+ghost use Rattle.hive_records.specs.ValueEncodings.{value_record, small_value, large_value};
 ghost use Rattle.reg_names.specs.Names.{folded};
 ghost use Rattle.hive_records.specs.Names.{has_flag};
-ghost use Rattle.hive_records.specs.ListTexts.{offsets_text, plain_leaf, indirect, hashed};
-ghost use Rattle.hive_records.specs.KeyTexts.{security_text, node_text, node_head, node_bounds};
+ghost use Rattle.hive_records.specs.ListEncodings.{offsets_bytes, plain_leaf, indirect, hashed};
+ghost use Rattle.hive_records.specs.KeyEncodings.{security_bytes, node_bytes, node_head, node_bounds};
 
 use crate::hashes::name_hash;
-use crate::key_places::KeyPlaces;
+use crate::key_node_fields::KeyNodeFields;
 use crate::names::{is_latin, stored_len};
 use byteorder::{ByteOrder, LittleEndian};
 use reg_tree_parts::Value;
@@ -34,14 +34,14 @@ const INDIRECT: u16 = 0x6972;
 const LATIN: u16 = 0x20;
 
 // the offset of none
-const NOWHERE: u32 = 0xffff_ffff;
+const NIL: u32 = 0xffff_ffff;
 
 // the top bit of a size field, set where the data lie in the record
 const IN_RECORD: u32 = 0x8000_0000;
 
 /// Puts a number of two bytes behind some bytes, the lowest byte first.
-fn put_half(bytes: &mut Vec<u8>, number: u16) -> Result<(), AllocError>
-    ensures { OnOk result (bytes.new.items ≡ bytes.old.items ++ half number) }
+fn put_u16(bytes: &mut Vec<u8>, number: u16) -> Result<(), AllocError>
+    ensures { OnOk result (bytes.new.items ≡ bytes.old.items ++ u16_bytes number) }
 {
     let mut field = [0; 2];
     LittleEndian::write_u16(&mut field, number);
@@ -49,8 +49,8 @@ fn put_half(bytes: &mut Vec<u8>, number: u16) -> Result<(), AllocError>
 }
 
 /// Puts a number of four bytes.
-fn put_word(bytes: &mut Vec<u8>, number: u32) -> Result<(), AllocError>
-    ensures { OnOk result (bytes.new.items ≡ bytes.old.items ++ word number) }
+fn put_u32(bytes: &mut Vec<u8>, number: u32) -> Result<(), AllocError>
+    ensures { OnOk result (bytes.new.items ≡ bytes.old.items ++ u32_bytes number) }
 {
     let mut field = [0; 4];
     LittleEndian::write_u32(&mut field, number);
@@ -58,8 +58,8 @@ fn put_word(bytes: &mut Vec<u8>, number: u32) -> Result<(), AllocError>
 }
 
 /// Puts a number of eight bytes.
-fn put_long(bytes: &mut Vec<u8>, number: u64) -> Result<(), AllocError>
-    ensures { OnOk result (bytes.new.items ≡ bytes.old.items ++ long number) }
+fn put_u64(bytes: &mut Vec<u8>, number: u64) -> Result<(), AllocError>
+    ensures { OnOk result (bytes.new.items ≡ bytes.old.items ++ u64_bytes number) }
 {
     let mut field = [0; 8];
     LittleEndian::write_u64(&mut field, number);
@@ -68,7 +68,7 @@ fn put_long(bytes: &mut Vec<u8>, number: u64) -> Result<(), AllocError>
 
 /// Puts a name, in Latin-1 where all its units are below 0x100, else in UTF-16.
 fn put_name(bytes: &mut Vec<u8>, name: &[u16]) -> Result<(), AllocError>
-    ensures { OnOk result (bytes.new.items ≡ bytes.old.items ++ name_text name.now) }
+    ensures { OnOk result (bytes.new.items ≡ bytes.old.items ++ name_bytes name.now) }
 {
     if is_latin(name) {
         put_latin(bytes, name)?;
@@ -94,32 +94,32 @@ fn put_wide(bytes: &mut Vec<u8>, name: &[u16]) -> Result<(), AllocError>
     ensures { OnOk result (bytes.new.items ≡ bytes.old.items ++ wide name.now) }
 {
     for unit in name {
-        put_half(bytes, *unit)?;
+        put_u16(bytes, *unit)?;
     }
     Ok(())
 }
 
 // puts a value's record with a size field and the bytes of the offset field
 fn put_value(bytes: &mut Vec<u8>, value: &Value, size: u32, field: &[u8]) -> Result<(), AllocError>
-    requires { length (name_text value.now.name) < 2 ^ 16 }
+    requires { length (name_bytes value.now.name) < 2 ^ 16 }
     ensures { OnOk result (bytes.new.items ≡ bytes.old.items ++ value_record value.now size
         field.now) }
 {
     let name = value.name.units();
-    put_half(bytes, VALUE)?;
-    put_half(bytes, stored_len(name))?;
-    put_word(bytes, size)?;
+    put_u16(bytes, VALUE)?;
+    put_u16(bytes, stored_len(name))?;
+    put_u32(bytes, size)?;
     bytes.extend_from_slice(field)?;
-    put_word(bytes, value.kind)?;
-    put_half(bytes, u16::from(is_latin(name)))?;
-    put_half(bytes, 0)?;
+    put_u32(bytes, value.kind)?;
+    put_u16(bytes, u16::from(is_latin(name)))?;
+    put_u16(bytes, 0)?;
     put_name(bytes, name)?;
     Ok(())
 }
 
 /// Puts the record of a value whose data of at most 4 bytes lie in it.
 pub fn put_small_value(bytes: &mut Vec<u8>, value: &Value) -> Result<(), AllocError>
-    requires name { length (name_text value.now.name) < 2 ^ 16 }
+    requires name { length (name_bytes value.now.name) < 2 ^ 16 }
     requires few { length value.now.data ≤ 4 }
     ensures { OnOk result (bytes.new.items ≡ bytes.old.items ++ small_value value.now) }
 {
@@ -131,7 +131,7 @@ pub fn put_small_value(bytes: &mut Vec<u8>, value: &Value) -> Result<(), AllocEr
 
 /// Puts the record of a value whose data lie in the cell at an offset, or in the segments that it leads to.
 pub fn put_large_value(bytes: &mut Vec<u8>, value: &Value, at: u32) -> Result<(), AllocError>
-    requires name { length (name_text value.now.name) < 2 ^ 16 }
+    requires name { length (name_bytes value.now.name) < 2 ^ 16 }
     requires few { length value.now.data < 2 ^ 31 }
     ensures { OnOk result (bytes.new.items ≡ bytes.old.items ++ large_value value.now at) }
 {
@@ -143,20 +143,20 @@ pub fn put_large_value(bytes: &mut Vec<u8>, value: &Value, at: u32) -> Result<()
 /// Puts the record of big data in so many segments, whose offsets are in a cell.
 pub fn put_big_data(bytes: &mut Vec<u8>, count: u16, segments: u32) -> Result<(), AllocError>
     ensures { OnOk result (bytes.new.items ≡ bytes.old.items ++
-        (half 0x6264 ++ half count ++ word segments)) }
+        (u16_bytes 0x6264 ++ u16_bytes count ++ u32_bytes segments)) }
 {
-    put_half(bytes, BIG_DATA)?;
-    put_half(bytes, count)?;
-    put_word(bytes, segments)?;
+    put_u16(bytes, BIG_DATA)?;
+    put_u16(bytes, count)?;
+    put_u32(bytes, segments)?;
     Ok(())
 }
 
 /// Puts offsets one after the other, as the list of a key's values has them, and that of big data's segments.
 pub fn put_offsets(bytes: &mut Vec<u8>, offsets: &[u32]) -> Result<(), AllocError>
-    ensures { OnOk result (bytes.new.items ≡ bytes.old.items ++ offsets_text offsets.now) }
+    ensures { OnOk result (bytes.new.items ≡ bytes.old.items ++ offsets_bytes offsets.now) }
 {
     for offset in offsets {
-        put_word(bytes, *offset)?;
+        put_u32(bytes, *offset)?;
     }
     Ok(())
 }
@@ -166,8 +166,8 @@ pub fn put_plain_leaf(bytes: &mut Vec<u8>, offsets: &[u32]) -> Result<(), AllocE
     requires { length offsets.now < 2 ^ 16 }
     ensures { OnOk result (bytes.new.items ≡ bytes.old.items ++ plain_leaf offsets.now) }
 {
-    put_half(bytes, PLAIN)?;
-    put_half(bytes, offsets.len() as u16)?;
+    put_u16(bytes, PLAIN)?;
+    put_u16(bytes, offsets.len() as u16)?;
     put_offsets(bytes, offsets)?;
     Ok(())
 }
@@ -177,8 +177,8 @@ pub fn put_indirect(bytes: &mut Vec<u8>, offsets: &[u32]) -> Result<(), AllocErr
     requires { length offsets.now < 2 ^ 16 }
     ensures { OnOk result (bytes.new.items ≡ bytes.old.items ++ indirect offsets.now) }
 {
-    put_half(bytes, INDIRECT)?;
-    put_half(bytes, offsets.len() as u16)?;
+    put_u16(bytes, INDIRECT)?;
+    put_u16(bytes, offsets.len() as u16)?;
     put_offsets(bytes, offsets)?;
     Ok(())
 }
@@ -192,25 +192,25 @@ pub fn put_security(
     descriptor: &[u8],
 ) -> Result<(), AllocError>
     requires { length descriptor.now < 2 ^ 32 }
-    ensures { OnOk result (bytes.new.items ≡ bytes.old.items ++ security_text next previous count
+    ensures { OnOk result (bytes.new.items ≡ bytes.old.items ++ security_bytes next previous count
         descriptor.now) }
 {
-    put_half(bytes, SECURITY)?;
-    put_half(bytes, 0)?;
-    put_word(bytes, next)?;
-    put_word(bytes, previous)?;
-    put_word(bytes, count)?;
-    put_word(bytes, descriptor.len() as u32)?;
+    put_u16(bytes, SECURITY)?;
+    put_u16(bytes, 0)?;
+    put_u32(bytes, next)?;
+    put_u32(bytes, previous)?;
+    put_u32(bytes, count)?;
+    put_u32(bytes, descriptor.len() as u32)?;
     bytes.extend_from_slice(descriptor)?;
     Ok(())
 }
 
 /// Puts what a list of subkeys with hashes begins with, where it has so many elements.
 pub fn put_hashed_head(bytes: &mut Vec<u8>, count: u16) -> Result<(), AllocError>
-    ensures { OnOk result (bytes.new.items ≡ bytes.old.items ++ (half 0x686c ++ half count)) }
+    ensures { OnOk result (bytes.new.items ≡ bytes.old.items ++ (u16_bytes 0x686c ++ u16_bytes count)) }
 {
-    put_half(bytes, HASHED)?;
-    put_half(bytes, count)?;
+    put_u16(bytes, HASHED)?;
+    put_u16(bytes, count)?;
     Ok(())
 }
 
@@ -219,8 +219,8 @@ pub fn put_hashed(bytes: &mut Vec<u8>, at: u32, name: &[u16]) -> Result<(), Allo
     ensures { OnOk result (bytes.new.items ≡ bytes.old.items ++ hashed
         (record { at = at; name = folded name.now })) }
 {
-    put_word(bytes, at)?;
-    put_word(bytes, name_hash(name))?;
+    put_u32(bytes, at)?;
+    put_u32(bytes, name_hash(name))?;
     Ok(())
 }
 
@@ -232,17 +232,17 @@ pub fn put_key_node(
     flags: u16,
     time: u64,
     class_len: u16,
-    its: &KeyPlaces,
+    its: &KeyNodeFields,
 ) -> Result<(), AllocError>
-    requires name { length (name_text name.now) < 2 ^ 16 }
+    requires name { length (name_bytes name.now) < 2 ^ 16 }
     requires flags { has_flag 0x20 flags ≡ false }
-    ensures { OnOk result (bytes.new.items ≡ bytes.old.items ++ node_text name.now flags time
+    ensures { OnOk result (bytes.new.items ≡ bytes.old.items ++ node_bytes name.now flags time
         class_len its.now) }
 {
     put_node_head(bytes, stored_flags(name, flags), time, its)?;
     put_node_bounds(bytes, its)?;
-    put_half(bytes, stored_len(name))?;
-    put_half(bytes, class_len)?;
+    put_u16(bytes, stored_len(name))?;
+    put_u16(bytes, class_len)?;
     put_name(bytes, name)?;
     Ok(())
 }
@@ -260,35 +260,35 @@ fn put_node_head(
     bytes: &mut Vec<u8>,
     flags: u16,
     time: u64,
-    its: &KeyPlaces,
+    its: &KeyNodeFields,
 ) -> Result<(), AllocError>
     ensures { OnOk result (bytes.new.items ≡ bytes.old.items ++ node_head flags time its.now) }
 {
-    put_half(bytes, KEY_NODE)?;
-    put_half(bytes, flags)?;
-    put_long(bytes, time)?;
-    put_word(bytes, 0)?;
-    put_word(bytes, its.parent)?;
-    put_word(bytes, its.kid_count)?;
-    put_word(bytes, 0)?;
-    put_word(bytes, its.kids)?;
-    put_word(bytes, NOWHERE)?;
-    put_word(bytes, its.value_count)?;
-    put_word(bytes, its.values)?;
-    put_word(bytes, its.security)?;
-    put_word(bytes, its.class)?;
+    put_u16(bytes, KEY_NODE)?;
+    put_u16(bytes, flags)?;
+    put_u64(bytes, time)?;
+    put_u32(bytes, 0)?;
+    put_u32(bytes, its.parent)?;
+    put_u32(bytes, its.subkey_total)?;
+    put_u32(bytes, 0)?;
+    put_u32(bytes, its.subkey_list)?;
+    put_u32(bytes, NIL)?;
+    put_u32(bytes, its.value_count)?;
+    put_u32(bytes, its.values)?;
+    put_u32(bytes, its.security)?;
+    put_u32(bytes, its.class)?;
     Ok(())
 }
 
 // puts the upper bounds behind it
-fn put_node_bounds(bytes: &mut Vec<u8>, its: &KeyPlaces) -> Result<(), AllocError>
+fn put_node_bounds(bytes: &mut Vec<u8>, its: &KeyNodeFields) -> Result<(), AllocError>
     ensures { OnOk result (bytes.new.items ≡ bytes.old.items ++ node_bounds its.now) }
 {
-    put_half(bytes, its.longest_kid)?;
-    put_half(bytes, 0)?;
-    put_word(bytes, its.longest_class)?;
-    put_word(bytes, its.longest_value)?;
-    put_word(bytes, its.largest_data)?;
-    put_word(bytes, 0)?;
+    put_u16(bytes, its.longest_subkey)?;
+    put_u16(bytes, 0)?;
+    put_u32(bytes, its.longest_class)?;
+    put_u32(bytes, its.longest_value)?;
+    put_u32(bytes, its.largest_data)?;
+    put_u32(bytes, 0)?;
     Ok(())
 }

@@ -2,16 +2,16 @@
 use Rattle.std.proofs.Common.{◌≡◌, ◌⊎◌, ◌≢◌, inl, inr, ℕ, List, [], ◌∷◌, ◌++◌, refl, ◌∙◌, ap, sym, subst, Bool, true, false, if◌then◌else◌, Some, None, Option}
 use Rattle.std.specs.FinMap.{get}
 use Rattle.hive_tree_model.specs.Lists.{IsIn, Once}
-use Rattle.hive_tree_model.specs.Keys.{Parts, Reads, Keys, none, key, offsets, names, own_cells, all_cells}
+use Rattle.hive_tree_model.specs.Keys.{KeyParts, KeyReader, Keys, none, key, offsets, names, own_cells, all_cells}
 use Rattle.hive_tree_model.specs.Trees.{same, tree_of, row_in, row_from}
-use Rattle.hive_tree_model.specs.Stands.{Fits, Named, Whole}
+use Rattle.hive_tree_model.specs.Encodings.{CellsMatchKeys, Named, Whole}
 use Rattle.hive_tree_model.specs.Cells.{IsLocal}
 use Rattle.hive_tree_model.specs.Changes.{offset_in, with_key, own_cells_but, all_cells_but, last_name, rest_of, row_or, Edits}
 use Rattle.hive_tree_model.proofs.Basics.{never, decided, yes_if, no_if, same_is, same_of, same_not, some_same, some_none, in_front, in_back, in_either, once_front, once_back, once_apart, once_joined}
 use Rattle.hive_tree_model.proofs.Rows.{row_of_tree}
 use Rattle.hive_tree_model.proofs.Frame.{fits_still}
 
-module _ {R : Type 0} (parts : Parts R) (sub : Keys R) where
+module _ {R : Type 0} (parts : KeyParts R) (sub : Keys R) where
   -- what holds of one of two keys, by a test, holds of what the test picks
   pick : (P : Keys R → Type 0) (b : Bool) (x y : Keys R) → (b ≡ true → P x) → (b ≡ false → P y) → P (if b then x else y)
   pick P true x y h g = h refl
@@ -193,14 +193,14 @@ module _ {R : Type 0} (parts : Parts R) (sub : Keys R) where
   never_both : (m n o : List ℕ) → same n o ≡ false → same m o ≡ true → same m n ≡ false
   never_both m n o apart is = same_not m n (λ e. never (sym apart ∙ same_of n o (sym e ∙ same_is m o is)))
 
-  nowhere : (f : Keys R) → row_in f [] ≡ None
-  nowhere none = refl
-  nowhere (key at p below after) = refl
+  nil_offset : (f : Keys R) → row_in f [] ≡ None
+  nil_offset none = refl
+  nil_offset (key at p below after) = refl
 
   pub rows_after : (f : Keys R) (n : List ℕ) (path : List (List ℕ)) (at : ℕ) → offset_in f (n ∷ path) ≡ Some at → parts.name ≡ last_name n path → (q : List (List ℕ)) →
       row_in (with_key f (n ∷ path) parts sub) q ≡ row_or (rest_of (n ∷ path) q) parts.row sub (row_in f q)
   rows_after none n path at there is q = some_none at there
-  rows_after (key to p below after) n path at there is [] = nowhere (with_key (key to p below after) (n ∷ path) parts sub)
+  rows_after (key to p below after) n path at there is [] = nil_offset (with_key (key to p below after) (n ∷ path) parts sub)
   rows_after (key to p below after) n [] at there is (m ∷ []) = pick (λ k. row_in k (m ∷ []) ≡ row_or (rest_of (n ∷ []) (m ∷ [])) parts.row sub (row_in (key to p below after) (m ∷ []))) (same n p.name) (key to parts sub after) (key to p below (with_key after (n ∷ []) parts sub))
       (λ e. one_name (same m parts.name) (same m n) (same m p.name) p.row (row_in after (m ∷ [])) (test_same m parts.name n is) (test_same m parts.name p.name (is ∙ same_is n p.name e)))
       (λ e. passed (same m p.name) (same m n) (Some []) (Some p.row) (row_in (with_key after (n ∷ []) parts sub) (m ∷ [])) (row_in after (m ∷ [])) (never_both m n p.name e)
@@ -219,7 +219,7 @@ module _ {R : Type 0} (parts : Parts R) (sub : Keys R) where
       (λ e. passed (same m p.name) (same m n) (rest_of (a ∷ path) (k ∷ rest)) (row_in below (k ∷ rest)) (row_in (with_key after (n ∷ a ∷ path) parts sub) (m ∷ k ∷ rest)) (row_in after (m ∷ k ∷ rest)) (never_both m n p.name e)
       (rows_after after n (a ∷ path) at (sym (no_if (same n p.name) (offset_in below (a ∷ path)) (offset_in after (n ∷ a ∷ path)) e) ∙ there) is (m ∷ k ∷ rest)))
 
-module _ {D R C : Type 0} (read : (ℕ → Option D) → Reads R C) (local : IsLocal read) (old new : ℕ → Option D) (parts : Parts R) (sub : Keys R) where
+module _ {D R C : Type 0} (read : (ℕ → Option D) → KeyReader R C) (local : IsLocal read) (old new : ℕ → Option D) (parts : KeyParts R) (sub : Keys R) where
   Stay : List ℕ → Type 0
   Stay cells = (cell : ℕ) → IsIn cell cells → new cell ≡ old cell
 
@@ -235,12 +235,12 @@ module _ {D R C : Type 0} (read : (ℕ → Option D) → Reads R C) (local : IsL
   unfolding Stay
   stay_back x y s = λ cell h. s cell (in_back cell x y h)
 
-  fits_after : (f : Keys R) (n : List ℕ) (path : List (List ℕ)) (at : ℕ) → offset_in f (n ∷ path) ≡ Some at → Fits (read old) f → Stay (all_cells_but f (n ∷ path)) → Whole (read new) at parts sub → Fits (read new) (with_key f (n ∷ path) parts sub)
+  fits_after : (f : Keys R) (n : List ℕ) (path : List (List ℕ)) (at : ℕ) → offset_in f (n ∷ path) ≡ Some at → CellsMatchKeys (read old) f → Stay (all_cells_but f (n ∷ path)) → Whole (read new) at parts sub → CellsMatchKeys (read new) (with_key f (n ∷ path) parts sub)
   unfolding Stay
   fits_after none n path at there fits stay w = tt
   fits_after (key to p below after) n [] at there fits stay w =
       let two = choose (same n p.name) (all_cells after) (((p.own ++ p.lent) ++ all_cells below) ++ all_cells_but after (n ∷ [])) stay in
-      pick parts sub (Fits (read new)) (same n p.name) (key to parts sub after) (key to p below (with_key after (n ∷ []) parts sub))
+      pick parts sub (CellsMatchKeys (read new)) (same n p.name) (key to parts sub after) (key to p below (with_key after (n ∷ []) parts sub))
       (λ e. (ap (read new) (some_same to at (sym (yes_if (same n p.name) (Some to) (offset_in after (n ∷ [])) e) ∙ there)) ∙ w.read, w.listed, w.fits, fits_still read local old new after fits.3 (two.0 e)))
       (λ e. let stays = two.1 e in let front = stay_front ((p.own ++ p.lent) ++ all_cells below) (all_cells_but after (n ∷ [])) stays in (
         local old new to p fits.0 (stay_front (p.own ++ p.lent) (all_cells below) front),
@@ -250,7 +250,7 @@ module _ {D R C : Type 0} (read : (ℕ → Option D) → Reads R C) (local : IsL
       ))
   fits_after (key to p below after) n (m ∷ path) at there fits stay w =
       let two = choose (same n p.name) (((p.own ++ p.lent) ++ all_cells_but below (m ∷ path)) ++ all_cells after) (((p.own ++ p.lent) ++ all_cells below) ++ all_cells_but after (n ∷ m ∷ path)) stay in
-      pick parts sub (Fits (read new)) (same n p.name) (key to p (with_key below (m ∷ path) parts sub) after) (key to p below (with_key after (n ∷ m ∷ path) parts sub))
+      pick parts sub (CellsMatchKeys (read new)) (same n p.name) (key to p (with_key below (m ∷ path) parts sub) after) (key to p below (with_key after (n ∷ m ∷ path) parts sub))
       (λ e. let stays = two.0 e in let front = stay_front ((p.own ++ p.lent) ++ all_cells_but below (m ∷ path)) (all_cells after) stays in (
         local old new to p fits.0 (stay_front (p.own ++ p.lent) (all_cells_but below (m ∷ path)) front),
         same_offsets parts sub below (m ∷ path) ∙ fits.1,
@@ -264,27 +264,27 @@ module _ {D R C : Type 0} (read : (ℕ → Option D) → Reads R C) (local : IsL
         fits_after after n (m ∷ path) at (sym (no_if (same n p.name) (offset_in below (m ∷ path)) (offset_in after (n ∷ m ∷ path)) e) ∙ there) fits.3 (stay_back ((p.own ++ p.lent) ++ all_cells below) (all_cells_but after (n ∷ m ∷ path)) stays) w,
       ))
 
-  pub whole_after : (root : ℕ) (above : Parts R) (kids : Keys R) (n : List ℕ) (path : List (List ℕ)) → Whole (read old) root above kids → Edits read old new above kids n path parts sub → Whole (read new) root above (with_key kids (n ∷ path) parts sub)
+  pub whole_after : (root : ℕ) (above : KeyParts R) (subkey_list : Keys R) (n : List ℕ) (path : List (List ℕ)) → Whole (read old) root above subkey_list → Edits read old new above subkey_list n path parts sub → Whole (read new) root above (with_key subkey_list (n ∷ path) parts sub)
   unfolding Stay New Clear
-  whole_after root above kids n path w e = record {
+  whole_after root above subkey_list n path w e = record {
     read = local old new root above w.read e.root_stays;
-    listed = same_offsets parts sub kids (n ∷ path) ∙ w.listed;
-    fits = fits_after kids n path e.at e.there w.fits e.others_stay e.whole;
-    named = still_named parts sub kids w.named n path e.name_stays e.whole.named;
-    once = once_joined above.own (own_cells (with_key kids (n ∷ path) parts sub)) (once_front above.own (own_cells kids) w.once)
-        (still_once parts sub kids (n ∷ path) (once_back above.own (own_cells kids) w.once) e.whole.once e.not_others)
-        (λ cell h g. elim (either parts sub kids (n ∷ path) cell g) [
+    listed = same_offsets parts sub subkey_list (n ∷ path) ∙ w.listed;
+    fits = fits_after subkey_list n path e.at e.there w.fits e.others_stay e.whole;
+    named = still_named parts sub subkey_list w.named n path e.name_stays e.whole.named;
+    once = once_joined above.own (own_cells (with_key subkey_list (n ∷ path) parts sub)) (once_front above.own (own_cells subkey_list) w.once)
+        (still_once parts sub subkey_list (n ∷ path) (once_back above.own (own_cells subkey_list) w.once) e.whole.once e.not_others)
+        (λ cell h g. elim (either parts sub subkey_list (n ∷ path) cell g) [
           | inl k ↦ e.not_roots cell k h
-          | inr k ↦ once_apart cell above.own (own_cells kids) w.once h (but_within parts sub kids (n ∷ path) cell k)
+          | inr k ↦ once_apart cell above.own (own_cells subkey_list) w.once h (but_within parts sub subkey_list (n ∷ path) cell k)
         ]);
   }
 
-  pub tree_after : (root : ℕ) (above : Parts R) (kids : Keys R) (n : List ℕ) (path : List (List ℕ)) → Whole (read old) root above kids → Edits read old new above kids n path parts sub → (q : List (List ℕ)) →
-      get (tree_of above (with_key kids (n ∷ path) parts sub)) q ≡ row_or (rest_of (n ∷ path) q) parts.row sub (get (tree_of above kids) q)
-  tree_after root above kids n path w e q =
-      row_of_tree above (with_key kids (n ∷ path) parts sub) (still_named parts sub kids w.named n path e.name_stays e.whole.named) q
-      ∙ by q ∙ ap (row_or (rest_of (n ∷ path) q) parts.row sub) (sym (row_of_tree above kids w.named q))
+  pub tree_after : (root : ℕ) (above : KeyParts R) (subkey_list : Keys R) (n : List ℕ) (path : List (List ℕ)) → Whole (read old) root above subkey_list → Edits read old new above subkey_list n path parts sub → (q : List (List ℕ)) →
+      get (tree_of above (with_key subkey_list (n ∷ path) parts sub)) q ≡ row_or (rest_of (n ∷ path) q) parts.row sub (get (tree_of above subkey_list) q)
+  tree_after root above subkey_list n path w e q =
+      row_of_tree above (with_key subkey_list (n ∷ path) parts sub) (still_named parts sub subkey_list w.named n path e.name_stays e.whole.named) q
+      ∙ by q ∙ ap (row_or (rest_of (n ∷ path) q) parts.row sub) (sym (row_of_tree above subkey_list w.named q))
     where
-      by : (q : List (List ℕ)) → row_from above.row (with_key kids (n ∷ path) parts sub) q ≡ row_or (rest_of (n ∷ path) q) parts.row sub (row_from above.row kids q)
+      by : (q : List (List ℕ)) → row_from above.row (with_key subkey_list (n ∷ path) parts sub) q ≡ row_or (rest_of (n ∷ path) q) parts.row sub (row_from above.row subkey_list q)
       by [] = refl
-      by (m ∷ rest) = rows_after parts sub kids n path e.at e.there e.name_stays (m ∷ rest)
+      by (m ∷ rest) = rows_after parts sub subkey_list n path e.at e.there e.name_stays (m ∷ rest)

@@ -1,14 +1,14 @@
 -- Reading keys one after another.
 use Rattle.std.proofs.Common.{◌≡◌, ◌≢◌, ◌⊎◌, inl, inr, ℕ, zero, suc, List, [], ◌∷◌, ◌++◌, length, refl, ◌∙◌, ap, sym, subst, true, false, Ok, Some, None, slice_get, append_assoc, append-nil, arith}
 use Rattle.hive_tree_model.specs.Lists.{IsIn, Once}
-use Rattle.hive_tree_model.specs.Keys.{Parts, Reads, Keys, none, key, offsets, names, own_cells}
-use Rattle.hive_tree_model.specs.Stands.{Fits, Named, Whole}
-use Rattle.hive_tree_model.specs.Chains.{Leads}
-use Rattle.hive_tree_model.specs.Faults.{Alike, IsTrail, Shared}
-use Rattle.hive_tree_model.specs.Loads.{Marks, Marked, Loaded, Inner, Loading, with_last, MeetsMark, Told}
+use Rattle.hive_tree_model.specs.Keys.{KeyParts, KeyReader, Keys, none, key, offsets, names, own_cells}
+use Rattle.hive_tree_model.specs.Encodings.{CellsMatchKeys, Named, Whole}
+use Rattle.hive_tree_model.specs.Chains.{WayLeadsTo}
+use Rattle.hive_tree_model.specs.Faults.{HasSubkeysAlike, IsTrail, Shared}
+use Rattle.hive_tree_model.specs.Loads.{CellMarks, Marked, Loaded, Inner, Loading, with_last, MeetsMarkedCell, HasFault}
 use Rattle.hive_tree_model.proofs.Basics.{clash, decided, in_front, in_back, in_either, once_joined, same_tail, cons_nil}
 
-pub marked_joined : (a b c : Marks) (xs ys : List ℕ) → Marked a b xs → Marked b c ys → Marked a c (xs ++ ys)
+pub marked_joined : (a b c : CellMarks) (xs ys : List ℕ) → Marked a b xs → Marked b c ys → Marked a c (xs ++ ys)
 marked_joined a b c xs ys m n = record {
   fresh = λ cell h. elim (in_either cell xs ys h) [ inl i ↦ m.fresh cell i | inr i ↦ before cell i ];
   once = once_joined xs ys m.once n.once (λ cell i j. clash (b cell) ((m.now cell).1 (inr i)) (n.fresh cell j));
@@ -27,33 +27,33 @@ marked_joined a b c xs ys m n = record {
     before : (cell : ℕ) → IsIn cell ys → a cell ≡ false
     before cell i = elim (decided (a cell)) [ inl t ↦ clash (b cell) ((m.now cell).1 (inl t)) (n.fresh cell i) | inr f ↦ f ]
 
-pub none_marked : (a : Marks) → Marked a a []
+pub none_marked : (a : CellMarks) → Marked a a []
 none_marked a = record { fresh = λ cell h. absurd h; once = tt; now = λ cell. (λ e. inl e, λ e. elim e [ inl f ↦ f | inr i ↦ absurd i ]) }
 
 in_other : {A : Type 0} (x : A) (xs ys : List A) → xs ≡ ys → IsIn x xs → IsIn x ys
 in_other x xs ys e h = subst (λ z. IsIn x z) e h
 
-module _ {R C : Type 0} (reads : Reads R C) where
-  pub used_last : (f : Keys R) (at : ℕ) (p : Parts R) (below : Keys R) → own_cells (with_last f at p below) ≡ own_cells f ++ (p.own ++ own_cells below)
+module _ {R C : Type 0} (reads : KeyReader R C) where
+  pub used_last : (f : Keys R) (at : ℕ) (p : KeyParts R) (below : Keys R) → own_cells (with_last f at p below) ≡ own_cells f ++ (p.own ++ own_cells below)
   used_last none at p below = append-nil (p.own ++ own_cells below)
-  used_last (key to q kids after) at p below = ap (λ z. (q.own ++ own_cells kids) ++ z) (used_last after at p below) ∙ sym (append_assoc (q.own ++ own_cells kids) (own_cells after) (p.own ++ own_cells below))
+  used_last (key to q subkey_list after) at p below = ap (λ z. (q.own ++ own_cells subkey_list) ++ z) (used_last after at p below) ∙ sym (append_assoc (q.own ++ own_cells subkey_list) (own_cells after) (p.own ++ own_cells below))
 
-  pub offsets_last : (f : Keys R) (at : ℕ) (p : Parts R) (below : Keys R) → offsets (with_last f at p below) ≡ offsets f ++ at ∷ []
+  pub offsets_last : (f : Keys R) (at : ℕ) (p : KeyParts R) (below : Keys R) → offsets (with_last f at p below) ≡ offsets f ++ at ∷ []
   offsets_last none at p below = refl
-  offsets_last (key to q kids after) at p below = ap (λ (z : List ℕ). to ∷ z) (offsets_last after at p below)
+  offsets_last (key to q subkey_list after) at p below = ap (λ (z : List ℕ). to ∷ z) (offsets_last after at p below)
 
-  pub fits_last : (f : Keys R) (at : ℕ) (p : Parts R) (below : Keys R) → Fits reads f → Whole reads at p below → Fits reads (with_last f at p below)
+  pub fits_last : (f : Keys R) (at : ℕ) (p : KeyParts R) (below : Keys R) → CellsMatchKeys reads f → Whole reads at p below → CellsMatchKeys reads (with_last f at p below)
   fits_last none at p below fits w = (w.read, w.listed, w.fits, tt)
-  fits_last (key to q kids after) at p below fits w = (fits.0, fits.1, fits.2, fits_last after at p below fits.3 w)
+  fits_last (key to q subkey_list after) at p below fits w = (fits.0, fits.1, fits.2, fits_last after at p below fits.3 w)
 
-  pub inner_last : (f : Keys R) (at : ℕ) (p : Parts R) (below : Keys R) → Inner f → Named below → Inner (with_last f at p below)
+  pub inner_last : (f : Keys R) (at : ℕ) (p : KeyParts R) (below : Keys R) → Inner f → Named below → Inner (with_last f at p below)
   inner_last none at p below inner named = (named, tt)
-  inner_last (key to q kids after) at p below inner named = (inner.0, inner_last after at p below inner.1 named)
+  inner_last (key to q subkey_list after) at p below inner named = (inner.0, inner_last after at p below inner.1 named)
 
-  pub begins : (marks : Marks) → Loading reads marks marks none
+  pub begins : (marks : CellMarks) → Loading reads marks marks none
   begins marks = record { fits = tt; inner = tt; marked = none_marked marks }
 
-  pub goes_on : (old mid new : Marks) (f : Keys R) (at : ℕ) (p : Parts R) (below : Keys R) → Loading reads old mid f → Loaded reads mid new at p below → Loading reads old new (with_last f at p below)
+  pub goes_on : (old mid new : CellMarks) (f : Keys R) (at : ℕ) (p : KeyParts R) (below : Keys R) → Loading reads old mid f → Loaded reads mid new at p below → Loading reads old new (with_last f at p below)
   goes_on old mid new f at p below l k = record {
     fits = fits_last f at p below l.fits k.0;
     inner = inner_last f at p below l.inner k.0.named;
@@ -64,7 +64,7 @@ module _ {R C : Type 0} (reads : Reads R C) where
   all_named none inner once some = tt
   all_named (key at p below after) inner once some = (λ e. some (inl (sym e)), once.0, inner.0, all_named after inner.1 once.1 (λ h. some (inr h)))
 
-  pub ends : (old mid new : Marks) (at : ℕ) (p : Parts R) (f : Keys R) → reads at ≡ Ok p → Marked old mid p.own → Loading reads mid new f → offsets f ≡ p.kids → Once (names f) → (IsIn [] (names f) → ⊥) → Loaded reads old new at p f
+  pub ends : (old mid new : CellMarks) (at : ℕ) (p : KeyParts R) (f : Keys R) → reads at ≡ Ok p → Marked old mid p.own → Loading reads mid new f → offsets f ≡ p.subkey_list → Once (names f) → (IsIn [] (names f) → ⊥) → Loaded reads old new at p f
   ends old mid new at p f r m l e once some =
       let all : Marked old new (p.own ++ own_cells f) = marked_joined old mid new p.own (own_cells f) m l.marked in
       (record { read = r; listed = e; fits = l.fits; named = all_named f l.inner once some; once = all.once }, all)
@@ -74,25 +74,25 @@ module _ {R C : Type 0} (reads : Reads R C) where
     -- each cell of keys that were read is reached by a way
     record Way (f : Keys R) (cell : ℕ) : Type 0 where
       place : ℕ
-      kid : ℕ
-      listed : slice_get (offsets f) place ≡ Some kid
+      subkey : ℕ
+      listed : slice_get (offsets f) place ≡ Some subkey
       way : List ℕ
       to : ℕ
-      leads : Leads reads kid way to
+      leads : WayLeadsTo reads subkey way to
       has : IsIn cell (trail to)
 
-    way_to : (f : Keys R) → Fits reads f → (cell : ℕ) → IsIn cell (own_cells f) → Way f cell
+    way_to : (f : Keys R) → CellsMatchKeys reads f → (cell : ℕ) → IsIn cell (own_cells f) → Way f cell
     way_to none fits cell h = absurd h
     way_to (key at p below after) fits cell h = go (in_either cell (p.own ++ own_cells below) (own_cells after) h) (λ i. way_to below fits.2 cell i) (λ i. way_to after fits.3 cell i)
       where
         down : Way below cell → Way (key at p below after) cell
-        down w = record { place = 0; kid = at; listed = refl; way = w.place ∷ w.way; to = w.to; leads = (p, w.kid, fits.0, ap (λ (z : List ℕ). slice_get z w.place) (sym fits.1) ∙ w.listed, w.leads); has = w.has }
+        down w = record { place = 0; subkey = at; listed = refl; way = w.place ∷ w.way; to = w.to; leads = (p, w.subkey, fits.0, ap (λ (z : List ℕ). slice_get z w.place) (sym fits.1) ∙ w.listed, w.leads); has = w.has }
 
         past : Way after cell → Way (key at p below after) cell
-        past w = record { place = suc w.place; kid = w.kid; listed = w.listed; way = w.way; to = w.to; leads = w.leads; has = w.has }
+        past w = record { place = suc w.place; subkey = w.subkey; listed = w.listed; way = w.way; to = w.to; leads = w.leads; has = w.has }
 
         here : IsIn cell p.own → Way (key at p below after) cell
-        here i = record { place = 0; kid = at; listed = refl; way = []; to = at; leads = refl; has = in_other cell p.own (trail at) (sym (is at p fits.0)) i }
+        here i = record { place = 0; subkey = at; listed = refl; way = []; to = at; leads = refl; has = in_other cell p.own (trail at) (sym (is at p fits.0)) i }
 
         go : IsIn cell (p.own ++ own_cells below) ⊎ IsIn cell (own_cells after) → (IsIn cell (own_cells below) → Way below cell) → (IsIn cell (own_cells after) → Way after cell) → Way (key at p below after) cell
         go (inl i) in_below in_after = elim (in_either cell p.own (own_cells below) i) [ inl j ↦ here j | inr j ↦ down (in_below j) ]
@@ -122,17 +122,17 @@ module _ {R C : Type 0} (reads : Reads R C) where
     head_same : (i j : ℕ) (w v : List ℕ) → i ∷ w ≡ j ∷ v → i ≡ j
     head_same i j w v e = ap (λ (z : List ℕ). elim z as (λ y. ℕ) [ [] ↦ i | y ∷ ys ↦ y ]) e
 
-    module _ (at : ℕ) (p : Parts R) (r : reads at ≡ Ok p) (old mid now : Marks) (m : Marked old mid p.own) (f : Keys R) (l : Loading reads mid now f) (kid : ℕ) (rest : List ℕ) (kids : p.kids ≡ offsets f ++ kid ∷ rest) where
+    module _ (at : ℕ) (p : KeyParts R) (r : reads at ≡ Ok p) (old mid now : CellMarks) (m : Marked old mid p.own) (f : Keys R) (l : Loading reads mid now f) (subkey : ℕ) (rest : List ℕ) (subkey_list : p.subkey_list ≡ offsets f ++ subkey ∷ rest) where
       i : ℕ
       i = length (offsets f)
 
-      kid_listed : slice_get p.kids (length (offsets f)) ≡ Some kid
-      kid_listed = ap (λ (z : List ℕ). slice_get z (length (offsets f))) kids ∙ behind (offsets f) kid rest
+      subkey_listed : slice_get p.subkey_list (length (offsets f)) ≡ Some subkey
+      subkey_listed = ap (λ (z : List ℕ). slice_get z (length (offsets f))) subkey_list ∙ behind (offsets f) subkey rest
 
-      farther : (way : List ℕ) (to : ℕ) → Leads reads kid way to → Leads reads at (length (offsets f) ∷ way) to
-      farther way to h = (p, kid, r, kid_listed, h)
+      farther : (way : List ℕ) (to : ℕ) → WayLeadsTo reads subkey way to → WayLeadsTo reads at (length (offsets f) ∷ way) to
+      farther way to h = (p, subkey, r, subkey_listed, h)
 
-      met : (way : List ℕ) (to cell : ℕ) → Leads reads kid way to → IsIn cell (trail to) → now cell ≡ true → Shared trail reads at ⊎ MeetsMark trail reads old at
+      met : (way : List ℕ) (to cell : ℕ) → WayLeadsTo reads subkey way to → IsIn cell (trail to) → now cell ≡ true → Shared trail reads at ⊎ MeetsMarkedCell trail reads old at
       met way to cell h has marked = elim ((l.marked.now cell).0 marked) [
         | inl e ↦ elim ((m.now cell).0 e) [
           | inl g ↦ inr (length (offsets f) ∷ way, to, cell, farther way to h, has, g)
@@ -145,23 +145,23 @@ module _ {R C : Type 0} (reads : Reads R C) where
           earlier w = record {
             way = w.place ∷ w.way;
             at = w.to;
-            leads = (p, w.kid, r, ap (λ (z : List ℕ). slice_get z w.place) kids ∙ in_front_at (offsets f) (kid ∷ rest) w.place w.kid w.listed, w.leads);
+            leads = (p, w.subkey, r, ap (λ (z : List ℕ). slice_get z w.place) subkey_list ∙ in_front_at (offsets f) (subkey ∷ rest) w.place w.subkey w.listed, w.leads);
             other_way = length (offsets f) ∷ way;
             other = to;
             other_leads = farther way to h;
-            apart = λ e. below_length (offsets f) w.place w.kid w.listed (head_same w.place (length (offsets f)) w.way way e);
+            apart = λ e. below_length (offsets f) w.place w.subkey w.listed (head_same w.place (length (offsets f)) w.way way e);
             cell = cell;
             first = w.has;
             second = has;
           }
 
-      shared_up : Shared trail reads kid → Shared trail reads at
+      shared_up : Shared trail reads subkey → Shared trail reads at
       shared_up s = record { way = length (offsets f) ∷ s.way; at = s.at; leads = farther s.way s.at s.leads; other_way = length (offsets f) ∷ s.other_way; other = s.other; other_leads = farther s.other_way s.other s.other_leads; apart = λ e. s.apart (same_tail (length (offsets f)) (length (offsets f)) s.way s.other_way e); cell = s.cell; first = s.first; second = s.second }
 
-      alike_up : Alike reads kid → Alike reads at
+      alike_up : HasSubkeysAlike reads subkey → HasSubkeysAlike reads at
       alike_up a = record { way = length (offsets f) ∷ a.way; at = a.at; leads = farther a.way a.at a.leads; parts = a.parts; reads_so = a.reads_so; i = a.i; j = a.j; apart = a.apart; one = a.one; one_listed = a.one_listed; one_parts = a.one_parts; one_reads = a.one_reads; other = a.other; other_listed = a.other_listed; other_parts = a.other_parts; other_reads = a.other_reads; same_name = a.same_name }
 
-      pub told_up : (cause : C) → Told trail reads bad_name shared now kid cause → Told trail reads bad_name shared old at cause
+      pub told_up : (cause : C) → HasFault trail reads bad_name shared now subkey cause → HasFault trail reads bad_name shared old at cause
       told_up cause (inl u) = inl (length (offsets f) ∷ u.0, u.1, farther u.0 u.1 u.2, u.3)
       told_up cause (inr (inl (e, inl n))) = inr (inl (e, inl (length (offsets f), n.0 ∷ n.1, n.2, n.3, farther (n.0 ∷ n.1) n.2 n.4, n.5, n.6)))
       told_up cause (inr (inl (e, inr a))) = inr (inl (e, inr (alike_up a)))

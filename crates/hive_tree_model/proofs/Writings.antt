@@ -1,10 +1,10 @@
 -- Writing keys one after another, into new cells alone.
 use Rattle.std.proofs.Common.{◌≡◌, ◌⊎◌, inl, inr, ℕ, List, [], ◌∷◌, ◌++◌, refl, ◌∙◌, ap, sym, subst, Ok, Some, None, Option, IsSome, is_some}
 use Rattle.hive_tree_model.specs.Lists.{IsIn, Once}
-use Rattle.hive_tree_model.specs.Keys.{Parts, Reads, Keys, none, key, offsets, names, own_cells, all_cells, lent_cells}
-use Rattle.hive_tree_model.specs.Stands.{Fits}
+use Rattle.hive_tree_model.specs.Keys.{KeyParts, KeyReader, Keys, none, key, offsets, names, own_cells, all_cells, lent_cells}
+use Rattle.hive_tree_model.specs.Encodings.{CellsMatchKeys}
 use Rattle.hive_tree_model.specs.Loads.{with_last}
-use Rattle.hive_tree_model.specs.Cells.{IsLocal, IsThere, Grows, AreNew, SameBut, LentThere, Written, Writing}
+use Rattle.hive_tree_model.specs.Cells.{IsLocal, IsThere, Grows, AreNew, SameBut, LentThere, KeyIsWritten, SubkeysAreWritten}
 use Rattle.hive_tree_model.proofs.Basics.{never, in_front, in_back, in_either, once_joined}
 use Rattle.hive_tree_model.proofs.Frame.{fits_still}
 use Rattle.hive_tree_model.proofs.Loading.{used_last, fits_last, inner_last, all_named}
@@ -42,29 +42,29 @@ own_or_lent (key at p below after) cell h = elim (in_either cell ((p.own ++ p.le
   ]
 ]
 
-module _ {D R C : Type 0} (read : (ℕ → Option D) → Reads R C) (local : IsLocal read) (there : IsThere read) where
+module _ {D R C : Type 0} (read : (ℕ → Option D) → KeyReader R C) (local : IsLocal read) (there : IsThere read) where
   -- what is read is there
-  touched_there : (cells : ℕ → Option D) (f : Keys R) → Fits (read cells) f → (cell : ℕ) → IsIn cell (all_cells f) → IsSome (cells cell)
+  touched_there : (cells : ℕ → Option D) (f : Keys R) → CellsMatchKeys (read cells) f → (cell : ℕ) → IsIn cell (all_cells f) → IsSome (cells cell)
   touched_there cells none fits cell h = absurd h
   touched_there cells (key at p below after) fits cell h = elim (in_either cell ((p.own ++ p.lent) ++ all_cells below) (all_cells after) h) [
     | inl i ↦ elim (in_either cell (p.own ++ p.lent) (all_cells below) i) [ inl j ↦ there cells at p fits.0 cell j | inr j ↦ touched_there cells below fits.2 cell j ]
     | inr i ↦ touched_there cells after fits.3 cell i
   ]
 
-  used_there : (cells : ℕ → Option D) (f : Keys R) → Fits (read cells) f → (cell : ℕ) → IsIn cell (own_cells f) → IsSome (cells cell)
+  used_there : (cells : ℕ → Option D) (f : Keys R) → CellsMatchKeys (read cells) f → (cell : ℕ) → IsIn cell (own_cells f) → IsSome (cells cell)
   used_there cells none fits cell h = absurd h
   used_there cells (key at p below after) fits cell h = elim (in_either cell (p.own ++ own_cells below) (own_cells after) h) [
     | inl i ↦ elim (in_either cell p.own (own_cells below) i) [ inl j ↦ there cells at p fits.0 cell (in_front cell p.own p.lent j) | inr j ↦ used_there cells below fits.2 cell j ]
     | inr i ↦ used_there cells after fits.3 cell i
   ]
 
-  fits_grown : (old new : ℕ → Option D) → Grows old new → (f : Keys R) → Fits (read old) f → Fits (read new) f
+  fits_grown : (old new : ℕ → Option D) → Grows old new → (f : Keys R) → CellsMatchKeys (read old) f → CellsMatchKeys (read new) f
   fits_grown old new grows f fits = fits_still read local old new f fits (λ cell h. grows cell (touched_there old f fits cell h))
 
-  pub writes_none : (cells : ℕ → Option D) → Writing read cells cells none
+  pub writes_none : (cells : ℕ → Option D) → SubkeysAreWritten read cells cells none
   writes_none cells = record { fits = tt; inner = tt; once = tt; grows = λ cell h. refl; fresh = λ cell h. absurd h }
 
-  pub writes_on : (old mid new : ℕ → Option D) (f : Keys R) (at : ℕ) (p : Parts R) (below : Keys R) → Writing read old mid f → Written read mid new at p below → Writing read old new (with_last f at p below)
+  pub writes_on : (old mid new : ℕ → Option D) (f : Keys R) (at : ℕ) (p : KeyParts R) (below : Keys R) → SubkeysAreWritten read old mid f → KeyIsWritten read mid new at p below → SubkeysAreWritten read old new (with_last f at p below)
   writes_on old mid new f at p below w k = record {
     fits = fits_last (read new) f at p below (fits_grown mid new k.grows f w.fits) k.whole;
     inner = inner_last (read new) f at p below w.inner k.whole.named;
@@ -73,7 +73,7 @@ module _ {D R C : Type 0} (read : (ℕ → Option D) → Reads R C) (local : IsL
     fresh = subst (AreNew old) (sym (used_last (read new) f at p below)) (λ cell h. elim (in_either cell (own_cells f) (p.own ++ own_cells below) h) [ inl i ↦ w.fresh cell i | inr i ↦ none_before old mid w.grows cell (k.fresh cell i) ]);
   }
 
-  pub writes_key : (old mid new : ℕ → Option D) (at : ℕ) (p : Parts R) (f : Keys R) → Writing read old mid f → Grows mid new → read new at ≡ Ok p → Once p.own → AreNew mid p.own → offsets f ≡ p.kids → Once (names f) → (IsIn [] (names f) → ⊥) → Written read old new at p f
+  pub writes_key : (old mid new : ℕ → Option D) (at : ℕ) (p : KeyParts R) (f : Keys R) → SubkeysAreWritten read old mid f → Grows mid new → read new at ≡ Ok p → Once p.own → AreNew mid p.own → offsets f ≡ p.subkey_list → Once (names f) → (IsIn [] (names f) → ⊥) → KeyIsWritten read old new at p f
   writes_key old mid new at p f w grows r once fresh e distinct some = record {
     whole = record {
       read = r;
@@ -86,8 +86,8 @@ module _ {D R C : Type 0} (read : (ℕ → Option D) → Reads R C) (local : IsL
     fresh = λ cell h. elim (in_either cell p.own (own_cells f) h) [ inl i ↦ none_before old mid w.grows cell (fresh cell i) | inr i ↦ w.fresh cell i ];
   }
 
-  pub writes_filled : (old start mid full new : ℕ → Option D) (at : ℕ) (p : Parts R) (f : Keys R) (rest : List ℕ) → Grows old start → old at ≡ None → IsSome (start at) → Writing read start mid f → Grows mid full → SameBut at full new
-      → read new at ≡ Ok p → p.own ≡ at ∷ rest → Once rest → AreNew mid rest → LentThere old f → offsets f ≡ p.kids → Once (names f) → (IsIn [] (names f) → ⊥) → Written read old new at p f
+  pub writes_filled : (old start mid full new : ℕ → Option D) (at : ℕ) (p : KeyParts R) (f : Keys R) (rest : List ℕ) → Grows old start → old at ≡ None → IsSome (start at) → SubkeysAreWritten read start mid f → Grows mid full → SameBut at full new
+      → read new at ≡ Ok p → p.own ≡ at ∷ rest → Once rest → AreNew mid rest → LentThere old f → offsets f ≡ p.subkey_list → Once (names f) → (IsIn [] (names f) → ⊥) → KeyIsWritten read old new at p f
   writes_filled old start mid full new at p f rest begun fresh_at there_at w grows same r own once fresh lent e distinct some = record {
     whole = record {
       read = r;
@@ -112,7 +112,7 @@ module _ {D R C : Type 0} (read : (ℕ → Option D) → Reads R C) (local : IsL
       not_at : (cell : ℕ) → IsIn cell (all_cells f) → cell ≡ at → ⊥
       not_at cell h i = elim (own_or_lent f cell h) [ inl j ↦ not_at_start cell (w.fresh cell j) i | inr j ↦ not_at_old cell (lent cell j) i ]
 
-      fits : Fits (read new) f
+      fits : CellsMatchKeys (read new) f
       fits = fits_still read local full new f (fits_grown mid full grows f w.fits) (λ cell h. same cell (λ i. not_at cell h i))
 
       own_once : Once (at ∷ rest)

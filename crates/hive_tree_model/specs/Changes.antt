@@ -1,9 +1,9 @@
 -- An image after a change of one key and of what is below it.
 use Rattle.std.specs.Prelude.{if◌then◌else◌, ◌≡◌, ℕ, List, [], ◌∷◌, ◌++◌, Option, Some, None}
 use Rattle.hive_tree_model.specs.Lists.{IsIn}
-use Rattle.hive_tree_model.specs.Keys.{Parts, Reads, Keys, none, key, own_cells, all_cells}
+use Rattle.hive_tree_model.specs.Keys.{KeyParts, KeyReader, Keys, none, key, own_cells, all_cells}
 use Rattle.hive_tree_model.specs.Trees.{same, row_from}
-use Rattle.hive_tree_model.specs.Stands.{Whole}
+use Rattle.hive_tree_model.specs.Encodings.{Whole}
 
 -- the offset of the key at a path below keys
 abbrev pub offset_in : {R : Type 0} → Keys R → List (List ℕ) → Option ℕ
@@ -13,11 +13,11 @@ offset_in (key at parts below after) (n ∷ []) = if same n parts.name then Some
 offset_in (key at parts below after) (n ∷ m ∷ path) = if same n parts.name then offset_in below (m ∷ path) else offset_in after (n ∷ m ∷ path)
 
 -- keys in which the one at a path has other parts and other keys below it
-abbrev pub with_key : {R : Type 0} → Keys R → List (List ℕ) → Parts R → Keys R → Keys R
+abbrev pub with_key : {R : Type 0} → Keys R → List (List ℕ) → KeyParts R → Keys R → Keys R
 with_key none path parts below = none
-with_key (key at old kids after) [] parts below = key at old kids after
-with_key (key at old kids after) (n ∷ []) parts below = if same n old.name then key at parts below after else key at old kids (with_key after (n ∷ []) parts below)
-with_key (key at old kids after) (n ∷ m ∷ path) parts below = if same n old.name then key at old (with_key kids (m ∷ path) parts below) after else key at old kids (with_key after (n ∷ m ∷ path) parts below)
+with_key (key at old subkey_list after) [] parts below = key at old subkey_list after
+with_key (key at old subkey_list after) (n ∷ []) parts below = if same n old.name then key at parts below after else key at old subkey_list (with_key after (n ∷ []) parts below)
+with_key (key at old subkey_list after) (n ∷ m ∷ path) parts below = if same n old.name then key at old (with_key subkey_list (m ∷ path) parts below) after else key at old subkey_list (with_key after (n ∷ m ∷ path) parts below)
 
 -- the cells of all keys but for the one at a path and those below it: those that belong to one key alone, and all
 -- that are read
@@ -51,15 +51,15 @@ row_or (Some rest) row below old = row_from row below rest
 
 -- Cells are changed so that the key at a path below the root, whose offset and name stay, says something else, or has
 -- other keys below it. The cells of the other keys stay, and it takes none that belongs to one of them.
-pub record Edits {D R C : Type 0} (read : (ℕ → Option D) → Reads R C) (old new : ℕ → Option D) (above : Parts R) (kids : Keys R) (n : List ℕ) (path : List (List ℕ)) (parts : Parts R) (below : Keys R) : Type 0 where
+pub record Edits {D R C : Type 0} (read : (ℕ → Option D) → KeyReader R C) (old new : ℕ → Option D) (above : KeyParts R) (subkey_list : Keys R) (n : List ℕ) (path : List (List ℕ)) (parts : KeyParts R) (below : Keys R) : Type 0 where
   pub at : ℕ
-  pub there : offset_in kids (n ∷ path) ≡ Some at
+  pub there : offset_in subkey_list (n ∷ path) ≡ Some at
   pub root_stays : (cell : ℕ) → IsIn cell (above.own ++ above.lent) → new cell ≡ old cell
-  pub others_stay : (cell : ℕ) → IsIn cell (all_cells_but kids (n ∷ path)) → new cell ≡ old cell
+  pub others_stay : (cell : ℕ) → IsIn cell (all_cells_but subkey_list (n ∷ path)) → new cell ≡ old cell
   pub whole : Whole (read new) at parts below
   pub name_stays : parts.name ≡ last_name n path
   pub not_roots : (cell : ℕ) → IsIn cell (parts.own ++ own_cells below) → IsIn cell above.own → ⊥
-  pub not_others : (cell : ℕ) → IsIn cell (parts.own ++ own_cells below) → IsIn cell (own_cells_but kids (n ∷ path)) → ⊥
+  pub not_others : (cell : ℕ) → IsIn cell (parts.own ++ own_cells below) → IsIn cell (own_cells_but subkey_list (n ∷ path)) → ⊥
 
 -- the keys below the one at a path
 abbrev pub below_in : {R : Type 0} → Keys R → List (List ℕ) → Option (Keys R)

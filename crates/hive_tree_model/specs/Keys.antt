@@ -4,20 +4,20 @@ use Rattle.std.specs.Prelude.{ℕ, List, [], ◌∷◌, ◌++◌, Result}
 
 -- what the cells of one key say: its folded name, its row, the offsets of its subkeys in the order of its lists;
 -- and which cells these are: those that belong to it alone, and those that other keys may name too
-pub record Parts (R : Type 0) : Type 0 where
+pub record KeyParts (R : Type 0) : Type 0 where
   pub name : List ℕ
   pub row : R
-  pub kids : List ℕ
+  pub subkey_list : List ℕ
   pub own : List ℕ
   pub lent : List ℕ
 
-abbrev pub Reads : Type 0 → Type 0 → Type 0
-Reads R C = ℕ → Result (Parts R) C
+abbrev pub KeyReader : Type 0 → Type 0 → Type 0
+KeyReader R C = ℕ → Result (KeyParts R) C
 
 -- keys beside one another, each with its offset, what its cells say, and the keys below it; then those after it
 pub data Keys (R : Type 0) : Type 0 where
   none : Keys R
-  key : ℕ → Parts R → Keys R → Keys R → Keys R
+  key : ℕ → KeyParts R → Keys R → Keys R → Keys R
 
 -- the offsets and the folded names of keys beside one another
 abbrev pub offsets : {R : Type 0} → Keys R → List ℕ

@@ -4,7 +4,7 @@ use Rattle.std.specs.FinMap as finite
 use Rattle.std.specs.declared.cmp.Ordering.{Ordering}
 use Rattle.std.specs.Ordering.{nat_cmp, eq_by_cmp}
 use Rattle.std.specs.Cmp.Lexicographic.{slice_cmp}
-use Rattle.hive_tree_model.specs.Keys.{Parts, Keys, none, key}
+use Rattle.hive_tree_model.specs.Keys.{KeyParts, Keys, none, key}
 
 -- the orders of folded names and of paths
 abbrev pub name_order : List ℕ → List ℕ → Ordering
@@ -30,7 +30,7 @@ rows none = []
 rows (key at parts below after) = (parts.name ∷ [], parts.row) ∷ (under parts.name (rows below) ++ rows after)
 
 -- the tree of a root and the keys below it; the root's own name is in no path
-abbrev pub tree_of : {R : Type 0} → Parts R → Keys R → TreeOf R
+abbrev pub tree_of : {R : Type 0} → KeyParts R → Keys R → TreeOf R
 tree_of parts below = finite.from_entries (([], parts.row) ∷ rows below)
 
 -- the same by going down a path: the row at a path below keys, and that at a path from a key on

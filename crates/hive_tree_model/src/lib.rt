@@ -7,9 +7,9 @@
 //!
 //! There is no code here. Each law is the contract of a function with an empty body; `specs/` has the words:
 //!
-//! - `Keys`: what the cells of one key say (`Parts`), how keys are read (`Reads`), and keys with all that is below them;
+//! - `Keys`: what the cells of one key say (`KeyParts`), how keys are read (`KeyReader`), and keys with all that is below them;
 //! - `Trees`: the finite map that such keys make;
-//! - `Stands`: when the cells say it, and so which tree an image stands for;
+//! - `CellsEncodeTree`: when the cells say it, and so which tree an image stands for;
 //! - `Chains`: the same without keys as a whole, by chains of listed keys;
 //! - `Faults`: what stands in an image that stands for no tree;
 //! - `Cells`, `Changes`: how keys hang on cells, and a change of one key and of what is below it.
@@ -18,13 +18,13 @@
 ghost use Rattle.std.specs.Prelude.{◌≡◌, ◌≢◌, ◌↔◌, ◌<◌, ◌++◌, ◌∷◌, [], ℕ, true, false, List, length, Option, Some, None, IsSome, Ok};
 ghost use Rattle.std.specs.FinMap as finite;
 ghost use Rattle.hive_tree_model.specs.Lists.{IsIn, Once};
-ghost use Rattle.hive_tree_model.specs.Keys.{Parts, Reads, Keys, none, offsets, names, lent_cells, all_cells};
+ghost use Rattle.hive_tree_model.specs.Keys.{KeyParts, KeyReader, Keys, none, offsets, names, lent_cells, all_cells};
 ghost use Rattle.hive_tree_model.specs.Trees.{TreeOf, tree_of};
-ghost use Rattle.hive_tree_model.specs.Stands.{Whole, Stands, IsKeyTree, NamesBy, LentApart};
-ghost use Rattle.hive_tree_model.specs.Chains.{Spells};
-ghost use Rattle.hive_tree_model.specs.Faults.{Unread, Nameless, Alike, IsTrail, Repeats, Shared, IsLentTrail, Lends, Deeper};
-ghost use Rattle.hive_tree_model.specs.Cells.{IsLocal, IsThere, Grows, AreNew, SameBut, LentThere, Written, Writing};
-ghost use Rattle.hive_tree_model.specs.Loads.{Marks, Marked, Loaded, Loading, with_last, Told};
+ghost use Rattle.hive_tree_model.specs.Encodings.{Whole, CellsEncodeTree, IsKeyTree, NamesBy, LentApart};
+ghost use Rattle.hive_tree_model.specs.Chains.{PathReachesRow};
+ghost use Rattle.hive_tree_model.specs.Faults.{KeyIsUnreadable, HasNamelessKey, HasSubkeysAlike, IsTrail, KeyRepeatsCell, Shared, IsLentTrail, LendsOwnCell, HasDeeperKey};
+ghost use Rattle.hive_tree_model.specs.Cells.{IsLocal, IsThere, Grows, AreNew, SameBut, LentThere, KeyIsWritten, SubkeysAreWritten};
+ghost use Rattle.hive_tree_model.specs.Loads.{CellMarks, Marked, Loaded, Loading, with_last, HasFault};
 ghost use Rattle.hive_tree_model.specs.Changes.{Edits, with_key, rest_of, row_or, below_in};
 
 /// An image stands for at most one tree, and that is a tree.
@@ -34,19 +34,19 @@ ghost use Rattle.hive_tree_model.specs.Changes.{Edits, with_key, rest_of, row_or
 ///   last of them.
 /// - `is`: the root is there, with a key its parent, and a key stands under its name.
 pub fn one_tree<R, C>()
-    ensures one { (reads : Reads R C) (root : ℕ) (t u : TreeOf R) → Stands reads root t →
-        Stands reads root u → t ≡ u }
-    ensures chains { (reads : Reads R C) (root : ℕ) (tree : TreeOf R) → Stands reads root tree →
+    ensures one { (reads : KeyReader R C) (root : ℕ) (t u : TreeOf R) → CellsEncodeTree reads root t →
+        CellsEncodeTree reads root u → t ≡ u }
+    ensures chains { (reads : KeyReader R C) (root : ℕ) (tree : TreeOf R) → CellsEncodeTree reads root tree →
         (path : List (List ℕ)) (row : R) →
-        (finite.get tree path ≡ Some row) ↔ Spells reads root path row }
-    ensures is { (reads : Reads R C) (name_of : R → List ℕ) → NamesBy name_of reads →
-        (root : ℕ) (tree : TreeOf R) → Stands reads root tree → IsKeyTree name_of tree }
+        (finite.get tree path ≡ Some row) ↔ PathReachesRow reads root path row }
+    ensures is { (reads : KeyReader R C) (name_of : R → List ℕ) → NamesBy name_of reads →
+        (root : ℕ) (tree : TreeOf R) → CellsEncodeTree reads root tree → IsKeyTree name_of tree }
 {}
 
 /// Cells that nothing read hangs on may change: what the key at an offset and those below it say stays as it is.
 pub fn stays<D, R, C>()
-    ensures { (read : (ℕ → Option D) → Reads R C) → IsLocal read → (old new : ℕ →
-        Option D) (at : ℕ) (parts : Parts R) (below : Keys R) →
+    ensures { (read : (ℕ → Option D) → KeyReader R C) → IsLocal read → (old new : ℕ →
+        Option D) (at : ℕ) (parts : KeyParts R) (below : Keys R) →
         Whole (read old) at parts below → ((cell : ℕ) →
         IsIn cell ((parts.own ++ parts.lent) ++ all_cells below) → new cell ≡ old cell) →
         Whole (read new) at parts below }
@@ -58,56 +58,56 @@ pub fn stays<D, R, C>()
 /// - `whole`, `rows`: so in general.
 /// - `own`, `others`: where the keys below it stay too, it has its new row, and every other key its old one.
 pub fn edits<D, R, C>()
-    ensures whole { (read : (ℕ → Option D) → Reads R C) → IsLocal read → (old new : ℕ →
-        Option D) (root : ℕ) (above : Parts R) (kids : Keys R)
-        (n : List ℕ) (path : List (List ℕ)) (parts : Parts R) (below : Keys R) →
-        Whole (read old) root above kids → Edits read old new above kids n path parts below →
-        Whole (read new) root above (with_key kids (n ∷ path) parts below) }
-    ensures rows { (read : (ℕ → Option D) → Reads R C) → IsLocal read → (old new : ℕ →
-        Option D) (root : ℕ) (above : Parts R) (kids : Keys R)
-        (n : List ℕ) (path : List (List ℕ)) (parts : Parts R) (below : Keys R) →
-        Whole (read old) root above kids → Edits read old new above kids n path parts below →
+    ensures whole { (read : (ℕ → Option D) → KeyReader R C) → IsLocal read → (old new : ℕ →
+        Option D) (root : ℕ) (above : KeyParts R) (subkey_list : Keys R)
+        (n : List ℕ) (path : List (List ℕ)) (parts : KeyParts R) (below : Keys R) →
+        Whole (read old) root above subkey_list → Edits read old new above subkey_list n path parts below →
+        Whole (read new) root above (with_key subkey_list (n ∷ path) parts below) }
+    ensures rows { (read : (ℕ → Option D) → KeyReader R C) → IsLocal read → (old new : ℕ →
+        Option D) (root : ℕ) (above : KeyParts R) (subkey_list : Keys R)
+        (n : List ℕ) (path : List (List ℕ)) (parts : KeyParts R) (below : Keys R) →
+        Whole (read old) root above subkey_list → Edits read old new above subkey_list n path parts below →
         (q : List (List ℕ)) →
-        finite.get (tree_of above (with_key kids (n ∷ path) parts below)) q
-        ≡ row_or (rest_of (n ∷ path) q) parts.row below (finite.get (tree_of above kids) q) }
-    ensures own { (read : (ℕ → Option D) → Reads R C) → IsLocal read → (old new : ℕ →
-        Option D) (root : ℕ) (above : Parts R) (kids : Keys R)
-        (n : List ℕ) (path : List (List ℕ)) (parts : Parts R) (below : Keys R) →
-        Whole (read old) root above kids → Edits read old new above kids n path parts below →
-        below_in kids (n ∷ path) ≡ Some below →
-        finite.get (tree_of above (with_key kids (n ∷ path) parts below)) (n ∷ path)
+        finite.get (tree_of above (with_key subkey_list (n ∷ path) parts below)) q
+        ≡ row_or (rest_of (n ∷ path) q) parts.row below (finite.get (tree_of above subkey_list) q) }
+    ensures own { (read : (ℕ → Option D) → KeyReader R C) → IsLocal read → (old new : ℕ →
+        Option D) (root : ℕ) (above : KeyParts R) (subkey_list : Keys R)
+        (n : List ℕ) (path : List (List ℕ)) (parts : KeyParts R) (below : Keys R) →
+        Whole (read old) root above subkey_list → Edits read old new above subkey_list n path parts below →
+        below_in subkey_list (n ∷ path) ≡ Some below →
+        finite.get (tree_of above (with_key subkey_list (n ∷ path) parts below)) (n ∷ path)
         ≡ Some parts.row }
-    ensures others { (read : (ℕ → Option D) → Reads R C) → IsLocal read → (old new : ℕ →
-        Option D) (root : ℕ) (above : Parts R) (kids : Keys R)
-        (n : List ℕ) (path : List (List ℕ)) (parts : Parts R) (below : Keys R) →
-        Whole (read old) root above kids → Edits read old new above kids n path parts below →
-        below_in kids (n ∷ path) ≡ Some below →
+    ensures others { (read : (ℕ → Option D) → KeyReader R C) → IsLocal read → (old new : ℕ →
+        Option D) (root : ℕ) (above : KeyParts R) (subkey_list : Keys R)
+        (n : List ℕ) (path : List (List ℕ)) (parts : KeyParts R) (below : Keys R) →
+        Whole (read old) root above subkey_list → Edits read old new above subkey_list n path parts below →
+        below_in subkey_list (n ∷ path) ≡ Some below →
         (q : List (List ℕ)) → q ≢ n ∷ path →
-        finite.get (tree_of above (with_key kids (n ∷ path) parts below)) q
-        ≡ finite.get (tree_of above kids) q }
+        finite.get (tree_of above (with_key subkey_list (n ∷ path) parts below)) q
+        ≡ finite.get (tree_of above subkey_list) q }
 {}
 
 /// An image in which a fault stands stands for no tree; and one that has a key deeper than a number of levels stands
 /// for no tree but one with a longer path.
 pub fn faults<R, C>()
-    ensures unread { (reads : Reads R C) (root : ℕ) (tree : TreeOf R) (cause : C) →
-        Unread reads root cause → Stands reads root tree → ⊥ }
-    ensures nameless { (reads : Reads R C) (root : ℕ) (tree : TreeOf R) → Nameless reads root →
-        Stands reads root tree → ⊥ }
-    ensures alike { (reads : Reads R C) (root : ℕ) (tree : TreeOf R) → Alike reads root →
-        Stands reads root tree → ⊥ }
-    ensures shared { (reads : Reads R C) (trail : ℕ → List ℕ) → IsTrail trail reads →
-        (root : ℕ) (tree : TreeOf R) → Shared trail reads root → Stands reads root tree → ⊥ }
-    ensures repeats { (reads : Reads R C) (trail : ℕ → List ℕ) → IsTrail trail reads →
-        (root : ℕ) (tree : TreeOf R) → Repeats trail reads root → Stands reads root tree → ⊥ }
-    ensures lends { (reads : Reads R C) (trail lends : ℕ → List ℕ) → IsTrail trail reads →
+    ensures unread { (reads : KeyReader R C) (root : ℕ) (tree : TreeOf R) (cause : C) →
+        KeyIsUnreadable reads root cause → CellsEncodeTree reads root tree → ⊥ }
+    ensures nameless { (reads : KeyReader R C) (root : ℕ) (tree : TreeOf R) → HasNamelessKey reads root →
+        CellsEncodeTree reads root tree → ⊥ }
+    ensures alike { (reads : KeyReader R C) (root : ℕ) (tree : TreeOf R) → HasSubkeysAlike reads root →
+        CellsEncodeTree reads root tree → ⊥ }
+    ensures shared { (reads : KeyReader R C) (trail : ℕ → List ℕ) → IsTrail trail reads →
+        (root : ℕ) (tree : TreeOf R) → Shared trail reads root → CellsEncodeTree reads root tree → ⊥ }
+    ensures repeats { (reads : KeyReader R C) (trail : ℕ → List ℕ) → IsTrail trail reads →
+        (root : ℕ) (tree : TreeOf R) → KeyRepeatsCell trail reads root → CellsEncodeTree reads root tree → ⊥ }
+    ensures lends { (reads : KeyReader R C) (trail lends : ℕ → List ℕ) → IsTrail trail reads →
         IsLentTrail lends reads → (root : ℕ) (tree : TreeOf R) →
-        Lends trail lends reads root → Stands reads root tree → ⊥ }
-    ensures told { (reads : Reads R C) (trail : ℕ → List ℕ) → IsTrail trail reads →
+        LendsOwnCell trail lends reads root → CellsEncodeTree reads root tree → ⊥ }
+    ensures told { (reads : KeyReader R C) (trail : ℕ → List ℕ) → IsTrail trail reads →
         (bad_name shared : C) (root : ℕ) (tree : TreeOf R) (cause : C) →
-        Told trail reads bad_name shared (λ cell. false) root cause → Stands reads root tree → ⊥ }
-    ensures deep { (reads : Reads R C) (root : ℕ) (tree : TreeOf R) (most : ℕ) →
-        Deeper reads root most → Stands reads root tree →
+        HasFault trail reads bad_name shared (λ cell. false) root cause → CellsEncodeTree reads root tree → ⊥ }
+    ensures deep { (reads : KeyReader R C) (root : ℕ) (tree : TreeOf R) (most : ℕ) →
+        HasDeeperKey reads root most → CellsEncodeTree reads root tree →
         (path : List (List ℕ)) × (row : R) × (finite.get tree path ≡ Some row) ×
         (most < length path) }
 {}
@@ -120,32 +120,32 @@ pub fn faults<R, C>()
 ///   fault is found.
 /// - `told`: a cause that is told for a subkey, the first ones being read, may be told for the key.
 pub fn loads<R, C>()
-    ensures begins { (reads : Reads R C) (marks : Marks) → Loading reads marks marks none }
-    ensures goes_on { (reads : Reads R C) (old mid new : Marks) (first : Keys R) (at : ℕ)
-        (parts : Parts R) (below : Keys R) →
+    ensures begins { (reads : KeyReader R C) (marks : CellMarks) → Loading reads marks marks none }
+    ensures goes_on { (reads : KeyReader R C) (old mid new : CellMarks) (first : Keys R) (at : ℕ)
+        (parts : KeyParts R) (below : Keys R) →
         Loading reads old mid first → Loaded reads mid new at parts below →
         Loading reads old new (with_last first at parts below) }
-    ensures ends { (reads : Reads R C) (old mid new : Marks) (at : ℕ) (parts : Parts R)
-        (kids : Keys R) → reads at ≡ Ok parts →
-        Marked old mid parts.own → Loading reads mid new kids → offsets kids ≡ parts.kids →
-        Once (names kids) → (IsIn [] (names kids) → ⊥) →
-        Loaded reads old new at parts kids }
-    ensures settled { (reads : Reads R C) (now : Marks) (root : ℕ) (parts : Parts R)
+    ensures ends { (reads : KeyReader R C) (old mid new : CellMarks) (at : ℕ) (parts : KeyParts R)
+        (subkey_list : Keys R) → reads at ≡ Ok parts →
+        Marked old mid parts.own → Loading reads mid new subkey_list → offsets subkey_list ≡ parts.subkey_list →
+        Once (names subkey_list) → (IsIn [] (names subkey_list) → ⊥) →
+        Loaded reads old new at parts subkey_list }
+    ensures settled { (reads : KeyReader R C) (now : CellMarks) (root : ℕ) (parts : KeyParts R)
         (below : Keys R) → Loaded reads (λ cell. false) now root parts below →
         ((cell : ℕ) → IsIn cell (parts.lent ++ lent_cells below) → now cell ≡ false) →
         LentApart parts below }
-    ensures lent { (reads : Reads R C) (trail lends : ℕ → List ℕ) → IsTrail trail reads →
-        IsLentTrail lends reads → (now : Marks) (root : ℕ) (parts : Parts R) (below : Keys R) →
+    ensures lent { (reads : KeyReader R C) (trail lends : ℕ → List ℕ) → IsTrail trail reads →
+        IsLentTrail lends reads → (now : CellMarks) (root : ℕ) (parts : KeyParts R) (below : Keys R) →
         Loaded reads (λ cell. false) now root parts below → (cell : ℕ) →
         IsIn cell (parts.lent ++ lent_cells below) → now cell ≡ true →
-        Lends trail lends reads root }
-    ensures told { (reads : Reads R C) (trail : ℕ → List ℕ) → IsTrail trail reads →
-        (bad_name shared : C) (at : ℕ) (parts : Parts R) → reads at ≡ Ok parts →
-        (old mid now : Marks) → Marked old mid parts.own → (first : Keys R) →
-        Loading reads mid now first → (kid : ℕ) (rest : List ℕ) →
-        parts.kids ≡ offsets first ++ kid ∷ rest →
-        (cause : C) → Told trail reads bad_name shared now kid cause →
-        Told trail reads bad_name shared old at cause }
+        LendsOwnCell trail lends reads root }
+    ensures told { (reads : KeyReader R C) (trail : ℕ → List ℕ) → IsTrail trail reads →
+        (bad_name shared : C) (at : ℕ) (parts : KeyParts R) → reads at ≡ Ok parts →
+        (old mid now : CellMarks) → Marked old mid parts.own → (first : Keys R) →
+        Loading reads mid now first → (subkey : ℕ) (rest : List ℕ) →
+        parts.subkey_list ≡ offsets first ++ subkey ∷ rest →
+        (cause : C) → HasFault trail reads bad_name shared now subkey cause →
+        HasFault trail reads bad_name shared old at cause }
 {}
 
 /// Writing keys one after another, each into cells that were not there, while all cells that are there stay.
@@ -154,22 +154,22 @@ pub fn loads<R, C>()
 /// - `ends`: a key is written where its own cells are, behind its subkeys.
 /// - `filled`: a key is written whose first cell was there ahead of its subkeys, and is filled behind them.
 pub fn writes<D, R, C>()
-    ensures begins { (read : (ℕ → Option D) → Reads R C) → IsLocal read → IsThere read →
-        (cells : ℕ → Option D) → Writing read cells cells none }
-    ensures goes_on { (read : (ℕ → Option D) → Reads R C) → IsLocal read → IsThere read →
-        (old mid new : ℕ → Option D) (first : Keys R) (at : ℕ) (parts : Parts R) (below : Keys R) →
-        Writing read old mid first → Written read mid new at parts below →
-        Writing read old new (with_last first at parts below) }
-    ensures ends { (read : (ℕ → Option D) → Reads R C) → IsLocal read → IsThere read →
-        (old mid new : ℕ → Option D) (at : ℕ) (parts : Parts R) (kids : Keys R) →
-        Writing read old mid kids → Grows mid new → read new at ≡ Ok parts → Once parts.own →
-        AreNew mid parts.own → offsets kids ≡ parts.kids →
-        Once (names kids) → (IsIn [] (names kids) → ⊥) → Written read old new at parts kids }
-    ensures filled { (read : (ℕ → Option D) → Reads R C) → IsLocal read → IsThere read →
-        (old start mid full new : ℕ → Option D) (at : ℕ) (parts : Parts R) (kids : Keys R)
+    ensures begins { (read : (ℕ → Option D) → KeyReader R C) → IsLocal read → IsThere read →
+        (cells : ℕ → Option D) → SubkeysAreWritten read cells cells none }
+    ensures goes_on { (read : (ℕ → Option D) → KeyReader R C) → IsLocal read → IsThere read →
+        (old mid new : ℕ → Option D) (first : Keys R) (at : ℕ) (parts : KeyParts R) (below : Keys R) →
+        SubkeysAreWritten read old mid first → KeyIsWritten read mid new at parts below →
+        SubkeysAreWritten read old new (with_last first at parts below) }
+    ensures ends { (read : (ℕ → Option D) → KeyReader R C) → IsLocal read → IsThere read →
+        (old mid new : ℕ → Option D) (at : ℕ) (parts : KeyParts R) (subkey_list : Keys R) →
+        SubkeysAreWritten read old mid subkey_list → Grows mid new → read new at ≡ Ok parts → Once parts.own →
+        AreNew mid parts.own → offsets subkey_list ≡ parts.subkey_list →
+        Once (names subkey_list) → (IsIn [] (names subkey_list) → ⊥) → KeyIsWritten read old new at parts subkey_list }
+    ensures filled { (read : (ℕ → Option D) → KeyReader R C) → IsLocal read → IsThere read →
+        (old start mid full new : ℕ → Option D) (at : ℕ) (parts : KeyParts R) (subkey_list : Keys R)
         (rest : List ℕ) → Grows old start → old at ≡ None → IsSome (start at) →
-        Writing read start mid kids → Grows mid full → SameBut at full new →
+        SubkeysAreWritten read start mid subkey_list → Grows mid full → SameBut at full new →
         read new at ≡ Ok parts → parts.own ≡ at ∷ rest → Once rest → AreNew mid rest →
-        LentThere old kids → offsets kids ≡ parts.kids → Once (names kids) →
-        (IsIn [] (names kids) → ⊥) → Written read old new at parts kids }
+        LentThere old subkey_list → offsets subkey_list ≡ parts.subkey_list → Once (names subkey_list) →
+        (IsIn [] (names subkey_list) → ⊥) → KeyIsWritten read old new at parts subkey_list }
 {}

@@ -1,3 +1,3 @@
 pub mod Moved
-pub mod OwnFiles
+pub mod HiveFileKinds
 pub mod Stepped

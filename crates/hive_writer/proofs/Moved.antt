@@ -11,26 +11,26 @@ use Rattle.base_block.specs.Numbers.{number_after}
 use Rattle.dirty_vector.specs.Marks.{marked_count}
 use Rattle.dirty_vector.specs.Pages.{Pages, is_dirty, NoneFrom, IsFirstRun}
 use Rattle.dirt_log.proofs.Replaced.{count_rises, dirty_counts}
-use Rattle.hive_flush_model.specs.Holding.{Standing}
+use Rattle.hive_flush_model.specs.StoredTrees.{TreeDecoder}
 use Rattle.hive_flush_model.specs.Plans.{AreClean, AreDirty}
-use Rattle.hive_flush_model.specs.Phases.{Phase, Work}
-use Rattle.hive_flush_model.specs.States.{IsLogging, IsLogged, IsPaging, IsPaged, is_on_in}
+use Rattle.hive_flush_model.specs.Phases.{FlushPhase, FlushState}
+use Rattle.hive_flush_model.specs.States.{IsWritingLog, IsLogSynced, IsWritingPages, ArePagesSynced, files_match_phase}
 use Rattle.hive_flush_model.proofs.Moving.{log_written, log_failed, log_synced, page_written, page_failed, pages_synced}
-use Rattle.hive_flush_model.specs.Plans.{raised_block}
-use Rattle.hive_writer.specs.Writing.{dirty_from}
+use Rattle.hive_flush_model.specs.Plans.{marked_block}
+use Rattle.hive_writer.specs.WriterSteps.{dirty_from}
 
 -- the other file is as it was
-pub log_same : {T : Type 0} (stands : Standing T) (w : Work T) (phase : Phase) (p old new : FileState) → new ≡ old → is_on_in stands w phase p old → is_on_in stands w phase p new
-log_same stands w phase p old new e on = subst (is_on_in stands w phase p) (sym e) on
+pub log_same : {T : Type 0} (decode : TreeDecoder T) (w : FlushState T) (phase : FlushPhase) (p old new : FileState) → new ≡ old → files_match_phase decode w phase p old → files_match_phase decode w phase p new
+log_same decode w phase p old new e on = subst (files_match_phase decode w phase p) (sym e) on
 
-pub primary_same : {T : Type 0} (stands : Standing T) (w : Work T) (phase : Phase) (old new l : FileState) → new ≡ old → is_on_in stands w phase old l → is_on_in stands w phase new l
-primary_same stands w phase old new l e on = subst (λ (s : FileState). is_on_in stands w phase s l) (sym e) on
+pub primary_same : {T : Type 0} (decode : TreeDecoder T) (w : FlushState T) (phase : FlushPhase) (old new l : FileState) → new ≡ old → files_match_phase decode w phase old l → files_match_phase decode w phase new l
+primary_same decode w phase old new l e on = subst (λ (s : FileState). files_match_phase decode w phase s l) (sym e) on
 
 numbered : BaseBlock → ℕ → BaseBlock
 numbered b n = record b { primary = record { 0 = n } }
 
 -- the sector that is written is the plan's
-pub raised_is : (b : BaseBlock) (next : SequenceNumber) (sector : List ℕ) → next.0 ≡ number_after b.secondary.0 → sector ≡ sector_of (record b { primary = next }) → sector ≡ sector_of (raised_block b)
+pub raised_is : (b : BaseBlock) (next : SequenceNumber) (sector : List ℕ) → next.0 ≡ number_after b.secondary.0 → sector ≡ sector_of (record b { primary = next }) → sector ≡ sector_of (marked_block b)
 unfolding numbered
 raised_is b next sector n e = e ∙ ap (λ (n : ℕ). sector_of (numbered b n)) n
 
@@ -56,68 +56,68 @@ run_falls v from start end (suc page) run some le =
 -- ---- the log
 
 -- a piece of a text, as it is handed on
-piece_is : (text bytes : List ℕ) (n : ℕ) → bytes ≡ take 65536 (drop n text) → bytes ≡ take (length bytes) (drop n text)
-piece_is text bytes n is =
-    let size : length bytes ≡ length (take 65536 (drop n text)) = ap (λ (xs : List ℕ). length xs) is in
-    is ∙ same_number_lists _ _ (omega (arith, length-take 65536 (drop n text), length-take (length bytes) (drop n text), size))
-    (λ k lt. get_or-take 65536 (drop n text) k 0 (omega (arith, lt, length-take 65536 (drop n text)))
-    ∙ sym (get_or-take (length bytes) (drop n text) k 0 (omega (arith, lt, size))))
+chunk_is : (encoding bytes : List ℕ) (n : ℕ) → bytes ≡ take 65536 (drop n encoding) → bytes ≡ take (length bytes) (drop n encoding)
+chunk_is encoding bytes n is =
+    let size : length bytes ≡ length (take 65536 (drop n encoding)) = ap (λ (xs : List ℕ). length xs) is in
+    is ∙ same_number_lists _ _ (omega (arith, length-take 65536 (drop n encoding), length-take (length bytes) (drop n encoding), size))
+    (λ k lt. get_or-take 65536 (drop n encoding) k 0 (omega (arith, lt, length-take 65536 (drop n encoding)))
+    ∙ sym (get_or-take (length bytes) (drop n encoding) k 0 (omega (arith, lt, size))))
 
 -- where a piece stands, that it lies in the text, and where the next begins
-pub record IsPieceAt (text bytes : List ℕ) (index : ℕ) : Type 0 where
-  pub here : min (65536 * index) (length text) ≡ 65536 * index
-  pub within : 65536 * index + length bytes ≤ length text
-  pub there : 65536 * index + length bytes ≡ min (65536 * (index + 1)) (length text)
+pub record IsChunkAt (encoding bytes : List ℕ) (index : ℕ) : Type 0 where
+  pub here : min (65536 * index) (length encoding) ≡ 65536 * index
+  pub within : 65536 * index + length bytes ≤ length encoding
+  pub there : 65536 * index + length bytes ≡ min (65536 * (index + 1)) (length encoding)
 
-pub piece_at : (text bytes : List ℕ) (index : ℕ) → bytes ≡ take 65536 (drop (65536 * index) text) → 0 < length bytes → IsPieceAt text bytes index
-piece_at text bytes index is some =
-    let size : length bytes ≡ length (take 65536 (drop (65536 * index) text)) = ap (λ (xs : List ℕ). length xs) is in
-    let taken = length-take 65536 (drop (65536 * index) text) in
-    let left = length-drop (65536 * index) text in
+pub chunk_at : (encoding bytes : List ℕ) (index : ℕ) → bytes ≡ take 65536 (drop (65536 * index) encoding) → 0 < length bytes → IsChunkAt encoding bytes index
+chunk_at encoding bytes index is some =
+    let size : length bytes ≡ length (take 65536 (drop (65536 * index) encoding)) = ap (λ (xs : List ℕ). length xs) is in
+    let taken = length-take 65536 (drop (65536 * index) encoding) in
+    let left = length-drop (65536 * index) encoding in
     record { here = omega (arith, size, some, taken, left); within = omega (arith, size, some, taken, left); there = omega (arith, size, some, taken, left) }
 
-module _ {T : Type 0} (stands : Standing T) (w : Work T) where
-  pub piece_written : (index : ℕ) (bytes : List ℕ) (p l new : FileState) → bytes ≡ take 65536 (drop (65536 * index) w.plan.text) → 0 < length bytes
-      → IsLogging stands w (min (65536 * index) (length w.plan.text)) p l → Writes (65536 * index) bytes l new
-      → IsLogging stands w (min (65536 * (index + 1)) (length w.plan.text)) p new
-  piece_written index bytes p l new is some on done =
-      let at = piece_at w.plan.text bytes index is some in
-      subst (λ (n : ℕ). IsLogging stands w n p new) at.there
-      (log_written stands w (65536 * index) bytes p l new (subst (λ (n : ℕ). IsLogging stands w n p l) at.here on) at.within (piece_is w.plan.text bytes (65536 * index) is) done)
+module _ {T : Type 0} (decode : TreeDecoder T) (w : FlushState T) where
+  pub chunk_written : (index : ℕ) (bytes : List ℕ) (p l new : FileState) → bytes ≡ take 65536 (drop (65536 * index) w.plan.encoding) → 0 < length bytes
+      → IsWritingLog decode w (min (65536 * index) (length w.plan.encoding)) p l → Writes (65536 * index) bytes l new
+      → IsWritingLog decode w (min (65536 * (index + 1)) (length w.plan.encoding)) p new
+  chunk_written index bytes p l new is some on done =
+      let at = chunk_at w.plan.encoding bytes index is some in
+      subst (λ (n : ℕ). IsWritingLog decode w n p new) at.there
+      (log_written decode w (65536 * index) bytes p l new (subst (λ (n : ℕ). IsWritingLog decode w n p l) at.here on) at.within (chunk_is w.plan.encoding bytes (65536 * index) is) done)
 
-  pub piece_failed : (index : ℕ) (bytes : List ℕ) (p l new : FileState) → bytes ≡ take 65536 (drop (65536 * index) w.plan.text) → 0 < length bytes
-      → IsLogging stands w (min (65536 * index) (length w.plan.text)) p l → MayWrite (65536 * index) bytes l new
-      → IsLogging stands w (min (65536 * index) (length w.plan.text)) p new
-  piece_failed index bytes p l new is some on part =
-      let at = piece_at w.plan.text bytes index is some in
-      log_failed stands w (min (65536 * index) (length w.plan.text)) bytes p l new on (subst (λ (n : ℕ). MayWrite n bytes l new) (sym at.here) part)
+  pub chunk_failed : (index : ℕ) (bytes : List ℕ) (p l new : FileState) → bytes ≡ take 65536 (drop (65536 * index) w.plan.encoding) → 0 < length bytes
+      → IsWritingLog decode w (min (65536 * index) (length w.plan.encoding)) p l → MayWrite (65536 * index) bytes l new
+      → IsWritingLog decode w (min (65536 * index) (length w.plan.encoding)) p new
+  chunk_failed index bytes p l new is some on part =
+      let at = chunk_at w.plan.encoding bytes index is some in
+      log_failed decode w (min (65536 * index) (length w.plan.encoding)) bytes p l new on (subst (λ (n : ℕ). MayWrite n bytes l new) (sym at.here) part)
 
-  pub all_synced : (index : ℕ) (p l new : FileState) → length w.plan.text ≤ 65536 * index → IsLogging stands w (min (65536 * index) (length w.plan.text)) p l → Syncs l new → IsLogged stands w p new
+  pub all_synced : (index : ℕ) (p l new : FileState) → length w.plan.encoding ≤ 65536 * index → IsWritingLog decode w (min (65536 * index) (length w.plan.encoding)) p l → Syncs l new → IsLogSynced decode w p new
   all_synced index p l new le on done =
-      let all : min (65536 * index) (length w.plan.text) ≡ length w.plan.text = omega (arith, le) in
-      log_synced stands w p l new (subst (λ (n : ℕ). IsLogging stands w n p l) all on) done
+      let all : min (65536 * index) (length w.plan.encoding) ≡ length w.plan.encoding = omega (arith, le) in
+      log_synced decode w p l new (subst (λ (n : ℕ). IsWritingLog decode w n p l) all on) done
 
   -- ---- the pages
 
   pub run_written : (from start end last : ℕ) (p l new : FileState) (bytes : List ℕ) → IsSound p → length w.image ≡ w.pages.bins_size → IsFirstRun w.pages from start end → start ≤ last → last ≤ end
       → bytes ≡ take (512 * last - 512 * start) (drop (512 * start) w.image)
-      → IsPaging stands w (512 * from) p l → Writes (4096 + 512 * start) bytes p new → IsPaging stands w (512 * last) new l
+      → IsWritingPages decode w (512 * from) p l → Writes (4096 + 512 * start) bytes p new → IsWritingPages decode w (512 * last) new l
   run_written from start end last p l new bytes sound size run some le is on done =
       let count = 512 * last - 512 * start in
       let back : 512 * start + count ≡ 512 * last = omega (arith, some) in
       let dirty : AreDirty w.pages (512 * start) (512 * start + count) = subst (AreDirty w.pages (512 * start)) (sym back) (dirty_run w.pages from start end last run le) in
-      subst (λ (n : ℕ). IsPaging stands w n new l) back
-      (page_written stands w (512 * from) (512 * start) count p l new sound on (omega (arith, run.after)) (omega (arith, back, le, run.within, size))
+      subst (λ (n : ℕ). IsWritingPages decode w n new l) back
+      (page_written decode w (512 * from) (512 * start) count p l new sound on (omega (arith, run.after)) (omega (arith, back, le, run.within, size))
       (clean_run w.pages from start end run) dirty (subst (λ (s : List ℕ). Writes (4096 + 512 * start) s p new) is done))
 
   pub run_failed : (from start end last : ℕ) (p l new : FileState) (bytes : List ℕ) → IsFirstRun w.pages from start end → start ≤ last → last ≤ end
       → bytes ≡ take (512 * last - 512 * start) (drop (512 * start) w.image)
-      → IsPaging stands w (512 * from) p l → MayWrite (4096 + 512 * start) bytes p new → IsPaging stands w (512 * from) new l
+      → IsWritingPages decode w (512 * from) p l → MayWrite (4096 + 512 * start) bytes p new → IsWritingPages decode w (512 * from) new l
   run_failed from start end last p l new bytes run some le is on part =
       let count = 512 * last - 512 * start in
       let back : 512 * start + count ≡ 512 * last = omega (arith, some) in
       let dirty : AreDirty w.pages (512 * start) (512 * start + count) = subst (AreDirty w.pages (512 * start)) (sym back) (dirty_run w.pages from start end last run le) in
-      page_failed stands w (512 * from) (512 * start) count p l new on (omega (arith, run.after)) dirty (subst (λ (s : List ℕ). MayWrite (4096 + 512 * start) s p new) is part)
+      page_failed decode w (512 * from) (512 * start) count p l new on (omega (arith, run.after)) dirty (subst (λ (s : List ℕ). MayWrite (4096 + 512 * start) s p new) is part)
 
-  pub none_left : (from : ℕ) (p l new : FileState) → IsSound p → NoneFrom w.pages from → IsPaging stands w (512 * from) p l → Syncs p new → IsPaged stands w new l
-  none_left from p l new sound none on done = pages_synced stands w (512 * from) p l new sound on (clean_from w.pages from (length w.image) none) done
+  pub none_left : (from : ℕ) (p l new : FileState) → IsSound p → NoneFrom w.pages from → IsWritingPages decode w (512 * from) p l → Syncs p new → ArePagesSynced decode w new l
+  none_left from p l new sound none on done = pages_synced decode w (512 * from) p l new sound on (clean_from w.pages from (length w.image) none) done

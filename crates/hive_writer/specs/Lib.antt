@@ -1,2 +1,2 @@
-pub mod OwnFiles
-pub mod Writing
+pub mod HiveFileKinds
+pub mod WriterSteps

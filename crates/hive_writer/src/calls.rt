@@ -1,82 +1,86 @@
 //! The calls, one a function: each makes its call and answers the stage that it leads to.
 ghost use Rattle.std.specs.Prelude.{◌≡◌, ◌⊎◌, ℕ, ◌+◌, ◌*◌, ◌-◌, ◌^◌, ◌<◌, ◌≤◌, List, take, drop, min, length, IfOk};
 ghost use Rattle.disk_model.specs.Call.{OneCall, CountsFailure};
-ghost use Rattle.disk_model.specs.StoreFiles.{IsOfHive};
+ghost use Rattle.disk_model.specs.StoreFiles.{IsFileOfHive};
 ghost use Rattle.dirty_vector.specs.Pages.{Pages, NoneFrom, IsFirstRun};
-ghost use Rattle.hive_files.specs.Pieces.{WritesPieces};
-ghost use Rattle.hive_flush_model.specs.Holding.{Standing};
-ghost use Rattle.hive_flush_model.specs.Plans.{Plan};
-ghost use Rattle.hive_writer.specs.Writing.{EndsWith, Falls, Leads, plan_of};
+ghost use Rattle.hive_files.specs.Chunks.{KeepsWritesShort};
+ghost use Rattle.hive_flush_model.specs.StoredTrees.{TreeDecoder};
+ghost use Rattle.hive_flush_model.specs.Plans.{FlushPlan};
+ghost use Rattle.hive_writer.specs.WriterSteps.{PlanEndsWith, CallsDecrease, CallLeadsTo, plan_of};
 ghost use Rattle.hive_writer.specs.declared.stage.Purpose.TheVariants as purpose;
-ghost use Rattle.hive_writer.specs.declared.stage.Stage.TheVariants as stage;
+ghost use Rattle.hive_writer.specs.declared.stage.FlushStage.TheVariants as stage;
 
-use crate::device::{OwnFile, sync_file, write_file};
-use crate::stage::{Purpose, Stage};
+use crate::device::{HiveFileKind, sync_file, write_file};
+use crate::stage::{FlushStage, Purpose};
 use crate::writer::HiveWriter;
-use dirt_log::{PIECE_BYTES, write_steps};
+use dirt_log::{CHUNK_BYTES, write_steps};
 use dirty_vector::{DirtyVector, PAGE_BYTES};
 use disk_model::{Disk, Failed};
 use hive_files::BINS_AT;
 use std::ops::Range;
 
 // as many pages as one write takes
-const MOST_PAGES: usize = PIECE_BYTES / PAGE_BYTES;
+const MOST_PAGES: usize = CHUNK_BYTES / PAGE_BYTES;
 
 impl HiveWriter {
     // a piece of the log, of which there is one
-    pub(crate) fn write_log_piece<D: Disk, T>(
+    pub(crate) fn write_log_chunk<D: Disk, T>(
         &self,
         disk: &mut D,
         index: u32,
         image: &[u8],
         pages: &DirtyVector,
-        piece: &[u8],
-    ) -> Result<Stage, Failed>
-        requires short { length (plan_of self.now image.now pages.now).text < 2 ^ 32 }
-        requires some { 0 < length piece.now }
-        requires piece { piece.now ≡ take PIECE_BYTES (drop (PIECE_BYTES * index)
-            (plan_of self.now image.now pages.now).text) }
-        ensures leads { D.faithful disk.new → (stands : Standing T) →
-            Leads stands (plan_of self.now image.now pages.now) image.now pages.now self.now.hive
-            (stage.Logging index) result
+        chunk: &[u8],
+    ) -> Result<FlushStage, Failed>
+        requires short { length (plan_of self.now image.now pages.now).encoding < 2 ^ 32 }
+        requires some { 0 < length chunk.now }
+        requires chunk { chunk.now ≡ take CHUNK_BYTES (drop (CHUNK_BYTES * index)
+            (plan_of self.now image.now pages.now).encoding) }
+        ensures leads { D.faithful disk.new → (decode : TreeDecoder T) →
+            CallLeadsTo decode (plan_of self.now image.now pages.now) image.now pages.now self.now.hive
+            (stage.WritingLog index) result
             (D.state_at disk.old (D.clock disk.old)) (D.state_at disk.new (D.clock disk.new)) }
-        ensures next { IfOk result (λ next. next ≡ stage.Logging (index + 1)) }
-        ensures falls { IfOk result (Falls (length
-            (plan_of self.now image.now pages.now).text) pages.now (stage.Logging index)) }
-        ensures call { OneCall (IsOfHive self.now.hive) (D.state_at disk.old) (D.state_at disk.new)
+        ensures next { IfOk result (λ next. next ≡ stage.WritingLog (index + 1)) }
+        ensures falls { IfOk result (CallsDecrease (length
+            (plan_of self.now image.now pages.now).encoding) pages.now (stage.WritingLog index)) }
+        ensures call { OneCall (IsFileOfHive self.now.hive) (D.state_at disk.old) (D.state_at disk.new)
             (D.clock disk.old) (D.clock disk.new) }
-        ensures pieces { D.faithful disk.new → WritesPieces (D.state_at disk.old)
+        ensures chunks { D.faithful disk.new → KeepsWritesShort (D.state_at disk.old)
             (D.state_at disk.new) (D.clock disk.old) (D.clock disk.new) }
         ensures failures { CountsFailure result (D.failures disk.old) (D.failures disk.new) }
         ensures faithful { D.faithful disk.new → D.faithful disk.old }
     {
-        let offset = PIECE_BYTES as u64 * u64::from(index);
-        match write_file(disk, self.hive, OwnFile::Log, offset, piece) {
-            Ok(()) => Ok(Stage::Logging(index + 1)),
+        let offset = CHUNK_BYTES as u64 * u64::from(index);
+        match write_file(disk, self.hive, HiveFileKind::Log, offset, chunk) {
+            Ok(()) => Ok(FlushStage::WritingLog(index + 1)),
             Err(failed) => Err(failed),
         }
     }
 
     // the sync of the log, behind its last piece
-    pub(crate) fn sync_log<D: Disk, T>(&self, disk: &mut D, index: u32) -> Result<Stage, Failed>
+    pub(crate) fn sync_log<D: Disk, T>(
+        &self,
+        disk: &mut D,
+        index: u32,
+    ) -> Result<FlushStage, Failed>
         ensures leads { D.faithful disk.new →
-            (stands : Standing T) (image : List ℕ) (pages : Pages) →
-            length (plan_of self.now image pages).text ≤ PIECE_BYTES * index →
-            Leads stands (plan_of self.now image pages) image pages self.now.hive
-            (stage.Logging index) result
+            (decode : TreeDecoder T) (image : List ℕ) (pages : Pages) →
+            length (plan_of self.now image pages).encoding ≤ CHUNK_BYTES * index →
+            CallLeadsTo decode (plan_of self.now image pages) image pages self.now.hive
+            (stage.WritingLog index) result
             (D.state_at disk.old (D.clock disk.old)) (D.state_at disk.new (D.clock disk.new)) }
-        ensures next { IfOk result (λ next. next ≡ stage.Logged) }
+        ensures next { IfOk result (λ next. next ≡ stage.LogSynced) }
         ensures falls { (total : ℕ) (pages : Pages) →
-            IfOk result (Falls total pages (stage.Logging index)) }
-        ensures call { OneCall (IsOfHive self.now.hive) (D.state_at disk.old) (D.state_at disk.new)
+            IfOk result (CallsDecrease total pages (stage.WritingLog index)) }
+        ensures call { OneCall (IsFileOfHive self.now.hive) (D.state_at disk.old) (D.state_at disk.new)
             (D.clock disk.old) (D.clock disk.new) }
-        ensures pieces { D.faithful disk.new → WritesPieces (D.state_at disk.old)
+        ensures chunks { D.faithful disk.new → KeepsWritesShort (D.state_at disk.old)
             (D.state_at disk.new) (D.clock disk.old) (D.clock disk.new) }
         ensures failures { CountsFailure result (D.failures disk.old) (D.failures disk.new) }
         ensures faithful { D.faithful disk.new → D.faithful disk.old }
     {
-        match sync_file(disk, self.hive, OwnFile::Log) {
-            Ok(()) => Ok(Stage::Logged),
+        match sync_file(disk, self.hive, HiveFileKind::Log) {
+            Ok(()) => Ok(FlushStage::LogSynced),
             Err(failed) => Err(failed),
         }
     }
@@ -88,75 +92,75 @@ impl HiveWriter {
         index: u32,
         image: &[u8],
         pages: &DirtyVector,
-    ) -> Result<Stage, Failed>
+    ) -> Result<FlushStage, Failed>
         requires size { length image.now ≡ pages.now.bins_size }
-        requires short { length (plan_of self.now image.now pages.now).text < 2 ^ 32 }
-        ensures leads { D.faithful disk.new → (stands : Standing T) →
-            Leads stands (plan_of self.now image.now pages.now) image.now pages.now self.now.hive
-            (stage.Logging index) result
+        requires short { length (plan_of self.now image.now pages.now).encoding < 2 ^ 32 }
+        ensures leads { D.faithful disk.new → (decode : TreeDecoder T) →
+            CallLeadsTo decode (plan_of self.now image.now pages.now) image.now pages.now self.now.hive
+            (stage.WritingLog index) result
             (D.state_at disk.old (D.clock disk.old)) (D.state_at disk.new (D.clock disk.new)) }
-        ensures next { IfOk result (λ next. (next ≡ stage.Logging (index + 1)) ⊎
-            (next ≡ stage.Logged)) }
-        ensures falls { IfOk result (Falls (length
-            (plan_of self.now image.now pages.now).text) pages.now (stage.Logging index)) }
-        ensures call { OneCall (IsOfHive self.now.hive) (D.state_at disk.old) (D.state_at disk.new)
+        ensures next { IfOk result (λ next. (next ≡ stage.WritingLog (index + 1)) ⊎
+            (next ≡ stage.LogSynced)) }
+        ensures falls { IfOk result (CallsDecrease (length
+            (plan_of self.now image.now pages.now).encoding) pages.now (stage.WritingLog index)) }
+        ensures call { OneCall (IsFileOfHive self.now.hive) (D.state_at disk.old) (D.state_at disk.new)
             (D.clock disk.old) (D.clock disk.new) }
-        ensures pieces { D.faithful disk.new → WritesPieces (D.state_at disk.old)
+        ensures chunks { D.faithful disk.new → KeepsWritesShort (D.state_at disk.old)
             (D.state_at disk.new) (D.clock disk.old) (D.clock disk.new) }
         ensures failures { CountsFailure result (D.failures disk.old) (D.failures disk.new) }
         ensures faithful { D.faithful disk.new → D.faithful disk.old }
     {
-        let mut buffer = [0; PIECE_BYTES];
-        let count = write_steps(image, pages, &self.block).piece(index, &mut buffer);
+        let mut buffer = [0; CHUNK_BYTES];
+        let count = write_steps(image, pages, &self.block).chunk(index, &mut buffer);
         if count == 0 {
             self.sync_log::<D, T>(disk, index)
         } else {
-            self.write_log_piece::<D, T>(disk, index, image, pages, &buffer[..count])
+            self.write_log_chunk::<D, T>(disk, index, image, pages, &buffer[..count])
         }
     }
 
     // the first sector with the raised number
-    pub(crate) fn raise<D: Disk, T>(&self, disk: &mut D) -> Result<Stage, Failed>
+    pub(crate) fn mark_primary_dirty<D: Disk, T>(&self, disk: &mut D) -> Result<FlushStage, Failed>
         ensures leads { D.faithful disk.new →
-            (stands : Standing T) (image : List ℕ) (pages : Pages) →
-            Leads stands (plan_of self.now image pages) image pages self.now.hive
-            stage.Logged result
+            (decode : TreeDecoder T) (image : List ℕ) (pages : Pages) →
+            CallLeadsTo decode (plan_of self.now image pages) image pages self.now.hive
+            stage.LogSynced result
             (D.state_at disk.old (D.clock disk.old)) (D.state_at disk.new (D.clock disk.new)) }
-        ensures next { IfOk result (λ next. next ≡ stage.Raised) }
-        ensures falls { (total : ℕ) (pages : Pages) → IfOk result (Falls total pages stage.Logged) }
-        ensures call { OneCall (IsOfHive self.now.hive) (D.state_at disk.old) (D.state_at disk.new)
+        ensures next { IfOk result (λ next. next ≡ stage.PrimaryMarkedDirty) }
+        ensures falls { (total : ℕ) (pages : Pages) → IfOk result (CallsDecrease total pages stage.LogSynced) }
+        ensures call { OneCall (IsFileOfHive self.now.hive) (D.state_at disk.old) (D.state_at disk.new)
             (D.clock disk.old) (D.clock disk.new) }
-        ensures pieces { D.faithful disk.new → WritesPieces (D.state_at disk.old)
+        ensures chunks { D.faithful disk.new → KeepsWritesShort (D.state_at disk.old)
             (D.state_at disk.new) (D.clock disk.old) (D.clock disk.new) }
         ensures failures { CountsFailure result (D.failures disk.old) (D.failures disk.new) }
         ensures faithful { D.faithful disk.new → D.faithful disk.old }
     {
         let mut raised = self.base;
         raised.primary = raised.secondary.next();
-        match write_file(disk, self.hive, OwnFile::Primary, 0, &raised.write()) {
-            Ok(()) => Ok(Stage::Raised),
+        match write_file(disk, self.hive, HiveFileKind::Primary, 0, &raised.write()) {
+            Ok(()) => Ok(FlushStage::PrimaryMarkedDirty),
             Err(failed) => Err(failed),
         }
     }
 
     // its sync: from here on the log decides
-    pub(crate) fn sync_raised<D: Disk, T>(&self, disk: &mut D) -> Result<Stage, Failed>
+    pub(crate) fn sync_dirty_mark<D: Disk, T>(&self, disk: &mut D) -> Result<FlushStage, Failed>
         ensures leads { D.faithful disk.new →
-            (stands : Standing T) (image : List ℕ) (pages : Pages) →
-            Leads stands (plan_of self.now image pages) image pages self.now.hive
-            stage.Raised result
+            (decode : TreeDecoder T) (image : List ℕ) (pages : Pages) →
+            CallLeadsTo decode (plan_of self.now image pages) image pages self.now.hive
+            stage.PrimaryMarkedDirty result
             (D.state_at disk.old (D.clock disk.old)) (D.state_at disk.new (D.clock disk.new)) }
-        ensures next { IfOk result (λ next. next ≡ stage.Paging purpose.Flush 0) }
-        ensures falls { (total : ℕ) (pages : Pages) → IfOk result (Falls total pages stage.Raised) }
-        ensures call { OneCall (IsOfHive self.now.hive) (D.state_at disk.old) (D.state_at disk.new)
+        ensures next { IfOk result (λ next. next ≡ stage.WritingPages purpose.Flush 0) }
+        ensures falls { (total : ℕ) (pages : Pages) → IfOk result (CallsDecrease total pages stage.PrimaryMarkedDirty) }
+        ensures call { OneCall (IsFileOfHive self.now.hive) (D.state_at disk.old) (D.state_at disk.new)
             (D.clock disk.old) (D.clock disk.new) }
-        ensures pieces { D.faithful disk.new → WritesPieces (D.state_at disk.old)
+        ensures chunks { D.faithful disk.new → KeepsWritesShort (D.state_at disk.old)
             (D.state_at disk.new) (D.clock disk.old) (D.clock disk.new) }
         ensures failures { CountsFailure result (D.failures disk.old) (D.failures disk.new) }
         ensures faithful { D.faithful disk.new → D.faithful disk.old }
     {
-        match sync_file(disk, self.hive, OwnFile::Primary) {
-            Ok(()) => Ok(Stage::Paging(Purpose::Flush, 0)),
+        match sync_file(disk, self.hive, HiveFileKind::Primary) {
+            Ok(()) => Ok(FlushStage::WritingPages(Purpose::Flush, 0)),
             Err(failed) => Err(failed),
         }
     }
@@ -170,21 +174,21 @@ impl HiveWriter {
         run: Range<usize>,
         image: &[u8],
         pages: &DirtyVector,
-    ) -> Result<Stage, Failed>
+    ) -> Result<FlushStage, Failed>
         requires size { length image.now ≡ pages.now.bins_size }
         requires run { IsFirstRun pages.now from run.start run.end }
-        ensures leads { D.faithful disk.new → (stands : Standing T) (plan : Plan) →
-            EndsWith self.now.block plan →
-            Leads stands plan image.now pages.now self.now.hive
-            (stage.Paging purpose from) result
+        ensures leads { D.faithful disk.new → (decode : TreeDecoder T) (plan : FlushPlan) →
+            PlanEndsWith self.now.block plan →
+            CallLeadsTo decode plan image.now pages.now self.now.hive
+            (stage.WritingPages purpose from) result
             (D.state_at disk.old (D.clock disk.old)) (D.state_at disk.new (D.clock disk.new)) }
-        ensures next { IfOk result (λ next. next ≡ stage.Paging purpose (run.start +
+        ensures next { IfOk result (λ next. next ≡ stage.WritingPages purpose (run.start +
             min MOST_PAGES (run.end - run.start))) }
-        ensures falls { (total : ℕ) → IfOk result (Falls total pages.now
-            (stage.Paging purpose from)) }
-        ensures call { OneCall (IsOfHive self.now.hive) (D.state_at disk.old) (D.state_at disk.new)
+        ensures falls { (total : ℕ) → IfOk result (CallsDecrease total pages.now
+            (stage.WritingPages purpose from)) }
+        ensures call { OneCall (IsFileOfHive self.now.hive) (D.state_at disk.old) (D.state_at disk.new)
             (D.clock disk.old) (D.clock disk.new) }
-        ensures pieces { D.faithful disk.new → WritesPieces (D.state_at disk.old)
+        ensures chunks { D.faithful disk.new → KeepsWritesShort (D.state_at disk.old)
             (D.state_at disk.new) (D.clock disk.old) (D.clock disk.new) }
         ensures failures { CountsFailure result (D.failures disk.old) (D.failures disk.new) }
         ensures faithful { D.faithful disk.new → D.faithful disk.old }
@@ -192,8 +196,8 @@ impl HiveWriter {
         let end = run.start + MOST_PAGES.min(run.end - run.start);
         let (first, last) = (PAGE_BYTES * run.start, PAGE_BYTES * end);
         let (at, bytes) = (BINS_AT + first as u64, &image[first..last]);
-        match write_file(disk, self.hive, OwnFile::Primary, at, bytes) {
-            Ok(()) => Ok(Stage::Paging(purpose, end)),
+        match write_file(disk, self.hive, HiveFileKind::Primary, at, bytes) {
+            Ok(()) => Ok(FlushStage::WritingPages(purpose, end)),
             Err(failed) => Err(failed),
         }
     }
@@ -204,79 +208,85 @@ impl HiveWriter {
         disk: &mut D,
         purpose: Purpose,
         from: usize,
-    ) -> Result<Stage, Failed>
+    ) -> Result<FlushStage, Failed>
         ensures leads { D.faithful disk.new →
-            (stands : Standing T) (plan : Plan) (image : List ℕ) (pages : Pages) →
-            EndsWith self.now.block plan → NoneFrom pages from →
-            Leads stands plan image pages self.now.hive
-            (stage.Paging purpose from) result
+            (decode : TreeDecoder T) (plan : FlushPlan) (image : List ℕ) (pages : Pages) →
+            PlanEndsWith self.now.block plan → NoneFrom pages from →
+            CallLeadsTo decode plan image pages self.now.hive
+            (stage.WritingPages purpose from) result
             (D.state_at disk.old (D.clock disk.old)) (D.state_at disk.new (D.clock disk.new)) }
-        ensures next { IfOk result (λ next. next ≡ stage.Paged purpose) }
+        ensures next { IfOk result (λ next. next ≡ stage.PagesSynced purpose) }
         ensures falls { (total : ℕ) (pages : Pages) →
-            IfOk result (Falls total pages (stage.Paging purpose from)) }
-        ensures call { OneCall (IsOfHive self.now.hive) (D.state_at disk.old) (D.state_at disk.new)
+            IfOk result (CallsDecrease total pages (stage.WritingPages purpose from)) }
+        ensures call { OneCall (IsFileOfHive self.now.hive) (D.state_at disk.old) (D.state_at disk.new)
             (D.clock disk.old) (D.clock disk.new) }
-        ensures pieces { D.faithful disk.new → WritesPieces (D.state_at disk.old)
+        ensures chunks { D.faithful disk.new → KeepsWritesShort (D.state_at disk.old)
             (D.state_at disk.new) (D.clock disk.old) (D.clock disk.new) }
         ensures failures { CountsFailure result (D.failures disk.old) (D.failures disk.new) }
         ensures faithful { D.faithful disk.new → D.faithful disk.old }
     {
-        match sync_file(disk, self.hive, OwnFile::Primary) {
-            Ok(()) => Ok(Stage::Paged(purpose)),
+        match sync_file(disk, self.hive, HiveFileKind::Primary) {
+            Ok(()) => Ok(FlushStage::PagesSynced(purpose)),
             Err(failed) => Err(failed),
         }
     }
 
     // the first sector as it will be
-    pub(crate) fn write_last<D: Disk, T>(
+    pub(crate) fn write_header<D: Disk, T>(
         &self,
         disk: &mut D,
         purpose: Purpose,
-    ) -> Result<Stage, Failed>
+    ) -> Result<FlushStage, Failed>
         ensures leads { D.faithful disk.new →
-            (stands : Standing T) (plan : Plan) (image : List ℕ) (pages : Pages) →
-            EndsWith self.now.block plan →
-            Leads stands plan image pages self.now.hive
-            (stage.Paged purpose) result
+            (decode : TreeDecoder T) (plan : FlushPlan) (image : List ℕ) (pages : Pages) →
+            PlanEndsWith self.now.block plan →
+            CallLeadsTo decode plan image pages self.now.hive
+            (stage.PagesSynced purpose) result
             (D.state_at disk.old (D.clock disk.old)) (D.state_at disk.new (D.clock disk.new)) }
-        ensures next { IfOk result (λ next. next ≡ stage.Finished purpose) }
+        ensures next { IfOk result (λ next. next ≡ stage.HeaderWritten purpose) }
         ensures falls { (total : ℕ) (pages : Pages) →
-            IfOk result (Falls total pages (stage.Paged purpose)) }
-        ensures call { OneCall (IsOfHive self.now.hive) (D.state_at disk.old) (D.state_at disk.new)
+            IfOk result (CallsDecrease total pages (stage.PagesSynced purpose)) }
+        ensures call { OneCall (IsFileOfHive self.now.hive) (D.state_at disk.old) (D.state_at disk.new)
             (D.clock disk.old) (D.clock disk.new) }
-        ensures pieces { D.faithful disk.new → WritesPieces (D.state_at disk.old)
+        ensures chunks { D.faithful disk.new → KeepsWritesShort (D.state_at disk.old)
             (D.state_at disk.new) (D.clock disk.old) (D.clock disk.new) }
         ensures failures { CountsFailure result (D.failures disk.old) (D.failures disk.new) }
         ensures faithful { D.faithful disk.new → D.faithful disk.old }
     {
-        match write_file(disk, self.hive, OwnFile::Primary, 0, &self.block.write()) {
-            Ok(()) => Ok(Stage::Finished(purpose)),
+        match write_file(
+            disk,
+            self.hive,
+            HiveFileKind::Primary,
+            0,
+            &self.block.write(),
+        ) {
+            Ok(()) => Ok(FlushStage::HeaderWritten(purpose)),
             Err(failed) => Err(failed),
         }
     }
 
     // its sync: what was in memory stands
-    pub(crate) fn sync_last<D: Disk, T>(
+    pub(crate) fn sync_header<D: Disk, T>(
         &self,
         disk: &mut D,
         purpose: Purpose,
-    ) -> Result<Stage, Failed>
+    ) -> Result<FlushStage, Failed>
         ensures leads { D.faithful disk.new →
-            (stands : Standing T) (plan : Plan) (image : List ℕ) (pages : Pages) →
-            EndsWith self.now.block plan →
-            Leads stands plan image pages self.now.hive
-            (stage.Finished purpose) result
+            (decode : TreeDecoder T) (plan : FlushPlan) (image : List ℕ) (pages : Pages) →
+            PlanEndsWith self.now.block plan →
+            CallLeadsTo decode plan image pages self.now.hive
+            (stage.HeaderWritten purpose) result
             (D.state_at disk.old (D.clock disk.old)) (D.state_at disk.new (D.clock disk.new)) }
-        ensures next { IfOk result (λ next. next ≡ stage.Quiet) }
-        ensures call { OneCall (IsOfHive self.now.hive) (D.state_at disk.old) (D.state_at disk.new)
+        ensures next { IfOk result (λ next. next ≡ stage.AtRest) }
+        ensures call { OneCall (IsFileOfHive self.now.hive) (D.state_at disk.old) (D.state_at disk.new)
             (D.clock disk.old) (D.clock disk.new) }
-        ensures pieces { D.faithful disk.new → WritesPieces (D.state_at disk.old)
+        ensures chunks { D.faithful disk.new → KeepsWritesShort (D.state_at disk.old)
             (D.state_at disk.new) (D.clock disk.old) (D.clock disk.new) }
         ensures failures { CountsFailure result (D.failures disk.old) (D.failures disk.new) }
         ensures faithful { D.faithful disk.new → D.faithful disk.old }
     {
-        match sync_file(disk, self.hive, OwnFile::Primary) {
-            Ok(()) => Ok(Stage::Quiet),
+        match sync_file(disk, self.hive, HiveFileKind::Primary) {
+            Ok(()) => Ok(FlushStage::AtRest),
             Err(failed) => Err(failed),
         }
     }

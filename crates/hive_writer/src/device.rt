@@ -2,16 +2,16 @@
 ghost use Rattle.std.specs.Prelude.{◌≡◌, ◌≤◌, length, OnOk, OnErr};
 ghost use Rattle.disk_model.specs.Call.{OneCall, CountsFailure};
 ghost use Rattle.disk_model.specs.FileState.{Writes, MayWrite, Syncs};
-ghost use Rattle.disk_model.specs.StoreFiles.{IsOfHive};
-ghost use Rattle.hive_files.specs.Pieces.{WritesPieces};
-ghost use Rattle.hive_writer.specs.OwnFiles.{number_of, other_of};
+ghost use Rattle.disk_model.specs.StoreFiles.{IsFileOfHive};
+ghost use Rattle.hive_files.specs.Chunks.{KeepsWritesShort};
+ghost use Rattle.hive_writer.specs.HiveFileKinds.{number_of, other_file};
 
 use disk_model::{Disk, Failed};
 use hive_files::{log_number, primary_number};
 
 /// One of a hive's two files.
 #[derive(Clone, Copy)]
-pub(crate) enum OwnFile {
+pub(crate) enum HiveFileKind {
     /// The primary file.
     Primary,
     /// Its log.
@@ -19,12 +19,12 @@ pub(crate) enum OwnFile {
 }
 
 // the number of one of a hive's files in its store
-fn number(hive: u8, file: OwnFile) -> u32
+fn number(hive: u8, file: HiveFileKind) -> u32
     ensures { result ≡ number_of file hive }
 {
     match file {
-        OwnFile::Primary => primary_number(hive),
-        OwnFile::Log => log_number(hive),
+        HiveFileKind::Primary => primary_number(hive),
+        HiveFileKind::Log => log_number(hive),
     }
 }
 
@@ -32,7 +32,7 @@ fn number(hive: u8, file: OwnFile) -> u32
 pub(crate) fn write_file<D: Disk>(
     disk: &mut D,
     hive: u8,
-    file: OwnFile,
+    file: HiveFileKind,
     offset: u64,
     bytes: &[u8],
 ) -> Result<(), Failed>
@@ -43,11 +43,11 @@ pub(crate) fn write_file<D: Disk>(
     ensures failed { OnErr result (D.faithful disk.new → MayWrite offset bytes.now
         (D.state_at disk.old (D.clock disk.old) (number_of file hive))
         (D.state_at disk.new (D.clock disk.new) (number_of file hive))) }
-    ensures other { D.state_at disk.new (D.clock disk.new) (number_of (other_of file) hive)
-        ≡ D.state_at disk.old (D.clock disk.old) (number_of (other_of file) hive) }
-    ensures call { OneCall (IsOfHive hive) (D.state_at disk.old) (D.state_at disk.new)
+    ensures other { D.state_at disk.new (D.clock disk.new) (number_of (other_file file) hive)
+        ≡ D.state_at disk.old (D.clock disk.old) (number_of (other_file file) hive) }
+    ensures call { OneCall (IsFileOfHive hive) (D.state_at disk.old) (D.state_at disk.new)
         (D.clock disk.old) (D.clock disk.new) }
-    ensures pieces { D.faithful disk.new → WritesPieces (D.state_at disk.old) (D.state_at disk.new)
+    ensures chunks { D.faithful disk.new → KeepsWritesShort (D.state_at disk.old) (D.state_at disk.new)
         (D.clock disk.old) (D.clock disk.new) }
     ensures failures { CountsFailure result (D.failures disk.old) (D.failures disk.new) }
     ensures faithful { D.faithful disk.new → D.faithful disk.old }
@@ -56,18 +56,18 @@ pub(crate) fn write_file<D: Disk>(
 }
 
 /// Syncs one of a hive's files.
-pub(crate) fn sync_file<D: Disk>(disk: &mut D, hive: u8, file: OwnFile) -> Result<(), Failed>
+pub(crate) fn sync_file<D: Disk>(disk: &mut D, hive: u8, file: HiveFileKind) -> Result<(), Failed>
     ensures done { OnOk result (D.faithful disk.new → Syncs
         (D.state_at disk.old (D.clock disk.old) (number_of file hive))
         (D.state_at disk.new (D.clock disk.new) (number_of file hive))) }
     ensures failed { OnErr result (D.faithful disk.new →
         D.state_at disk.new (D.clock disk.new) (number_of file hive)
         ≡ D.state_at disk.old (D.clock disk.old) (number_of file hive)) }
-    ensures other { D.state_at disk.new (D.clock disk.new) (number_of (other_of file) hive)
-        ≡ D.state_at disk.old (D.clock disk.old) (number_of (other_of file) hive) }
-    ensures call { OneCall (IsOfHive hive) (D.state_at disk.old) (D.state_at disk.new)
+    ensures other { D.state_at disk.new (D.clock disk.new) (number_of (other_file file) hive)
+        ≡ D.state_at disk.old (D.clock disk.old) (number_of (other_file file) hive) }
+    ensures call { OneCall (IsFileOfHive hive) (D.state_at disk.old) (D.state_at disk.new)
         (D.clock disk.old) (D.clock disk.new) }
-    ensures pieces { D.faithful disk.new → WritesPieces (D.state_at disk.old) (D.state_at disk.new)
+    ensures chunks { D.faithful disk.new → KeepsWritesShort (D.state_at disk.old) (D.state_at disk.new)
         (D.clock disk.old) (D.clock disk.new) }
     ensures failures { CountsFailure result (D.failures disk.old) (D.failures disk.new) }
     ensures faithful { D.faithful disk.new → D.faithful disk.old }

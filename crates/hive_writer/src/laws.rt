@@ -1,21 +1,21 @@
 //! How many steps a flush and a repair take.
 ghost use Rattle.std.specs.Prelude.{◌≡◌, ◌≤◌, ℕ, ◌+◌, ◌*◌, List, length};
 ghost use Rattle.dirty_vector.specs.Pages.{Pages, dirty_count};
-ghost use Rattle.dirt_log.specs.LogText.{text_behind};
-ghost use Rattle.hive_writer.specs.Writing.{calls_left};
+ghost use Rattle.dirt_log.specs.LogEncoding.{bytes_behind};
+ghost use Rattle.hive_writer.specs.WriterSteps.{calls_left};
 ghost use Rattle.hive_writer.specs.declared.stage.Purpose.TheVariants as purpose;
-ghost use Rattle.hive_writer.specs.declared.stage.Stage.TheVariants as stage;
+ghost use Rattle.hive_writer.specs.declared.stage.FlushStage.TheVariants as stage;
 ghost use Rattle.refusals.specs.declared.limits.TheConstants.{MOST_BINS_BYTES};
 
 /// A law: a flush of `p` dirty pages is done within `2 * p + 7` of its steps, and a repair of `p` marked pages within `p + 3`,
 /// where none is refused: each step
 /// that is not the last leaves fewer calls, and these are what there are at the beginning, the log being the text behind a first
 /// sector.
-pub fn steps_are_few()
+pub fn step_bounds()
     ensures flush { (image sector : List ℕ) (pages : Pages) → length image ≡ pages.bins_size →
         length sector ≡ 512 → pages.bins_size ≤ MOST_BINS_BYTES →
-        calls_left (length (text_behind image pages sector)) pages stage.Quiet
+        calls_left (length (bytes_behind image pages sector)) pages stage.AtRest
         ≤ 2 * dirty_count pages + 7 }
     ensures repair { (total : ℕ) (pages : Pages) →
-        calls_left total pages (stage.Paging purpose.Repair 0) ≤ dirty_count pages + 3 }
+        calls_left total pages (stage.WritingPages purpose.Repair 0) ≤ dirty_count pages + 3 }
 {}

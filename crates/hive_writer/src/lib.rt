@@ -16,5 +16,5 @@ pub mod laws;
 pub mod stage;
 pub mod writer;
 
-pub use crate::stage::{Purpose, Stage};
+pub use crate::stage::{FlushStage, Purpose};
 pub use crate::writer::HiveWriter;

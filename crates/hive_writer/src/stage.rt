@@ -11,19 +11,19 @@ pub enum Purpose {
 
 /// What the last call that was done has done.
 #[derive(Clone, Copy)]
-pub enum Stage {
+pub enum FlushStage {
     /// Nothing is on its way: the primary file is clean.
-    Quiet,
+    AtRest,
     /// So many pieces of the log are written.
-    Logging(u32),
+    WritingLog(u32),
     /// The log is synced.
-    Logged,
+    LogSynced,
     /// The first sector with the raised primary number is written.
-    Raised,
+    PrimaryMarkedDirty,
     /// It is synced, and each dirty page before this one is written.
-    Paging(Purpose, usize),
+    WritingPages(Purpose, usize),
     /// The pages are synced.
-    Paged(Purpose),
+    PagesSynced(Purpose),
     /// The last first sector is written.
-    Finished(Purpose),
+    HeaderWritten(Purpose),
 }

@@ -1,19 +1,19 @@
 //! The writer of a hive's two files.
 ghost use Rattle.std.specs.Prelude.{◌≡◌, ◌↔◌, ◌⊎◌, ◌^◌, ◌<◌, ℕ, false, length, Ok, Err, IfOk, IfErr, IsTrue};
 ghost use Rattle.disk_model.specs.Call.{OneCall, HasFailed, CountsFailure};
-ghost use Rattle.disk_model.specs.StoreFiles.{IsOfHive};
+ghost use Rattle.disk_model.specs.StoreFiles.{IsFileOfHive};
 ghost use Rattle.crash_model.specs.StepAnswers.{Says};
-ghost use Rattle.hive_files.specs.Pieces.{WritesPieces};
-ghost use Rattle.hive_flush_model.specs.Holding.{Standing};
-ghost use Rattle.hive_flush_model.specs.Plans.{Plan};
-ghost use Rattle.hive_writer.specs.Writing.{BeginsAt, EndsWith, Falls, IsFlushing, IsNext, IsRewriting, KeepsBlocks, Leads, LeadsOn, Settles, calls_left, choice_at, now_after, plan_of};
-ghost use Rattle.hive_writer.specs.declared.stage.Stage.TheVariants as stage;
+ghost use Rattle.hive_files.specs.Chunks.{KeepsWritesShort};
+ghost use Rattle.hive_flush_model.specs.StoredTrees.{TreeDecoder};
+ghost use Rattle.hive_flush_model.specs.Plans.{FlushPlan};
+ghost use Rattle.hive_writer.specs.WriterSteps.{BeginsAt, PlanEndsWith, CallsDecrease, IsFlushing, IsNext, IsWritingFor, KeepsBlocks, CallLeadsTo, StepKeepsMatch, StepEndsAs, calls_left, choice_at, durable_after, plan_of};
+ghost use Rattle.hive_writer.specs.declared.stage.FlushStage.TheVariants as stage;
 ghost use Rattle.hive_writer.specs.declared.stage.Purpose.TheVariants as purpose;
 ghost use Rattle.crash_model.specs.Promises.{HiveSays};
 ghost use Rattle.disk_model.specs.declared.progress.Progress.TheVariants as Progress;
 ghost use Rattle.refusals.specs.declared.refusal.Refusal.TheVariants.{DiskFault, Faulted};
 
-use crate::stage::{Purpose, Stage};
+use crate::stage::{FlushStage, Purpose};
 use base_block::BaseBlock;
 use dirty_vector::DirtyVector;
 use disk_model::{Disk, Failed, Progress};
@@ -30,7 +30,7 @@ pub struct HiveWriter {
     /// The base block as it will be.
     pub block: BaseBlock,
     /// How far it is.
-    pub stage: Stage,
+    pub stage: FlushStage,
     /// Whether the device failed in a step: nothing more is done then.
     pub failed: bool,
 }
@@ -42,7 +42,7 @@ impl HiveWriter {
           hive = hive;
           base = base;
           block = base;
-          stage = stage.Quiet;
+          stage = stage.AtRest;
           failed = false;
         } }
     {
@@ -51,7 +51,7 @@ impl HiveWriter {
             hive,
             base,
             block,
-            stage: Stage::Quiet,
+            stage: FlushStage::AtRest,
             failed: false,
         }
     }
@@ -62,7 +62,7 @@ impl HiveWriter {
           hive = hive;
           base = block;
           block = block;
-          stage = stage.Paging purpose.Repair 0;
+          stage = stage.WritingPages purpose.Repair 0;
           failed = false;
         } }
     {
@@ -71,14 +71,14 @@ impl HiveWriter {
             hive,
             base,
             block,
-            stage: Stage::Paging(Purpose::Repair, 0),
+            stage: FlushStage::WritingPages(Purpose::Repair, 0),
             failed: false,
         }
     }
 
     /// Says which base block the next flush ends with.
     pub fn plan(&mut self, block: BaseBlock)
-        requires { self.old.stage ≡ stage.Quiet }
+        requires { self.old.stage ≡ stage.AtRest }
         ensures { self.new ≡ record self.old { block = block } }
     {
         self.block = block;
@@ -96,30 +96,30 @@ impl HiveWriter {
         pages: &DirtyVector,
     ) -> Result<Progress, Refusal>
         requires size { length image.now ≡ pages.now.bins_size }
-        requires short { length (plan_of self.old image.now pages.now).text < 2 ^ 32 }
+        requires short { length (plan_of self.old image.now pages.now).encoding < 2 ^ 32 }
         requires flushing { IsFlushing self.old.stage }
-        ensures on { D.faithful disk.new → (stands : Standing T) →
-            LeadsOn stands (plan_of self.old image.now pages.now) image.now pages.now result
+        ensures on { D.faithful disk.new → (decode : TreeDecoder T) →
+            StepKeepsMatch decode (plan_of self.old image.now pages.now) image.now pages.now result
             self.old self.new
             (D.state_at disk.old (D.clock disk.old)) (D.state_at disk.new (D.clock disk.new)) }
         ensures says { (now memory : T × ℕ) → Says (HiveSays memory) result
             (choice_at self.old.stage now memory)
-            (choice_at self.new.stage (now_after result now memory) memory) }
+            (choice_at self.new.stage (durable_after result now memory) memory) }
         ensures flushing { IsFlushing self.new.stage }
-        ensures done { result ≡ Ok Progress.Done → self.new.stage ≡ stage.Quiet }
+        ensures done { result ≡ Ok Progress.Done → self.new.stage ≡ stage.AtRest }
         ensures falls { result ≡ Ok Progress.More →
-            calls_left (length (plan_of self.old image.now pages.now).text) pages.now self.new.stage
-            < calls_left (length (plan_of self.old image.now pages.now).text) pages.now
+            calls_left (length (plan_of self.old image.now pages.now).encoding) pages.now self.new.stage
+            < calls_left (length (plan_of self.old image.now pages.now).encoding) pages.now
             self.old.stage }
         ensures keeps { KeepsBlocks self.old self.new result }
         ensures refused { IfErr result (λ why. (why ≡ DiskFault) ⊎ (why ≡ Faulted)) }
         ensures faulted { (result ≡ Err Faulted) ↔ IsTrue self.old.failed }
         ensures broken { IsTrue self.new.failed ↔
             (IsTrue self.old.failed ⊎ (result ≡ Err DiskFault)) }
-        ensures still { IsTrue self.old.failed → (self.new ≡ self.old) × (disk.new ≡ disk.old) }
-        ensures call { OneCall (IsOfHive self.old.hive) (D.state_at disk.old) (D.state_at disk.new)
+        ensures no_change { IsTrue self.old.failed → (self.new ≡ self.old) × (disk.new ≡ disk.old) }
+        ensures call { OneCall (IsFileOfHive self.old.hive) (D.state_at disk.old) (D.state_at disk.new)
             (D.clock disk.old) (D.clock disk.new) }
-        ensures pieces { D.faithful disk.new → WritesPieces (D.state_at disk.old)
+        ensures chunks { D.faithful disk.new → KeepsWritesShort (D.state_at disk.old)
             (D.state_at disk.new) (D.clock disk.old) (D.clock disk.new) }
         ensures failures { HasFailed result (D.failures disk.old) (D.failures disk.new) }
         ensures faithful { D.faithful disk.new → D.faithful disk.old }
@@ -129,7 +129,7 @@ impl HiveWriter {
         }
         self.begin();
         let called = self.flush::<D, T>(disk, image, pages);
-        self.settle(called)
+        self.finish_call(called)
     }
 
     /// One step of a repair, with the image as the log repairs it and the pages that the log marks. A write takes at most 65,536
@@ -143,18 +143,18 @@ impl HiveWriter {
         pages: &DirtyVector,
     ) -> Result<Progress, Refusal>
         requires size { length image.now ≡ pages.now.bins_size }
-        requires repairing { IsRewriting purpose.Repair self.old.stage }
-        ensures on { D.faithful disk.new → (stands : Standing T) (plan : Plan) →
-            EndsWith self.old.block plan →
-            LeadsOn stands plan image.now pages.now result self.old self.new
+        requires repairing { IsWritingFor purpose.Repair self.old.stage }
+        ensures on { D.faithful disk.new → (decode : TreeDecoder T) (plan : FlushPlan) →
+            PlanEndsWith self.old.block plan →
+            StepKeepsMatch decode plan image.now pages.now result self.old self.new
             (D.state_at disk.old (D.clock disk.old)) (D.state_at disk.new (D.clock disk.new)) }
         ensures holds { (now memory : T × ℕ) →
-            choice_at self.new.stage (now_after result now memory) memory
+            choice_at self.new.stage (durable_after result now memory) memory
             ≡ choice_at self.old.stage now memory }
         ensures repairing { (result ≡ Ok Progress.Done → ⊥) →
-            IsRewriting purpose.Repair self.new.stage }
-        ensures done { result ≡ Ok Progress.Done → self.new.stage ≡ stage.Quiet }
-        ensures busy { result ≡ Ok Progress.Idle → ⊥ }
+            IsWritingFor purpose.Repair self.new.stage }
+        ensures done { result ≡ Ok Progress.Done → self.new.stage ≡ stage.AtRest }
+        ensures not_idle { result ≡ Ok Progress.Idle → ⊥ }
         ensures falls { (total : ℕ) → result ≡ Ok Progress.More →
             calls_left total pages.now self.new.stage < calls_left total pages.now self.old.stage }
         ensures keeps { KeepsBlocks self.old self.new result }
@@ -162,10 +162,10 @@ impl HiveWriter {
         ensures faulted { (result ≡ Err Faulted) ↔ IsTrue self.old.failed }
         ensures broken { IsTrue self.new.failed ↔
             (IsTrue self.old.failed ⊎ (result ≡ Err DiskFault)) }
-        ensures still { IsTrue self.old.failed → (self.new ≡ self.old) × (disk.new ≡ disk.old) }
-        ensures call { OneCall (IsOfHive self.old.hive) (D.state_at disk.old) (D.state_at disk.new)
+        ensures no_change { IsTrue self.old.failed → (self.new ≡ self.old) × (disk.new ≡ disk.old) }
+        ensures call { OneCall (IsFileOfHive self.old.hive) (D.state_at disk.old) (D.state_at disk.new)
             (D.clock disk.old) (D.clock disk.new) }
-        ensures pieces { D.faithful disk.new → WritesPieces (D.state_at disk.old)
+        ensures chunks { D.faithful disk.new → KeepsWritesShort (D.state_at disk.old)
             (D.state_at disk.new) (D.clock disk.old) (D.clock disk.new) }
         ensures failures { HasFailed result (D.failures disk.old) (D.failures disk.new) }
         ensures faithful { D.faithful disk.new → D.faithful disk.old }
@@ -173,18 +173,18 @@ impl HiveWriter {
         if self.failed {
             return Err(Refusal::Faulted);
         }
-        let called = self.rewrite::<D, T>(disk, image, pages);
-        self.settle(called)
+        let called = self.write_repair::<D, T>(disk, image, pages);
+        self.finish_call(called)
     }
 
     // where the hive is quiet, the log is what is written first
     fn begin(&mut self)
         ensures begins { BeginsAt self.old.stage self.old self.new }
         ensures flushing { IsFlushing self.old.stage → IsFlushing self.new.stage }
-        ensures busy { self.new.stage ≡ stage.Quiet → ⊥ }
+        ensures not_idle { self.new.stage ≡ stage.AtRest → ⊥ }
     {
-        if let Stage::Quiet = self.stage {
-            self.stage = Stage::Logging(0);
+        if let FlushStage::AtRest = self.stage {
+            self.stage = FlushStage::WritingLog(0);
         }
     }
 
@@ -194,74 +194,77 @@ impl HiveWriter {
         disk: &mut D,
         image: &[u8],
         pages: &DirtyVector,
-    ) -> Result<Stage, Failed>
+    ) -> Result<FlushStage, Failed>
         requires size { length image.now ≡ pages.now.bins_size }
-        requires short { length (plan_of self.now image.now pages.now).text < 2 ^ 32 }
+        requires short { length (plan_of self.now image.now pages.now).encoding < 2 ^ 32 }
         requires flushing { IsFlushing self.now.stage }
-        requires begun { self.now.stage ≡ stage.Quiet → ⊥ }
-        ensures leads { D.faithful disk.new → (stands : Standing T) →
-            Leads stands (plan_of self.now image.now pages.now) image.now pages.now self.now.hive
+        requires begun { self.now.stage ≡ stage.AtRest → ⊥ }
+        ensures leads { D.faithful disk.new → (decode : TreeDecoder T) →
+            CallLeadsTo decode (plan_of self.now image.now pages.now) image.now pages.now self.now.hive
             self.now.stage result
             (D.state_at disk.old (D.clock disk.old)) (D.state_at disk.new (D.clock disk.new)) }
         ensures next { IfOk result (IsNext self.now.stage) }
-        ensures falls { IfOk result (Falls (length
-            (plan_of self.now image.now pages.now).text) pages.now self.now.stage) }
-        ensures call { OneCall (IsOfHive self.now.hive) (D.state_at disk.old) (D.state_at disk.new)
+        ensures falls { IfOk result (CallsDecrease (length
+            (plan_of self.now image.now pages.now).encoding) pages.now self.now.stage) }
+        ensures call { OneCall (IsFileOfHive self.now.hive) (D.state_at disk.old) (D.state_at disk.new)
             (D.clock disk.old) (D.clock disk.new) }
-        ensures pieces { D.faithful disk.new → WritesPieces (D.state_at disk.old)
+        ensures chunks { D.faithful disk.new → KeepsWritesShort (D.state_at disk.old)
             (D.state_at disk.new) (D.clock disk.old) (D.clock disk.new) }
         ensures failures { CountsFailure result (D.failures disk.old) (D.failures disk.new) }
         ensures faithful { D.faithful disk.new → D.faithful disk.old }
     {
         match self.stage {
-            Stage::Logging(index) => self.write_log::<D, T>(disk, index, image, pages),
-            Stage::Logged => self.raise::<D, T>(disk),
-            Stage::Raised => self.sync_raised::<D, T>(disk),
-            _ => self.rewrite::<D, T>(disk, image, pages),
+            FlushStage::WritingLog(index) => self.write_log::<D, T>(disk, index, image, pages),
+            FlushStage::LogSynced => self.mark_primary_dirty::<D, T>(disk),
+            FlushStage::PrimaryMarkedDirty => self.sync_dirty_mark::<D, T>(disk),
+            _ => self.write_repair::<D, T>(disk, image, pages),
         }
     }
 
     // the next call on the pages or the last sector, of a flush or a repair
-    fn rewrite<D: Disk, T>(
+    fn write_repair<D: Disk, T>(
         &self,
         disk: &mut D,
         image: &[u8],
         pages: &DirtyVector,
-    ) -> Result<Stage, Failed>
+    ) -> Result<FlushStage, Failed>
         requires size { length image.now ≡ pages.now.bins_size }
-        requires writing { (IsRewriting purpose.Flush self.now.stage)
-            ⊎ (IsRewriting purpose.Repair self.now.stage) }
-        ensures leads { D.faithful disk.new → (stands : Standing T) (plan : Plan) →
-            EndsWith self.now.block plan →
-            Leads stands plan image.now pages.now self.now.hive self.now.stage result
+        requires writing { (IsWritingFor purpose.Flush self.now.stage)
+            ⊎ (IsWritingFor purpose.Repair self.now.stage) }
+        ensures leads { D.faithful disk.new → (decode : TreeDecoder T) (plan : FlushPlan) →
+            PlanEndsWith self.now.block plan →
+            CallLeadsTo decode plan image.now pages.now self.now.hive self.now.stage result
             (D.state_at disk.old (D.clock disk.old)) (D.state_at disk.new (D.clock disk.new)) }
         ensures next { IfOk result (IsNext self.now.stage) }
-        ensures falls { (total : ℕ) → IfOk result (Falls total pages.now self.now.stage) }
-        ensures call { OneCall (IsOfHive self.now.hive) (D.state_at disk.old) (D.state_at disk.new)
+        ensures falls { (total : ℕ) → IfOk result (CallsDecrease total pages.now self.now.stage) }
+        ensures call { OneCall (IsFileOfHive self.now.hive) (D.state_at disk.old) (D.state_at disk.new)
             (D.clock disk.old) (D.clock disk.new) }
-        ensures pieces { D.faithful disk.new → WritesPieces (D.state_at disk.old)
+        ensures chunks { D.faithful disk.new → KeepsWritesShort (D.state_at disk.old)
             (D.state_at disk.new) (D.clock disk.old) (D.clock disk.new) }
         ensures failures { CountsFailure result (D.failures disk.old) (D.failures disk.new) }
         ensures faithful { D.faithful disk.new → D.faithful disk.old }
     {
         match self.stage {
-            Stage::Paging(purpose, from) => match pages.next_run(from) {
+            FlushStage::WritingPages(purpose, from) => match pages.next_run(from) {
                 Some(run) => self.write_pages::<D, T>(disk, purpose, from, run, image, pages),
                 None => self.sync_pages::<D, T>(disk, purpose, from),
             },
-            Stage::Paged(purpose) => self.write_last::<D, T>(disk, purpose),
-            Stage::Finished(purpose) => self.sync_last::<D, T>(disk, purpose),
-            Stage::Quiet | Stage::Logging(_) | Stage::Logged | Stage::Raised => unreachable!(),
+            FlushStage::PagesSynced(purpose) => self.write_header::<D, T>(disk, purpose),
+            FlushStage::HeaderWritten(purpose) => self.sync_header::<D, T>(disk, purpose),
+            FlushStage::AtRest
+            | FlushStage::WritingLog(_)
+            | FlushStage::LogSynced
+            | FlushStage::PrimaryMarkedDirty => unreachable!(),
         }
     }
 
     // takes in what a call has come to
-    fn settle(&mut self, called: Result<Stage, Failed>) -> Result<Progress, Refusal>
-        ensures { Settles called result self.old self.new }
+    fn finish_call(&mut self, called: Result<FlushStage, Failed>) -> Result<Progress, Refusal>
+        ensures { StepEndsAs called result self.old self.new }
     {
         match called {
-            Ok(Stage::Quiet) => {
-                self.stage = Stage::Quiet;
+            Ok(FlushStage::AtRest) => {
+                self.stage = FlushStage::AtRest;
                 self.base = self.block;
                 Ok(Progress::Done)
             }

@@ -5,6 +5,6 @@ pub mod Copies
 pub mod Spans
 pub mod Steps
 pub mod Sums
-pub mod Places
+pub mod ChildIndexes
 pub mod Adds
 pub mod Entries

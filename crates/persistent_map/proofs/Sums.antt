@@ -5,47 +5,47 @@ use Rattle.reg_names.specs.Names.{folded}
 use Rattle.std.specs.declared.sync.Arc.{Arc}
 use Rattle.std.specs.declared.alloc.Global.{Global}
 use Rattle.std.specs.Arc.{arc_value}
-use Rattle.persistent_map.specs.declared.group.Group.{Group}
-use Rattle.persistent_map.specs.Listings.{entries_in, pieces_entries}
-use Rattle.persistent_map.specs.Pieces.{Kind, StartsAt, load_of, IsPiece, EachIsPiece, ArePieces, group_kind}
+use Rattle.persistent_map.specs.declared.map_node.MapNode.{MapNode}
+use Rattle.persistent_map.specs.Listings.{entries_in, children_entries}
+use Rattle.persistent_map.specs.Children.{ChildKind, StartsAt, total_weight, IsChild, EachIsChild, AreChildren, node_kind}
 use Rattle.persistent_map.proofs.Steps.{starts_more}
 
 -- one piece more adds what it has
-sum_after : {P : Type 0} (of : P → ℕ) (pieces : List (Arc P Global)) (i : ℕ) (piece : Arc P Global) → i < length pieces → piece ≡ get_or pieces i piece → sum_by of (map arc_value (take (suc i) pieces)) ≡ sum_by of (map arc_value (take i pieces)) + of (arc_value piece)
-sum_after of [] i piece below is = absurd (omega arith)
-sum_after of (first ∷ pieces) zero piece below is = omega (arith, sum_by-cons of (arc_value first) [], ap (λ (p : Arc _ Global). of (arc_value p)) is)
-sum_after of (first ∷ pieces) (suc i) piece below is =
-    omega (arith, sum_by-cons of (arc_value first) (map arc_value (take (suc i) pieces)), sum_by-cons of (arc_value first) (map arc_value (take i pieces)), sum_after of pieces i piece (omega arith) is)
+sum_after : {P : Type 0} (of : P → ℕ) (children : List (Arc P Global)) (i : ℕ) (child : Arc P Global) → i < length children → child ≡ get_or children i child → sum_by of (map arc_value (take (suc i) children)) ≡ sum_by of (map arc_value (take i children)) + of (arc_value child)
+sum_after of [] i child below is = absurd (omega arith)
+sum_after of (first ∷ children) zero child below is = omega (arith, sum_by-cons of (arc_value first) [], ap (λ (p : Arc _ Global). of (arc_value p)) is)
+sum_after of (first ∷ children) (suc i) child below is =
+    omega (arith, sum_by-cons of (arc_value first) (map arc_value (take (suc i) children)), sum_by-cons of (arc_value first) (map arc_value (take i children)), sum_after of children i child (omega arith) is)
 
-pub sum_next : {P : Type 0} (of : P → ℕ) (pieces : List (Arc P Global)) (i : ℕ) (piece : Arc P Global) → i < length pieces → piece ≡ get_or pieces i piece → sum_by of (map arc_value (take (i + 1) pieces)) ≡ sum_by of (map arc_value (take i pieces)) + of (arc_value piece)
-sum_next of pieces i piece below is = rw add-one (sum_after of pieces i piece below is)
+pub sum_next : {P : Type 0} (of : P → ℕ) (children : List (Arc P Global)) (i : ℕ) (child : Arc P Global) → i < length children → child ≡ get_or children i child → sum_by of (map arc_value (take (i + 1) children)) ≡ sum_by of (map arc_value (take i children)) + of (arc_value child)
+sum_next of children i child below is = rw add-one (sum_after of children i child below is)
 
-module _ {A P : Type 0} (kind : Kind A P) where
+module _ {A P : Type 0} (kind : ChildKind A P) where
   -- the counts of pieces are the number of their entries
-  pub counts : (pieces : List P) → EachIsPiece kind pieces → sum_by kind.count pieces ≡ length (entries_in kind.list pieces)
+  pub counts : (children : List P) → EachIsChild kind children → sum_by kind.count children ≡ length (entries_in kind.list children)
   counts [] are = refl
-  counts (piece ∷ pieces) are = omega (arith, sum_by-cons kind.count piece pieces, are.0.count, counts pieces are.1, length-append (kind.list piece) (entries_in kind.list pieces))
+  counts (child ∷ children) are = omega (arith, sum_by-cons kind.count child children, are.0.count, counts children are.1, length-append (kind.list child) (entries_in kind.list children))
 
   -- and their weights, as far as 64 bits hold them, the weight of their entries
-  weights : (pieces : List P) → EachIsPiece kind pieces → min (sum_by kind.weight pieces) 18446744073709551615 ≡ min (load_of kind.load (entries_in kind.list pieces)) 18446744073709551615
+  weights : (children : List P) → EachIsChild kind children → min (sum_by kind.weight children) 18446744073709551615 ≡ min (total_weight kind.entry_weight (entries_in kind.list children)) 18446744073709551615
   weights [] are = refl
-  weights (piece ∷ pieces) are =
-      omega (arith, sum_by-cons kind.weight piece pieces, are.0.weighs, weights pieces are.1, sum_by-append (λ (e : List ℕ × A). kind.load e.1) (kind.list piece) (entries_in kind.list pieces))
+  weights (child ∷ children) are =
+      omega (arith, sum_by-cons kind.weight child children, are.0.weighs, weights children are.1, sum_by-append (λ (e : List ℕ × A). kind.entry_weight e.1) (kind.list child) (entries_in kind.list children))
 
   -- they begin as the first of them does
-  begins : (pieces : List (Arc P Global)) (piece : Arc P Global) → ArePieces kind pieces → 0 < length pieces → piece ≡ get_or pieces 0 piece → StartsAt (kind.first (arc_value piece)) (pieces_entries kind.list pieces)
-  begins [] piece are some is = absurd (omega arith)
-  begins (p ∷ pieces) piece are some is =
-      starts_more (kind.first (arc_value piece)) (kind.list (arc_value p)) _ (subst (λ k. StartsAt k (kind.list (arc_value p))) (ap (λ q. kind.first (arc_value q)) (sym is)) are.0.first)
+  begins : (children : List (Arc P Global)) (child : Arc P Global) → AreChildren kind children → 0 < length children → child ≡ get_or children 0 child → StartsAt (kind.first (arc_value child)) (children_entries kind.list children)
+  begins [] child are some is = absurd (omega arith)
+  begins (p ∷ children) child are some is =
+      starts_more (kind.first (arc_value child)) (kind.list (arc_value p)) _ (subst (λ k. StartsAt k (kind.list (arc_value p))) (ap (λ q. kind.first (arc_value q)) (sym is)) are.0.first)
 
   -- a group of pieces with their totals is a piece
-  pub group_is : (pieces : List (Arc P Global)) (group : Group P) (piece : Arc P Global) → ArePieces kind pieces → 0 < length pieces → group.pieces.items ≡ pieces → piece ≡ get_or pieces 0 piece → folded group.first ≡ kind.first (arc_value piece)
-      → group.count ≡ sum_by kind.count (map arc_value pieces) → group.weight ≡ min (sum_by kind.weight (map arc_value pieces)) 18446744073709551615 → IsPiece (group_kind kind) group
-  group_is pieces group piece are some same is first count weight =
-      let all : pieces_entries kind.list group.pieces.items ≡ pieces_entries kind.list pieces = ap (pieces_entries kind.list) same in
+  pub node_is : (children : List (Arc P Global)) (map_node : MapNode P) (child : Arc P Global) → AreChildren kind children → 0 < length children → map_node.children.items ≡ children → child ≡ get_or children 0 child → folded map_node.first ≡ kind.first (arc_value child)
+      → map_node.count ≡ sum_by kind.count (map arc_value children) → map_node.weight ≡ min (sum_by kind.weight (map arc_value children)) 18446744073709551615 → IsChild (node_kind kind) map_node
+  node_is children map_node child are some same is first count weight =
+      let all : children_entries kind.list map_node.children.items ≡ children_entries kind.list children = ap (children_entries kind.list) same in
       record {
-        first = subst (λ k. StartsAt k (pieces_entries kind.list group.pieces.items)) (sym first) (subst (StartsAt (kind.first (arc_value piece))) (sym all) (begins pieces piece are some is));
-        count = count ∙ counts (map arc_value pieces) are ∙ ap length (sym all);
-        weighs = weight ∙ weights (map arc_value pieces) are ∙ ap (λ es. min (load_of kind.load es) 18446744073709551615) (sym all);
-        fits = subst (ArePieces kind) (sym same) are;
+        first = subst (λ k. StartsAt k (children_entries kind.list map_node.children.items)) (sym first) (subst (StartsAt (kind.first (arc_value child))) (sym all) (begins children child are some is));
+        count = count ∙ counts (map arc_value children) are ∙ ap length (sym all);
+        weighs = weight ∙ weights (map arc_value children) are ∙ ap (λ es. min (total_weight kind.entry_weight es) 18446744073709551615) (sym all);
+        fits = subst (AreChildren kind) (sym same) are;
       }

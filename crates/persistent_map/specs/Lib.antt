@@ -1,6 +1,6 @@
 pub mod Orders
 pub mod Listings
-pub mod ListingFalls
-pub mod Pieces
+pub mod ListingDecreases
+pub mod Children
 pub mod Writes
 pub mod Keyed

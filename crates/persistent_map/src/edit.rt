@@ -4,28 +4,28 @@ ghost use Rattle.reg_names.specs.Names.{folded};
 ghost use Rattle.persistent_map.specs.Listings.{keyed_all};
 ghost use Rattle.persistent_map.specs.Writes.{edit_name, edited};
 
-use crate::listed::Listed;
+use crate::map_entry::MapEntry;
 use reg_names::Name;
 use std::alloc::{AllocError, Global};
 use std::sync::Arc;
 
 /// What is asked of entries.
 #[derive(Drop)]
-pub enum Edit<'a, E> {
+pub enum MapEdit<'a, E> {
     /// That this one stands in the place of its name.
     Put(Arc<E>),
     /// That none has this name.
     Remove(&'a Name),
 }
 
-impl<'a, E: Listed> Edit<'a, E> {
+impl<'a, E: MapEntry> MapEdit<'a, E> {
     /// The name of the entry that is put or removed.
     pub(crate) fn name(&self) -> &Name
         ensures { folded result.now ≡ edit_name E.key self.now }
     {
         match self {
-            Edit::Put(new) => new.name(),
-            Edit::Remove(name) => name,
+            MapEdit::Put(new) => new.name(),
+            MapEdit::Remove(name) => name,
         }
     }
 
@@ -35,12 +35,12 @@ impl<'a, E: Listed> Edit<'a, E> {
             ≡ edited E.key E.over self.entry []) }
     {
         match self {
-            Edit::Put(new) => {
+            MapEdit::Put(new) => {
                 let mut made = Vec::with_capacity(alloc, 1)?;
                 made.push(new)?;
                 Ok(made)
             }
-            Edit::Remove(_) => Ok(Vec::new(alloc)),
+            MapEdit::Remove(_) => Ok(Vec::new(alloc)),
         }
     }
 }

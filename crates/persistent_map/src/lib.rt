@@ -1,12 +1,12 @@
 //! Entries in the order of their folded names, shared and never changed.
 #![tactic(auto)]
 
+mod child;
 mod edit;
-mod group;
-mod listed;
 mod map;
-mod piece;
+mod map_entry;
+mod map_node;
 
-pub use group::Group;
-pub use listed::Listed;
 pub use map::SharedMap;
+pub use map_entry::MapEntry;
+pub use map_node::MapNode;

@@ -1,16 +1,16 @@
 //! How far long work has come, in a line on standard error that goes away when the work is done.
 //!
 //! A [`ProgressLine`] tells of one stage of the work after another. It writes the line anew ten times a second at most, and not at all
-//! where the work is done within half a second. [`Watched`] is a reader whose line tells how much of it was read, and [`WatchedDisk`] a
+//! where the work is done within half a second. [`WatchedReader`] is a reader whose line tells how much of it was read, and [`WatchedDisk`] a
 //! disk whose line tells how much was moved. Nothing of the work depends on the line: what can't be written of it is left out.
 #![tactic(auto)]
 
 mod line;
-mod stage;
-mod watched;
 mod watched_disk;
+mod watched_reader;
+mod work_stage;
 
 pub use line::ProgressLine;
-pub use stage::{Stage, Work};
-pub use watched::Watched;
 pub use watched_disk::{Moved, WatchedDisk};
+pub use watched_reader::WatchedReader;
+pub use work_stage::{Work, WorkStage};

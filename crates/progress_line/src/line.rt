@@ -1,7 +1,7 @@
 //! The line itself.
 ghost use Rattle.std.specs.Prelude.{◌≡◌, ◌<◌, ◌≤◌, ◌*◌, ◌/◌};
 
-use crate::stage::Stage;
+use crate::work_stage::WorkStage;
 use std::cell::Cell;
 use std::io::Eprint;
 use std::time::{Clock, Duration};
@@ -17,7 +17,7 @@ const PAUSE: u64 = 100;
 #[derive(Drop)]
 pub struct ProgressLine<'a, R> {
     terminal: &'a R,
-    stage: Cell<Stage>,
+    work_stage: Cell<WorkStage>,
     done: Cell<u64>,
     next: Cell<Duration>,
     is_shown: Cell<bool>,
@@ -25,10 +25,10 @@ pub struct ProgressLine<'a, R> {
 
 impl<'a, R: Eprint + Clock> ProgressLine<'a, R> {
     /// A line for work whose first stage begins now.
-    pub fn new(terminal: &'a R, first: Stage) -> ProgressLine<'a, R> {
+    pub fn new(terminal: &'a R, first: WorkStage) -> ProgressLine<'a, R> {
         ProgressLine {
             terminal,
-            stage: Cell::new(first),
+            work_stage: Cell::new(first),
             done: Cell::new(0),
             next: Cell::new(later(terminal, PATIENCE)),
             is_shown: Cell::new(false),
@@ -36,8 +36,8 @@ impl<'a, R: Eprint + Clock> ProgressLine<'a, R> {
     }
 
     /// The next stage begins: nothing of it is done. The line goes away until it is told of.
-    pub fn begin(&self, stage: Stage) {
-        self.stage.set(stage);
+    pub fn begin(&self, work_stage: WorkStage) {
+        self.work_stage.set(work_stage);
         self.done.set(0);
         self.clear();
     }
@@ -45,7 +45,7 @@ impl<'a, R: Eprint + Clock> ProgressLine<'a, R> {
     /// So much more of the stage is done, of the same unit as the whole.
     pub fn advance(&self, more: u64) {
         self.done.set(self.done.get().saturating_add(more));
-        let Stage { work, whole } = self.stage.get();
+        let WorkStage { work, whole } = self.work_stage.get();
         let Some(whole) = whole else {
             return;
         };

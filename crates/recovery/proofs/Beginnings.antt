@@ -3,7 +3,7 @@ use Rattle.std.proofs.Common.{inl, inr, ℕ, ◌≤◌, List, refl, sym, subst, 
 use Rattle.disk_model.specs.FileState.{FileState, IsSound}
 use Rattle.disk_model.specs.MemSound.{sound-at_rest}
 use Rattle.disk_model.specs.Crash.{HonestSince, LeavesHonest}
-use Rattle.disk_model.specs.Unwritten.{IsSyncedOrSame, OnlySyncs}
+use Rattle.disk_model.specs.ReadOnly.{IsSyncedOrSame, OnlySyncs}
 use Rattle.disk_model.proofs.Crashes.{shown_left}
 use Rattle.disk_model.proofs.Unwritten.{left_again, left_at_first, shown_after, synced_still}
 use Rattle.engine_invariant.specs.Prefixes.{IsPrimaryOf}
@@ -51,9 +51,9 @@ one hives first last begins o =
 
 pub all : (hives : ℕ) (first last : ℕ → FileState) → MayBegin hives first → AllCameToNothing hives first last → MayBegin hives last × LeaveNoMore hives first last
 all hives first last begins (none_yet end same) = (subst (MayBegin hives) (sym same) begins, λ files left. subst (λ (s : ℕ → FileState). LeavesHonest (IsPrimaryOf hives) s files) same left)
-all hives first last begins (one_more mid end before opening) =
+all hives first last begins (one_more mid end before store_opening) =
     let earlier = all hives first mid begins before in
-    let later = one hives mid last earlier.0 opening in
+    let later = one hives mid last earlier.0 store_opening in
     (later.0, λ files left. earlier.1 files (later.1 files left))
 
 -- what a read gives then might have been left at first

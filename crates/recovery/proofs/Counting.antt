@@ -8,7 +8,7 @@ use Rattle.disk_model.specs.StoreFiles.{IsJournal, primary_file, log_file}
 use Rattle.hive_flush.specs.HiveStates as hive
 use Rattle.hive_flush.specs.declared.hive.HiveFile.{HiveFile}
 use Rattle.engine_invariant.proofs.HiveLists.{at_slot}
-use Rattle.recovery.specs.Kept.{AreWhole}
+use Rattle.recovery.specs.Invariant.{AreWhole}
 use Rattle.recovery.specs.Recovered.{seen_in}
 use Rattle.recovery.specs.Repairs.{most_repairs, repairs_left}
 use Rattle.recovery.specs.Shown.{Shown}
@@ -44,9 +44,9 @@ pub most_beside : (old mid : ℕ → FileState) (n : ℕ) → ((f : ℕ) → ¬ 
 most_beside old mid n others = most_same (seen_in mid) (seen_in old) n (λ i. ap (λ (s : FileState). s.seen) (others (primary_file i) (λ e. omega (arith, e)))) (λ i. ap (λ (s : FileState). s.seen) (others (log_file i) (λ e. omega (arith, e))))
 
 -- what holds where a step was made holds where it was not refused
-pub told : {T E P : Type 0} (result : Result T E) → ((why : E) → result ≡ Err why → ⊥) → OnOk result P → P
-told (Ok x) not p = p
-told (Err why) not p = absurd (not why refl)
+pub as_journal_damage : {T E P : Type 0} (result : Result T E) → ((why : E) → result ≡ Err why → ⊥) → OnOk result P → P
+as_journal_damage (Ok x) not p = p
+as_journal_damage (Err why) not p = absurd (not why refl)
 
 -- a store as it is shown has as many left
 pub fewer_shown : {D : Type 0} (inside it : Shown D) → inside ≡ it → (n : ℕ) → n < repairs_left inside.found.hives.items → n < repairs_left it.found.hives.items

@@ -4,31 +4,31 @@ use Rattle.std.proofs.lemmas.List.{length-map}
 use Rattle.reg_tree.specs.Maps.{TreeMap}
 use Rattle.reg_tree.specs.Sequences.{after_elements}
 use Rattle.reg_tree.specs.declared.element.Element.{Element}
-use Rattle.crash_model.specs.Promises.{Choice, Spelled}
+use Rattle.crash_model.specs.Promises.{Choice, Content}
 use Rattle.crash_model.proofs.Lists.{take_nil}
 use Rattle.disk_model.specs.FileState.{FileState}
 use Rattle.disk_model.specs.Crash.{LeavesHonest}
 use Rattle.store_model.specs.Machine.{Machine, bounds_of, opened_machine}
-use Rattle.store_model.specs.declared.bounds.Bounds.{Bounds}
+use Rattle.store_model.specs.declared.bounds.StoreBounds.{StoreBounds}
 use Rattle.change_codec.specs.ModelChanges.{TimedOp}
 use Rattle.commit_journal.specs.Store.{Store, room_of}
 use Rattle.commit_journal.specs.Journals.{changes_of, choice_of, store_of}
 use Rattle.commit_journal.specs.declared.journal.Journal.{Journal}
 use Rattle.hive_flush.specs.declared.hive.HiveFile.{HiveFile}
 use Rattle.engine_invariant.specs.States.{HiveView, IsConsistent}
-use Rattle.engine_invariant.specs.Openings.{IsFound}
+use Rattle.engine_invariant.specs.Openings.{OpeningRecovers}
 use Rattle.engine_invariant.specs.Prefixes.{AreOnDisk, ArePlaced, IsPrimaryOf, IsSafeAt, Recover, view_of}
-use Rattle.recovery.specs.Kept.{IsKept}
+use Rattle.recovery.specs.Invariant.{InvariantHolds}
 use Rattle.recovery.specs.Recovered.{IsRecovered}
 use Rattle.recovery.specs.Shown.{Shown}
 use Rattle.recovery.specs.Shown as shown
 use Rattle.commit_journal.specs.Journals as journals
-use Rattle.recovery.specs.declared.found.Found.{Found}
+use Rattle.recovery.specs.declared.found.RecoveredStore.{RecoveredStore}
 
 -- The laws that are used
 
 abbrev pub Begins : Type 0
-Begins = (bounds : Bounds) (trees : List TreeMap) (number failures base : ℕ) (opened : List Element) (journal : Choice (Spelled TimedOp)) (hives : List HiveView) → IsFound trees number base opened journal hives
+Begins = (bounds : StoreBounds) (trees : List TreeMap) (number failures base : ℕ) (opened : List Element) (journal : Choice (Content TimedOp)) (hives : List HiveView) → OpeningRecovers trees number base opened journal hives
     → IsConsistent (record (opened_machine bounds trees number [] failures) { room = 65 + room_of journal.now.elements }) base opened journal hives
 
 abbrev pub Safe : Type 0
@@ -36,13 +36,13 @@ Safe = (store : Store) (machine : Machine) (base : ℕ) (opened : List Element) 
     → store_of journal ≡ store → ArePlaced store hives → AreOnDisk journal hives (states moment) → IsSafeAt store states moment machine
 
 -- what was found has a tree for each hive
-pub found_long : Begins → (found : Found) → IsKept found → length found.trees ≡ (store_of found.journal).hives
+pub found_long : Begins → (found : RecoveredStore) → InvariantHolds found → length found.trees ≡ (store_of found.journal).hives
 found_long begins found kept =
     let begun = begins (bounds_of found.trees) found.trees found.number 0 found.base (changes_of found.journal) (choice_of found.journal) (map view_of found.hives.items) kept.recovers in
     sym begun.all ∙ length-map found.hives.items view_of ∙ kept.many
 
 -- an opened store's files recover what was found, whatever a crash leaves of them
-pub still_recovered : Begins → Safe → (found : Found) → IsKept found → (states : ℕ → ℕ → FileState) (moment : ℕ) → AreOnDisk found.journal found.hives.items (states moment)
+pub still_recovered : Begins → Safe → (found : RecoveredStore) → InvariantHolds found → (states : ℕ → ℕ → FileState) (moment : ℕ) → AreOnDisk found.journal found.hives.items (states moment)
     → (files : ℕ → List ℕ) → LeavesHonest (IsPrimaryOf (store_of found.journal).hives) (states moment) files → IsRecovered files (store_of found.journal) found.number found.trees
 still_recovered begins safe found kept states moment on files left =
     let begun = begins (bounds_of found.trees) found.trees found.number 0 found.base (changes_of found.journal) (choice_of found.journal) (map view_of found.hives.items) kept.recovers in
@@ -64,7 +64,7 @@ same_moment old new clock past = sym (λ i f. past clock f (omega arith) i)
 
 -- The same of a store as it is shown: at the moment at which a step begins, which is seen at that of its end too, and at that
 
-module _ {D : Type 0} (state_at : D → ℕ → ℕ → FileState) (clock : D → ℕ) (faithful : D → Type 0) (begins : Begins) (safe : Safe) (inside it : Shown D) (is : inside ≡ it) (kept : IsKept inside.found)
+module _ {D : Type 0} (state_at : D → ℕ → ℕ → FileState) (clock : D → ℕ) (faithful : D → Type 0) (begins : Begins) (safe : Safe) (inside it : Shown D) (is : inside ≡ it) (kept : InvariantHolds inside.found)
     (on_disk : faithful inside.disk → AreOnDisk inside.found.journal inside.found.hives.items (state_at inside.disk (clock inside.disk))) where
   -- whatever a crash leaves at a moment of a disk recovers what is shown
   abbrev pub StillShown : D → ℕ → Type 0
@@ -80,10 +80,10 @@ module _ {D : Type 0} (state_at : D → ℕ → ℕ → FileState) (clock : D �
   no_call = subst (λ (v : Shown D). faithful v.disk → (files : ℕ → List ℕ) → LeavesHonest (IsPrimaryOf (shown.store_of v).hives) (state_at v.disk (clock v.disk)) files → IsRecovered files (shown.store_of v) v.found.number v.found.trees) is
       (λ f. still_recovered begins safe inside.found kept (state_at inside.disk) (clock inside.disk) (on_disk f))
 
-  pub after_call : (disk : D) (found : Found) → (faithful disk → faithful inside.disk) → found ≡ record inside.found { hives = found.hives } → IsKept found
+  pub after_call : (disk : D) (found : RecoveredStore) → (faithful disk → faithful inside.disk) → found ≡ record inside.found { hives = found.hives } → InvariantHolds found
       → (faithful disk → AreOnDisk inside.found.journal inside.found.hives.items (state_at inside.disk (clock inside.disk)) → AreOnDisk found.journal found.hives.items (state_at disk (clock disk))) → StillShown disk (clock disk)
-  after_call disk found back rest still on =
+  after_call disk found back rest no_change on =
       subst (λ (v : Shown D). faithful disk → (files : ℕ → List ℕ) → LeavesHonest (IsPrimaryOf (shown.store_of v).hives) (state_at disk (clock disk)) files → IsRecovered files (shown.store_of v) v.found.number v.found.trees) is
-      (λ f files left. subst (λ (x : Found). IsRecovered files (journals.store_of x.journal) x.number x.trees) rest
-      (still_recovered begins safe found still (state_at disk) (clock disk) (on f (on_disk (back f))) files
-      (subst (λ (x : Found). LeavesHonest (IsPrimaryOf (journals.store_of x.journal).hives) (state_at disk (clock disk)) files) (sym rest) left)))
+      (λ f files left. subst (λ (x : RecoveredStore). IsRecovered files (journals.store_of x.journal) x.number x.trees) rest
+      (still_recovered begins safe found no_change (state_at disk) (clock disk) (on f (on_disk (back f))) files
+      (subst (λ (x : RecoveredStore). LeavesHonest (IsPrimaryOf (journals.store_of x.journal).hives) (state_at disk (clock disk)) files) (sym rest) left)))

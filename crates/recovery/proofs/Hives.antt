@@ -4,19 +4,19 @@ use Rattle.std.proofs.lemmas.Option.{slice_get_within}
 use Rattle.refusals.specs.declared.refusal.Refusal.{Refusal}
 use Rattle.crash_model.specs.Promises.{settled}
 use Rattle.disk_model.specs.FileState.{FileState}
-use Rattle.disk_model.specs.StoreFiles.{IsOfHive, primary_file, log_file, journal_file}
-use Rattle.disk_model.specs.Unwritten.{IsSyncedOrSame}
+use Rattle.disk_model.specs.StoreFiles.{IsFileOfHive, primary_file, log_file, journal_file}
+use Rattle.disk_model.specs.ReadOnly.{IsSyncedOrSame}
 use Rattle.disk_model.proofs.Unwritten.{seen_same, synced_on}
-use Rattle.hive_files.specs.Frames.{FailsBy}
-use Rattle.hive_flush.specs.Standing.{HoldsUnder, IsNoneHeld, NothingHeld}
-use Rattle.hive_flush.specs.HiveStates.{IsBroken, IsOn, files_of, memory_of, place_of}
+use Rattle.hive_files.specs.Frames.{RefusalHasCause}
+use Rattle.hive_flush.specs.Decoders.{HiveFilesHold, FilesHoldNone, RefusesHiveFiles}
+use Rattle.hive_flush.specs.HiveStates.{IsBroken, FilesMatchHive, file_choice, memory_of, hive_number}
 use Rattle.hive_flush.specs.HiveStates as states
 use Rattle.hive_flush.specs.declared.hive.HiveFile.{HiveFile}
 use Rattle.engine_invariant.proofs.HiveLists.{each_pushed}
 use Rattle.recovery.specs.Reading.{AreOpened, IsNoHive, IsOpened}
 
 module _ (before after : Type 0) (back : after → before) (store : List ℕ) (then mid now : ℕ → FileState) (hives : List HiveFile) (a : AreOpened before store then mid hives)
-    (k : ℕ) (many : length hives ≡ k) (others : (f : ℕ) → ¬ (IsOfHive k f) → now f ≡ mid f) (synced : after → (f : ℕ) → IsSyncedOrSame (mid f) (now f)) where
+    (k : ℕ) (many : length hives ≡ k) (others : (f : ℕ) → ¬ (IsFileOfHive k f) → now f ≡ mid f) (synced : after → (f : ℕ) → IsSyncedOrSame (mid f) (now f)) where
   files_synced : after → (f : ℕ) → IsSyncedOrSame (then f) (now f)
   files_synced faithful f = synced_on (then f) (mid f) (now f) (a.files (back faithful) f) (synced faithful f)
 
@@ -35,21 +35,21 @@ module _ (before after : Type 0) (back : after → before) (store : List ℕ) (t
         works = o.works;
         held = λ faithful. o.held (back faithful);
         on = λ faithful.
-            subst (λ (s : FileState). IsOn h s (now (log_file i))) (sym (others (primary_file i) (λ f. elim (f) [ inl e ↦ omega (arith, e, lt, many) | inr e ↦ omega (arith, e, lt, many) ])))
-            (subst (λ (s : FileState). IsOn h (mid (primary_file i)) s) (sym (others (log_file i) (λ f. elim (f) [ inl e ↦ omega (arith, e, lt, many) | inr e ↦ omega (arith, e, lt, many) ]))) (o.on (back faithful)));
+            subst (λ (s : FileState). FilesMatchHive h s (now (log_file i))) (sym (others (primary_file i) (λ f. elim (f) [ inl e ↦ omega (arith, e, lt, many) | inr e ↦ omega (arith, e, lt, many) ])))
+            (subst (λ (s : FileState). FilesMatchHive h (mid (primary_file i)) s) (sym (others (log_file i) (λ f. elim (f) [ inl e ↦ omega (arith, e, lt, many) | inr e ↦ omega (arith, e, lt, many) ]))) (o.on (back faithful)));
       }
 
-  pub one_more : (hive : HiveFile) → files_of hive ≡ settled (memory_of hive) → place_of hive ≡ k → states.store_of hive ≡ store → ¬ (IsBroken hive)
-      → (after → HoldsUnder store (mid (primary_file k)).seen (mid (log_file k)).seen (memory_of hive))
-      → (after → IsOn hive (now (primary_file k)) (now (log_file k))) → AreOpened after store then now (hives ++ hive ∷ [])
+  pub one_more : (hive : HiveFile) → file_choice hive ≡ settled (memory_of hive) → hive_number hive ≡ k → states.store_of hive ≡ store → ¬ (IsBroken hive)
+      → (after → HiveFilesHold store (mid (primary_file k)).seen (mid (log_file k)).seen (memory_of hive))
+      → (after → FilesMatchHive hive (now (primary_file k)) (now (log_file k))) → AreOpened after store then now (hives ++ hive ∷ [])
   one_more hive rests place owner works held on = record {
     each = each_pushed hives hive (IsOpened after store then now) earlier (subst (λ n. IsOpened after store then now n hive) (sym many) (record {
       rests = rests;
       place = place;
       owner = owner;
       works = works;
-      held = λ faithful. subst (λ (p : List ℕ). HoldsUnder store p (then (log_file k)).seen (memory_of hive)) (was_seen faithful (primary_file k))
-          (subst (λ (l : List ℕ). HoldsUnder store (mid (primary_file k)).seen l (memory_of hive)) (was_seen faithful (log_file k)) (held faithful));
+      held = λ faithful. subst (λ (p : List ℕ). HiveFilesHold store p (then (log_file k)).seen (memory_of hive)) (was_seen faithful (primary_file k))
+          (subst (λ (l : List ℕ). HiveFilesHold store (mid (primary_file k)).seen l (memory_of hive)) (was_seen faithful (log_file k)) (held faithful));
       on = on;
     }));
     files = files_synced;
@@ -58,8 +58,8 @@ module _ (before after : Type 0) (back : after → before) (store : List ℕ) (t
 
   -- a hive that could not be opened
   pub refused : (count : ℕ) (why : Refusal) (rose risen : Type 0) → (rose → risen) → k < count
-      → FailsBy rose (NothingHeld after k store (mid (primary_file k)).seen (mid (log_file k)).seen) why
-      → FailsBy risen (IsNoHive after store count then) why
+      → RefusalHasCause rose (RefusesHiveFiles after k store (mid (primary_file k)).seen (mid (log_file k)).seen) why
+      → RefusalHasCause risen (IsNoHive after store count then) why
   refused count why rose risen up lt (inl none) = inl none
   refused count why rose risen up lt (inr (inl (fault, r))) = inr (inl (fault, up r))
   refused count why rose risen up lt (inr (inr (tells, none))) =
@@ -68,8 +68,8 @@ module _ (before after : Type 0) (back : after → before) (store : List ℕ) (t
         lt,
         (
           tells,
-          λ faithful. subst (λ (p : List ℕ). IsNoneHeld k store p (then (log_file k)).seen why) (was_seen faithful (primary_file k))
-              (subst (λ (l : List ℕ). IsNoneHeld k store (mid (primary_file k)).seen l why) (was_seen faithful (log_file k)) (none faithful)),
+          λ faithful. subst (λ (p : List ℕ). FilesHoldNone k store p (then (log_file k)).seen why) (was_seen faithful (primary_file k))
+              (subst (λ (l : List ℕ). FilesHoldNone k store (mid (primary_file k)).seen l why) (was_seen faithful (log_file k)) (none faithful)),
         ),
       ))
 

@@ -1,6 +1,6 @@
 pub mod Replays
 mod Together
-pub mod AtHand
+pub mod RetainedChanges
 mod Hives
 mod Openings
 mod Refused

@@ -8,65 +8,65 @@ use Rattle.reg_tree.specs.Maps.{TreeMap}
 use Rattle.reg_tree.specs.declared.element.Element.{Element}
 use Rattle.crash_model.specs.Changes as law
 use Rattle.crash_model.specs.Changes.{ops_on}
-use Rattle.crash_model.specs.Promises.{Choice, Spelled, floor}
+use Rattle.crash_model.specs.Promises.{Choice, Content, floor}
 use Rattle.disk_model.specs.FileState.{FileState}
 use Rattle.disk_model.specs.StoreFiles.{IsJournal, primary_file, log_file, journal_file}
-use Rattle.disk_model.specs.Unwritten.{IsSyncedOrSame}
+use Rattle.disk_model.specs.ReadOnly.{IsSyncedOrSame}
 use Rattle.disk_model.proofs.Unwritten.{seen_same}
 use Rattle.change_codec.specs.ModelChanges.{TimedOp, timed_elements}
-use Rattle.change_codec.specs.Text.{Fits}
-use Rattle.commit_journal.specs.Text.{spelled}
-use Rattle.commit_journal.specs.Naming.{AreLastIn}
-use Rattle.commit_journal.specs.Store.{Store, IsStore, SpellsNothing, texts}
-use Rattle.commit_journal.specs.Journals.{changes_of, choice_of, texts_of}
-use Rattle.commit_journal.specs.Windows as journals
-use Rattle.commit_journal.specs.declared.scanning.Opened.{Opened}
-use Rattle.hive_files.specs.Frames.{FailsBy}
-use Rattle.hive_flush.specs.Standing.{HoldsUnder, IsOfHive}
-use Rattle.hive_flush.specs.HiveStates.{IsOn, files_of, memory_of}
+use Rattle.change_codec.specs.Encoding.{Fits}
+use Rattle.commit_journal.specs.Encoding.{decoded}
+use Rattle.commit_journal.specs.LastChangePerHive.{AreLastIn}
+use Rattle.commit_journal.specs.Store.{Store, IsStore, IsNoJournal, encodings}
+use Rattle.commit_journal.specs.Journals.{changes_of, choice_of, encodings_of}
+use Rattle.commit_journal.specs.ReadBuffers as journals
+use Rattle.commit_journal.specs.declared.opening_scan.OpenedJournal.{OpenedJournal}
+use Rattle.hive_files.specs.Frames.{RefusalHasCause}
+use Rattle.hive_flush.specs.Decoders.{HiveFilesHold, RefusalNamesHive}
+use Rattle.hive_flush.specs.HiveStates.{FilesMatchHive, file_choice, memory_of}
 use Rattle.hive_flush.specs.declared.hive.HiveFile.{HiveFile}
 use Rattle.engine_invariant.specs.Prefixes.{AreOnDisk}
-use Rattle.recovery.specs.Kept.{AreAtHand}
+use Rattle.recovery.specs.Invariant.{RetainsWhatHivesLack}
 use Rattle.recovery.specs.Reading.{AreAtRest, AreOf, AreOpened, IsNoHive, IsOpened, IsRead}
-use Rattle.recovery.specs.Recovered.{IsNoStore, TellsOfFiles, seen_in}
+use Rattle.recovery.specs.Recovered.{IsNoStore, IsFileRefusal, seen_in}
 use Rattle.recovery.specs.Refused.{HoldsNothing, IsWrong}
 
-tells : (i : ℕ) (why : Refusal) → IsOfHive i why → TellsOfFiles why
+tells : (i : ℕ) (why : Refusal) → RefusalNamesHive i why → IsFileRefusal why
 tells i (refusal.HiveDamaged hive cause) e = tt
 tells i refusal.Unsupported e = tt
 tells i _ e = absurd e
 
 -- a hive that holds nothing is what a refusal of it tells
-wrong : (files : ℕ → List ℕ) (i : ℕ) (why : Refusal) → IsOfHive i why → HoldsNothing files i why → IsWrong files why
+wrong : (files : ℕ → List ℕ) (i : ℕ) (why : Refusal) → RefusalNamesHive i why → HoldsNothing files i why → IsWrong files why
 wrong files i (refusal.HiveDamaged hive cause) e none = inl (subst (λ n. HoldsNothing files n (refusal.HiveDamaged hive cause)) (sym e) none)
 wrong files i refusal.Unsupported e none = (i, none)
 wrong files i _ e none = absurd e
 
 -- a refusal of a hive, as one of the store whose journal was read behind it
-pub refused_hives : (read faithful : Type 0) → (faithful → read) → (rose risen : Type 0) → (rose → risen) → (store : Store) → IsStore store → (now : Spelled TimedOp) (old : ℕ → FileState) → (faithful → spelled (texts store) (old journal_file).seen ≡ Some now)
-    → (why : Refusal) → FailsBy rose (IsNoHive read store.id store.hives old) why → FailsBy risen (IsNoStore faithful (seen_in old)) why
-refused_hives read faithful back rose risen up store is now old spells why (inl hungry) = inl hungry
-refused_hives read faithful back rose risen up store is now old spells why (inr (inl (fault, r))) = inr (inl (fault, up r))
-refused_hives read faithful back rose risen up store is now old spells why (inr (inr (i, lt, (of, none)))) =
+pub refused_hives : (read faithful : Type 0) → (faithful → read) → (rose risen : Type 0) → (rose → risen) → (store : Store) → IsStore store → (now : Content TimedOp) (old : ℕ → FileState) → (faithful → decoded (encodings store) (old journal_file).seen ≡ Some now)
+    → (why : Refusal) → RefusalHasCause rose (IsNoHive read store.id store.hives old) why → RefusalHasCause risen (IsNoStore faithful (seen_in old)) why
+refused_hives read faithful back rose risen up store is now old decodes why (inl hungry) = inl hungry
+refused_hives read faithful back rose risen up store is now old decodes why (inr (inl (fault, r))) = inr (inl (fault, up r))
+refused_hives read faithful back rose risen up store is now old decodes why (inr (inr (i, lt, (of, none)))) =
     inr (inr (
       tells i why of,
-      λ f. wrong (seen_in old) i why of (record { store = store; journal = now; store_is = is; spells = spells f; there = lt }, none (back f)),
+      λ f. wrong (seen_in old) i why of (record { store = store; journal = now; store_is = is; decodes = decodes f; there = lt }, none (back f)),
     ))
 
 -- a refusal that tells of no hive
-pub refused_beside : (read faithful : Type 0) (rose : Type 0) (store : List ℕ) (count : ℕ) (old : ℕ → FileState) (why : Refusal) → ((i : ℕ) → IsOfHive i why → ⊥) → FailsBy rose (IsNoHive read store count old) why → FailsBy rose (IsNoStore faithful (seen_in old)) why
+pub refused_beside : (read faithful : Type 0) (rose : Type 0) (store : List ℕ) (count : ℕ) (old : ℕ → FileState) (why : Refusal) → ((i : ℕ) → RefusalNamesHive i why → ⊥) → RefusalHasCause rose (IsNoHive read store count old) why → RefusalHasCause rose (IsNoStore faithful (seen_in old)) why
 refused_beside read faithful rose store count old why none (inl hungry) = inl hungry
 refused_beside read faithful rose store count old why none (inr (inl fault)) = inr (inl fault)
 refused_beside read faithful rose store count old why none (inr (inr (i, lt, (of, nothing)))) = absurd (none i of)
 
 -- a refusal of files that were read as they had been before
-pub refused_still : (rose risen faithful : Type 0) → (rose → risen) → (old mid : ℕ → FileState) → mid ≡ old → (why : Refusal) → FailsBy rose (IsNoStore faithful (seen_in mid)) why → FailsBy risen (IsNoStore faithful (seen_in old)) why
+pub refused_still : (rose risen faithful : Type 0) → (rose → risen) → (old mid : ℕ → FileState) → mid ≡ old → (why : Refusal) → RefusalHasCause rose (IsNoStore faithful (seen_in mid)) why → RefusalHasCause risen (IsNoStore faithful (seen_in old)) why
 refused_still rose risen faithful up old mid same why (inl hungry) = inl hungry
 refused_still rose risen faithful up old mid same why (inr (inl (fault, r))) = inr (inl (fault, up r))
-refused_still rose risen faithful up old mid same why (inr (inr told)) = inr (inr (subst (λ (s : ℕ → FileState). IsNoStore faithful (seen_in s) why) same told))
+refused_still rose risen faithful up old mid same why (inr (inr as_journal_damage)) = inr (inr (subst (λ (s : ℕ → FileState). IsNoStore faithful (seen_in s) why) same as_journal_damage))
 
 -- a refusal of the journal, as one of the store
-pub refused_journal : (fault faithful : Type 0) (files : ℕ → List ℕ) (why : Refusal) → journals.FailsBy fault (faithful → SpellsNothing (files journal_file)) why → FailsBy fault (IsNoStore faithful files) why
+pub refused_journal : (fault faithful : Type 0) (files : ℕ → List ℕ) (why : Refusal) → journals.RefusalHasCause fault (faithful → IsNoJournal (files journal_file)) why → RefusalHasCause fault (IsNoStore faithful files) why
 refused_journal fault faithful files why (inl hungry) = inl hungry
 refused_journal fault faithful files why (inr (inl failed)) = inr (inl failed)
 refused_journal fault faithful files why (inr (inr (damaged, none))) = rw damaged (inr (inr (tt, λ f. inl (none f))))
@@ -82,18 +82,18 @@ opened_still read faithful back store old mid new hives opened others i hive is 
       owner = o.owner;
       works = o.works;
       held = λ f. o.held (back f);
-      on = λ f. subst (λ (p : FileState). IsOn hive p (new (log_file i))) (sym (others (primary_file i) (λ e. omega (arith, e))))
-          (subst (λ (l : FileState). IsOn hive (mid (primary_file i)) l) (sym (others (log_file i) (λ e. omega (arith, e)))) (o.on (back f)));
+      on = λ f. subst (λ (p : FileState). FilesMatchHive hive p (new (log_file i))) (sym (others (primary_file i) (λ e. omega (arith, e))))
+          (subst (λ (l : FileState). FilesMatchHive hive (mid (primary_file i)) l) (sym (others (log_file i) (λ e. omega (arith, e)))) (o.on (back f)));
     }
 
 -- a hive's own number, by its place
-own_number : (hives : List HiveFile) (i : ℕ) (hive : HiveFile) → slice_get hives i ≡ Some hive → get_or (map (λ (h : HiveFile). (files_of h).now.1) hives) i 0 ≡ (files_of hive).now.1
+own_number : (hives : List HiveFile) (i : ℕ) (hive : HiveFile) → slice_get hives i ≡ Some hive → get_or (map (λ (h : HiveFile). (file_choice h).now.1) hives) i 0 ≡ (file_choice hive).now.1
 own_number [] i hive is = absurd cc
-own_number (h ∷ hives) zero hive is = ap (λ (x : HiveFile). (files_of x).now.1) (same_Some h hive is)
+own_number (h ∷ hives) zero hive is = ap (λ (x : HiveFile). (file_choice x).now.1) (same_Some h hive is)
 own_number (h ∷ hives) (suc i) hive is = own_number hives i hive is
 
 -- What was read of a store: its journal, and its hives.
-module _ (faithful : Type 0) (store : Store) (then now : ℕ → FileState) (read : Opened) (hives : List HiveFile) (is : IsRead faithful store (map (λ (h : HiveFile). (files_of h).now.1) hives) then now read) (many : length hives ≡ store.hives)
+module _ (faithful : Type 0) (store : Store) (then now : ℕ → FileState) (read : OpenedJournal) (hives : List HiveFile) (is : IsRead faithful store (map (λ (h : HiveFile). (file_choice h).now.1) hives) then now read) (many : length hives ≡ store.hives)
     (opened : (i : ℕ) (hive : HiveFile) → slice_get hives i ≡ Some hive → IsOpened faithful store.id then now i hive) where
   abbrev changes : List Element
   changes = changes_of read.journal
@@ -110,8 +110,8 @@ module _ (faithful : Type 0) (store : Store) (then now : ℕ → FileState) (rea
     owner = λ i h at. (opened i h at).owner ∙ ap (λ (s : Store). s.id) (sym is.of);
   }
 
-  pub at_hand : AreAtHand (floor read.below (choice_of read.journal).now) changes read.below read.elements.items hives
-  at_hand = record {
+  pub retained : RetainsWhatHivesLack (floor read.below (choice_of read.journal).now) changes read.below read.elements.items hives
+  retained = record {
     low = is.kept.low;
     high = is.kept.high;
     are = is.kept.are;
@@ -121,24 +121,24 @@ module _ (faithful : Type 0) (store : Store) (then now : ℕ → FileState) (rea
     first = is.kept.first;
   }
 
-  pub all_named : length read.naming.last.items ≡ length hives
+  pub all_named : length read.last_changes.last.items ≡ length hives
   all_named = is.named ∙ sym many
 
-  pub last_named : AreLastIn (floor read.below (choice_of read.journal).now) (timed_elements changes) read.naming.last.items
-  last_named = subst (λ (es : List (law.Element TimedOp)). AreLastIn (floor read.below (choice_of read.journal).now) es read.naming.last.items) (ap (λ (c : Choice (Spelled TimedOp)). c.now.elements) is.choice) is.names
+  pub last_named : AreLastIn (floor read.below (choice_of read.journal).now) (timed_elements changes) read.last_changes.last.items
+  last_named = subst (λ (es : List (law.Element TimedOp)). AreLastIn (floor read.below (choice_of read.journal).now) es read.last_changes.last.items) (ap (λ (c : Choice (Content TimedOp)). c.now.elements) is.choice) is.names
 
   -- it is of the files as they were seen
   pub are_of : faithful → AreOf (seen_in then) read.journal hives
   are_of f = record {
-    spells = is.spells f;
-    holds = λ i h at. subst (λ (s : Store). HoldsUnder s.id (then (primary_file i)).seen (then (log_file i)).seen (memory_of h)) (sym is.of) ((opened i h at).held f);
+    decodes = is.decodes f;
+    holds = λ i h at. subst (λ (s : Store). HiveFilesHold s.id (then (primary_file i)).seen (then (log_file i)).seen (memory_of h)) (sym is.of) ((opened i h at).held f);
   }
 
   pub are_on : faithful → AreOnDisk read.journal hives now
-  are_on f = record { spells = is.on f; each = λ i h at. (opened i h at).on f }
+  are_on f = record { decodes = is.on f; each = λ i h at. (opened i h at).on f }
 
 -- what the journal spells it spelled before the hives were read
-pub spelled_before : (faithful : Type 0) (store : Store) (numbers : List ℕ) (old then now : ℕ → FileState) (read : Opened) → IsRead faithful store numbers then now read → (faithful → (f : ℕ) → IsSyncedOrSame (old f) (then f))
-    → faithful → spelled (texts store) (old journal_file).seen ≡ Some (choice_of read.journal).now
-spelled_before faithful store numbers old then now read is synced f =
-    ap (λ (s : Store). spelled (texts s) (old journal_file).seen) (sym is.of) ∙ ap (spelled (texts_of read.journal)) (sym (seen_same (old journal_file) (then journal_file) (synced f journal_file))) ∙ is.spells f
+pub decoded_before : (faithful : Type 0) (store : Store) (numbers : List ℕ) (old then now : ℕ → FileState) (read : OpenedJournal) → IsRead faithful store numbers then now read → (faithful → (f : ℕ) → IsSyncedOrSame (old f) (then f))
+    → faithful → decoded (encodings store) (old journal_file).seen ≡ Some (choice_of read.journal).now
+decoded_before faithful store numbers old then now read is synced f =
+    ap (λ (s : Store). decoded (encodings s) (old journal_file).seen) (sym is.of) ∙ ap (decoded (encodings_of read.journal)) (sym (seen_same (old journal_file) (then journal_file) (synced f journal_file))) ∙ is.decodes f

@@ -14,37 +14,37 @@ use Rattle.commit_journal.specs.Lacking.{Lacks}
 use Rattle.change_codec.specs.ModelChanges.{TimedOp, timed_elements}
 use Rattle.disk_model.specs.declared.progress.Progress.{Progress}
 use Rattle.commit_journal.specs.Journals.{changes_of, choice_of, store_of}
-use Rattle.hive_flush.specs.HiveStates.{IsBroken, files_of, memory_of, place_of}
+use Rattle.hive_flush.specs.HiveStates.{IsBroken, file_choice, memory_of, hive_number}
 use Rattle.hive_flush.specs.HiveStates as states
 use Rattle.hive_flush.specs.declared.hive.HiveFile.{HiveFile}
 use Rattle.engine_invariant.specs.States.{HiveView}
-use Rattle.engine_invariant.specs.Openings.{IsFound}
+use Rattle.engine_invariant.specs.Openings.{OpeningRecovers}
 use Rattle.engine_invariant.specs.Prefixes.{ArePlaced, view_of}
 use Rattle.engine_invariant.proofs.HiveLists.{each_hive}
-use Rattle.recovery.specs.Kept.{AllWork, IsKept, own_numbers}
-use Rattle.recovery.specs.declared.found.Found.{Found}
+use Rattle.recovery.specs.Invariant.{AllWork, InvariantHolds, own_numbers}
+use Rattle.recovery.specs.declared.found.RecoveredStore.{RecoveredStore}
 
-pub views_on : (hives : List HiveFile) (k : ℕ) (old new : HiveFile) → old ≡ get_or hives k old → files_of new ≡ files_of old → memory_of new ≡ memory_of old → map view_of (slice_set hives k new) ≡ map view_of hives
+pub views_on : (hives : List HiveFile) (k : ℕ) (old new : HiveFile) → old ≡ get_or hives k old → file_choice new ≡ file_choice old → memory_of new ≡ memory_of old → map view_of (slice_set hives k new) ≡ map view_of hives
 views_on hives k old new is files memory =
     let same : view_of new ≡ view_of old = λ i. record { files = files i; memory = memory i } in
     map-set_same view_of hives k new old (same ∙ ap view_of is)
 
 -- the operations on a hive that it lacks with this number, of the changes that were let go
-abbrev lacked : Found → ℕ → ℕ → List TimedOp
+abbrev lacked : RecoveredStore → ℕ → ℕ → List TimedOp
 lacked found i number = ops_on i (drop (number - found.base) (take (found.below - found.base) (timed_elements (changes_of found.journal))))
 
-abbrev LacksNone : Found → ℕ → HiveFile → Type 0
+abbrev LacksNone : RecoveredStore → ℕ → HiveFile → Type 0
 LacksNone found i hive = lacked found i (memory_of hive).1 ≡ []
 
-pub kept_on : (found : Found) (k : ℕ) (old new : HiveFile) (then : Vec HiveFile) → then.items ≡ slice_set found.hives.items k new → IsKept found → k < length found.hives.items → old ≡ get_or found.hives.items k old
-    → files_of new ≡ files_of old → memory_of new ≡ memory_of old → place_of new ≡ place_of old → states.store_of new ≡ states.store_of old → IsKept (record found { hives = then })
+pub kept_on : (found : RecoveredStore) (k : ℕ) (old new : HiveFile) (then : Vec HiveFile) → then.items ≡ slice_set found.hives.items k new → InvariantHolds found → k < length found.hives.items → old ≡ get_or found.hives.items k old
+    → file_choice new ≡ file_choice old → memory_of new ≡ memory_of old → hive_number new ≡ hive_number old → states.store_of new ≡ states.store_of old → InvariantHolds (record found { hives = then })
 kept_on found k old new then are kept lt value files memory place owner =
     let is = slice_get_read found.hives.items (length found.hives.items) k old refl lt value in
     record {
-      recovers = subst (λ (v : List HiveView). IsFound found.trees found.number found.base (changes_of found.journal) (choice_of found.journal) v) (sym (ap (map view_of) are ∙ views_on found.hives.items k old new value files memory)) kept.recovers;
+      recovers = subst (λ (v : List HiveView). OpeningRecovers found.trees found.number found.base (changes_of found.journal) (choice_of found.journal) v) (sym (ap (map view_of) are ∙ views_on found.hives.items k old new value files memory)) kept.recovers;
       store = kept.store;
       placed = subst (λ (hs : List HiveFile). ArePlaced (store_of found.journal) hs) (sym are) (record {
-        place = each_hive found.hives.items k old new is (λ j h. place_of h ≡ j) (place ∙ kept.placed.place k old is) (λ j h ne at. kept.placed.place j h at);
+        place = each_hive found.hives.items k old new is (λ j h. hive_number h ≡ j) (place ∙ kept.placed.place k old is) (λ j h ne at. kept.placed.place j h at);
         owner = each_hive found.hives.items k old new is (λ j h. states.store_of h ≡ (store_of found.journal).id) (owner ∙ kept.placed.owner k old is) (λ j h ne at. kept.placed.owner j h at);
       });
       many = ap (λ (hs : List HiveFile). length hs) are ∙ length-set found.hives.items k new ∙ kept.many;
@@ -56,7 +56,7 @@ kept_on found k old new then are kept lt value files memory place owner =
         held = subst (λ (hs : List HiveFile). (j : ℕ) (h : HiveFile) → slice_get hs j ≡ Some h → LacksNone found j h) (sym are)
             (each_hive found.hives.items k old new is (LacksNone found) (ap (λ (m : TreeMap × ℕ). lacked found k m.1) memory ∙ kept.opened.held k old is) (λ j h ne at. kept.opened.held j h at));
         first = λ e es made. subst (λ (numbers : List ℕ). Lacks numbers (found.below + 1) e)
-            (sym (ap own_numbers are ∙ map-set_same (λ (h : HiveFile). (files_of h).now.1) found.hives.items k new old (ap (λ (c : Choice (TreeMap × ℕ)). c.now.1) files ∙ ap (λ (h : HiveFile). (files_of h).now.1) value))) (kept.opened.first e es made);
+            (sym (ap own_numbers are ∙ map-set_same (λ (h : HiveFile). (file_choice h).now.1) found.hives.items k new old (ap (λ (c : Choice (TreeMap × ℕ)). c.now.1) files ∙ ap (λ (h : HiveFile). (file_choice h).now.1) value))) (kept.opened.first e es made);
       };
       named = kept.named ∙ sym (ap (λ (hs : List HiveFile). length hs) are ∙ length-set found.hives.items k new);
       names = kept.names;
@@ -68,6 +68,6 @@ works_on hives k old new is (Err why) all broken = tt
 
 -- a hive that works is refused a step only by the device
 pub only_fault : (result : Result Progress Refusal) → IfErr result (λ why. (why ≡ refusal.DiskFault) ⊎ (why ≡ refusal.Faulted)) → (result ≡ Err refusal.Faulted → ⊥) → IfErr result (λ why. why ≡ refusal.DiskFault)
-only_fault (Ok come) told free = tt
+only_fault (Ok come) as_journal_damage free = tt
 only_fault (Err why) (inl fault) free = fault
 only_fault (Err why) (inr faulted) free = absurd (free (ap Err faulted))

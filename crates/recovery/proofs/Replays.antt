@@ -5,7 +5,7 @@ use Rattle.std.proofs.lemmas.Bool.{cases_lt}
 use Rattle.std.proofs.lemmas.List.{take_all, length-drop, drop-map}
 use Rattle.std.proofs.Math.ListN.{drop_of_length-le}
 use Rattle.crash_model.specs.Changes as law
-use Rattle.crash_model.specs.Promises.{Spelled}
+use Rattle.crash_model.specs.Promises.{Content}
 use Rattle.recovery.specs.Reading.{replayed_on}
 use Rattle.std.specs.Prelude.{if◌then◌else◌}
 use Rattle.std.proofs.lemmas.Bool.{eq-eqb, ne_eqb}
@@ -76,7 +76,7 @@ lacked_is skipped most xs is = take_all (length xs - skipped) (drop skipped xs) 
   | inr ge ↦ drop_of_length-le xs (omega (arith, is, ge)) ∙ sym (drop_of_length-le xs ge)
 ]
 
-pub replayed_is : (journal : Spelled TimedOp) (place skipped : ℕ) (elements : List Element) (memory : TreeMap × ℕ) → journal.elements ≡ timed_elements elements → skipped ≡ min (memory.1 - journal.below) (length elements)
+pub replayed_is : (journal : Content TimedOp) (place skipped : ℕ) (elements : List Element) (memory : TreeMap × ℕ) → journal.elements ≡ timed_elements elements → skipped ≡ min (memory.1 - journal.below) (length elements)
     → replayed_on journal place memory ≡ replay tree_rules (ops_on place (timed_elements (take (length elements - skipped) (drop skipped elements)))) memory.0
 replayed_is journal place skipped elements memory are is =
     ap (λ (es : List (law.Element TimedOp)). replay tree_rules (ops_on place es) memory.0)

@@ -13,58 +13,58 @@ use Rattle.reg_tree.specs.Operations.{hive_of}
 use Rattle.reg_tree.specs.declared.op.Op.{Op}
 use Rattle.reg_tree.specs.declared.element.Element.{Element}
 use Rattle.crash_model.specs.Changes as law
-use Rattle.crash_model.specs.Promises.{Choice, Spelled, settled, floor, top}
+use Rattle.crash_model.specs.Promises.{Choice, Content, settled, floor, top}
 use Rattle.crash_model.specs.Recovery.{Recovers, IsLastNumber}
 use Rattle.crash_model.specs.Life.{NamesHive}
 use Rattle.crash_model.proofs.OfFiles.{files_once, files_recover}
 use Rattle.disk_model.specs.StoreFiles.{primary_file, log_file, journal_file}
 use Rattle.change_codec.specs.ModelChanges.{TimedOp, tree_rules, timed, timed_element, timed_elements}
-use Rattle.change_codec.specs.Text.{Fits, OpFits}
-use Rattle.commit_journal.specs.Text.{spelled}
-use Rattle.commit_journal.specs.Store.{Store, IsStore, texts}
-use Rattle.commit_journal.specs.Journals.{IsBroken, changes_of, choice_of, store_of, value_in}
+use Rattle.change_codec.specs.Encoding.{Fits, OpFits}
+use Rattle.commit_journal.specs.Encoding.{decoded}
+use Rattle.commit_journal.specs.Store.{Store, IsStore, encodings}
+use Rattle.commit_journal.specs.Journals.{IsBroken, changes_of, choice_of, store_of, view_in_phase}
 use Rattle.commit_journal.specs.OnDisk as phase
 use Rattle.commit_journal.specs.declared.journal.Phase.{Phase}
-use Rattle.commit_journal.specs.declared.journal.Phase.TheVariants.{Quiet, BodyWritten, BodySynced, GateWritten, TrimWritten, Broken}
+use Rattle.commit_journal.specs.declared.journal.Phase.TheVariants.{AtRest, BodyWritten, BodySynced, GateWritten, TrimWritten, Broken}
 use Rattle.commit_journal.specs.declared.journal.Journal.{Journal}
-use Rattle.hive_flush.specs.Standing.{HoldsUnder}
-use Rattle.hive_flush.specs.HiveStates.{files_of, memory_of}
+use Rattle.hive_flush.specs.Decoders.{HiveFilesHold}
+use Rattle.hive_flush.specs.HiveStates.{file_choice, memory_of}
 use Rattle.hive_flush.specs.declared.hive.HiveFile.{HiveFile}
 use Rattle.engine_invariant.specs.States.{HiveView, tree_of}
-use Rattle.engine_invariant.specs.Openings.{held_if, held_by, IsFound}
-use Rattle.engine_invariant.specs.Prefixes.{Holds, Recover, Spells, view_of}
+use Rattle.engine_invariant.specs.Openings.{held_if, held_by, OpeningRecovers}
+use Rattle.engine_invariant.specs.Prefixes.{Holds, Recover, JournalDecodesTo, view_of}
 use Rattle.engine_invariant.proofs.HiveLists.{at_slot, each_pushed, view_at, viewed}
 use Rattle.engine_invariant.proofs.Bridge.{all_allowed}
 use Rattle.recovery.specs.Reading.{AreAtRest, AreOf, IsNumber, LeadTo, SomeLeadsNowhere, greatest, replayed_on}
-use Rattle.commit_journal.specs.Naming.{AreLastIn}
-use Rattle.recovery.specs.Kept.{AreAtHand, IsKept}
+use Rattle.commit_journal.specs.LastChangePerHive.{AreLastIn}
+use Rattle.recovery.specs.Invariant.{RetainsWhatHivesLack, InvariantHolds}
 use Rattle.recovery.specs.Recovered.{IsRecovered}
 use Rattle.recovery.specs.Refused.{IsAhead, IsInStore, LeadsNowhere}
-use Rattle.recovery.specs.declared.found.Found.{Found}
+use Rattle.recovery.specs.declared.found.RecoveredStore.{RecoveredStore}
 
 -- The laws that are used
 
 abbrev pub OneStore : Type 0
-OneStore = (bytes : List ℕ) (a b : Store) (x y : Spelled TimedOp) → IsStore a → IsStore b → spelled (texts a) bytes ≡ Some x → spelled (texts b) bytes ≡ Some y → a ≡ b
+OneStore = (bytes : List ℕ) (a b : Store) (x y : Content TimedOp) → IsStore a → IsStore b → decoded (encodings a) bytes ≡ Some x → decoded (encodings b) bytes ≡ Some y → a ≡ b
 
 abbrev pub OneHeld : Type 0
-OneHeld = (store primary log : List ℕ) (x y : TreeMap × ℕ) → HoldsUnder store primary log x → HoldsUnder store primary log y → x ≡ y
+OneHeld = (store primary log : List ℕ) (x y : TreeMap × ℕ) → HiveFilesHold store primary log x → HiveFilesHold store primary log y → x ≡ y
 
 -- Numbers
 
-pub below_greatest : (hives : List HiveFile) (i : ℕ) (hive : HiveFile) → slice_get hives i ≡ Some hive → (files_of hive).now.1 ≤ greatest hives
+pub below_greatest : (hives : List HiveFile) (i : ℕ) (hive : HiveFile) → slice_get hives i ≡ Some hive → (file_choice hive).now.1 ≤ greatest hives
 below_greatest [] i hive is = absurd cc
-below_greatest (h ∷ hs) zero hive is = omega (arith, ap (λ (f : HiveFile). (files_of f).now.1) (same_Some h hive is))
+below_greatest (h ∷ hs) zero hive is = omega (arith, ap (λ (f : HiveFile). (file_choice f).now.1) (same_Some h hive is))
 below_greatest (h ∷ hs) (suc i) hive is = let rest = below_greatest hs i hive is in omega (arith, rest)
 
 -- the greatest number is that of some hive
 abbrev HasGreatest : List HiveFile → Type 0
-HasGreatest hives = (i : ℕ) × (hive : HiveFile) × (slice_get hives i ≡ Some hive) × ((files_of hive).now.1 ≡ greatest hives)
+HasGreatest hives = (i : ℕ) × (hive : HiveFile) × (slice_get hives i ≡ Some hive) × ((file_choice hive).now.1 ≡ greatest hives)
 
 pub some_greatest : (hives : List HiveFile) → 0 < length hives → HasGreatest hives
 some_greatest [] some = absurd (omega (arith, some))
 some_greatest (h ∷ []) some = (0, h, refl, omega arith)
-some_greatest (h ∷ g ∷ gs) some = elim (cases_lt (greatest (g ∷ gs)) (files_of h).now.1) [
+some_greatest (h ∷ g ∷ gs) some = elim (cases_lt (greatest (g ∷ gs)) (file_choice h).now.1) [
   | inl less ↦ (0, h, refl, omega (arith, less))
   | inr more ↦ let rest = some_greatest (g ∷ gs) (omega arith) in (suc rest.0, rest.1, rest.2, omega (arith, more, rest.3))
 ]
@@ -87,17 +87,17 @@ all_name hives (e ∷ es) fit = (names_one hives e fit.0, all_name hives es fit.
 
 -- What is found
 
-abbrev pub spelled_as : ℕ → List Element → Spelled TimedOp
+abbrev pub spelled_as : ℕ → List Element → Content TimedOp
 spelled_as below elements = record { below = below; elements = timed_elements elements }
 
 module _ (journal : Journal) (below : ℕ) (elements : List Element) (hives : List HiveFile) (rest : AreAtRest journal below elements hives) where
-  abbrev its : Spelled TimedOp
+  abbrev its : Content TimedOp
   its = spelled_as below elements
 
   now_is : (choice_of journal).now ≡ its
-  now_is = ap (λ (c : Choice (Spelled TimedOp)). c.now) rest.choice
+  now_is = ap (λ (c : Choice (Content TimedOp)). c.now) rest.choice
 
-  memory_is : (i : ℕ) (hive : HiveFile) → slice_get hives i ≡ Some hive → (files_of hive).now ≡ memory_of hive
+  memory_is : (i : ℕ) (hive : HiveFile) → slice_get hives i ≡ Some hive → (file_choice hive).now ≡ memory_of hive
   memory_is i hive is = ap (λ (c : Choice (TreeMap × ℕ)). c.now) (rest.rest i hive is)
 
   held_is : (i : ℕ) (hive : HiveFile) → slice_get hives i ≡ Some hive → held_by (map view_of hives) i ≡ memory_of hive
@@ -125,7 +125,7 @@ module _ (journal : Journal) (below : ℕ) (elements : List Element) (hives : Li
       by_elements (x ∷ xs) e (inl (some, n)) = n
       by_elements (x ∷ xs) e (inr (none, n)) = absurd (omega (arith, none))
 
-  module _ (number base : ℕ) (trees : List TreeMap) (is : IsNumber (top 0 its) hives number) (within : (i : ℕ) (hive : HiveFile) → slice_get hives i ≡ Some hive → (files_of hive).now.1 ≤ min number GREATEST_NUMBER)
+  module _ (number base : ℕ) (trees : List TreeMap) (is : IsNumber (top 0 its) hives number) (within : (i : ℕ) (hive : HiveFile) → slice_get hives i ≡ Some hive → (file_choice hive).now.1 ≤ min number GREATEST_NUMBER)
       (base_is : base ≡ floor number its) (many : length trees ≡ length hives) (are : AreTrees trees) (lead : LeadTo its hives trees) where
     limit : number ≤ GREATEST_NUMBER
     limit = by_number is
@@ -151,7 +151,7 @@ module _ (journal : Journal) (below : ℕ) (elements : List Element) (hives : Li
       allowed = λ i lt. all_allowed i number (tree_of trees i);
     }
 
-    pub is_found : IsFound trees number base elements (choice_of journal) (map view_of hives)
+    pub is_found : OpeningRecovers trees number base elements (choice_of journal) (map view_of hives)
     is_found = record {
       below = below;
       journal_is = rest.choice;
@@ -168,7 +168,7 @@ module _ (journal : Journal) (below : ℕ) (elements : List Element) (hives : Li
 pub trees_pushed : (trees : List TreeMap) (tree : TreeMap) → AreTrees trees → IsTree tree → AreTrees (trees ++ tree ∷ [])
 trees_pushed trees tree are is = each_pushed trees tree (λ i t. IsTree t) are is
 
-pub lead_pushed : (journal : Spelled TimedOp) (hives : List HiveFile) (trees : List TreeMap) (tree : TreeMap) (place : ℕ) → length trees ≡ place → (hive : HiveFile) → slice_get hives place ≡ Some hive → LeadTo journal hives trees
+pub lead_pushed : (journal : Content TimedOp) (hives : List HiveFile) (trees : List TreeMap) (tree : TreeMap) (place : ℕ) → length trees ≡ place → (hive : HiveFile) → slice_get hives place ≡ Some hive → LeadTo journal hives trees
     → replayed_on journal place (memory_of hive) ≡ Some tree → LeadTo journal hives (trees ++ tree ∷ [])
 lead_pushed journal hives trees tree place many hive is lead made = λ i h t at got.
     each_pushed trees tree (λ j u. (g : HiveFile) → slice_get hives j ≡ Some g → replayed_on journal j (memory_of g) ≡ Some u) (λ j u was g there. lead j g u there was)
@@ -184,14 +184,14 @@ module _ (journal : Journal) (below : ℕ) (elements : List Element) (hives : Li
     store = store_of journal;
     journal = spelled_as below elements;
     store_is = rest.store;
-    spells = of.spells ∙ ap (λ (s : Spelled TimedOp). Some s) (now_is journal below elements hives rest);
+    decodes = of.decodes ∙ ap (λ (s : Content TimedOp). Some s) (now_is journal below elements hives rest);
     there = omega (arith, slice_get_within hives i hive is, rest.many);
   }
 
   pub nowhere_from : SomeLeadsNowhere (spelled_as below elements) hives → (i : ℕ) × LeadsNowhere files i
   nowhere_from (i, hive, is, none) = (i, (is_one i hive is, memory_of hive, of.holds i hive is, none))
 
-  pub ahead_is : (own : ℕ) → IsNumber (top 0 (spelled_as below elements)) hives own → (i : ℕ) (hive : HiveFile) → slice_get hives i ≡ Some hive → min own GREATEST_NUMBER < (files_of hive).now.1 → IsAhead files i
+  pub ahead_is : (own : ℕ) → IsNumber (top 0 (spelled_as below elements)) hives own → (i : ℕ) (hive : HiveFile) → slice_get hives i ≡ Some hive → min own GREATEST_NUMBER < (file_choice hive).now.1 → IsAhead files i
   ahead_is own is i hive got above = (
     is_one i hive got,
     memory_of hive,
@@ -199,14 +199,14 @@ module _ (journal : Journal) (below : ℕ) (elements : List Element) (hives : Li
     by_elements elements is (ap (top 0) (now_is journal below elements hives rest)) (ap (λ (x : TreeMap × ℕ). x.1) (memory_is journal below elements hives rest i hive got)),
   )
     where
-      by_elements : (es : List Element) → IsNumber (top 0 (spelled_as below es)) hives own → top 0 (choice_of journal).now ≡ top 0 (spelled_as below es) → (files_of hive).now.1 ≡ (memory_of hive).1 → top GREATEST_NUMBER (spelled_as below es) < (memory_of hive).1
+      by_elements : (es : List Element) → IsNumber (top 0 (spelled_as below es)) hives own → top 0 (choice_of journal).now ≡ top 0 (spelled_as below es) → (file_choice hive).now.1 ≡ (memory_of hive).1 → top GREATEST_NUMBER (spelled_as below es) < (memory_of hive).1
       by_elements [] (inl (some, n)) last same = absurd (omega (arith, some))
       by_elements [] (inr (none, n)) last same = let g = below_greatest hives i hive got in omega (arith, above, same, n, g)
       by_elements (x ∷ xs) (inl (some, n)) last same = omega (arith, above, same, n, last, rest.numbers)
       by_elements (x ∷ xs) (inr (none, n)) last same = absurd (omega (arith, none))
 
 -- files that are of what was found recover what was found
-pub of_found : (trees : List TreeMap) (number base : ℕ) (opened : List Element) (journal : Journal) (hives : List HiveFile) → IsFound trees number base opened (choice_of journal) (map view_of hives)
+pub of_found : (trees : List TreeMap) (number base : ℕ) (opened : List Element) (journal : Journal) (hives : List HiveFile) → OpeningRecovers trees number base opened (choice_of journal) (map view_of hives)
     → IsStore (store_of journal) → length hives ≡ (store_of journal).hives → (files : ℕ → List ℕ) → AreOf files journal hives → IsRecovered files (store_of journal) number trees
 of_found trees number base opened journal hives found store many files of =
     let long : length trees ≡ (store_of journal).hives = sym found.all ∙ length-map hives view_of ∙ many in
@@ -214,31 +214,31 @@ of_found trees number base opened journal hives found store many files of =
       store_is = store;
       many = long;
       recovers = subst (λ n. Recover (store_of journal) n files number trees) long
-          (files_recover tree_rules (Spells (store_of journal)) (Holds (store_of journal)) GREATEST_NUMBER (length trees) files (spelled_as found.below opened) (held_by (map view_of hives)) number (tree_of trees)
-          (of.spells ∙ ap (λ (c : Choice (Spelled TimedOp)). Some c.now) found.journal_is) (λ i lt. holds i (omega (arith, lt, long, many))) found.recovers);
+          (files_recover tree_rules (JournalDecodesTo (store_of journal)) (Holds (store_of journal)) GREATEST_NUMBER (length trees) files (spelled_as found.below opened) (held_by (map view_of hives)) number (tree_of trees)
+          (of.decodes ∙ ap (λ (c : Choice (Content TimedOp)). Some c.now) found.journal_is) (λ i lt. holds i (omega (arith, lt, long, many))) found.recovers);
     }
   where
-    holds : (i : ℕ) → i < length hives → HoldsUnder (store_of journal).id (files (primary_file i)) (files (log_file i)) (held_by (map view_of hives) i)
+    holds : (i : ℕ) → i < length hives → HiveFilesHold (store_of journal).id (files (primary_file i)) (files (log_file i)) (held_by (map view_of hives) i)
     holds i lt =
         let h = at_slot hives i lt in
         let view = view_at hives i h.0 h.1 in
-        subst (HoldsUnder (store_of journal).id (files (primary_file i)) (files (log_file i)))
+        subst (HiveFilesHold (store_of journal).id (files (primary_file i)) (files (log_file i)))
         (sym (ap (λ (c : Choice (TreeMap × ℕ)). c.now) (found.each i (view_of h.0) view)) ∙ sym (ap held_if view)) (of.holds i h.0 h.1)
 
 -- a journal with nothing on its way has not failed
-pub settled_works : (journal : Journal) (now : Spelled TimedOp) → choice_of journal ≡ settled now → IsBroken journal → ⊥
-settled_works journal now is = by_phase journal.phase (ap (λ (c : Choice (Spelled TimedOp)). c.next) is)
+pub settled_works : (journal : Journal) (now : Content TimedOp) → choice_of journal ≡ settled now → IsBroken journal → ⊥
+settled_works journal now is = by_phase journal.phase (ap (λ (c : Choice (Content TimedOp)). c.next) is)
   where
-    by_phase : (p : Phase) → (value_in journal.stands p).choice.next ≡ None → (value_in journal.stands p).phase ≡ phase.Phase.Broken → ⊥
-    by_phase Quiet none e = absurd cc
+    by_phase : (p : Phase) → (view_in_phase journal.on_device p).choice.next ≡ None → (view_in_phase journal.on_device p).phase ≡ phase.Phase.Broken → ⊥
+    by_phase AtRest none e = absurd cc
     by_phase (BodyWritten batch) none e = absurd cc
     by_phase (BodySynced batch) none e = absurd cc
     by_phase (GateWritten batch) none e = absurd cc
     by_phase TrimWritten none e = absurd cc
     by_phase (Broken ahead) none e = absurd cc
 
-pub kept_is : (found : Found) (below : ℕ) → AreAtRest found.journal below (changes_of found.journal) found.hives.items → IsFound found.trees found.number found.base (changes_of found.journal) (choice_of found.journal) (map view_of found.hives.items)
-    → AreAtHand found.base (changes_of found.journal) found.below found.opened.items found.hives.items → length found.naming.last.items ≡ length found.hives.items → AreLastIn found.base (timed_elements (changes_of found.journal)) found.naming.last.items → IsKept found
+pub kept_is : (found : RecoveredStore) (below : ℕ) → AreAtRest found.journal below (changes_of found.journal) found.hives.items → OpeningRecovers found.trees found.number found.base (changes_of found.journal) (choice_of found.journal) (map view_of found.hives.items)
+    → RetainsWhatHivesLack found.base (changes_of found.journal) found.below found.opened.items found.hives.items → length found.last_changes.last.items ≡ length found.hives.items → AreLastIn found.base (timed_elements (changes_of found.journal)) found.last_changes.last.items → InvariantHolds found
 kept_is found below rest recovers hand many last = record {
   opened = hand;
   named = many;
@@ -260,7 +260,7 @@ same_lists d (x ∷ xs) (y ∷ ys) long each = λ i. each 0 (omega arith) i ∷ 
 -- files recover one number and one list of trees at most, as one store
 pub recovered_once : OneStore → OneHeld → (files : ℕ → List ℕ) (a b : Store) (n m : ℕ) (ts us : List TreeMap) → IsRecovered files a n ts → IsRecovered files b m us → (a ≡ b) × (n ≡ m) × (ts ≡ us)
 recovered_once one_store one_held files a b n m ts us x y =
-    let which : b ≡ a = one_store (files journal_file) b a y.recovers.journal x.recovers.journal y.store_is x.store_is y.recovers.spelled x.recovers.spelled in
+    let which : b ≡ a = one_store (files journal_file) b a y.recovers.journal x.recovers.journal y.store_is x.store_is y.recovers.decoded x.recovers.decoded in
     let other : Recover a a.hives files m us = subst (λ (s : Store). Recover s s.hives files m us) which y.recovers in
-    let once = files_once tree_rules (Spells a) (Holds a) GREATEST_NUMBER a.hives (λ bytes s t e f. same_Some s t (sym e ∙ f)) (λ p l u v h k. one_held a.id p l u v h k) files n m (tree_of ts) (tree_of us) x.recovers other in
+    let once = files_once tree_rules (JournalDecodesTo a) (Holds a) GREATEST_NUMBER a.hives (λ bytes s t e f. same_Some s t (sym e ∙ f)) (λ p l u v h k. one_held a.id p l u v h k) files n m (tree_of ts) (tree_of us) x.recovers other in
     (sym which, once.0, same_lists fresh_tree ts us (x.many ∙ ap (λ (s : Store). s.hives) (sym which) ∙ sym y.many) (λ i lt. once.1 i (omega (arith, lt, x.many))))

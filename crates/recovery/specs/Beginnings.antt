@@ -2,7 +2,7 @@
 use Rattle.std.specs.Prelude.{◌≡◌, ◌⊎◌, ℕ, ◌≤◌, List}
 use Rattle.disk_model.specs.FileState.{FileState, IsSound, at_rest}
 use Rattle.disk_model.specs.Crash.{LeavesHonest, ShowsHonest}
-use Rattle.disk_model.specs.Unwritten.{OnlySyncs}
+use Rattle.disk_model.specs.ReadOnly.{OnlySyncs}
 use Rattle.engine_invariant.specs.Prefixes.{IsPrimaryOf}
 
 -- A life of a store of so many hives may begin on these files: what a read gives of them is what a crash may leave, with honest first

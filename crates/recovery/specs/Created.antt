@@ -5,9 +5,9 @@ use Rattle.refusals.specs.declared.refusal.Refusal.{Refusal}
 use Rattle.refusals.specs.declared.refusal.Refusal.TheVariants.{NoMemory, TooLarge}
 use Rattle.reg_tree.specs.Maps.{TreeMap, weight}
 use Rattle.disk_model.specs.FileState.{FileState, at_rest}
-use Rattle.disk_model.specs.StoreFiles.{IsJournal, IsOfHive, primary_file, log_file, journal_file}
-use Rattle.commit_journal.specs.Store.{Store, created_text}
-use Rattle.hive_flush.specs.Created.{AreCreated, IsImageOf}
+use Rattle.disk_model.specs.StoreFiles.{IsJournal, IsFileOfHive, primary_file, log_file, journal_file}
+use Rattle.commit_journal.specs.Store.{Store, created_bytes}
+use Rattle.hive_flush.specs.Creation.{AreCreated, IsImageOf}
 use Rattle.hive_flush.specs.declared.image.HiveImage.{HiveImage}
 
 -- the store of so many hives that is made under an id
@@ -20,13 +20,13 @@ HivesAreMade id trees state = (i : ℕ) (tree : TreeMap) → slice_get trees i �
 
 -- A store is made of trees: its journal has no change, each tree is held at number 0 by a hive's files, and all of them is on
 -- the disk.
-pub record IsMade (id : List ℕ) (trees : List TreeMap) (state : ℕ → FileState) : Type 0 where
-  pub journal : state journal_file ≡ at_rest (created_text (new_store id trees))
+pub record StoreIsCreated (id : List ℕ) (trees : List TreeMap) (state : ℕ → FileState) : Type 0 where
+  pub journal : state journal_file ≡ at_rest (created_bytes (new_store id trees))
   pub hives : HivesAreMade id trees state
 
 -- one of the files of so many hives, and of a store of them
 abbrev pub IsOfHives : ℕ → ℕ → Type 0
-IsOfHives hives f = (i : ℕ) × (i < hives) × IsOfHive i f
+IsOfHives hives f = (i : ℕ) × (i < hives) × IsFileOfHive i f
 
 abbrev pub IsOfStore : ℕ → ℕ → Type 0
 IsOfStore hives f = IsJournal f ⊎ IsOfHives hives f

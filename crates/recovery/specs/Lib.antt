@@ -1,7 +1,7 @@
 pub mod Recovered
 pub mod Reading
 pub mod Refused
-pub mod Kept
+pub mod Invariant
 pub mod Shown
 pub mod Created
 pub mod Beginnings

@@ -6,35 +6,35 @@ use Rattle.refusals.specs.declared.limits.TheConstants.{GREATEST_NUMBER}
 use Rattle.reg_tree.specs.Maps.{TreeMap}
 use Rattle.reg_tree.specs.declared.element.Element.{Element}
 use Rattle.crash_model.specs.Changes.{ops_on, replay}
-use Rattle.crash_model.specs.Promises.{Spelled, floor, settled, top}
+use Rattle.crash_model.specs.Promises.{Content, floor, settled, top}
 use Rattle.crash_model.specs.Recovery.{above}
 use Rattle.disk_model.specs.FileState.{FileState}
 use Rattle.disk_model.specs.StoreFiles.{primary_file, log_file, journal_file}
 use Rattle.change_codec.specs.ModelChanges.{TimedOp, tree_rules, timed_elements}
-use Rattle.change_codec.specs.Text.{Fits}
-use Rattle.commit_journal.specs.Text.{spelled}
-use Rattle.commit_journal.specs.Store.{Store, IsStore, texts}
-use Rattle.commit_journal.specs.Lacking.{AreKept}
-use Rattle.commit_journal.specs.Naming.{AreLastIn}
+use Rattle.change_codec.specs.Encoding.{Fits}
+use Rattle.commit_journal.specs.Encoding.{decoded}
+use Rattle.commit_journal.specs.Store.{Store, IsStore, encodings}
+use Rattle.commit_journal.specs.Lacking.{AreRetained}
+use Rattle.commit_journal.specs.LastChangePerHive.{AreLastIn}
 use Rattle.commit_journal.specs.OnDisk.{is_on}
-use Rattle.commit_journal.specs.Journals.{changes_of, choice_of, store_of, texts_of, value_of}
+use Rattle.commit_journal.specs.Journals.{changes_of, choice_of, store_of, encodings_of, journal_view}
 use Rattle.commit_journal.specs.declared.journal.Journal.{Journal}
-use Rattle.commit_journal.specs.declared.scanning.Opened.{Opened}
-use Rattle.disk_model.specs.Unwritten.{IsSyncedOrSame}
-use Rattle.hive_flush.specs.Standing.{HoldsUnder, NothingHeld}
-use Rattle.hive_flush.specs.HiveStates.{IsBroken, IsOn, files_of, memory_of, place_of}
+use Rattle.commit_journal.specs.declared.opening_scan.OpenedJournal.{OpenedJournal}
+use Rattle.disk_model.specs.ReadOnly.{IsSyncedOrSame}
+use Rattle.hive_flush.specs.Decoders.{HiveFilesHold, RefusesHiveFiles}
+use Rattle.hive_flush.specs.HiveStates.{IsBroken, FilesMatchHive, file_choice, memory_of, hive_number}
 use Rattle.hive_flush.specs.HiveStates as states
 use Rattle.hive_flush.specs.declared.hive.HiveFile.{HiveFile}
 
 -- A hive is opened as the i-th of a store: nothing is on its way, and the device hasn't failed in a step of it; it holds what its
 -- files held at one moment, and they are as it says at a later one.
 pub record IsOpened (faithful : Type 0) (store : List ℕ) (then now : ℕ → FileState) (i : ℕ) (hive : HiveFile) : Type 0 where
-  pub rests : files_of hive ≡ settled (memory_of hive)
-  pub place : place_of hive ≡ i
+  pub rests : file_choice hive ≡ settled (memory_of hive)
+  pub place : hive_number hive ≡ i
   pub owner : states.store_of hive ≡ store
   pub works : ¬ (IsBroken hive)
-  pub held : faithful → HoldsUnder store (then (primary_file i)).seen (then (log_file i)).seen (memory_of hive)
-  pub on : faithful → IsOn hive (now (primary_file i)) (now (log_file i))
+  pub held : faithful → HiveFilesHold store (then (primary_file i)).seen (then (log_file i)).seen (memory_of hive)
+  pub on : faithful → FilesMatchHive hive (now (primary_file i)) (now (log_file i))
 
 -- The first hives of a store are opened, so many as there are in the list, and no file was written to meanwhile, that of the
 -- journal not even synced.
@@ -47,7 +47,7 @@ pub record AreOpened (faithful : Type 0) (store : List ℕ) (then now : ℕ → 
 -- cause that is told, where the device has answered as it should
 abbrev pub IsNoHive : Type 0 → List ℕ → ℕ → (ℕ → FileState) → Refusal → Type 0
 IsNoHive faithful store count state why = (i : ℕ) × (i < count)
-    × NothingHeld faithful i store (state (primary_file i)).seen (state (log_file i)).seen why
+    × RefusesHiveFiles faithful i store (state (primary_file i)).seen (state (log_file i)).seen why
 
 -- A journal and hives, all of one store and with nothing on their way; the journal spells these changes, each of which is a
 -- change on the store's hives.
@@ -57,52 +57,52 @@ pub record AreAtRest (journal : Journal) (below : ℕ) (elements : List Element)
   pub fit : AllByRecursion (Fits (store_of journal).hives) elements
   pub numbers : top 0 (choice_of journal).now ≤ GREATEST_NUMBER
   pub many : length hives ≡ (store_of journal).hives
-  pub rest : (i : ℕ) (hive : HiveFile) → slice_get hives i ≡ Some hive → files_of hive ≡ settled (memory_of hive)
-  pub place : (i : ℕ) (hive : HiveFile) → slice_get hives i ≡ Some hive → place_of hive ≡ i
+  pub rest : (i : ℕ) (hive : HiveFile) → slice_get hives i ≡ Some hive → file_choice hive ≡ settled (memory_of hive)
+  pub place : (i : ℕ) (hive : HiveFile) → slice_get hives i ≡ Some hive → hive_number hive ≡ i
   pub owner : (i : ℕ) (hive : HiveFile) → slice_get hives i ≡ Some hive → states.store_of hive ≡ (store_of journal).id
 
 -- Files spell what a journal says that stands, and hold what the hives have in memory.
 pub record AreOf (files : ℕ → List ℕ) (journal : Journal) (hives : List HiveFile) : Type 0 where
-  pub spells : spelled (texts_of journal) (files journal_file) ≡ Some (choice_of journal).now
+  pub decodes : decoded (encodings_of journal) (files journal_file) ≡ Some (choice_of journal).now
   pub holds : (i : ℕ) (hive : HiveFile) → slice_get hives i ≡ Some hive
-      → HoldsUnder (store_of journal).id (files (primary_file i)) (files (log_file i)) (memory_of hive)
+      → HiveFilesHold (store_of journal).id (files (primary_file i)) (files (log_file i)) (memory_of hive)
 
 -- the greatest number of what stands in a hive's files
 abbrev pub greatest : List HiveFile → ℕ
 greatest [] = 0
-greatest (hive ∷ hives) = max (files_of hive).now.1 (greatest hives)
+greatest (hive ∷ hives) = max (file_choice hive).now.1 (greatest hives)
 
 -- the number of a store: that of the journal's last change, where it is above 0, or else the greatest of a hive
 abbrev pub IsNumber : ℕ → List HiveFile → ℕ → Type 0
 IsNumber last hives number = ((0 < last) × (number ≡ last)) ⊎ ((last ≡ 0) × (number ≡ greatest hives))
 
 -- What the changes of a journal above a hive's own number make of what it has in memory: each is legal where its turn comes.
-abbrev pub replayed_on : Spelled TimedOp → ℕ → TreeMap × ℕ → Option TreeMap
+abbrev pub replayed_on : Content TimedOp → ℕ → TreeMap × ℕ → Option TreeMap
 replayed_on journal i memory = replay tree_rules (ops_on i (above memory.1 journal)) memory.0
 
 -- the first trees, so many as there are, are those to which the journal leads from what the hives have in memory
-abbrev pub LeadTo : Spelled TimedOp → List HiveFile → List TreeMap → Type 0
+abbrev pub LeadTo : Content TimedOp → List HiveFile → List TreeMap → Type 0
 LeadTo journal hives trees = (i : ℕ) (hive : HiveFile) (tree : TreeMap) → slice_get hives i ≡ Some hive → slice_get trees i ≡ Some tree
     → replayed_on journal i (memory_of hive) ≡ Some tree
 
 -- from what some hive has in memory the journal leads nowhere, since a change isn't legal there
-abbrev pub SomeLeadsNowhere : Spelled TimedOp → List HiveFile → Type 0
+abbrev pub SomeLeadsNowhere : Content TimedOp → List HiveFile → Type 0
 SomeLeadsNowhere journal hives = (i : ℕ) × (hive : HiveFile) × (slice_get hives i ≡ Some hive) × (replayed_on journal i (memory_of hive) ≡ None)
 
 -- where bytes spell changes as the journal of a store, it is this one
 abbrev pub IsOnlyStore : List ℕ → Store → Type 0
-IsOnlyStore bytes store = (other : Store) (s : Spelled TimedOp) → IsStore other → spelled (texts other) bytes ≡ Some s → other ≡ store
+IsOnlyStore bytes store = (other : Store) (s : Content TimedOp) → IsStore other → decoded (encodings other) bytes ≡ Some s → other ≡ store
 
 -- The journal of a store is opened, which has nothing on its way. It spells what its file spelled at one moment, and is as it says at a
 -- later one. Of its changes those are kept from the first one on that some hive lacks, by the hives' own numbers.
-pub record IsRead (faithful : Type 0) (store : Store) (numbers : List ℕ) (then now : ℕ → FileState) (read : Opened) : Type 0 where
+pub record IsRead (faithful : Type 0) (store : Store) (numbers : List ℕ) (then now : ℕ → FileState) (read : OpenedJournal) : Type 0 where
   pub store_is : IsStore store
   pub of : store_of read.journal ≡ store
   pub choice : choice_of read.journal ≡ settled (record { below = read.base; elements = timed_elements (changes_of read.journal) })
-  pub kept : AreKept numbers (floor read.below (choice_of read.journal).now) (changes_of read.journal) read.below read.elements.items
-  pub names : AreLastIn (floor read.below (choice_of read.journal).now) (choice_of read.journal).now.elements read.naming.last.items
-  pub named : length read.naming.last.items ≡ store.hives
+  pub kept : AreRetained numbers (floor read.below (choice_of read.journal).now) (changes_of read.journal) read.below read.elements.items
+  pub names : AreLastIn (floor read.below (choice_of read.journal).now) (choice_of read.journal).now.elements read.last_changes.last.items
+  pub named : length read.last_changes.last.items ≡ store.hives
   pub fit : AllByRecursion (Fits store.hives) (changes_of read.journal)
   pub numbers_fit : top 0 (choice_of read.journal).now ≤ GREATEST_NUMBER
-  pub spells : faithful → spelled (texts_of read.journal) (then journal_file).seen ≡ Some (choice_of read.journal).now
-  pub on : faithful → is_on (texts_of read.journal) (value_of read.journal) (now journal_file)
+  pub decodes : faithful → decoded (encodings_of read.journal) (then journal_file).seen ≡ Some (choice_of read.journal).now
+  pub on : faithful → is_on (encodings_of read.journal) (journal_view read.journal) (now journal_file)

@@ -24,13 +24,13 @@ abbrev pub seen_in : (ℕ → FileState) → ℕ → List ℕ
 seen_in state f = (state f).seen
 
 -- a refusal tells of the files: of a hive with its number, of a version that isn't known, or of the journal
-abbrev pub TellsOfFiles : Refusal → Type 0
-TellsOfFiles (refusal.HiveDamaged hive cause) = Unit {0}
-TellsOfFiles refusal.Unsupported = Unit {0}
-TellsOfFiles refusal.JournalDamaged = Unit {0}
-TellsOfFiles _ = ⊥
+abbrev pub IsFileRefusal : Refusal → Type 0
+IsFileRefusal (refusal.HiveDamaged hive cause) = Unit {0}
+IsFileRefusal refusal.Unsupported = Unit {0}
+IsFileRefusal refusal.JournalDamaged = Unit {0}
+IsFileRefusal _ = ⊥
 
 -- why files are refused as those of a store: it is told of them, and what it tells is wrong with them, where the device has
 -- answered as it should
 abbrev pub IsNoStore : Type 0 → (ℕ → List ℕ) → Refusal → Type 0
-IsNoStore faithful files why = TellsOfFiles why × (faithful → IsWrong files why)
+IsNoStore faithful files why = IsFileRefusal why × (faithful → IsWrong files why)

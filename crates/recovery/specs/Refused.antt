@@ -5,20 +5,20 @@ use Rattle.refusals.specs.declared.refusal.Cause.TheVariants.{BadStore}
 use Rattle.refusals.specs.declared.refusal.Refusal.{Refusal}
 use Rattle.refusals.specs.declared.refusal.Refusal.TheVariants as refusal
 use Rattle.reg_tree.specs.Maps.{TreeMap}
-use Rattle.crash_model.specs.Promises.{Spelled, top}
+use Rattle.crash_model.specs.Promises.{Content, top}
 use Rattle.disk_model.specs.StoreFiles.{primary_file, log_file, journal_file}
 use Rattle.change_codec.specs.ModelChanges.{TimedOp}
-use Rattle.commit_journal.specs.Store.{Store, IsStore, SpellsNothing}
-use Rattle.hive_flush.specs.Standing.{IsNoneHeld}
-use Rattle.engine_invariant.specs.Prefixes.{Holds, Spells}
+use Rattle.commit_journal.specs.Store.{Store, IsStore, IsNoJournal}
+use Rattle.hive_flush.specs.Decoders.{FilesHoldNone}
+use Rattle.engine_invariant.specs.Prefixes.{Holds, JournalDecodesTo}
 use Rattle.recovery.specs.Reading.{replayed_on}
 
 -- The journal is that of a store, which has this hive, and spells changes.
 pub record IsInStore (files : ℕ → List ℕ) (hive : ℕ) : Type 0 where
   pub store : Store
-  pub journal : Spelled TimedOp
+  pub journal : Content TimedOp
   pub store_is : IsStore store
-  pub spells : Spells store (files journal_file) journal
+  pub decodes : JournalDecodesTo store (files journal_file) journal
   pub there : hive < store.hives
 
 -- the hive's two files hold a tree and a number in that store
@@ -28,7 +28,7 @@ HoldsIn files hive of = Holds of.store (files (primary_file hive)) (files (log_f
 -- The hive's two files hold nothing in the store that the journal tells, and a refusal tells why: by the hive's number and a cause
 -- that stands in them, or of a version, a type or a flag that isn't known.
 abbrev pub HoldsNothing : (ℕ → List ℕ) → ℕ → Refusal → Type 0
-HoldsNothing files hive why = (of : IsInStore files hive) × IsNoneHeld hive of.store.id (files (primary_file hive)) (files (log_file hive)) why
+HoldsNothing files hive why = (of : IsInStore files hive) × FilesHoldNone hive of.store.id (files (primary_file hive)) (files (log_file hive)) why
 
 -- The hive is at a number above that of the last change which the journal spells; where it spells none, above the greatest that
 -- there may be.
@@ -45,7 +45,7 @@ LeadsNowhere files hive = (of : IsInStore files hive) × (held : TreeMap × ℕ)
 abbrev pub IsWrong : (ℕ → List ℕ) → Refusal → Type 0
 IsWrong files (refusal.HiveDamaged hive cause) = HoldsNothing files hive (refusal.HiveDamaged hive cause) ⊎ ((cause ≡ BadStore) × IsAhead files hive)
 IsWrong files refusal.Unsupported = (hive : ℕ) × HoldsNothing files hive refusal.Unsupported
-IsWrong files refusal.JournalDamaged = SpellsNothing (files journal_file) ⊎ ((hive : ℕ) × LeadsNowhere files hive)
+IsWrong files refusal.JournalDamaged = IsNoJournal (files journal_file) ⊎ ((hive : ℕ) × LeadsNowhere files hive)
 IsWrong files _ = ⊥
 
 -- Files are as others in what tells of one hive: the journal, and the hive's two files.

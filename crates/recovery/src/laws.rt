@@ -13,7 +13,7 @@ ghost use Rattle.recovery.specs.Recovered.{IsRecovered, NothingRecovered, seen_i
 ghost use Rattle.recovery.specs.Refused.{AreAlike, IsWrong};
 
 use commit_journal::laws::one_store;
-use hive_flush::laws::one_is_held;
+use hive_flush::laws::at_most_one_tree;
 
 /// A law: files recover at most one number and one list of trees, and are those of one store at most.
 pub fn one_is_recovered()
@@ -21,7 +21,7 @@ pub fn one_is_recovered()
         IsRecovered files a n ts → IsRecovered files b m us → (a ≡ b) × (n ≡ m) × (ts ≡ us) }
 {
     one_store();
-    one_is_held();
+    at_most_one_tree();
 }
 
 /// A law: files with which something is wrong, as a refusal of an opening tells it, recover nothing.
@@ -36,7 +36,7 @@ pub fn refused_files_recover_nothing()
         IsWrong others (HiveDamaged hive cause) }
 {
     one_store();
-    one_is_held();
+    at_most_one_tree();
 }
 
 /// Laws of openings, one after another, that came to nothing: each ended in a crash at any moment of it, or was refused. They began

@@ -8,17 +8,17 @@
 //! crash leaves meanwhile recovers the same.
 #![tactic(auto)]
 
-mod creating;
+mod creation;
 mod found;
 pub mod laws;
 mod numbers;
 mod opened;
-mod opening;
 mod reading;
-mod recovering;
-mod repairing;
-mod replaying;
+mod recovery_result;
+mod repair_steps;
+mod replay_changes;
+mod store_opening;
 
-pub use creating::create;
-pub use found::Found;
+pub use creation::create;
+pub use found::RecoveredStore;
 pub use opened::{Opened, open};

@@ -1,6 +1,6 @@
 //! The number of a store: that of the journal's last change, or else the greatest of a hive.
 ghost use Rattle.std.specs.Prelude.{◌≡◌, ℕ, ◌<◌, ◌≤◌, None, Some, length, map, slice_get, IfOk};
-ghost use Rattle.hive_flush.specs.HiveStates.{files_of};
+ghost use Rattle.hive_flush.specs.HiveStates.{file_choice};
 ghost use Rattle.hive_flush.specs.declared.hive.HiveFile.{HiveFile};
 ghost use Rattle.recovery.specs.Reading.{IsNumber, greatest};
 
@@ -31,7 +31,7 @@ fn greatest_number(hives: &[HiveFile]) -> u64
 
 /// Each hive's own number, in their order.
 pub(crate) fn numbers_of(alloc: Global, hives: &[HiveFile]) -> Result<Vec<u64>, AllocError>
-    ensures { IfOk result (λ numbers. numbers.items ≡ map (λ hive. (files_of hive).now.1) hives.now) }
+    ensures { IfOk result (λ numbers. numbers.items ≡ map (λ hive. (file_choice hive).now.1) hives.now) }
 {
     let mut numbers = Vec::with_capacity(alloc, hives.len())?;
     for hive in hives {
@@ -44,10 +44,10 @@ pub(crate) fn numbers_of(alloc: Global, hives: &[HiveFile]) -> Result<Vec<u64>, 
 pub(crate) fn first_above(hives: &[HiveFile], limit: u64) -> Option<u8>
     requires few { length hives.now ≤ 256 }
     ensures none { result ≡ None → (i : ℕ) (hive : HiveFile) → slice_get hives.now i ≡ Some hive →
-        (files_of hive).now.1 ≤ limit }
+        (file_choice hive).now.1 ≤ limit }
     ensures some { (place : ℕ) → result ≡ Some place → (place < length hives.now) ×
         ((hive : HiveFile) → slice_get hives.now place ≡ Some hive →
-        limit < (files_of hive).now.1) }
+        limit < (file_choice hive).now.1) }
 {
     let place = hives.iter().position(|hive| hive.applied() > limit)?;
     Some(place as u8)

@@ -5,17 +5,17 @@ ghost use Rattle.disk_model.specs.declared.progress.Progress.TheVariants as Prog
 ghost use Rattle.disk_model.specs.Call.{Extends, OneCall, HasFailed};
 ghost use Rattle.disk_model.specs.Crash.{LeavesHonest};
 ghost use Rattle.disk_model.specs.StoreFiles.{journal_file};
-ghost use Rattle.disk_model.specs.Unwritten.{OnlySyncs};
-ghost use Rattle.hive_files.specs.Frames.{FailsBy};
+ghost use Rattle.disk_model.specs.ReadOnly.{OnlySyncs};
+ghost use Rattle.hive_files.specs.Frames.{RefusalHasCause};
 ghost use Rattle.commit_journal.specs.Journals.{choice_of};
-ghost use Rattle.engine_invariant.specs.Prefixes.{AnyFile, AreOnDisk, IsPrimaryOf, Spells};
-ghost use Rattle.recovery.specs.Kept.{AllWork, IsKept};
+ghost use Rattle.engine_invariant.specs.Prefixes.{AnyFile, AreOnDisk, IsPrimaryOf, JournalDecodesTo};
+ghost use Rattle.recovery.specs.Invariant.{AllWork, InvariantHolds};
 ghost use Rattle.recovery.specs.Recovered.{IsNoStore, IsRecovered, seen_in};
 ghost use Rattle.recovery.specs.Repairs.{most_repairs, repairs_left};
-ghost use Rattle.recovery.specs.Shown.{IsWhole, store_of};
+ghost use Rattle.recovery.specs.Shown.{StoreIsRepaired, store_of};
 
-use crate::found::Found;
-use crate::opening::find;
+use crate::found::RecoveredStore;
+use crate::store_opening::find;
 use disk_model::{Disk, Progress};
 use engine_invariant::laws::{crashes_leave_prefixes, openings_begin};
 use hive_flush::laws::reads_are_honest;
@@ -31,7 +31,7 @@ use uuid::Uuid;
 /// same number and trees.
 pub struct Opened<D: Disk> {
     disk: D,
-    found: Found,
+    found: RecoveredStore,
     failed: bool,
 }
 
@@ -49,7 +49,7 @@ impl<D: Disk + Drop> Drop for Opened<D> {
 impl<D: Disk> Model for Opened<D> {
     ghost use Rattle.std.specs.Prelude.{◌≡◌, false};
     ghost use Rattle.engine_invariant.specs.Prefixes.{AreOnDisk};
-    ghost use Rattle.recovery.specs.Kept.{AllWork, IsKept};
+    ghost use Rattle.recovery.specs.Invariant.{AllWork, InvariantHolds};
     ghost use Rattle.recovery.specs.Shown.{Shown, shown_code};
 
     ghost Value = { Shown D };
@@ -63,7 +63,7 @@ impl<D: Disk> Model for Opened<D> {
     } };
 
     ghost invariant = { λ inside. record {
-      kept : IsKept inside.found;
+      kept : InvariantHolds inside.found;
       works : inside.failed ≡ false → AllWork inside.found.hives.items;
       on_disk : D.faithful inside.disk → AreOnDisk inside.found.journal
           inside.found.hives.items (D.state_at inside.disk (D.clock inside.disk));
@@ -93,14 +93,14 @@ pub fn open<D: Disk>(alloc: Global, disk: D) -> Result<Opened<D>, (Refusal, D)>
     ensures recovered { IfOk result (λ opened. D.faithful opened.disk →
         IsRecovered (seen_in (D.state_at disk (D.clock disk)))
         (store_of opened) opened.found.number opened.found.trees) }
-    ensures spells { IfOk result (λ opened. D.faithful opened.disk → Spells (store_of opened)
+    ensures decodes { IfOk result (λ opened. D.faithful opened.disk → JournalDecodesTo (store_of opened)
         (seen_in (D.state_at disk (D.clock disk)) journal_file)
         (choice_of opened.found.journal).now) }
     ensures works { IfOk result (λ opened. opened.failed ≡ false) }
     ensures few { IfOk result (λ opened. D.faithful opened.disk →
         repairs_left opened.found.hives.items
         ≤ most_repairs (seen_in (D.state_at disk (D.clock disk))) (store_of opened).hives) }
-    ensures fails { IfErr result (λ back. FailsBy (D.failures disk < D.failures back.1)
+    ensures fails { IfErr result (λ back. RefusalHasCause (D.failures disk < D.failures back.1)
         (IsNoStore (D.faithful back.1) (seen_in (D.state_at disk (D.clock disk)))) back.0) }
     ensures synced { IfOk result (λ opened. D.faithful opened.disk → OnlySyncs (D.state_at disk)
         (D.state_at opened.disk) (D.clock disk) (D.clock opened.disk)) }
@@ -149,7 +149,7 @@ impl<D: Disk> Opened<D> {
 
     /// Whether no repair is left, and the device hasn't failed in one.
     pub fn is_whole(&self) -> bool
-        ensures { IsTrue result ↔ IsWhole self.now }
+        ensures { IsTrue result ↔ StoreIsRepaired self.now }
     {
         !self.failed && self.found.hives.iter().all(|hive| hive.is_whole())
     }
@@ -163,15 +163,15 @@ impl<D: Disk> Opened<D> {
     pub fn repair_step(&mut self) -> Result<Progress, Refusal>
         ensures same { self.new.found ≡ record self.old.found { hives = self.new.found.hives } }
         ensures store { store_of self.new ≡ store_of self.old }
-        ensures idle { (result ≡ Ok Progress.Idle) → IsWhole self.old × (self.new ≡ self.old) }
-        ensures at_rest { IsWhole self.old → result ≡ Ok Progress.Idle }
-        ensures done { (result ≡ Ok Progress.Done) → IsWhole self.new }
-        ensures more { (result ≡ Ok Progress.More) → ¬ (IsWhole self.new) }
-        ensures fewer { OnOk result (¬ (IsWhole self.old) →
+        ensures idle { (result ≡ Ok Progress.Idle) → StoreIsRepaired self.old × (self.new ≡ self.old) }
+        ensures at_rest { StoreIsRepaired self.old → result ≡ Ok Progress.Idle }
+        ensures done { (result ≡ Ok Progress.Done) → StoreIsRepaired self.new }
+        ensures more { (result ≡ Ok Progress.More) → ¬ (StoreIsRepaired self.new) }
+        ensures fewer { OnOk result (¬ (StoreIsRepaired self.old) →
             repairs_left self.new.found.hives.items < repairs_left self.old.found.hives.items) }
         ensures refused { IfErr result (λ why. (why ≡ DiskFault) ⊎ (why ≡ Faulted)) }
         ensures faulted { (result ≡ Err Faulted) ↔ (self.old.failed ≡ true) }
-        ensures still { (result ≡ Err Faulted) → self.new ≡ self.old }
+        ensures no_change { (result ≡ Err Faulted) → self.new ≡ self.old }
         ensures works { OnOk result (self.new.failed ≡ self.old.failed) }
         ensures before { D.faithful self.new.disk → (files : ℕ → List ℕ) →
             LeavesHonest (IsPrimaryOf (store_of self.old).hives)
@@ -243,10 +243,10 @@ impl<D: Disk> Opened<D> {
     }
 
     /// The disk, and what was found on it.
-    pub fn into_parts(self) -> (D, Found)
+    pub fn into_parts(self) -> (D, RecoveredStore)
         ensures disk { result.0 ≡ self.disk }
         ensures found { result.1 ≡ self.found }
-        ensures kept { IsKept result.1 }
+        ensures kept { InvariantHolds result.1 }
         ensures works { self.failed ≡ false → AllWork result.1.hives.items }
         ensures on_disk { D.faithful result.0 → AreOnDisk result.1.journal result.1.hives.items
             (D.state_at result.0 (D.clock result.0)) }
@@ -260,8 +260,8 @@ impl<D: Disk> Opened<D> {
     }
 
     /// A store of its parts again, where the device hasn't failed.
-    pub fn from_parts(disk: D, found: Found) -> Opened<D>
-        requires kept { IsKept found }
+    pub fn from_parts(disk: D, found: RecoveredStore) -> Opened<D>
+        requires kept { InvariantHolds found }
         requires works { AllWork found.hives.items }
         requires on_disk { D.faithful disk → AreOnDisk found.journal found.hives.items
             (D.state_at disk (D.clock disk)) }

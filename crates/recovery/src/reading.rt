@@ -3,8 +3,8 @@ ghost use Rattle.std.specs.Prelude.{◌≡◌, ℕ, ◌<◌, ◌≤◌, length, 
 ghost use Rattle.disk_model.specs.Call.{Extends};
 ghost use Rattle.disk_model.specs.FileState.{FileState};
 ghost use Rattle.disk_model.specs.StoreFiles.{journal_file};
-ghost use Rattle.disk_model.specs.Unwritten.{OnlySyncs};
-ghost use Rattle.hive_files.specs.Frames.{FailsBy};
+ghost use Rattle.disk_model.specs.ReadOnly.{OnlySyncs};
+ghost use Rattle.hive_files.specs.Frames.{RefusalHasCause};
 ghost use Rattle.recovery.specs.Reading.{AreOpened, IsNoHive};
 ghost use Rattle.recovery.specs.Recovered.{seen_in};
 ghost use Rattle.recovery.specs.Repairs.{most_repairs, repairs_left};
@@ -30,7 +30,7 @@ pub(crate) fn open_hives<D: Disk>(
         hives.items) }
     ensures few { IfOk result (λ hives. D.faithful disk.new → repairs_left hives.items
         ≤ most_repairs (seen_in (D.state_at disk.old (D.clock disk.old))) count) }
-    ensures fails { IfErr result (FailsBy (D.failures disk.old < D.failures disk.new)
+    ensures fails { IfErr result (RefusalHasCause (D.failures disk.old < D.failures disk.new)
         (IsNoHive (D.faithful disk.new) store count (D.state_at disk.old (D.clock disk.old)))) }
     ensures synced { D.faithful disk.new → OnlySyncs (D.state_at disk.old) (D.state_at disk.new)
         (D.clock disk.old) (D.clock disk.new) }

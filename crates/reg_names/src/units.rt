@@ -1,36 +1,36 @@
 //! The units of a name: a few stand where the name does, more are shared by its clones.
 ghost use Rattle.std.specs.Prelude.{◌≡◌, ◌≤◌, List, ℕ, length, IfOk};
-ghost use Rattle.reg_names.specs.declared.units.TheConstants.{MOST_HERE};
+ghost use Rattle.reg_names.specs.declared.units.TheConstants.{INLINE_CAPACITY};
 
 use std::alloc::{AllocError, Global};
 use std::marker::Model;
 use std::sync::ArcSlice;
 
 /// The most units that stand where the name does. With them it takes 24 bytes, and no memory besides.
-const MOST_HERE: usize = 11;
+const INLINE_CAPACITY: usize = 11;
 
 /// A list of units that does not change.
 #[derive(Drop)]
 pub(crate) struct Units {
-    held: Held,
+    repr: Repr,
 }
 
 #[derive(Drop)]
-enum Held {
+enum Repr {
     /// So many of the units that stand here.
-    Here(u8, [u16; MOST_HERE]),
+    Inline(u8, [u16; INLINE_CAPACITY]),
     Shared(ArcSlice<u16>),
 }
 
 impl Model for Units {
     ghost use Rattle.std.specs.Prelude.{List, ℕ};
-    ghost use Rattle.reg_names.specs.Units.{units_of, FitsHere};
+    ghost use Rattle.reg_names.specs.Units.{units_of, FitsInline};
 
     ghost Value = { List ℕ };
 
-    ghost view = { λ inside. units_of inside.held };
+    ghost view = { λ inside. units_of inside.repr };
 
-    ghost invariant = { λ inside. FitsHere inside.held };
+    ghost invariant = { λ inside. FitsInline inside.repr };
 }
 
 impl Units {
@@ -38,22 +38,22 @@ impl Units {
     pub(crate) fn new(alloc: Global, units: &[u16]) -> Result<Units, AllocError>
         ensures { IfOk result (λ made. made ≡ units.now) }
     {
-        if units.len() <= MOST_HERE {
+        if units.len() <= INLINE_CAPACITY {
             return Ok(Units::here(units));
         }
-        let held = Held::Shared(ArcSlice::from_slice(alloc, units)?);
-        Ok(Units { held })
+        let repr = Repr::Shared(ArcSlice::from_slice(alloc, units)?);
+        Ok(Units { repr })
     }
 
     // a few units, which take no memory
     fn here(units: &[u16]) -> Units
-        requires { length units.now ≤ MOST_HERE }
+        requires { length units.now ≤ INLINE_CAPACITY }
         ensures { result ≡ units.now }
     {
-        let mut here = [0; MOST_HERE];
+        let mut here = [0; INLINE_CAPACITY];
         here[..units.len()].copy_from_slice(units);
         Units {
-            held: Held::Here(units.len() as u8, here),
+            repr: Repr::Inline(units.len() as u8, here),
         }
     }
 
@@ -61,25 +61,25 @@ impl Units {
     pub(crate) fn widened(alloc: Global, bytes: &[u8]) -> Result<Units, AllocError>
         ensures { IfOk result (λ made. made ≡ bytes.now) }
     {
-        if bytes.len() <= MOST_HERE {
-            return Ok(Units::widened_here(bytes));
+        if bytes.len() <= INLINE_CAPACITY {
+            return Ok(Units::widened_inline(bytes));
         }
         let units = wide(alloc, bytes)?;
-        let held = Held::Shared(ArcSlice::from_vec(units)?);
-        Ok(Units { held })
+        let repr = Repr::Shared(ArcSlice::from_vec(units)?);
+        Ok(Units { repr })
     }
 
     // a few bytes, which take no memory
-    fn widened_here(bytes: &[u8]) -> Units
-        requires { length bytes.now ≤ MOST_HERE }
+    fn widened_inline(bytes: &[u8]) -> Units
+        requires { length bytes.now ≤ INLINE_CAPACITY }
         ensures { result ≡ bytes.now }
     {
-        let mut here = [0; MOST_HERE];
+        let mut here = [0; INLINE_CAPACITY];
         for at in 0..bytes.len() {
             here[at] = u16::from(bytes[at]);
         }
         Units {
-            held: Held::Here(bytes.len() as u8, here),
+            repr: Repr::Inline(bytes.len() as u8, here),
         }
     }
 
@@ -87,9 +87,9 @@ impl Units {
     pub(crate) fn as_slice(&self) -> &[u16]
         ensures { result.now ≡ self.now }
     {
-        match &self.held {
-            Held::Here(len, here) => &here[..usize::from(*len)],
-            Held::Shared(units) => units.as_slice(),
+        match &self.repr {
+            Repr::Inline(len, here) => &here[..usize::from(*len)],
+            Repr::Shared(units) => units.as_slice(),
         }
     }
 }
@@ -100,11 +100,11 @@ impl Clone for Units {
     fn clone(&self) -> Result<Units, AllocError>
         ensures { IfOk result (λ copy. copy ≡ self.now) }
     {
-        let held = match &self.held {
-            Held::Here(len, here) => Held::Here(*len, *here),
-            Held::Shared(units) => Held::Shared(units.clone()?),
+        let repr = match &self.repr {
+            Repr::Inline(len, here) => Repr::Inline(*len, *here),
+            Repr::Shared(units) => Repr::Shared(units.clone()?),
         };
-        Ok(Units { held })
+        Ok(Units { repr })
     }
 }
 

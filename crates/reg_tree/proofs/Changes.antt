@@ -54,10 +54,10 @@ nothing_below tree is d none m r = by_case (row tree (d ++ m ∷ r)) refl
 pub created_is : (tree : TreeMap) (spelled front further : List (List ℕ)) (name : List ℕ) (d : ℕ) (key : Row) (moment : ℕ) → spelled ≡ front ++ name ∷ further → d ≡ depth_there tree (folded_path spelled) → length front ≡ d → row tree (folded_path front) ≡ Some key → (q : List (List ℕ))
     → cond (eq_by_cmp path_order q (folded_path front)) (option_map (touched moment) (row tree q)) (cond (begins_path q (folded_path front ++ folded name ∷ folded_path further) && nat_lt (length (folded_path front)) (length q)) (Some (new_row (slice_index_or (front ++ name ∷ further) (length q - 1) []) key.descriptor moment)) (row tree q))
     ≡ row_created tree spelled moment q
-created_is tree spelled front further name d key moment is depth long there q = λ i. put (home i) (whole i) (deep i) (is_spelled i) (bytes i)
+created_is tree spelled front further name d key moment is depth long there q = λ i. put (touched_path i) (whole i) (deep i) (is_spelled i) (bytes i)
   where
     put : List (List ℕ) → List (List ℕ) → ℕ → List (List ℕ) → List ℕ → Option Row
-    put home whole deep spelled bytes = cond (eq_by_cmp path_order q home) (option_map (touched moment) (row tree q)) (cond (begins_path q whole && nat_lt deep (length q)) (Some (new_row (slice_index_or spelled (length q - 1) []) bytes moment)) (row tree q))
+    put touched_path whole deep spelled bytes = cond (eq_by_cmp path_order q touched_path) (option_map (touched moment) (row tree q)) (cond (begins_path q whole && nat_lt deep (length q)) (Some (new_row (slice_index_or spelled (length q - 1) []) bytes moment)) (row tree q))
 
     is_spelled : front ++ name ∷ further ≡ spelled
     is_spelled = sym is
@@ -68,11 +68,11 @@ created_is tree spelled front further name d key moment is depth long there q = 
     deep : length (folded_path front) ≡ depth_there tree (folded_path spelled)
     deep = length-map front folded ∙ long ∙ depth
 
-    home : folded_path front ≡ take (depth_there tree (folded_path spelled)) (folded_path spelled)
-    home = sym (ap (λ n. take n (folded_path spelled)) (sym deep) ∙ ap (take (length (folded_path front))) (sym whole) ∙ take-append_seam (folded_path front) (folded name ∷ folded_path further))
+    touched_path : folded_path front ≡ take (depth_there tree (folded_path spelled)) (folded_path spelled)
+    touched_path = sym (ap (λ n. take n (folded_path spelled)) (sym deep) ∙ ap (take (length (folded_path front))) (sym whole) ∙ take-append_seam (folded_path front) (folded name ∷ folded_path further))
 
     bytes : key.descriptor ≡ descriptor_of (row tree (take (depth_there tree (folded_path spelled)) (folded_path spelled)))
-    bytes = sym (ap descriptor_of (ap (row tree) (sym home) ∙ there))
+    bytes = sym (ap descriptor_of (ap (row tree) (sym touched_path) ∙ there))
 
 -- one name more than a front
 pub one_more : (front further : List (List ℕ)) (name : List ℕ) (d : ℕ) → length front ≡ d → take (d + 1) (folded_path (front ++ name ∷ further)) ≡ folded_path front ++ folded name ∷ []

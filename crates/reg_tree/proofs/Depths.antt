@@ -10,7 +10,7 @@ use Rattle.reg_tree_parts.specs.Orders.{path_order}
 use Rattle.reg_tree_parts.specs.Rows.{Row}
 use Rattle.reg_tree_parts.specs.Nodes.{Entries, row_at}
 use Rattle.reg_tree.specs.Maps.{TreeMap, row, is_there, beginnings, missing, IsTree}
-use Rattle.reg_tree.specs.Spellable.{IsRooted}
+use Rattle.reg_tree.specs.Encodable.{IsRooted}
 use Rattle.reg_tree.specs.Operations.{depth_there}
 use Rattle.reg_tree.proofs.Rows.{row_is}
 
@@ -38,7 +38,7 @@ pub beginning_there : (tree : TreeMap) → IsTree tree → (p rest : List (List 
 beginning_there tree is p [] there = subst (λ q. IsSome (row tree q)) (append-nil p) there
 beginning_there tree is p (n ∷ rest) there = is.parents p n (beginning_there tree is (p ++ n ∷ []) rest (subst (λ q. IsSome (row tree q)) (sym (append_assoc p (n ∷ []) rest)) there))
 
-module _ (tree : TreeMap) (is : IsTree tree) (path : List (List ℕ)) (d : ℕ) (within : d ≤ length path) (home : IsSome (row tree (take d path))) (gone : d < length path → (rest : List (List ℕ)) → row tree (take (d + 1) path ++ rest) ≡ None) where
+module _ (tree : TreeMap) (is : IsTree tree) (path : List (List ℕ)) (d : ℕ) (within : d ≤ length path) (touched_path : IsSome (row tree (take d path))) (gone : d < length path → (rest : List (List ℕ)) → row tree (take (d + 1) path ++ rest) ≡ None) where
   -- a longer front goes on from a shorter one
   longer : (j k : ℕ) → j ≤ k → take k path ≡ take j path ++ drop j (take k path)
   longer j k le = sym (take-append-drop j (take k path)) ∙ ap (λ xs. xs ++ drop j (take k path)) (take_take path j k le)
@@ -53,7 +53,7 @@ module _ (tree : TreeMap) (is : IsTree tree) (path : List (List ℕ)) (d : ℕ) 
       take_take (x ∷ xs) (suc j) (suc k) le = ap (λ ys. x ∷ ys) (take_take xs j k (omega arith))
 
   there_up_to : (k : ℕ) → k ≤ d → is_there tree (take k path) ≡ true
-  there_up_to k le = beginning_there tree is (take k path) (drop k (take d path)) (subst (λ q. IsSome (row tree q)) (longer k d le) home)
+  there_up_to k le = beginning_there tree is (take k path) (drop k (take d path)) (subst (λ q. IsSome (row tree q)) (longer k d le) touched_path)
 
   gone_past : (k : ℕ) → d < k → k ≤ length path → is_there tree (take k path) ≡ false
   gone_past k lt le = ap is_some (ap (row tree) (longer (d + 1) k (omega arith)) ∙ gone (omega arith) (drop (d + 1) (take k path)))

@@ -9,7 +9,7 @@ use Rattle.reg_tree_parts.specs.Orders.{name_order, path_order}
 use Rattle.reg_tree_parts.specs.Nodes.{Entries, row_at, IsNode}
 use Rattle.reg_tree_parts.proofs.Keys.{paths_total, paths_apart}
 use Rattle.reg_tree.specs.Maps.{row}
-use Rattle.reg_tree.specs.Spellable.{IsSpellableAt, IsRooted}
+use Rattle.reg_tree.specs.Encodable.{IsEncodableAt, IsRooted}
 use Rattle.reg_tree.specs.Fresh.{fresh_row, fresh_tree}
 use Rattle.reg_tree.proofs.Rows.{row_is, tree_is}
 
@@ -21,8 +21,8 @@ module _ (made : Entries) (node : IsNode made) (here : row_at made [] ≡ Some f
   pub fresh_is : finite.from_sorted {R = path_order} made ≡ fresh_tree
   fresh_is = same_map paths_total paths_apart _ _ (λ q. row_is made node q ∙ rows q)
 
-  fresh_at : (path : List (List ℕ)) (key : Row) → row_at made path ≡ Some key → IsSpellableAt path key
-  fresh_at [] key at = let is : fresh_row ≡ key = same (sym here ∙ at) in subst (IsSpellableAt []) is root
+  fresh_at : (path : List (List ℕ)) (key : Row) → row_at made path ≡ Some key → IsEncodableAt path key
+  fresh_at [] key at = let is : fresh_row ≡ key = same (sym here ∙ at) in subst (IsEncodableAt []) is root
     where
       same : Some fresh_row ≡ Some key → fresh_row ≡ key
       same e = cc
@@ -30,7 +30,7 @@ module _ (made : Entries) (node : IsNode made) (here : row_at made [] ≡ Some f
       nothing : (q : List ℕ) (value : Value) → finite.get {R = name_order} finite.empty q ≡ Some value → ⊥
       nothing q value e = let bad : None ≡ Some value = sym (get-empty name_order q) ∙ e in cc
 
-      root : IsSpellableAt [] fresh_row
+      root : IsEncodableAt [] fresh_row
       root = record {
         shallow = omega arith;
         named = λ deep. absurd (omega (arith, deep));
@@ -46,4 +46,4 @@ module _ (made : Entries) (node : IsNode made) (here : row_at made [] ≡ Some f
   fresh_at (n ∷ path) key at = absurd (false≢true (ap is_some (sym (alone n path) ∙ at)))
 
   pub fresh_rooted : IsRooted made
-  fresh_rooted = record { node = node; tree = tree_is made node; spellable = record { rows = λ path key at. fresh_at path key (sym (row_is made node path) ∙ at) } }
+  fresh_rooted = record { node = node; tree = tree_is made node; encodable = record { rows = λ path key at. fresh_at path key (sym (row_is made node path) ∙ at) } }

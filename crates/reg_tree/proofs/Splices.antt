@@ -110,7 +110,7 @@ module _ (after before : Rows) (new node branch : Entries) (front further : List
   -- the row that a creation leaves, by whether the path is that of the last key that was there, and whether it is a
   -- new key's
   made : Bool → Bool → List (List ℕ) → Option Row
-  made home fresh q = cond home (option_map (touched moment) (before q)) (cond fresh (Some (new_row (slice_index_or (front ++ name ∷ further) (length q - 1) []) bytes moment)) (before q))
+  made touched_path fresh q = cond touched_path (option_map (touched moment) (before q)) (cond fresh (Some (new_row (slice_index_or (front ++ name ∷ further) (length q - 1) []) bytes moment)) (before q))
 
   fresh_at : List (List ℕ) → Bool
   fresh_at q = begins_path q (folded_path front ++ folded name ∷ folded_path further) && nat_lt (length (folded_path front)) (length q)

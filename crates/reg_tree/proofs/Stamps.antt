@@ -14,7 +14,7 @@ use Rattle.reg_tree_parts.specs.Walks.{IsEdited}
 use Rattle.reg_tree_parts.proofs.Keys.{paths_total, paths_apart}
 use Rattle.reg_tree.specs.Maps.{TreeMap, row, IsTree}
 use Rattle.reg_tree.specs.Operations.{touched, row_edited}
-use Rattle.reg_tree.specs.Spellable.{IsSpellable, IsRooted}
+use Rattle.reg_tree.specs.Encodable.{IsEncodable, IsRooted}
 use Rattle.reg_tree.specs.Edits.{IsRewritten}
 use Rattle.reg_tree.specs.Stamps.{stamped_at, stamps}
 use Rattle.reg_tree.proofs.Paths.{eq_is}
@@ -56,8 +56,8 @@ module _ (tree : TreeMap) (path : List (List ℕ)) (moment : ℕ) where
   stamped_stays is = tree_of_rows _ (row_edited (λ key. key) tree path moment) row-stamped (edited_rooted tree is (λ key. key) (λ key. refl) path moment)
 
   -- that a hive file can spell, where it could before
-  pub spellable_stamped : IsSpellable tree → IsSpellable (stamped_at tree path moment)
-  spellable_stamped all = record { rows = λ q key e. edited_too tree all (λ key. key) (λ q key spelled. spelled) path moment q key (sym (row-stamped q) ∙ e) }
+  pub encodable_stamped : IsEncodable tree → IsEncodable (stamped_at tree path moment)
+  encodable_stamped all = record { rows = λ q key e. edited_too tree all (λ key. key) (λ q key spelled. spelled) path moment q key (sym (row-stamped q) ∙ e) }
 
 -- where no name is missing the key is written again
 pub written_again : (moment : ℕ) (key : Entries) (left : List (List ℕ)) (new : Entries) (b : Bool) → b ≡ (length left == 0) → b ≡ true → IsRewritten key (λ row. row) moment new → stamps moment key left (Some new)

@@ -188,8 +188,8 @@ module _ (tree : TreeMap) (is : IsTree tree) where
         by_case false apart (inl lt) = ap (λ b. is_some (cond b (Some (new_row (slice_index_or spelled (length path - 1) []) (descriptor_of (row tree (take (depth_there tree (folded_path spelled)) (folded_path spelled)))) moment)) (row tree path))) (ap (λ b. b && nat_lt (depth_there tree (folded_path spelled)) (length path)) on ∙ lt)
         by_case false apart (inr no_more) =
             let same : length path ≡ depth_there tree (folded_path spelled) = grind (arith, nat_tests) in
-            let home : path ≡ take (depth_there tree (folded_path spelled)) (folded_path spelled) = front ∙ ap (λ n. take n (folded_path spelled)) same in
-            absurd (false≢true (sym apart ∙ ap (eq_by_cmp path_order path) (sym home) ∙ eq_self path))
+            let touched_path : path ≡ take (depth_there tree (folded_path spelled)) (folded_path spelled) = front ∙ ap (λ n. take n (folded_path spelled)) same in
+            absurd (false≢true (sym apart ∙ ap (eq_by_cmp path_order path) (sym touched_path) ∙ eq_self path))
 
     created_named : (path : List (List ℕ)) (name : List ℕ) (key : Row) (a b : Bool) → (b ≡ true → begins_path (path ++ name ∷ []) (folded_path spelled) ≡ true) → made a b (path ++ name ∷ []) ≡ Some key → folded key.name ≡ name
     unfolding made

@@ -17,11 +17,11 @@ use Rattle.reg_tree_parts.specs.ValueEdits.{values_with, values_without}
 use Rattle.reg_tree_parts.specs.Nodes.{Entries, row_at, names_below, begins_path, IsNode}
 use Rattle.reg_tree_parts.specs.Walks.{IsNearest, IsReplaced, IsEdited, IsRefused}
 use Rattle.reg_tree.specs.Maps.{row, subkeys, missing}
-use Rattle.reg_tree.specs.Spellable.{IsRooted}
+use Rattle.reg_tree.specs.Encodable.{IsRooted}
 use Rattle.reg_tree.specs.Operations.{touched, row_after, row_deleted, row_edited}
 use Rattle.reg_tree.specs.Judgement.{judged, judged_there, judged_delete}
 use Rattle.reg_tree.specs.TreeLists.{levels_of}
-use Rattle.reg_tree.specs.Edits.{way_of, judged_missing, judged_found, judged_last, judged_data, judged_value, judged_at, IsRewritten, EditsKey, makes, refuses, counted}
+use Rattle.reg_tree.specs.Edits.{walk_of, judged_missing, judged_found, judged_last, judged_data, judged_value, judged_at, IsRewritten, EditsKey, makes, refuses, counted}
 use Rattle.reg_tree.specs.declared.op.Op.{Op}
 use Rattle.reg_tree.specs.declared.op.Op.TheVariants.{CreateKey, DeleteKey, SetValue, DeleteValue}
 use Rattle.reg_tree.specs.declared.op.Legality.{Legality}
@@ -122,8 +122,8 @@ module _ (root : Entries) (rooted : IsRooted root) (way : List (List ℕ)) (d : 
         ∙ edited_is (finite.from_sorted {R = path_order} root) (folded_path way) is.row (touched moment (edit is.row)) edit moment there refl q
 
 -- how an operation is judged at the end of its walk is how it is judged on the tree
-pub judged_is : (root : Entries) → IsRooted root → (op : Op) (d : ℕ) (bottom : Entries) → IsNearest root (way_of op) d bottom
-    → judged (finite.from_sorted {R = path_order} root) op ≡ judged_at op bottom (drop d (way_of op))
+pub judged_is : (root : Entries) → IsRooted root → (op : Op) (d : ℕ) (bottom : Entries) → IsNearest root (walk_of op) d bottom
+    → judged (finite.from_sorted {R = path_order} root) op ≡ judged_at op bottom (drop d (walk_of op))
 judged_is root rooted (CreateKey hive path) d bottom near =
     (λ i. cond (near_is_there root rooted path d bottom near.row near.within near.there near.gone near.here i) (Ok Opened)
     (cond (nat_lt MOST_NEW_LEVELS (near_missing root rooted path d bottom near.row near.within near.there near.gone near.here i)) (Err TooDeep) (Ok Legal)))
@@ -136,23 +136,23 @@ judged_is root rooted (DeleteKey hive (first ∷ path)) d bottom near = deleted_
     last_in first [] = ([], (first, refl))
     last_in first (second ∷ path) = let more = last_in second path in (first ∷ more.0, (more.1.0, ap (λ l. first ∷ l) more.1.1))
 
-    deleted_at : (parent : List (List ℕ)) × ((last : List ℕ) × (first ∷ path ≡ parent ++ last ∷ [])) → judged (finite.from_sorted {R = path_order} root) (DeleteKey hive (first ∷ path)) ≡ judged_at (DeleteKey hive (first ∷ path)) bottom (drop d (way_of (DeleteKey hive (first ∷ path))))
+    deleted_at : (parent : List (List ℕ)) × ((last : List ℕ) × (first ∷ path ≡ parent ++ last ∷ [])) → judged (finite.from_sorted {R = path_order} root) (DeleteKey hive (first ∷ path)) ≡ judged_at (DeleteKey hive (first ∷ path)) bottom (drop d (walk_of (DeleteKey hive (first ∷ path))))
     deleted_at (parent, (last, is)) =
-        let way = way_of (DeleteKey hive (first ∷ path)) in
+        let way = walk_of (DeleteKey hive (first ∷ path)) in
         let there : folded_path (first ∷ path) ≡ folded_path way ++ folded last ∷ [] = ap folded_path is ∙ map-append folded parent (last ∷ []) ∙ ap (λ p. folded_path p ++ folded last ∷ []) (sym (parent_is (first ∷ path) parent last is)) in
         ap (λ p. judged_there (row (finite.from_sorted {R = path_order} root) p) (λ key. judged_delete key.flags (subkeys (finite.from_sorted {R = path_order} root) p))) there
         ∙ ap (λ n. judged_there (row (finite.from_sorted {R = path_order} root) (folded_path way ++ folded last ∷ [])) (λ key. judged_delete key.flags n)) (subkeys_are root rooted.node (folded_path way ++ folded last ∷ []))
         ∙ by_left (drop d way) refl last
         ∙ ap (λ l. judged_found (drop d way) (judged_last bottom l)) (sym (last_of (first ∷ path) parent last is))
       where
-        by_left : (left : List (List ℕ)) → drop d (way_of (DeleteKey hive (first ∷ path))) ≡ left → (last : List ℕ)
-            → judged_there (row (finite.from_sorted {R = path_order} root) (folded_path (way_of (DeleteKey hive (first ∷ path))) ++ folded last ∷ [])) (λ key. judged_delete key.flags (names_below (folded_path (way_of (DeleteKey hive (first ∷ path))) ++ folded last ∷ []) root))
+        by_left : (left : List (List ℕ)) → drop d (walk_of (DeleteKey hive (first ∷ path))) ≡ left → (last : List ℕ)
+            → judged_there (row (finite.from_sorted {R = path_order} root) (folded_path (walk_of (DeleteKey hive (first ∷ path))) ++ folded last ∷ [])) (λ key. judged_delete key.flags (names_below (folded_path (walk_of (DeleteKey hive (first ∷ path))) ++ folded last ∷ []) root))
             ≡ judged_found left (judged_last bottom (last ∷ []))
         by_left [] none last =
-            found_there root rooted (way_of (DeleteKey hive (first ∷ path))) d bottom near [] none (folded last ∷ []) (λ key. judged_delete key.flags (names_below (folded_path (way_of (DeleteKey hive (first ∷ path))) ++ folded last ∷ []) root))
-            ∙ ap (λ n. judged_there (row_at bottom (folded last ∷ [])) (λ key. judged_delete key.flags n)) (names_of_way root rooted (way_of (DeleteKey hive (first ∷ path))) d bottom near none (folded last ∷ []))
+            found_there root rooted (walk_of (DeleteKey hive (first ∷ path))) d bottom near [] none (folded last ∷ []) (λ key. judged_delete key.flags (names_below (folded_path (walk_of (DeleteKey hive (first ∷ path))) ++ folded last ∷ []) root))
+            ∙ ap (λ n. judged_there (row_at bottom (folded last ∷ [])) (λ key. judged_delete key.flags n)) (names_of_way root rooted (walk_of (DeleteKey hive (first ∷ path))) d bottom near none (folded last ∷ []))
         by_left (name ∷ more) some last =
-            found_there root rooted (way_of (DeleteKey hive (first ∷ path))) d bottom near (name ∷ more) some (folded last ∷ []) (λ key. judged_delete key.flags (names_below (folded_path (way_of (DeleteKey hive (first ∷ path))) ++ folded last ∷ []) root))
+            found_there root rooted (walk_of (DeleteKey hive (first ∷ path))) d bottom near (name ∷ more) some (folded last ∷ []) (λ key. judged_delete key.flags (names_below (folded_path (walk_of (DeleteKey hive (first ∷ path))) ++ folded last ∷ []) root))
 judged_is root rooted (SetValue hive path name kind bytes) d bottom near =
     found_here root rooted path d bottom near (drop d path) refl (λ key. judged_data bytes)
     ∙ ap (λ o. judged_found (drop d path) (judged_there o (λ key. judged_data bytes))) near.here
@@ -179,8 +179,8 @@ alone_of (Some key) below e = by_flags (bit_and key.flags 8 == 0) below e
         has_some e = cc
 
 -- what stands where after an edit at the end of the walk
-pub rows_are : (root : Entries) → IsRooted root → (op : Op) (moment d : ℕ) (bottom : Entries) → IsNearest root (way_of op) d bottom → (new made : Entries)
-    → judged_at op bottom (drop d (way_of op)) ≡ Ok Legal → EditsKey op moment bottom (drop d (way_of op)) new → IsReplaced root (folded_path (take d (way_of op))) new made
+pub rows_are : (root : Entries) → IsRooted root → (op : Op) (moment d : ℕ) (bottom : Entries) → IsNearest root (walk_of op) d bottom → (new made : Entries)
+    → judged_at op bottom (drop d (walk_of op)) ≡ Ok Legal → EditsKey op moment bottom (drop d (walk_of op)) new → IsReplaced root (folded_path (take d (walk_of op))) new made
     → (q : List (List ℕ)) → row_at made q ≡ row_after (finite.from_sorted {R = path_order} root) op moment q
 rows_are root rooted (CreateKey hive path) moment d bottom near new made legal edits replaced q =
     let tree = finite.from_sorted {R = path_order} root in
@@ -224,8 +224,8 @@ rows_are root rooted (DeleteValue hive path name) moment d bottom near new made 
     rewritten_is root rooted path d bottom near (none_left (drop d path) (judged_value bottom name) legal) new made replaced (λ key. record key { values = values_without key.values name }) moment edits q
 
 -- how many keys an operation made
-pub counted_is : (root : Entries) → IsRooted root → (op : Op) (d : ℕ) (bottom : Entries) → IsNearest root (way_of op) d bottom
-    → counted op (length (way_of op) - d) ≡ levels_of (finite.from_sorted {R = path_order} root) op
+pub counted_is : (root : Entries) → IsRooted root → (op : Op) (d : ℕ) (bottom : Entries) → IsNearest root (walk_of op) d bottom
+    → counted op (length (walk_of op) - d) ≡ levels_of (finite.from_sorted {R = path_order} root) op
 counted_is root rooted (CreateKey hive path) d bottom near = ap Some (sym (near_missing root rooted path d bottom near.row near.within near.there near.gone near.here))
 counted_is root rooted (DeleteKey hive path) d bottom near = refl
 counted_is root rooted (SetValue hive path name kind bytes) d bottom near = refl
@@ -239,23 +239,23 @@ told_of Makes lent root names way same_root same_way {result} {made} same is =
 
 -- what a write in one walk leads to, by what is told of it
 module _ (root : Entries) (rooted : IsRooted root) (op : Op) (moment : ℕ) where
-  pub written_is : (made : Entries) (missing : ℕ) → IsEdited (makes op moment) root (way_of op) (Some (made, missing)) → judged (finite.from_sorted {R = path_order} root) op ≡ Ok Legal
+  pub written_is : (made : Entries) (missing : ℕ) → IsEdited (makes op moment) root (walk_of op) (Some (made, missing)) → judged (finite.from_sorted {R = path_order} root) op ≡ Ok Legal
   written_is made missing is = judged_is root rooted op is.depth is.nearest is.near ∙ is.edits.1.0.0
 
-  pub written_rows : (made : Entries) (missing : ℕ) → IsEdited (makes op moment) root (way_of op) (Some (made, missing))
+  pub written_rows : (made : Entries) (missing : ℕ) → IsEdited (makes op moment) root (walk_of op) (Some (made, missing))
       → (q : List (List ℕ)) → row_at made q ≡ row_after (finite.from_sorted {R = path_order} root) op moment q
   written_rows made missing is = rows_are root rooted op moment is.depth is.nearest is.near is.edits.0 made is.edits.1.0.0 is.edits.1.0.1 is.edits.1.1.0
 
-  pub written_node : (made : Entries) (missing : ℕ) → IsEdited (makes op moment) root (way_of op) (Some (made, missing)) → IsNode made
+  pub written_node : (made : Entries) (missing : ℕ) → IsEdited (makes op moment) root (walk_of op) (Some (made, missing)) → IsNode made
   written_node made missing is = is.edits.1.1.0.node
 
-  pub written_count : (made : Entries) (missing : ℕ) → IsEdited (makes op moment) root (way_of op) (Some (made, missing)) → counted op missing ≡ levels_of (finite.from_sorted {R = path_order} root) op
+  pub written_count : (made : Entries) (missing : ℕ) → IsEdited (makes op moment) root (walk_of op) (Some (made, missing)) → counted op missing ≡ levels_of (finite.from_sorted {R = path_order} root) op
   written_count made missing is = ap (counted op) is.edits.1.1.1 ∙ counted_is root rooted op is.depth is.nearest is.near
 
-  pub opened_is : IsEdited (makes op moment) root (way_of op) None → judged (finite.from_sorted {R = path_order} root) op ≡ Ok Opened
+  pub opened_is : IsEdited (makes op moment) root (walk_of op) None → judged (finite.from_sorted {R = path_order} root) op ≡ Ok Opened
   opened_is is = judged_is root rooted op is.depth is.nearest is.near ∙ is.edits
 
-  pub refused_is : (why : Refusal) → IsRefused (refuses op moment) root (way_of op) why → (judged (finite.from_sorted {R = path_order} root) op ≡ Err why) ⊎ (why ≡ NoMemory)
+  pub refused_is : (why : Refusal) → IsRefused (refuses op moment) root (walk_of op) why → (judged (finite.from_sorted {R = path_order} root) op ≡ Err why) ⊎ (why ≡ NoMemory)
   refused_is why (inl (d, (bottom, (near, inl told)))) = inl (judged_is root rooted op d bottom near ∙ told)
   refused_is why (inl (d, (bottom, (near, inr none)))) = inr none
   refused_is why (inr none) = inr none

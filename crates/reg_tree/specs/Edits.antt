@@ -18,11 +18,11 @@ use Rattle.reg_tree.specs.declared.op.Legality.{Legality}
 use Rattle.reg_tree.specs.declared.op.Legality.TheVariants.{Legal, Opened}
 
 -- the names that an operation walks along: those of its path, and for the deletion of a key those of its parent's path
-abbrev pub way_of : Op → List (List ℕ)
-way_of (CreateKey hive path) = path
-way_of (DeleteKey hive path) = take (length path - 1) path
-way_of (SetValue hive path name kind bytes) = path
-way_of (DeleteValue hive path name) = path
+abbrev pub walk_of : Op → List (List ℕ)
+walk_of (CreateKey hive path) = path
+walk_of (DeleteKey hive path) = take (length path - 1) path
+walk_of (SetValue hive path name kind bytes) = path
+walk_of (DeleteValue hive path name) = path
 
 -- a creation, by the names that are missing: none, and the key is opened; over 32, and they are too many
 abbrev pub judged_missing : List (List ℕ) → Result Legality Refusal

@@ -3,10 +3,10 @@ pub mod Operations
 pub mod Judgement
 pub mod Reads
 pub mod Fresh
-pub mod Texts
+pub mod Encodings
 pub mod TreeLists
 pub mod Sequences
 pub mod Times
-pub mod Spellable
+pub mod Encodable
 pub mod Edits
 pub mod Stamps

@@ -50,9 +50,9 @@ abbrev pub row_created : TreeMap → List (List ℕ) → ℕ → List (List ℕ)
 row_created tree spelled moment path =
     let created = folded_path spelled in
     let depth = depth_there tree created in
-    let home = take depth created in
-    if eq_by_cmp path_order path home then option_map (touched moment) (row tree path)
-    else if begins_path path created && nat_lt depth (length path) then Some (new_row (slice_index_or spelled (length path - 1) []) (descriptor_of (row tree home)) moment)
+    let touched_path = take depth created in
+    if eq_by_cmp path_order path touched_path then option_map (touched moment) (row tree path)
+    else if begins_path path created && nat_lt depth (length path) then Some (new_row (slice_index_or spelled (length path - 1) []) (descriptor_of (row tree touched_path)) moment)
     else row tree path
 
 -- the row at a path after a key was deleted: it has none, its parent is written, and every other row stays

@@ -7,7 +7,7 @@ use Rattle.reg_tree_parts.specs.Rows.{Row}
 use Rattle.reg_tree_parts.specs.Nodes.{Entries}
 use Rattle.reg_tree.specs.Maps.{TreeMap, row}
 use Rattle.reg_tree.specs.Operations.{row_edited, tree_of}
-use Rattle.reg_tree.specs.Edits.{way_of, IsRewritten}
+use Rattle.reg_tree.specs.Edits.{walk_of, IsRewritten}
 use Rattle.reg_tree.specs.declared.op.Op.{Op}
 
 -- the moment of a key's last write
@@ -23,8 +23,8 @@ made_of None = 0
 made_of (Some made) = made
 
 -- the path of the key that an operation writes beside those that it makes, by how many these are: the last one on its way that was there
-abbrev pub home_of : Op → Option ℕ → List (List ℕ)
-home_of op made = folded_path (take (length (way_of op) - made_of made) (way_of op))
+abbrev pub touched_path_of : Op → Option ℕ → List (List ℕ)
+touched_path_of op made = folded_path (take (length (walk_of op) - made_of made) (walk_of op))
 
 -- a tree in which the key at a path was written at a moment, and all else stays
 abbrev pub stamped_at : TreeMap → List (List ℕ) → ℕ → TreeMap

@@ -1,6 +1,6 @@
 //! Accepted changes: operations that are applied together at one moment.
 ghost use Rattle.std.specs.Prelude.{◌≡◌, ◌<◌, ◌++◌, ◌∷◌, [], List, length, IfOk, IfSome, IsNone, ◌↔◌, min, if◌then◌else◌, is_ok};
-ghost use Rattle.reg_tree.specs.Texts.{ops_text_len, op_text_len, element_text_len};
+ghost use Rattle.reg_tree.specs.Encodings.{ops_encoded_len, op_encoded_len, element_encoded_len};
 
 use crate::op::Op;
 use std::alloc::{AllocError, Global};
@@ -85,7 +85,7 @@ impl Element {
     /// for each operation 4, for each name of its path 1 and its units, for a value's name 2 and its units, and
     /// for a value that is written 8 and its data.
     pub fn text_len(&self) -> u64
-        ensures { result ≡ min (element_text_len self.now) u64.MAX }
+        ensures { result ≡ min (element_encoded_len self.now) u64.MAX }
     {
         let mut total = CHANGE_BYTES;
         for op in self.ops.list() {

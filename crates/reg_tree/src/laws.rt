@@ -8,7 +8,7 @@ ghost use Rattle.refusals.specs.declared.limits.TheConstants.{MOST_WEIGHT};
 ghost use Rattle.reg_tree_parts.specs.Nodes.{begins_path};
 ghost use Rattle.reg_tree.specs.Maps.{TreeMap, IsTree, row, weight};
 ghost use Rattle.reg_tree.specs.Operations.{hive_of, spelled_path};
-ghost use Rattle.reg_tree.specs.Spellable.{IsSpellable, IsNamed};
+ghost use Rattle.reg_tree.specs.Encodable.{IsEncodable, NamesAreValid};
 ghost use Rattle.reg_tree.specs.Judgement.{judged, changed, legal_in, legal, applied, applied_one, outweighs, any_outweighs};
 ghost use Rattle.reg_tree.specs.Times.{SameButTimes};
 ghost use Rattle.reg_tree.specs.Sequences.{AreTrees, AreWithin, AreLegalElements, after_elements};
@@ -28,9 +28,9 @@ pub fn trees_stay()
 
 /// After an operation whose names meet the rules of names for calls, a hive file can spell the tree as it could
 /// before.
-pub fn spellable_stays()
-    ensures { (tree : TreeMap) → IsSpellable tree → (op : Op) → IsNamed op → (moment : ℕ) →
-        IsSpellable (changed tree op moment) }
+pub fn encodable_stays()
+    ensures { (tree : TreeMap) → IsEncodable tree → (op : Op) → NamesAreValid op → (moment : ℕ) →
+        IsEncodable (changed tree op moment) }
 {}
 
 /// An operation leaves what it does not name.

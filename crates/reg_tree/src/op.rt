@@ -1,7 +1,7 @@
 //! The four operations on a registry tree.
 ghost use Rattle.std.specs.Prelude.{◌≡◌, min};
 ghost use Rattle.reg_tree.specs.Operations.{hive_of, spelled_path};
-ghost use Rattle.reg_tree.specs.Texts.{op_text_len, path_text_len};
+ghost use Rattle.reg_tree.specs.Encodings.{op_encoded_len, path_encoded_len};
 
 use reg_names::{Path, ValueName};
 use reg_tree_parts::Data;
@@ -94,7 +94,7 @@ impl Op {
 
     /// The bytes of the operation as journal text, or the greatest number of 64 bits where they are more.
     pub fn text_len(&self) -> u64
-        ensures { result ≡ min (op_text_len self.now) u64.MAX }
+        ensures { result ≡ min (op_encoded_len self.now) u64.MAX }
     {
         let path = encoded_path_len(self.path());
         match self {
@@ -115,7 +115,7 @@ impl Op {
 }
 
 fn encoded_path_len(path: &Path) -> u64
-    ensures { result ≡ min (path_text_len path.now) u64.MAX }
+    ensures { result ≡ min (path_encoded_len path.now) u64.MAX }
 {
     let mut total = 2u64;
     for name in path.names() {

@@ -4,13 +4,13 @@ ghost use Rattle.reg_names.specs.Names.{folded_path};
 ghost use Rattle.reg_tree_parts.specs.Nodes.{row_at, names_below, IsNode};
 ghost use Rattle.std.specs.FinMap as finite;
 ghost use Rattle.reg_tree.specs.Maps.{row, is_there, subkeys, missing, weight, IsTree};
-ghost use Rattle.reg_tree.specs.Spellable.{IsSpellable};
+ghost use Rattle.reg_tree.specs.Encodable.{IsEncodable};
 ghost use Rattle.reg_tree.specs.Reads.{value_at, value_index, subkey_index, info_of, IsMissing};
 ghost use Rattle.reg_tree.specs.Stamps.{time_at};
 
 mod change;
 mod edits;
-mod judging;
+mod judgement;
 mod lists;
 mod stamps;
 
@@ -42,7 +42,7 @@ impl Model for Tree {
     ghost use Rattle.reg_tree_parts.specs.Rows.{row_code};
     ghost use Rattle.reg_tree_parts.specs.Orders.{path_order};
     ghost use Rattle.reg_tree.specs.Maps.{TreeMap};
-    ghost use Rattle.reg_tree.specs.Spellable.{IsRooted};
+    ghost use Rattle.reg_tree.specs.Encodable.{IsRooted};
 
     ghost Value = { TreeMap };
 
@@ -72,7 +72,7 @@ pub struct Info {
 impl Tree {
     /// The tree of a root's node, for whoever reads keys from a hive file.
     pub fn from_root(alloc: Global, root: Node) -> Result<Tree, AllocError>
-        requires { IsSpellable (finite.from_sorted root) }
+        requires { IsEncodable (finite.from_sorted root) }
         ensures { IfOk result (λ tree. tree ≡ finite.from_sorted root) }
     {
         let _ = root.key();
@@ -85,7 +85,7 @@ impl Tree {
         ensures same { self.now ≡ finite.from_sorted result.now }
         ensures node { IsNode result.now }
         ensures tree { IsTree self.now }
-        ensures spellable { IsSpellable self.now }
+        ensures encodable { IsEncodable self.now }
     {
         &self.root
     }

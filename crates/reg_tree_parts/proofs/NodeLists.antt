@@ -10,7 +10,7 @@ use Rattle.std.proofs.lemmas.List.Sums.{sum_by-append, sum_by-cons}
 use Rattle.reg_tree_parts.specs.Orders.{name_order}
 use Rattle.reg_tree_parts.specs.Rows.{Row, row_weight}
 use Rattle.reg_tree_parts.specs.Nodes.{Entries, root_name, below, all_below, entries_of, entries_weight, row_at, row_in, names_below, spelled_root, IsNode, AreNodes}
-use Rattle.persistent_map.specs.Writes.{laid, written}
+use Rattle.persistent_map.specs.Writes.{merged, written}
 use Rattle.reg_tree_parts.proofs.Keys.{names_total}
 use Rattle.std.proofs.lemmas.Option.{slice_get-map}
 use Rattle.std.specs.Option.{option_map}
@@ -45,7 +45,7 @@ length-names row subkeys nodes = sym (ap length (names-root row subkeys nodes) �
 pub put_written : (child : Entries) (subkeys made : List (List ℕ × Entries)) → made ≡ written root_name (λ old new. new) child subkeys → made ≡ put name_order (root_name child) child subkeys
 put_written child subkeys made is = is ∙ ap (λ es. put name_order (root_name child) es subkeys) (newest (find name_order (root_name child) subkeys))
   where
-    newest : (found : Option Entries) → laid (λ old new. new) found child ≡ child
+    newest : (found : Option Entries) → merged (λ old new. new) found child ≡ child
     newest None = refl
     newest (Some old) = refl
 

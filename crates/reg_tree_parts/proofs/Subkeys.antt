@@ -6,8 +6,8 @@ use Rattle.std.specs.Ordering.{eq_by_cmp, is_lt}
 use Rattle.std.specs.Cmp.{tied_itself}
 use Rattle.std.specs.FinMap.Entries.{is_sorted, below_all}
 use Rattle.std.specs.declared.cmp.Ordering.TheVariants.{Less, Equal, Greater}
-use Rattle.persistent_map.specs.declared.map.Held.{Held}
-use Rattle.persistent_map.specs.Listings.{held_entries}
+use Rattle.persistent_map.specs.declared.map.Repr.{Repr}
+use Rattle.persistent_map.specs.Listings.{repr_entries}
 use Rattle.persistent_map.specs.Keyed.{AreKeyed, entries_keyed}
 use Rattle.reg_tree_parts.specs.Orders.{name_order}
 use Rattle.reg_tree_parts.specs.Rows.{Row}
@@ -75,10 +75,10 @@ keyed_named key [] keyed = tt
 keyed_named key (e ∷ es) keyed = (sym keyed.0, keyed_named key es keyed.1)
 
 -- all of it, of a node's own list of subkeys
-pub has_subkeys : (row : Row) (held : Held Entries) (ks : List (List ℕ × Entries)) → ks ≡ held_entries root_name held → AreNodes ks → T (is_sorted name_order ks) → HasSubkeys (entries_of row ks) (subkeys_of (entries_of row ks))
-has_subkeys row held ks is nodes h = subst (HasSubkeys (entries_of row ks)) (sym (subkeys_again row ks nodes h)) (record {
+pub has_subkeys : (row : Row) (repr : Repr Entries) (ks : List (List ℕ × Entries)) → ks ≡ repr_entries root_name repr → AreNodes ks → T (is_sorted name_order ks) → HasSubkeys (entries_of row ks) (subkeys_of (entries_of row ks))
+has_subkeys row repr ks is nodes h = subst (HasSubkeys (entries_of row ks)) (sym (subkeys_again row ks nodes h)) (record {
   whole = λ other e. ap (λ r. entries_of r ks) (some_same row other e);
   nodes = nodes;
   rises = h;
-  named = subst (AllByRecursion (λ (e : List ℕ × Entries). root_name e.1 ≡ e.0)) (sym is) (keyed_named root_name (held_entries root_name held) (entries_keyed root_name (record { held = held })));
+  named = subst (AllByRecursion (λ (e : List ℕ × Entries). root_name e.1 ≡ e.0)) (sym is) (keyed_named root_name (repr_entries root_name repr) (entries_keyed root_name (record { repr = repr })));
 })

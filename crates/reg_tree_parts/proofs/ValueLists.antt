@@ -12,7 +12,7 @@ use Rattle.reg_tree_parts.proofs.Keys.{names_total, names_apart}
 use Rattle.reg_tree_parts.specs.declared.value.Value.{Value}
 use Rattle.reg_tree_parts.specs.Orders.{name_order}
 use Rattle.reg_tree_parts.specs.Weights.{value_weight}
-use Rattle.persistent_map.specs.Writes.{laid, written}
+use Rattle.persistent_map.specs.Writes.{merged, written}
 use Rattle.std.proofs.lemmas.List.Sums.{sum_by-cons}
 
 turned : {A : Type 0} (b : Bool) (x y : A) → cond (not b) x y ≡ cond b y x
@@ -71,18 +71,18 @@ pub weights_are : (es : List (List ℕ × Value)) → T (is_sorted name_order es
 weights_are es sorted = loads es ∙ ap (sum_by value_weight) (sym (values_are es sorted))
 
 -- a value that is laid over what has its name is spelled as that
-laid_is : (found : Option Value) (value : Value) → laid spelled_as found value ≡ record { name = spelled_name found value.name; kind = value.kind; «data» = value.data }
-laid_is None value = refl
-laid_is (Some old) value = refl
+merged_is : (found : Option Value) (value : Value) → merged spelled_as found value ≡ record { name = spelled_name found value.name; kind = value.kind; «data» = value.data }
+merged_is None value = refl
+merged_is (Some old) value = refl
 
 -- a list into which a value was written is in order, and stands for the map with it
 pub written_is : (es : List (List ℕ × Value)) (sorted : T (is_sorted name_order es)) (value : Value) (made : List (List ℕ × Value)) → made ≡ written (λ v. folded v.name) spelled_as value es
     → T (is_sorted name_order made) × (finite.from_sorted {R = name_order} made ≡ values_with (finite.from_sorted es) value.name value.kind value.data)
 written_is es sorted value made is =
-    let inserted = inserted_is es sorted (folded value.name) (laid spelled_as (find name_order (folded value.name) es) value) made is in (
+    let inserted = inserted_is es sorted (folded value.name) (merged spelled_as (find name_order (folded value.name) es) value) made is in (
       inserted.0,
       inserted.1
-          ∙ ap (finite.insert (finite.from_sorted es) (folded value.name)) (laid_is (find name_order (folded value.name) es) value ∙ ap (λ found. record { name = spelled_name found value.name; kind = value.kind; «data» = value.data }) (sym (get_is es sorted (folded value.name)))),
+          ∙ ap (finite.insert (finite.from_sorted es) (folded value.name)) (merged_is (find name_order (folded value.name) es) value ∙ ap (λ found. record { name = spelled_name found value.name; kind = value.kind; «data» = value.data }) (sym (get_is es sorted (folded value.name)))),
     )
 
 -- what is written is decided by the name, the type and the bytes

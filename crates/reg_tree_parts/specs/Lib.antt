@@ -2,10 +2,10 @@ pub mod Orders
 pub mod Weights
 pub mod Bytes
 pub mod Rows
-pub mod Uncommons
-pub mod Held
+pub mod ClassAndFlags
+pub mod ValueEntries
 pub mod ValueEdits
 pub mod NewRows
 pub mod Nodes
-pub mod NodeFalls
+pub mod NodeDecreases
 pub mod Walks

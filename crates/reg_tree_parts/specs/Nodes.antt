@@ -10,7 +10,7 @@ use Rattle.std.specs.Arc.{arc_value}
 use Rattle.reg_names.specs.Names.{folded}
 use Rattle.persistent_map.specs.declared.map.SharedMap.{SharedMap}
 use Rattle.persistent_map.specs.Listings.{entries}
-use Rattle.persistent_map.specs.Pieces.{FitsMap}
+use Rattle.persistent_map.specs.Children.{FitsMap}
 use Rattle.reg_tree_parts.specs.Orders.{name_order, path_order}
 use Rattle.reg_tree_parts.specs.Rows.{Row, row_weight}
 use Rattle.reg_tree_parts.specs.NewRows.{new_row}

@@ -1,36 +1,36 @@
 //! Bytes that a value, a class or a descriptor holds.
 ghost use Rattle.std.specs.Prelude.{◌≡◌, ◌≤◌, List, ℕ, length, IfOk};
-ghost use Rattle.reg_tree_parts.specs.declared.data.TheConstants.{MOST_HERE};
+ghost use Rattle.reg_tree_parts.specs.declared.data.TheConstants.{INLINE_CAPACITY};
 
 use std::alloc::{AllocError, Global};
 use std::marker::Model;
 use std::sync::ArcSlice;
 
 /// The most bytes that stand where the list does. With them it takes 24 bytes, and no memory besides.
-const MOST_HERE: usize = 22;
+const INLINE_CAPACITY: usize = 22;
 
 /// A list of bytes that does not change. One of up to 22 bytes takes no memory; the clones of a longer one share its bytes.
 #[derive(Drop)]
 pub struct Data {
-    held: Held,
+    repr: Repr,
 }
 
 #[derive(Drop)]
-enum Held {
+enum Repr {
     /// So many of the bytes that stand here.
-    Here(u8, [u8; MOST_HERE]),
+    Inline(u8, [u8; INLINE_CAPACITY]),
     Shared(ArcSlice<u8>),
 }
 
 impl Model for Data {
     ghost use Rattle.std.specs.Prelude.{List, ℕ};
-    ghost use Rattle.reg_tree_parts.specs.Bytes.{bytes_of, FitsHere};
+    ghost use Rattle.reg_tree_parts.specs.Bytes.{bytes_of, FitsInline};
 
     ghost Value = { List ℕ };
 
-    ghost view = { λ inside. bytes_of inside.held };
+    ghost view = { λ inside. bytes_of inside.repr };
 
-    ghost invariant = { λ inside. FitsHere inside.held };
+    ghost invariant = { λ inside. FitsInline inside.repr };
 }
 
 impl Data {
@@ -38,33 +38,33 @@ impl Data {
     pub fn new(alloc: Global, bytes: &[u8]) -> Result<Data, AllocError>
         ensures { IfOk result (λ made. made ≡ bytes.now) }
     {
-        if bytes.len() <= MOST_HERE {
+        if bytes.len() <= INLINE_CAPACITY {
             return Ok(Data::here(bytes));
         }
-        let held = Held::Shared(ArcSlice::from_slice(alloc, bytes)?);
-        Ok(Data { held })
+        let repr = Repr::Shared(ArcSlice::from_slice(alloc, bytes)?);
+        Ok(Data { repr })
     }
 
     /// The bytes that the vector holds. More than 22 of them are not copied.
     pub fn from_vec(bytes: Vec<u8>) -> Result<Data, AllocError>
         ensures { IfOk result (λ made. made ≡ bytes.items) }
     {
-        if bytes.len() <= MOST_HERE {
+        if bytes.len() <= INLINE_CAPACITY {
             return Ok(Data::here(&bytes));
         }
-        let held = Held::Shared(ArcSlice::from_vec(bytes)?);
-        Ok(Data { held })
+        let repr = Repr::Shared(ArcSlice::from_vec(bytes)?);
+        Ok(Data { repr })
     }
 
     // a few bytes, which take no memory
     fn here(bytes: &[u8]) -> Data
-        requires { length bytes.now ≤ MOST_HERE }
+        requires { length bytes.now ≤ INLINE_CAPACITY }
         ensures { result ≡ bytes.now }
     {
-        let mut here = [0; MOST_HERE];
+        let mut here = [0; INLINE_CAPACITY];
         here[..bytes.len()].copy_from_slice(bytes);
         Data {
-            held: Held::Here(bytes.len() as u8, here),
+            repr: Repr::Inline(bytes.len() as u8, here),
         }
     }
 
@@ -72,9 +72,9 @@ impl Data {
     pub fn bytes(&self) -> &[u8]
         ensures { result.now ≡ self.now }
     {
-        match &self.held {
-            Held::Here(len, here) => &here[..usize::from(*len)],
-            Held::Shared(bytes) => bytes.as_slice(),
+        match &self.repr {
+            Repr::Inline(len, here) => &here[..usize::from(*len)],
+            Repr::Shared(bytes) => bytes.as_slice(),
         }
     }
 }
@@ -85,10 +85,10 @@ impl Clone for Data {
     fn clone(&self) -> Result<Data, AllocError>
         ensures { IfOk result (λ copy. copy ≡ self.now) }
     {
-        let held = match &self.held {
-            Held::Here(len, here) => Held::Here(*len, *here),
-            Held::Shared(bytes) => Held::Shared(bytes.clone()?),
+        let repr = match &self.repr {
+            Repr::Inline(len, here) => Repr::Inline(*len, *here),
+            Repr::Shared(bytes) => Repr::Shared(bytes.clone()?),
         };
-        Ok(Data { held })
+        Ok(Data { repr })
     }
 }

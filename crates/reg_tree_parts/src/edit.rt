@@ -10,7 +10,7 @@ use reg_names::Name;
 use std::alloc::Global;
 
 /// What a write does at a moment with the key that its path leads to, or else with the deepest key on the way along it.
-pub trait Edit {
+pub trait NodeEdit {
     /// What it makes of that key, by the names of the path that are missing from there on; nothing where it lets the key be.
     ghost Makes: { Self → ℕ → Entries → List (List ℕ) → Option Entries → Type 0 };
 
@@ -50,7 +50,7 @@ impl Node {
 
     /// The key after an edit of the one that this path leads to, or of the deepest one on the way, and how many names of the
     /// path were missing; nothing where the edit lets that key be. It is found, judged and made in one walk.
-    pub fn edited<W: Edit>(
+    pub fn edited<W: NodeEdit>(
         &self,
         alloc: Global,
         path: &[Name],

@@ -5,7 +5,7 @@ ghost use Rattle.reg_tree_parts.specs.NewRows.{new_row};
 
 use crate::data::Data;
 use crate::descriptor::Descriptor;
-use crate::uncommon::{self, Uncommon};
+use crate::rare_fields::{self, RareFields};
 use crate::values::Values;
 use reg_names::Name;
 use std::alloc::{AllocError, Global};
@@ -16,7 +16,7 @@ use std::sync::Arc;
 pub struct Key {
     name: Name,
     /// The class and the flags.
-    uncommon: Option<Arc<Uncommon>>,
+    rare_fields: Option<Arc<RareFields>>,
     descriptor: Descriptor,
     time: u64,
     values: Values,
@@ -27,7 +27,7 @@ impl Drop for Key {
     fn drop(self) {
         let Key {
             name: _,
-            uncommon: _,
+            rare_fields: _,
             descriptor: _,
             time: _,
             values: _,
@@ -37,13 +37,13 @@ impl Drop for Key {
 
 impl Model for Key {
     ghost use Rattle.reg_tree_parts.specs.Rows.{Row, row_code};
-    ghost use Rattle.reg_tree_parts.specs.Uncommons.{class_in, flags_in};
+    ghost use Rattle.reg_tree_parts.specs.ClassAndFlags.{class_in, flags_in};
 
     ghost Value = { Row };
 
     ghost coded = { row_code };
 
-    ghost view = { λ inside. record { name = inside.name; class = class_in inside.uncommon; flags = flags_in inside.uncommon; descriptor = inside.descriptor; time = inside.time; values = inside.values } };
+    ghost view = { λ inside. record { name = inside.name; class = class_in inside.rare_fields; flags = flags_in inside.rare_fields; descriptor = inside.descriptor; time = inside.time; values = inside.values } };
 }
 
 /// The weight of a key without name, class, descriptor and values.
@@ -72,10 +72,10 @@ impl Key {
           values = values;
         }) }
     {
-        let uncommon = uncommon::keep(alloc, class, flags)?;
+        let rare_fields = rare_fields::new_if_any(alloc, class, flags)?;
         Ok(Key {
             name,
-            uncommon,
+            rare_fields,
             descriptor,
             time,
             values,
@@ -90,7 +90,7 @@ impl Key {
         let descriptor = descriptor.clone()?;
         Ok(Key {
             name,
-            uncommon: None,
+            rare_fields: None,
             descriptor,
             time,
             values: Values::new(),
@@ -108,14 +108,14 @@ impl Key {
     pub fn class(&self) -> &[u8]
         ensures { result.now ≡ self.now.class }
     {
-        uncommon::class(&self.uncommon)
+        rare_fields::class(&self.rare_fields)
     }
 
     /// The flags.
     pub fn flags(&self) -> u16
         ensures { result ≡ self.now.flags }
     {
-        uncommon::flags(&self.uncommon)
+        rare_fields::flags(&self.rare_fields)
     }
 
     /// The security descriptor.
@@ -144,11 +144,11 @@ impl Key {
         ensures { IfOk result (λ made. made ≡ record self.now { time = time; values = values }) }
     {
         let name = self.name.clone()?;
-        let uncommon = uncommon::share(&self.uncommon)?;
+        let rare_fields = rare_fields::share(&self.rare_fields)?;
         let descriptor = self.descriptor.clone()?;
         Ok(Key {
             name,
-            uncommon,
+            rare_fields,
             descriptor,
             time,
             values,

@@ -11,13 +11,13 @@ mod descriptor;
 mod edit;
 mod key;
 mod node;
-mod uncommon;
+mod rare_fields;
 mod value;
 mod values;
 
 pub use data::Data;
 pub use descriptor::Descriptor;
-pub use edit::Edit;
+pub use edit::NodeEdit;
 pub use key::Key;
 pub use node::Node;
 pub use value::Value;

@@ -7,12 +7,12 @@ ghost use Rattle.reg_names.specs.Names.{folded, folded_path};
 ghost use Rattle.reg_tree_parts.specs.Orders.{name_order};
 ghost use Rattle.reg_tree_parts.specs.Rows.{Row};
 ghost use Rattle.persistent_map.specs.Listings.{entries};
-ghost use Rattle.persistent_map.specs.Pieces.{FitsMap};
+ghost use Rattle.persistent_map.specs.Children.{FitsMap};
 ghost use Rattle.reg_tree_parts.specs.Nodes.{Entries, entries_of, entries_weight, subkey_entries, root_name, row_at, names_below, spelled_root, begins_path, branch_row, subkeys_of, HasSubkeys, IsNode, AreNodes};
 
 use crate::descriptor::Descriptor;
 use crate::key::Key;
-use persistent_map::{Listed, SharedMap};
+use persistent_map::{MapEntry, SharedMap};
 use reg_names::Name;
 use std::alloc::{AllocError, Global};
 use std::marker::Model;
@@ -55,9 +55,9 @@ impl Model for Node {
 
     ghost size = { length };
 
-    ghost use Rattle.reg_tree_parts.specs.NodeFalls.{node_falls};
+    ghost use Rattle.reg_tree_parts.specs.NodeDecreases.{node_decreases};
 
-    ghost size_decreases = { λ a h. node_falls a };
+    ghost size_decreases = { λ a h. node_decreases a };
 }
 
 impl Node {
@@ -303,10 +303,10 @@ impl Node {
     }
 }
 
-impl Listed for Node {
+impl MapEntry for Node {
     ghost key = { root_name };
 
-    ghost load = { entries_weight };
+    ghost entry_weight = { entries_weight };
 
     ghost over = { λ old new. new };
 

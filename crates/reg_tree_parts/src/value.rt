@@ -5,7 +5,7 @@ ghost use Rattle.reg_tree_parts.specs.Weights.{value_weight};
 ghost use Rattle.reg_tree_parts.specs.ValueEdits.{spelled_as};
 
 use crate::data::Data;
-use persistent_map::Listed;
+use persistent_map::MapEntry;
 use reg_names::Name;
 use std::alloc::{AllocError, Global};
 use std::sync::Arc;
@@ -49,10 +49,10 @@ impl Value {
     }
 }
 
-impl Listed for Value {
+impl MapEntry for Value {
     ghost key = { λ value. folded value.name };
 
-    ghost load = { value_weight };
+    ghost entry_weight = { value_weight };
 
     ghost over = { spelled_as };
 

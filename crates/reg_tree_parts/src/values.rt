@@ -31,7 +31,7 @@ impl Drop for Values {
 impl Model for Values {
     ghost use Rattle.std.specs.FinMap as finite;
     ghost use Rattle.reg_tree_parts.specs.Rows.{ValueMap, values_code};
-    ghost use Rattle.reg_tree_parts.specs.Held.{value_entries, ValuesFit};
+    ghost use Rattle.reg_tree_parts.specs.ValueEntries.{value_entries, ValuesFit};
 
     ghost Value = { ValueMap };
 

@@ -1,5 +1,5 @@
 //! Files that the words name, and where replies go: each keeps why it failed.
-use crate::fault::Fault;
+use crate::command_error::CommandError;
 use crate::hint::Hint;
 use refusals::Refusal;
 use std::cell::Cell;
@@ -72,12 +72,12 @@ pub fn last_error(trouble: &Trouble) -> io::Error {
 }
 
 /// A file that is to be read.
-pub fn opened<'a, R: Files>(rt: &R, path: &'a str) -> Result<R::File, Fault<'a>> {
+pub fn opened<'a, R: Files>(rt: &R, path: &'a str) -> Result<R::File, CommandError<'a>> {
     match File::open(rt, path) {
         Ok(file) => Ok(file),
         Err(error) if error.kind() == ErrorKind::OutOfMemory => {
-            Err(Fault::Refused(Refusal::NoMemory))
+            Err(CommandError::Refused(Refusal::NoMemory))
         }
-        Err(error) => Err(Fault::CannotReadFile(Hint::denied(path, error))),
+        Err(error) => Err(CommandError::CannotReadFile(Hint::denied(path, error))),
     }
 }

@@ -1,5 +1,5 @@
 //! Lines for a person at a terminal: why what the words ask for can't be done.
-use file_disk::{Denial, FileDisk, FileName, Unheld, Unknown};
+use file_disk::{Denial, FileDisk, FileName, LockError, Unknown};
 use std::alloc::Global;
 use std::fmt;
 use std::fs::File;
@@ -67,11 +67,11 @@ impl<'a> Hint<'a> {
     }
 
     /// Why a folder can't be held; none for want of memory.
-    pub fn of_unheld(folder: &'a str, unheld: &Unheld) -> Option<Hint<'a>> {
-        match unheld {
-            Unheld::NoMemory => None,
-            Unheld::InUse => Some(Hint::of(folder, Why::InUse)),
-            Unheld::Denied(error) => Some(Hint::denied(folder, *error)),
+    pub fn of_lock_error(folder: &'a str, lock_error: &LockError) -> Option<Hint<'a>> {
+        match lock_error {
+            LockError::NoMemory => None,
+            LockError::InUse => Some(Hint::of(folder, Why::InUse)),
+            LockError::Denied(error) => Some(Hint::denied(folder, *error)),
         }
     }
 
@@ -88,7 +88,7 @@ impl<'a> Hint<'a> {
         if !disk.has_folder() {
             return Some(Hint::of(folder, Why::NoFolder));
         }
-        let file = disk.absent()?;
+        let file = disk.missing_file()?;
         Some(Hint::of_store(folder, Some(file), Why::NoFile))
     }
 

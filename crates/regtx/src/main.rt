@@ -8,22 +8,22 @@
 //! or at wrong words.
 #![tactic(auto)]
 
-mod fault;
+mod command_error;
 mod files;
 mod hint;
-mod making;
-mod running;
+mod script_commands;
+mod store_commands;
 mod terminal;
 mod words;
 
-use crate::fault::Fault;
+use crate::command_error::CommandError;
 use crate::files::{Source, Target, Trouble, last_error, opened};
 use crate::hint::Hint;
-use crate::making::{import_store, new_store};
-use crate::running::{InMemory, play_script, run_script};
-use crate::terminal::Telling;
-use crate::words::{Task, task_asked};
-use hive_dump::{DumpFault, dump};
+use crate::script_commands::{InMemory, play_script, run_script};
+use crate::store_commands::{import_store, new_store};
+use crate::terminal::TerminalOutput;
+use crate::words::{Task, parse_task};
+use hive_dump::{DumpError, dump};
 use script_syntax::Status;
 use std::alloc::Global;
 use std::fs::File;
@@ -34,10 +34,10 @@ use std::time::Clock;
 use std::{env, io};
 
 fn main(rt: HostRuntime) -> ExitCode {
-    let telling = Telling::to(&rt.stderr(), &rt.stdout());
+    let output = TerminalOutput::to(&rt.stderr(), &rt.stdout());
     let status = match words_given(&rt, rt.alloc()) {
-        Ok(words) => answer(&rt, telling, &words),
-        Err(fault) => tell_fault(&rt, telling, None, &fault),
+        Ok(words) => answer(&rt, output, &words),
+        Err(command_error) => print_error(&rt, output, None, &command_error),
     };
     ExitCode::from(status.code())
 }
@@ -45,75 +45,78 @@ fn main(rt: HostRuntime) -> ExitCode {
 // does what the words ask for, or tells why that can't be begun
 fn answer<R: Files<File = File> + Print + Eprint + Clock + AllocGlobal>(
     rt: &R,
-    telling: Telling,
+    output: TerminalOutput,
     words: &[String],
 ) -> Status {
-    match run(rt, telling, words) {
+    match run(rt, output, words) {
         Ok(status) => status,
-        Err(fault) => tell_fault(rt, telling, words.get(1), &fault),
+        Err(command_error) => print_error(rt, output, words.get(1), &command_error),
     }
 }
 
 // does what the words ask for; a write that fails ends it with the status of a refusal
 fn run<'a, R: Files<File = File> + Print + Eprint + Clock + AllocGlobal>(
     rt: &'a R,
-    telling: Telling,
+    output: TerminalOutput,
     words: &'a [String],
-) -> Result<Status, Fault<'a>> {
-    match task_asked(rt.alloc(), words)? {
-        Task::Play { script } => play_script(rt, telling, InMemory::Play, script),
-        Task::Lab { script } => play_script(rt, telling, InMemory::Lab, script),
-        Task::Sweep { script } => play_script(rt, telling, InMemory::Sweep, script),
-        Task::Dump { file } => dump_file(rt, telling, file),
-        Task::New { folder, id, count } => new_store(rt, telling, folder, id, count),
+) -> Result<Status, CommandError<'a>> {
+    match parse_task(rt.alloc(), words)? {
+        Task::Play { script } => play_script(rt, output, InMemory::Play, script),
+        Task::Lab { script } => play_script(rt, output, InMemory::Lab, script),
+        Task::Sweep { script } => play_script(rt, output, InMemory::Sweep, script),
+        Task::Dump { file } => dump_file(rt, output, file),
+        Task::New { folder, id, count } => new_store(rt, output, folder, id, count),
         Task::Import {
             folder,
             id,
             sources,
-        } => import_store(rt, telling, folder, id, &sources),
-        Task::Run { folder, script } => run_script(rt, telling, folder, script),
+        } => import_store(rt, output, folder, id, &sources),
+        Task::Run { folder, script } => run_script(rt, output, folder, script),
     }
 }
 
 // prints why nothing could be begun; a person is told more, and how the command of this name is used if the words are wrong
-fn tell_fault<R: Print + Eprint + AllocGlobal>(
+fn print_error<R: Print + Eprint + AllocGlobal>(
     rt: &R,
-    telling: Telling,
+    output: TerminalOutput,
     name: Option<&String>,
-    fault: &Fault<'_>,
+    command_error: &CommandError<'_>,
 ) -> Status {
-    if let Err(error) = println!(rt; "{fault}") {
-        return telling.status(rt, Err(error));
+    if let Err(error) = println!(rt; "{command_error}") {
+        return output.status(rt, Err(error));
     }
-    match fault {
-        Fault::WrongWords => telling.usage(rt, name.map(|name| name.as_str())),
-        _ => telling.hint(rt, fault.hint()),
+    match command_error {
+        CommandError::WrongWords => output.usage(rt, name.map(|name| name.as_str())),
+        _ => output.hint(rt, command_error.hint()),
     }
-    fault.status()
+    command_error.status()
 }
 
 // prints the hive in the file of this path
 fn dump_file<'a, R: Files + Print + Eprint + AllocGlobal>(
     rt: &R,
-    telling: Telling,
+    output: TerminalOutput,
     path: &'a str,
-) -> Result<Status, Fault<'a>> {
+) -> Result<Status, CommandError<'a>> {
     let alloc = rt.alloc();
     let trouble = Trouble::new(None);
     let mut writer = BufWriter::new(alloc, Target::new(io::writer(rt), &trouble))?;
     let mut file = Source::new(opened(rt, path)?, &trouble);
     match dump(alloc, &mut file, &mut writer) {
         Ok(status) => Ok(status),
-        Err(DumpFault::CannotRead) => Err(Fault::CannotReadFile(Hint::denied(
+        Err(DumpError::CannotRead) => Err(CommandError::CannotReadFile(Hint::denied(
             path,
             last_error(&trouble),
         ))),
-        Err(DumpFault::CannotWrite) => Ok(telling.status(rt, Err(last_error(&trouble)))),
+        Err(DumpError::CannotWrite) => Ok(output.status(rt, Err(last_error(&trouble)))),
     }
 }
 
 // the words of the command line
-fn words_given<'a, R: Env + AllocGlobal>(rt: &R, alloc: Global) -> Result<Vec<String>, Fault<'a>> {
+fn words_given<'a, R: Env + AllocGlobal>(
+    rt: &R,
+    alloc: Global,
+) -> Result<Vec<String>, CommandError<'a>> {
     let mut words = Vec::new(alloc);
     for word in env::args(rt)? {
         words.push(word)?;

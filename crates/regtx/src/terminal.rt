@@ -1,7 +1,7 @@
 //! What a person at a terminal sees beside the replies: how far long work has come, and why something can't be done.
 use crate::hint::Hint;
 use crate::words::{USAGES, Usage};
-use progress_line::{ProgressLine, Stage, Work};
+use progress_line::{ProgressLine, Work, WorkStage};
 use script_syntax::Status;
 use std::fs;
 use std::io::{self, Eprint, IsTerminal};
@@ -10,24 +10,24 @@ use std::time::Clock;
 
 /// What standard error is told, which is nothing unless it is a terminal.
 #[derive(Clone, Copy)]
-pub struct Telling {
+pub struct TerminalOutput {
     // why something can't be done
     hints: bool,
     // how far long work has come, in a line
     line: bool,
 }
 
-impl Telling {
+impl TerminalOutput {
     /// What standard error and standard output allow. If the replies go to a terminal too they tell enough of long work, and a line
     /// between them would spoil them.
-    pub fn to<E: IsTerminal, O: IsTerminal>(errors: &E, replies: &O) -> Telling {
+    pub fn to<E: IsTerminal, O: IsTerminal>(errors: &E, replies: &O) -> TerminalOutput {
         let hints = errors.is_terminal();
         let line = hints && !replies.is_terminal();
-        Telling { hints, line }
+        TerminalOutput { hints, line }
     }
 
     /// A line for work that begins with this stage, where it is told of.
-    pub fn line<R: Eprint + Clock>(self, rt: &R, first: Stage) -> Option<ProgressLine<'_, R>> {
+    pub fn line<R: Eprint + Clock>(self, rt: &R, first: WorkStage) -> Option<ProgressLine<'_, R>> {
         if self.line {
             Some(ProgressLine::new(rt, first))
         } else {
@@ -57,7 +57,7 @@ impl Telling {
 
     /// Says how a command is used, or each of them if this is no command's name.
     pub fn usage<R: Eprint>(self, rt: &R, name: Option<&str>) {
-        if self.hints && !tell_usage(rt, name) {
+        if self.hints && !print_usage(rt, name) {
             for usage in &USAGES {
                 let _ = eprintln!(rt; "{usage}");
             }
@@ -66,7 +66,7 @@ impl Telling {
 }
 
 // says how the command of this name is used; whether there is one
-fn tell_usage<R: Eprint>(rt: &R, name: Option<&str>) -> bool {
+fn print_usage<R: Eprint>(rt: &R, name: Option<&str>) -> bool {
     for usage in &USAGES {
         if name == Some(usage.name) {
             let _ = eprintln!(rt; "{usage}");
@@ -84,8 +84,8 @@ pub fn end<R: Eprint + Clock>(line: Option<ProgressLine<'_, R>>) {
 }
 
 /// The stage in which the file of this path is read.
-pub fn reading<R: Files>(rt: &R, work: Work, path: &str) -> Stage {
-    Stage {
+pub fn reading<R: Files>(rt: &R, work: Work, path: &str) -> WorkStage {
+    WorkStage {
         work,
         whole: length_of(rt, path),
     }

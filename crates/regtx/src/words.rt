@@ -2,7 +2,7 @@
 ghost use Rattle.std.specs.Prelude.{◌≤◌, length};
 ghost use Rattle.refusals.specs.declared.limits.TheConstants.{MOST_HIVES};
 
-use crate::fault::Fault;
+use crate::command_error::CommandError;
 use clap::{Arg, ArgAction, ArgMatches, Command};
 use refusals::limits::MOST_HIVES;
 use std::alloc::{AllocError, Global};
@@ -132,7 +132,7 @@ pub const USAGES: [Usage; 7] = [
 ];
 
 /// What the words ask for. Any other words are wrong.
-pub fn task_asked<'a>(alloc: Global, words: &'a [String]) -> Result<Task<'a>, Fault<'a>> {
+pub fn parse_task<'a>(alloc: Global, words: &'a [String]) -> Result<Task<'a>, CommandError<'a>> {
     let matches = command(alloc)?.try_get_matches_from(words)?;
     match matches.subcommand() {
         Some(("play", given)) => Ok(Task::Play {
@@ -161,7 +161,7 @@ pub fn task_asked<'a>(alloc: Global, words: &'a [String]) -> Result<Task<'a>, Fa
             id: id(given)?,
             sources: sources_named(alloc, given)?,
         }),
-        _ => Err(Fault::WrongWords),
+        _ => Err(CommandError::WrongWords),
     }
 }
 
@@ -214,37 +214,40 @@ fn one<'a>(alloc: Global, name: &'a str) -> Arg<'a> {
 }
 
 // the word of this name
-fn text<'a>(given: &ArgMatches<'a>, name: &str) -> Result<&'a str, Fault<'a>> {
-    given.get_str(name).ok_or(Fault::WrongWords)
+fn text<'a>(given: &ArgMatches<'a>, name: &str) -> Result<&'a str, CommandError<'a>> {
+    given.get_str(name).ok_or(CommandError::WrongWords)
 }
 
 // the id, in any text form that a UUID has
-fn id<'a>(given: &ArgMatches<'a>) -> Result<Uuid, Fault<'a>> {
+fn id<'a>(given: &ArgMatches<'a>) -> Result<Uuid, CommandError<'a>> {
     match Uuid::parse_str(text(given, "ID")?) {
         Ok(id) => Ok(id),
-        Err(_) => Err(Fault::WrongWords),
+        Err(_) => Err(CommandError::WrongWords),
     }
 }
 
 // a number of hives, in decimal digits; a sign is none
-fn hive_count<'a>(word: &'a str) -> Result<HiveCount, Fault<'a>> {
+fn hive_count<'a>(word: &'a str) -> Result<HiveCount, CommandError<'a>> {
     if !word.as_bytes().iter().all(|byte| byte.is_ascii_digit()) {
-        return Err(Fault::WrongWords);
+        return Err(CommandError::WrongWords);
     }
     match word.parse::<usize>() {
         Ok(number) if number >= 1 && number <= MOST_HIVES => Ok(HiveCount { number }),
-        _ => Err(Fault::WrongWords),
+        _ => Err(CommandError::WrongWords),
     }
 }
 
 // the files of an import
-fn sources_named<'a>(alloc: Global, given: &ArgMatches<'a>) -> Result<Sources<'a>, Fault<'a>> {
+fn sources_named<'a>(
+    alloc: Global,
+    given: &ArgMatches<'a>,
+) -> Result<Sources<'a>, CommandError<'a>> {
     let Some(words) = given.get_strs("FILE") else {
-        return Err(Fault::WrongWords);
+        return Err(CommandError::WrongWords);
     };
     let paths = words.to_vec(alloc)?;
     if paths.is_empty() || paths.len() > MOST_HIVES {
-        return Err(Fault::WrongWords);
+        return Err(CommandError::WrongWords);
     }
     Ok(Sources { paths })
 }

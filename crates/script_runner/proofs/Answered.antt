@@ -7,7 +7,7 @@ use Rattle.script_syntax.specs.declared.reply.ReplyLine.{ReplyLine}
 use Rattle.script_runner.specs.Scripts.{Script, Answers, later_line}
 
 -- what was told of one of a script's later lines is an answer to the line
-pub carried : (old new then : Script) (line one : Line) (result told : Result ReplyLine Refusal) (reply : ReplyLine) → line ≡ one → later_line (Some one) ≡ Some one → told ≡ result → told ≡ Ok reply → then ≡ new → IfOk result (λ t. Answers old one t new) → (later_line (Some line) ≡ Some line) × Answers old line reply then
-carried old new then line one result told reply is later from ok same said =
+pub carried : (old new then : Script) (line one : Line) (result reported : Result ReplyLine Refusal) (reply : ReplyLine) → line ≡ one → later_line (Some one) ≡ Some one → reported ≡ result → reported ≡ Ok reply → then ≡ new → IfOk result (λ t. Answers old one t new) → (later_line (Some line) ≡ Some line) × Answers old line reply then
+carried old new then line one result reported reply is later from ok same said =
     let here = subst (λ r. IfOk r (λ t. Answers old one t new)) (sym from ∙ ok) said in
     subst (λ l. (later_line (Some l) ≡ Some l) × Answers old l reply then) (sym is) (later, subst (λ s. Answers old one reply s) (sym same) here)

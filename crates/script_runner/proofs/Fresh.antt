@@ -7,8 +7,8 @@ use Rattle.commit_journal.specs.Store.{room_of}
 use Rattle.commit_journal.specs.Journals.{changes_of, choice_of}
 use Rattle.engine_invariant.specs.Openings.{held_by}
 use Rattle.engine_invariant.specs.Prefixes.{view_of}
-use Rattle.recovery.specs.Kept.{IsKept}
-use Rattle.recovery.specs.declared.found.Found.{Found}
+use Rattle.recovery.specs.Invariant.{InvariantHolds}
+use Rattle.recovery.specs.declared.found.RecoveredStore.{RecoveredStore}
 use Rattle.store_model.specs.Machine.{Machine, bounds_of, opened_machine}
 
 -- each change has a number from 1 on, so there is none where the last number is 0
@@ -17,14 +17,14 @@ none_numbered hives numbers below [] n last zero = refl
 none_numbered hives numbers below (e ∷ es) n last zero = absurd (omega (arith, sym last ∙ zero))
 
 -- the journal of a store at number 0 spells no change
-none_at_0 : (found : Found) → IsKept found → found.number ≡ 0 → (choice_of found.journal).now.elements ≡ []
+none_at_0 : (found : RecoveredStore) → InvariantHolds found → found.number ≡ 0 → (choice_of found.journal).now.elements ≡ []
 none_at_0 found kept zero =
     let one = kept.recovers in
     ap (λ journal. journal.now.elements) one.journal_is
     ∙ none_numbered (length found.trees) (λ i. (held_by (map view_of found.hives.items) i).1) one.below (timed_elements (changes_of found.journal)) found.number one.recovers.last zero
 
 -- so its machine has the room of an empty journal
-pub is_at_0 : (machine : Machine) (found : Found) → machine ≡ record (opened_machine (bounds_of found.trees) found.trees found.number [] 0) { room = 65 + room_of (choice_of found.journal).now.elements } → IsKept found → found.number ≡ 0 → machine ≡ opened_machine (bounds_of found.trees) found.trees 0 [] 0
+pub is_at_0 : (machine : Machine) (found : RecoveredStore) → machine ≡ record (opened_machine (bounds_of found.trees) found.trees found.number [] 0) { room = 65 + room_of (choice_of found.journal).now.elements } → InvariantHolds found → found.number ≡ 0 → machine ≡ opened_machine (bounds_of found.trees) found.trees 0 [] 0
 is_at_0 machine found is kept zero =
     is ∙ ap (λ es. record (opened_machine (bounds_of found.trees) found.trees found.number [] 0) { room = 65 + room_of es }) (none_at_0 found kept zero)
     ∙ ap (λ n. record (opened_machine (bounds_of found.trees) found.trees n [] 0) { room = 65 }) zero

@@ -9,7 +9,7 @@ use Rattle.store_model.specs.declared.event.Reply.{Reply}
 use Rattle.store_model.specs.declared.event.Reply.TheVariants.{Refused}
 use Rattle.engine_invariant.specs.Engines.{EngineAnswers}
 use Rattle.engine.specs.Shown.{Shown, engine_view}
-use Rattle.script_runner.specs.Faults.{Comes}
+use Rattle.script_runner.specs.Faults.{ReachedByEvents}
 use Rattle.script_runner.specs.Later.{IsLater}
 use Rattle.store_model.proofs.Failing.{faults, run_stays_faulted}
 
@@ -21,17 +21,17 @@ run_join old mid new [] fs (r ∷ rs) ss first later = absurd first
 run_join old mid new (e ∷ es) fs [] ss first later = absurd first
 run_join old mid new (e ∷ es) fs (r ∷ rs) ss (next, step, rest) later = (next, step, run_join next mid new es fs rs ss rest later)
 
-pub comes_same : (old new : Machine) → new ≡ old → Comes old new
+pub comes_same : (old new : Machine) → new ≡ old → ReachedByEvents old new
 comes_same old new same = ([], [], same)
 
-pub comes_by : (old new : Machine) (e : Event) (r : Reply) → Step old e r new → Comes old new
+pub comes_by : (old new : Machine) (e : Event) (r : Reply) → Step old e r new → ReachedByEvents old new
 comes_by old new e r step = (e ∷ [], r ∷ [], (new, step, refl))
 
-pub comes_on : (old mid new : Machine) → Comes old mid → Comes mid new → Comes old new
-comes_on old mid new first later = (first.0 ++ later.0, first.1 ++ later.1, run_join old mid new first.0 later.0 first.1 later.1 first.2 later.2)
+pub advances : (old mid new : Machine) → ReachedByEvents old mid → ReachedByEvents mid new → ReachedByEvents old new
+advances old mid new first later = (first.0 ++ later.0, first.1 ++ later.1, run_join old mid new first.0 later.0 first.1 later.1 first.2 later.2)
 
 -- a store that is faulted stays so
-pub stays_so : (old new : Machine) → Comes old new → old.faulted ≡ true → new.faulted ≡ true
+pub stays_so : (old new : Machine) → ReachedByEvents old new → old.faulted ≡ true → new.faulted ≡ true
 stays_so old new came = run_stays_faulted old new came.0 came.1 came.2
 
 -- Stores
@@ -48,7 +48,7 @@ module _ {D : Type 0} (is_faithful : D → Type 0) (failures : D → ℕ) where
 
   pub later_on : (old mid new : Shown D) → IsLater is_faithful failures old mid → IsLater is_faithful failures mid new → IsLater is_faithful failures old new
   later_on old mid new first later = record {
-    comes = comes_on old.machine mid.machine new.machine first.comes later.comes;
+    comes = advances old.machine mid.machine new.machine first.comes later.comes;
     store = later.store ∙ first.store;
     counts = omega (arith, first.counts, later.counts);
     faulted = λ t. elim (later.faulted t) [
@@ -63,16 +63,16 @@ module _ {D : Type 0} (is_faithful : D → Type 0) (failures : D → ℕ) where
 
   -- one event
   pub later_by : (clock : D → ℕ) (event : Event) (answer : Reply) (old new : Shown D) → EngineAnswers event answer (engine_view clock failures old) (engine_view clock failures new) → new.store ≡ old.store → (is_faithful new.disk → is_faithful old.disk) → IsLater is_faithful failures old new
-  later_by clock event answer old new told store faithful = record {
-    comes = comes_by old.machine new.machine event answer told.step;
+  later_by clock event answer old new reported store faithful = record {
+    comes = comes_by old.machine new.machine event answer reported.step;
     store = store;
     counts = elim (told_fault answer) [
-      | inl is ↦ (let rose : failures old.disk < failures new.disk = told.failed is in let le : failures old.disk ≤ failures new.disk = omega (arith, rose) in le)
-      | inr other ↦ (let still : failures new.disk ≡ failures old.disk = told.works other in let le : failures old.disk ≤ failures new.disk = omega (arith, still) in le)
+      | inl is ↦ (let rose : failures old.disk < failures new.disk = reported.failed is in let le : failures old.disk ≤ failures new.disk = omega (arith, rose) in le)
+      | inr other ↦ (let no_change : failures new.disk ≡ failures old.disk = reported.works other in let le : failures old.disk ≤ failures new.disk = omega (arith, no_change) in le)
     ];
-    faulted = λ t. elim (faults old.machine new.machine event answer told.step) [
-      | inl still ↦ inl (sym still ∙ t)
-      | inr broke ↦ inr (told.failed broke.0)
+    faulted = λ t. elim (faults old.machine new.machine event answer reported.step) [
+      | inl no_change ↦ inl (sym no_change ∙ t)
+      | inr broke ↦ inr (reported.failed broke.0)
     ];
     faithful = faithful;
   }

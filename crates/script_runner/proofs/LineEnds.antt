@@ -4,7 +4,7 @@ use Rattle.std.specs.Prelude.{nat_lt, slice_index, IfSome}
 use Rattle.std.specs.Io.BufRead.{take_through, drop_through, strip_last, DropsThrough}
 use Rattle.std.proofs.lemmas.Bool.Decides.{nat_tests}
 use Rattle.script_runner.specs.Plays.{lines_of, with_byte}
-use Rattle.script_runner.specs.Turns.{TakesLine}
+use Rattle.script_runner.specs.OutcomeOfLine.{TakesLine}
 
 cond_cons : (test : Bool) (b : ℕ) (u v : List ℕ) → cond test (b ∷ u) (b ∷ v) ≡ b ∷ cond test u v
 cond_cons true b u v = refl

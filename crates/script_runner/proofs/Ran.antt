@@ -8,7 +8,7 @@ use Rattle.script_syntax.specs.Statuses.{with_refusal}
 use Rattle.script_syntax.specs.declared.reply.ReplyLine.{ReplyLine}
 use Rattle.script_syntax.proofs.Written.{appends_more}
 use Rattle.script_runner.proofs.Runs.{kept_appends}
-use Rattle.script_runner.proofs.Later.{comes_on}
+use Rattle.script_runner.proofs.Later.{advances}
 use Rattle.script_runner.proofs.Played.{only_if, plays_failed, plays_if}
 use Rattle.store_model.specs.Machine.{Machine, bounds_of, opened_machine}
 use Rattle.store_model.specs.declared.event.Event.TheVariants as event
@@ -18,18 +18,18 @@ use Rattle.reg_tree.specs.Sequences.{after_elements}
 use Rattle.reg_tree.specs.declared.element.Element.{Element}
 use Rattle.disk_model.specs.FileState.{FileState}
 use Rattle.disk_model.specs.Crash.{LeavesHonest}
-use Rattle.disk_model.specs.Unwritten.{IsSyncedOrSame}
+use Rattle.disk_model.specs.ReadOnly.{IsSyncedOrSame}
 use Rattle.commit_journal.specs.Store.{Store}
 use Rattle.engine_invariant.specs.Prefixes.{IsPrimaryOf, Recover, trees_after}
-use Rattle.engine.specs.Lives.{HasCome, Life.Opened, Life.Unopened, ReadsSafely}
+use Rattle.engine.specs.Lives.{ReachedFromOpening, Life.Opened, Life.NeverOpened, ReadsSafely}
 use Rattle.recovery.specs.Recovered.{IsRecovered, seen_in}
 use Rattle.script_syntax.specs.declared.status.Status.{Status}
 use Rattle.script_runner.specs.Scripts.{Script}
-use Rattle.script_runner.specs.Faults.{Comes}
+use Rattle.script_runner.specs.Faults.{ReachedByEvents}
 use Rattle.script_runner.specs.Plays.{MayReply, PlaysOn, WereRead, is_refusal}
-use Rattle.script_runner.specs.Running.{BeginsAt, GoesOnTo, HasBegun, HasEnded, HasLived, IsOpenedOn, IsRun, LeavesLife, MayHaveFailed, flushed_text, session_0, undone, undone_text}
-use Rattle.script_runner.specs.declared.ending.Ending.{Ending}
-use Rattle.script_runner.specs.declared.working.Pace.TheVariants.{FreesRoom}
+use Rattle.script_runner.specs.Running.{BeginsAt, LifeReaches, HasBegun, HasEnded, HasLived, IsOpenedOn, IsRun, LeavesLife, MayHaveFailed, flushed_text, session_0, undone, undone_text}
+use Rattle.script_runner.specs.declared.end_of_script.EndOfScript.{EndOfScript}
+use Rattle.script_runner.specs.declared.background_work.FlushPolicy.TheVariants.{WhenHalfFull}
 
 -- nothing of a script was read
 pub none_were_read : (known : Option (List ℕ)) → WereRead known [] None
@@ -43,14 +43,14 @@ both_ok H G (Ok a) (Err f) also h g = absurd (true≢false (sym (also refl)))
 both_ok H G (Err e) p also h g = tt
 
 -- What was played is written out, the flush is told, and what is left undone: all of it, if each write succeeds.
-pub told_all : {E : Type 0} (flushed : ReplyLine) (left : Option Refusal) (played out told r : Result Status E) (before mid then after : Option (List ℕ))
-    → (IsOk out → IsOk played) → (IsOk told → IsOk out) → (IsOk r → IsOk told) → IfOk out (λ status. (played ≡ Ok status) × Keeps before mid)
-    → IfOk told (λ status. IfOk out (λ came_to. (status ≡ with_refusal (is_refusal flushed) came_to) × Appends mid then (flushed_text flushed)))
-    → IfOk r (λ status. IfOk told (λ came_to. (status ≡ with_refusal (is_some left) came_to) × Appends then after (undone_text left)))
+pub told_all : {E : Type 0} (flushed : ReplyLine) (left : Option Refusal) (played out reported r : Result Status E) (before mid then after : Option (List ℕ))
+    → (IsOk out → IsOk played) → (IsOk reported → IsOk out) → (IsOk r → IsOk reported) → IfOk out (λ status. (played ≡ Ok status) × Keeps before mid)
+    → IfOk reported (λ status. IfOk out (λ came_to. (status ≡ with_refusal (is_refusal flushed) came_to) × Appends mid then (flushed_text flushed)))
+    → IfOk r (λ status. IfOk reported (λ came_to. (status ≡ with_refusal (is_some left) came_to) × Appends then after (undone_text left)))
     → IfOk r (λ status. IfOk played (λ came_to. (status ≡ with_refusal (is_some left) (with_refusal (is_refusal flushed) came_to)) × Appends before after (flushed_text flushed ++ undone_text left)))
-told_all flushed left played out told (Err e) before mid then after also more last o t w = tt
-told_all flushed left (Err p) out told (Ok status) before mid then after also more last o t w = tt
-told_all flushed left (Ok p) (Err e) told (Ok status) before mid then after also more last o t w = absurd (true≢false (sym (more (last refl))))
+told_all flushed left played out reported (Err e) before mid then after also more last o t w = tt
+told_all flushed left (Err p) out reported (Ok status) before mid then after also more last o t w = tt
+told_all flushed left (Ok p) (Err e) reported (Ok status) before mid then after also more last o t w = absurd (true≢false (sym (more (last refl))))
 told_all flushed left (Ok p) (Ok came_to) (Err e) (Ok status) before mid then after also more last o t w = absurd (true≢false (sym (last refl)))
 told_all flushed left (Ok p) (Ok came_to) (Ok so_far) (Ok status) before mid then after also more last o t w =
     let same : p ≡ came_to = subst (λ result. IfOk result (λ s. p ≡ s)) o.0 refl in (
@@ -61,7 +61,7 @@ told_all flushed left (Ok p) (Ok came_to) (Ok so_far) (Ok status) before mid the
 -- an end after which nobody is told of the device without cause
 ended_if : (X Y : Type 0) (IsLeft : Machine → Type 0) (script : Script) (came_to status : Status) (before after : Option (List ℕ)) → (X → Y) → HasEnded X IsLeft script came_to before after status → HasEnded Y IsLeft script came_to before after status
 ended_if X Y IsLeft script came_to status before after f h = record {
-  told = h.told;
+  reported = h.reported;
   last = h.last;
   flushed = h.flushed;
   may = λ tells. f (h.may tells);
@@ -80,14 +80,14 @@ begins_whole faithful files store before after script b =
     (ap (λ (s : Script). s.failed) b.script_is, ap (λ (s : Script). s.machine.faulted) b.script_is ∙ ap (λ (m : Machine). m.faulted) b.opened.begins)
 
 -- a store that was opened, lines that were played over it, and its end
-pub ran : (failed faithful first : Type 0) (IsLeft : Store → Machine → Type 0) (files : ℕ → List ℕ) (store : Store) (before opened played after : Option (List ℕ)) (script end : Script) (lines : List (List ℕ)) (ending : Option Ending) (text : List ℕ) (came_to status : Status) (low high : ℕ)
-    → (faithful → first) → (script.machine.faulted ≡ false → end.machine.faulted ≡ true → failed) → (low < high → failed) → HasBegun first files store before opened script → PlaysOn (MayReply FreesRoom) FreesRoom script 1 lines ending text came_to end
+pub ran : (failed faithful first : Type 0) (IsLeft : Store → Machine → Type 0) (files : ℕ → List ℕ) (store : Store) (before opened played after : Option (List ℕ)) (script end : Script) (lines : List (List ℕ)) (end_of_script : Option EndOfScript) (text : List ℕ) (came_to status : Status) (low high : ℕ)
+    → (faithful → first) → (script.machine.faulted ≡ false → end.machine.faulted ≡ true → failed) → (low < high → failed) → HasBegun first files store before opened script → PlaysOn (MayReply WhenHalfFull) WhenHalfFull script 1 lines end_of_script text came_to end
     → Appends opened played text → HasEnded (MayHaveFailed end low high) (IsLeft store) end came_to played after status
-    → IsRun failed faithful IsLeft files lines ending before after status
-ran failed faithful first IsLeft files store before opened played after script end lines ending text came_to status low high was faulted rose begun plays wrote ends =
+    → IsRun failed faithful IsLeft files lines end_of_script before after status
+ran failed faithful first IsLeft files store before opened played after script end lines end_of_script text came_to status low high was faulted rose begun plays wrote ends =
     let whole = begins_whole first files store before opened script begun in
     let broke : end.machine.faulted ≡ true → failed = faulted whole.1 in
-    let flagged = plays_failed (MayReply FreesRoom) FreesRoom lines script 1 ending text came_to end plays (λ e. absurd (true≢false (sym e ∙ whole.0))) in
+    let flagged = plays_failed (MayReply WhenHalfFull) WhenHalfFull lines script 1 end_of_script text came_to end plays (λ e. absurd (true≢false (sym e ∙ whole.0))) in
     inr (record {
       store = store;
       script = script;
@@ -97,12 +97,12 @@ ran failed faithful first IsLeft files store before opened played after script e
         machine = begun.machine;
         opened = record { trees = begun.opened.trees; room = begun.opened.room; begins = begun.opened.begins; recovered = λ f. begun.opened.recovered (was f); room_is = λ f. begun.opened.room_is (was f) };
         script_is = begun.script_is;
-        told = begun.told;
+        reported = begun.reported;
       };
       text = text;
       came_to = came_to;
       end = end;
-      plays = plays_if failed (MayReply FreesRoom) FreesRoom lines script 1 ending text came_to end broke plays;
+      plays = plays_if failed (MayReply WhenHalfFull) WhenHalfFull lines script 1 end_of_script text came_to end broke plays;
       played = played;
       wrote = wrote;
       ends = ended_if (MayHaveFailed end low high) failed (IsLeft store) end came_to status played after
@@ -112,20 +112,20 @@ ran failed faithful first IsLeft files store before opened played after script e
 -- Lives
 
 -- a machine that begins has come from the one that was opened
-pub opened_came : (number room : ℕ) (trees : List TreeMap) (machine : Machine) → BeginsAt number trees room [] machine → HasCome number trees machine
+pub opened_came : (number room : ℕ) (trees : List TreeMap) (machine : Machine) → BeginsAt number trees room [] machine → ReachedFromOpening number trees machine
 opened_came number room trees machine begins = record { room = room; broken = false; events = []; replies = []; run = begins }
 
-pub begun_came : (number room : ℕ) (trees : List TreeMap) (machine : Machine) → BeginsAt number trees room session_0 machine → HasCome number trees machine
+pub begun_came : (number room : ℕ) (trees : List TreeMap) (machine : Machine) → BeginsAt number trees room session_0 machine → ReachedFromOpening number trees machine
 begun_came number room trees machine begins = record { room = room; broken = false; events = event.StartSession 0 ∷ []; replies = reply.Done ∷ []; run = (machine, (refl, begins), refl) }
 
-pub came_on : (number : ℕ) (trees : List TreeMap) (old new : Machine) → HasCome number trees old → Comes old new → HasCome number trees new
+pub came_on : (number : ℕ) (trees : List TreeMap) (old new : Machine) → ReachedFromOpening number trees old → ReachedByEvents old new → ReachedFromOpening number trees new
 came_on number trees old new came later =
-    let all = comes_on (record (opened_machine (bounds_of trees) trees number [] 0) { room = came.room; faulted = came.broken }) old new (came.events, came.replies, came.run) later in
+    let all = advances (record (opened_machine (bounds_of trees) trees number [] 0) { room = came.room; faulted = came.broken }) old new (came.events, came.replies, came.run) later in
     record { room = came.room; broken = came.broken; events = all.0; replies = all.1; run = all.2 }
 
 -- what an opening that was refused leaves
 pub left_unopened : (failed faithful : Type 0) (state end : ℕ → FileState) → (faithful → (f : ℕ) → IsSyncedOrSame (state f) (end f)) → LeavesLife failed faithful state end
-left_unopened failed faithful state end same f = (record { id = []; hives = 0 }, Unopened end, same f, refl, λ e. absurd cc)
+left_unopened failed faithful state end same f = (record { id = []; hives = 0 }, NeverOpened end, same f, refl, λ e. absurd cc)
 
 -- what is left of a store that was opened and has gone on
 pub left_opened : (failed since faithful first : Type 0) (state end : ℕ → FileState) (store : Store) (number : ℕ) (trees : List TreeMap) → (since → failed) → (faithful → first) → (first → IsRecovered (seen_in state) store number trees)
@@ -135,7 +135,7 @@ left_opened failed since faithful first state end store number trees rose was re
     (store, Opened number trees l.0 end, (recovered (was f), l.1, l.2.safe, l.2.reads), refl, λ e. rose (l.2.why e))
 
 pub left_begun : (failed since faithful first : Type 0) (state end : ℕ → FileState) (store : Store) (number : ℕ) (sessions : List ℕ) (machine : Machine) → (since → failed) → (faithful → first) → (opened : IsOpenedOn first (seen_in state) store number sessions machine)
-    → HasCome number opened.trees machine → (faithful → (last : Machine) × Comes machine last × GoesOnTo since store last end) → LeavesLife failed faithful state end
+    → ReachedFromOpening number opened.trees machine → (faithful → (last : Machine) × ReachedByEvents machine last × LifeReaches since store last end) → LeavesLife failed faithful state end
 left_begun failed since faithful first state end store number sessions machine rose was opened come on =
     left_opened failed since faithful first state end store number opened.trees rose was opened.recovered
     (λ f. let l = on f in (l.0, came_on number opened.trees machine l.0 come l.1, l.2))

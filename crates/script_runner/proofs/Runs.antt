@@ -9,16 +9,16 @@ use Rattle.script_syntax.specs.declared.reply.ReplyLine.{ReplyLine}
 use Rattle.script_syntax.specs.declared.reply.ReplyLine.TheVariants as reply
 use Rattle.script_syntax.specs.Statuses.{with_refusal}
 use Rattle.script_runner.specs.Scripts.{Script, Answers, fresh_script, hives_asked, line_asked}
-use Rattle.script_runner.specs.Plays.{lines_of, AreFirst, AreReadOf, WereRead, wrong_text, Ends, KeepsUp, MayReply, PlaysOn, IsPlayed, IsPlayedOn, is_refusal}
-use Rattle.script_runner.specs.Faults.{tells_of_device}
-use Rattle.script_runner.specs.Turns.{IsPlayedTo, TakesLine, Turns}
-use Rattle.script_runner.specs.declared.working.Pace.{Pace}
-use Rattle.script_runner.specs.declared.working.Pace.TheVariants.{AsAsked, FreesRoom}
-use Rattle.script_runner.specs.declared.ending.Ending.{Ending}
-use Rattle.script_runner.specs.declared.ending.Ending.TheVariants.{Ended, Broken, OutOfMemory}
+use Rattle.script_runner.specs.Plays.{lines_of, AreFirst, AreReadOf, WereRead, wrong_text, Ends, KeepsUpBetweenLines, MayReply, PlaysOn, IsPlayed, IsPlayedOn, is_refusal}
+use Rattle.script_runner.specs.Faults.{is_device_reply}
+use Rattle.script_runner.specs.OutcomeOfLine.{IsPlayedTo, TakesLine, OutcomeOfLine}
+use Rattle.script_runner.specs.declared.background_work.FlushPolicy.{FlushPolicy}
+use Rattle.script_runner.specs.declared.background_work.FlushPolicy.TheVariants.{OnRequest, WhenHalfFull}
+use Rattle.script_runner.specs.declared.end_of_script.EndOfScript.{EndOfScript}
+use Rattle.script_runner.specs.declared.end_of_script.EndOfScript.TheVariants.{Ended, Broken, OutOfMemory}
 use Rattle.script_syntax.specs.declared.status.Status.{Status}
 use Rattle.script_syntax.specs.declared.status.Status.TheVariants.{Clean, Refused, Wrong}
-use Rattle.script_runner.specs.declared.runner.Turn.TheVariants.{Replied}
+use Rattle.script_runner.specs.declared.runner.LineOutcome.TheVariants.{Replied}
 
 -- a write, and nothing more
 pub appends_kept : (old mid new : Option (List ℕ)) (text : List ℕ) → Appends old mid text → Keeps mid new → Appends old new text
@@ -51,61 +51,61 @@ one_read (Some bytes) rest line taken = first_alone bytes taken.0 line taken.2
 more_first : (bytes left line : List ℕ) (lines : List (List ℕ)) → lines_of bytes ≡ line ∷ lines_of left → AreFirst lines (lines_of left) → AreFirst (line ∷ lines) (lines_of bytes)
 more_first bytes left line lines e first = (first.0, e ∙ ap (λ others. line ∷ others) first.1)
 
-more_of : (bytes left line : List ℕ) (lines : List (List ℕ)) (ending : Option Ending) → lines_of bytes ≡ line ∷ lines_of left → AreReadOf left lines ending → AreReadOf bytes (line ∷ lines) ending
+more_of : (bytes left line : List ℕ) (lines : List (List ℕ)) (end_of_script : Option EndOfScript) → lines_of bytes ≡ line ∷ lines_of left → AreReadOf left lines end_of_script → AreReadOf bytes (line ∷ lines) end_of_script
 more_of bytes left line lines None e first = more_first bytes left line lines e first
 more_of bytes left line lines (Some Ended) e whole = ap (λ others. line ∷ others) whole ∙ sym e
 more_of bytes left line lines (Some Broken) e first = more_first bytes left line lines e first
 more_of bytes left line lines (Some OutOfMemory) e first = more_first bytes left line lines e first
 
-pub more_read : (known rest : Option (List ℕ)) (line : List ℕ) (lines : List (List ℕ)) (ending : Option Ending) → TakesLine known rest line → WereRead rest lines ending → WereRead known (line ∷ lines) ending
-more_read None rest line lines ending taken read = tt
-more_read (Some bytes) rest line lines ending taken read =
-    more_of bytes taken.0 line lines ending taken.2 (subst (λ r. WereRead r lines ending) taken.1 read)
+pub more_read : (known rest : Option (List ℕ)) (line : List ℕ) (lines : List (List ℕ)) (end_of_script : Option EndOfScript) → TakesLine known rest line → WereRead rest lines end_of_script → WereRead known (line ∷ lines) end_of_script
+more_read None rest line lines end_of_script taken read = tt
+more_read (Some bytes) rest line lines end_of_script taken read =
+    more_of bytes taken.0 line lines end_of_script taken.2 (subst (λ r. WereRead r lines end_of_script) taken.1 read)
 
 -- nothing is read when memory for it is refused, or when it can't be
-pub none_read : (known : Option (List ℕ)) (ending : Ending) → (ending ≡ Ended → ⊥) → WereRead known [] (Some ending)
-none_read None ending h = tt
+pub none_read : (known : Option (List ℕ)) (end_of_script : EndOfScript) → (end_of_script ≡ Ended → ⊥) → WereRead known [] (Some end_of_script)
+none_read None end_of_script h = tt
 none_read (Some bytes) Ended h = absurd (h refl)
 none_read (Some bytes) Broken h = (lines_of bytes, refl)
 none_read (Some bytes) OutOfMemory h = (lines_of bytes, refl)
 
 -- a line that is none ends the run
-pub stops_wrong : (pace : Pace) (old new : Script) (number : ℕ) (known rest before after : Option (List ℕ)) (line : List ℕ) (status : Status) → TakesLine known rest line → line_asked line ≡ None → status ≡ Wrong → Appends before after (wrong_text number) → new ≡ old → IsPlayedOn pace old number known before after status new
-stops_wrong pace old new number known rest before after line status taken none wrong written same =
+pub stops_wrong : (policy : FlushPolicy) (old new : Script) (number : ℕ) (known rest before after : Option (List ℕ)) (line : List ℕ) (status : Status) → TakesLine known rest line → line_asked line ≡ None → status ≡ Wrong → Appends before after (wrong_text number) → new ≡ old → IsPlayedOn policy old number known before after status new
+stops_wrong policy old new number known rest before after line status taken none wrong written same =
     (line ∷ [], None, wrong_text number, one_read known rest line taken, inl (none, record { last = refl; stopped = refl; printed = refl; wrong = wrong }, same), written)
 
 -- a line was answered, behind what was written out
-pub turned : (pace : Pace) (old new : Script) (number : ℕ) (known rest before mid after : Option (List ℕ)) (line : List ℕ) (asked : Line) (told : ReplyLine) (refused : Bool)
-    → TakesLine known rest line → line_asked line ≡ Some asked → Answers old asked told new → Keeps before mid → Appends mid after (reply_line told) → refused ≡ is_refusal told → MayReply pace told
-    → Turns pace old number known before (Replied refused) new rest after
-turned pace old new number known rest before mid after line asked told refused taken is answered still written said may =
-    (line, asked, told, taken, is, answered, kept_appends before mid after (reply_line told) still written, said, may)
+pub turned : (policy : FlushPolicy) (old new : Script) (number : ℕ) (known rest before mid after : Option (List ℕ)) (line : List ℕ) (asked : Line) (reported : ReplyLine) (refused : Bool)
+    → TakesLine known rest line → line_asked line ≡ Some asked → Answers old asked reported new → Keeps before mid → Appends mid after (reply_line reported) → refused ≡ is_refusal reported → MayReply policy reported
+    → OutcomeOfLine policy old number known before (Replied refused) new rest after
+turned policy old new number known rest before mid after line asked reported refused taken is answered no_change written said may =
+    (line, asked, reported, taken, is, answered, kept_appends before mid after (reply_line reported) no_change written, said, may)
 
 -- there is no further line
-pub ends_here : (pace : Pace) (old new : Script) (number : ℕ) (known before after : Option (List ℕ)) (ending : Ending) (text : List ℕ) (status : Status) → WereRead known [] (Some ending) → Ends ending text status → Appends before after text → new ≡ old → IsPlayedOn pace old number known before after status new
-ends_here pace old new number known before after ending text status read how written same = ([], Some ending, text, read, (how, same), written)
+pub ends_here : (policy : FlushPolicy) (old new : Script) (number : ℕ) (known before after : Option (List ℕ)) (end_of_script : EndOfScript) (text : List ℕ) (status : Status) → WereRead known [] (Some end_of_script) → Ends end_of_script text status → Appends before after text → new ≡ old → IsPlayedOn policy old number known before after status new
+ends_here policy old new number known before after end_of_script text status read how written same = ([], Some end_of_script, text, read, (how, same), written)
 
 -- a store in memory isn't one that frees its room
-pub in_memory_alone : (pace : Pace) → pace ≡ AsAsked → pace ≡ FreesRoom → ⊥
-in_memory_alone pace e f = cc
+pub in_memory_alone : (policy : FlushPolicy) → policy ≡ OnRequest → policy ≡ WhenHalfFull → ⊥
+in_memory_alone policy e f = cc
 
 -- a run that leaves the script so, and one of a store in memory of which nothing is asked any more
-pub to_end : (pace : Pace) (old new : Script) (number : ℕ) (known before after : Option (List ℕ)) (status : Status) → IsPlayedOn pace old number known before after status new → IsPlayedTo pace old number known before after status new
-to_end pace old new number known before after status on = (new, on, λ e. refl)
+pub to_end : (policy : FlushPolicy) (old new : Script) (number : ℕ) (known before after : Option (List ℕ)) (status : Status) → IsPlayedOn policy old number known before after status new → IsPlayedTo policy old number known before after status new
+to_end policy old new number known before after status on = (new, on, λ e. refl)
 
-pub to_none : (pace : Pace) (old end new : Script) (number : ℕ) (known before after : Option (List ℕ)) (status : Status) → pace ≡ AsAsked → IsPlayedOn pace old number known before after status end → IsPlayedTo pace old number known before after status new
-to_none pace old end new number known before after status in_memory on = (end, on, λ e. absurd (in_memory_alone pace in_memory e))
+pub to_none : (policy : FlushPolicy) (old end new : Script) (number : ℕ) (known before after : Option (List ℕ)) (status : Status) → policy ≡ OnRequest → IsPlayedOn policy old number known before after status end → IsPlayedTo policy old number known before after status new
+to_none policy old end new number known before after status in_memory on = (end, on, λ e. absurd (in_memory_alone policy in_memory e))
 
 -- a store that frees its room may be told of the device, and one in memory isn't
-pub may_reply : (pace : Pace) (told : ReplyLine) → (pace ≡ AsAsked → tells_of_device told ≡ false) → MayReply pace told
-may_reply AsAsked told other = other refl
-may_reply FreesRoom told other = tt
+pub may_reply : (policy : FlushPolicy) (reported : ReplyLine) → (policy ≡ OnRequest → is_device_reply reported ≡ false) → MayReply policy reported
+may_reply OnRequest reported other = other refl
+may_reply WhenHalfFull reported other = tt
 
 -- a line was answered, the store worked, and the run goes on
-pub goes_on : (pace : Pace) (old new kept end : Script) (number : ℕ) (known rest before told mid after : Option (List ℕ)) (refused : Bool) (status : Status)
-    → Turns pace old number known before (Replied refused) new rest told → KeepsUp pace new kept → Keeps told mid → IsPlayedOn pace kept (number + 1) rest mid after status end
-    → IsPlayedOn pace old number known before after (with_refusal refused status) end
-goes_on pace old new kept end number known rest before told mid after refused status turn worked still on =
+pub continues : (policy : FlushPolicy) (old new kept end : Script) (number : ℕ) (known rest before reported mid after : Option (List ℕ)) (refused : Bool) (status : Status)
+    → OutcomeOfLine policy old number known before (Replied refused) new rest reported → KeepsUpBetweenLines policy new kept → Keeps reported mid → IsPlayedOn policy kept (number + 1) rest mid after status end
+    → IsPlayedOn policy old number known before after (with_refusal refused status) end
+continues policy old new kept end number known rest before reported mid after refused status turn worked no_change on =
     let line = turn.0 in
     let reply = turn.2 in (
       line ∷ on.0,
@@ -113,7 +113,7 @@ goes_on pace old new kept end number known rest before told mid after refused st
       reply_line reply ++ on.2,
       more_read known rest line on.0 on.1 turn.3 on.3,
       inr (turn.1, reply, new, kept, on.2, status, turn.4, turn.5, turn.8, worked, on.4, refl, ap (λ b. with_refusal b status) turn.7),
-      appends_more before mid after (reply_line reply) on.2 (appends_kept before told mid (reply_line reply) turn.6 still) on.5,
+      appends_more before mid after (reply_line reply) on.2 (appends_kept before reported mid (reply_line reply) turn.6 no_change) on.5,
     )
 
 -- refusals before and after
@@ -132,13 +132,13 @@ pub broken_is_no_end : Broken ≡ Ended → ⊥
 broken_is_no_end e = cc
 
 -- a first line that says how many hives there are
-pub begins : (known rest before mid after : Option (List ℕ)) (line : List ℕ) (hives : ℕ) (old end : Script) (status : Status) → TakesLine known rest line → hives_asked line ≡ Some hives → old ≡ fresh_script hives → Appends before mid (reply_line reply.Done) → IsPlayedOn AsAsked old 2 rest mid after status end → IsPlayed known before after status
+pub begins : (known rest before mid after : Option (List ℕ)) (line : List ℕ) (hives : ℕ) (old end : Script) (status : Status) → TakesLine known rest line → hives_asked line ≡ Some hives → old ≡ fresh_script hives → Appends before mid (reply_line reply.Done) → IsPlayedOn OnRequest old 2 rest mid after status end → IsPlayed known before after status
 begins known rest before mid after line hives old end status taken asked fresh written on = (
   line ∷ on.0,
   on.1,
   reply_line reply.Done ++ on.2,
   more_read known rest line on.0 on.1 taken on.3,
-  inr (hives, on.2, end, asked, subst (λ script. PlaysOn (MayReply AsAsked) AsAsked script 2 on.0 on.1 on.2 status end) fresh on.4, refl),
+  inr (hives, on.2, end, asked, subst (λ script. PlaysOn (MayReply OnRequest) OnRequest script 2 on.0 on.1 on.2 status end) fresh on.4, refl),
   appends_more before mid after (reply_line reply.Done) on.2 written on.5,
 )
 

@@ -28,9 +28,9 @@ number_stays old new stepped = ap last_number stepped.1.next
 
 -- a step that is made while a change is waited for leaves fewer steps
 pub fewer_left : (old mid new : Machine) (number left mid_left new_left : ℕ) → number ≤ last_number old → IsAsked old number false mid → mid_left ≡ left → (mid.durable < last_number mid → steps_to_all new new_left < steps_to_all mid mid_left) → steps_to_all new new_left < steps_to_all old left
-fewer_left old mid new number left mid_left new_left accepted asked same nears =
+fewer_left old mid new number left mid_left new_left accepted asked same nears_durable =
     let waits : old.durable < last_number old = omega (arith, asked.0, accepted) in
-    let fewer = nears (subst (λ m. m.durable < last_number m) (sym asked.2) waits) in
+    let fewer = nears_durable (subst (λ m. m.durable < last_number m) (sym asked.2) waits) in
     subst (λ m. steps_to_all new new_left < steps_to_all m left) asked.2 (subst (λ l. steps_to_all new new_left < steps_to_all mid l) same fewer)
 
 pub still_accepted : (old mid new : Machine) (number : ℕ) → IsAsked old number false mid → IsStepped mid new → number ≤ last_number old → number ≤ last_number new

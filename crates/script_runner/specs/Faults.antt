@@ -9,18 +9,18 @@ use Rattle.store_model.specs.declared.event.Event.{Event}
 use Rattle.store_model.specs.declared.event.Reply.{Reply}
 
 -- whether a reply tells of the device: that it failed in this call, or in an earlier one
-abbrev pub tells_of_device : ReplyLine → Bool
-tells_of_device (reply.Refused refusal) = is_of_device refusal
-tells_of_device _ = false
+abbrev pub is_device_reply : ReplyLine → Bool
+is_device_reply (reply.Refused refusal) = is_of_device refusal
+is_device_reply _ = false
 
 -- a reply tells of the device only if it has failed
-abbrev pub TellsOnlyIf : Type 0 → ReplyLine → Type 0
-TellsOnlyIf failed told = tells_of_device told ≡ true → failed
+abbrev pub IsDeviceReplyOnlyIf : Type 0 → ReplyLine → Type 0
+IsDeviceReplyOnlyIf failed reported = is_device_reply reported ≡ true → failed
 
 -- the same of a refusal, where there is one
-abbrev pub IsOnlyIf : Type 0 → Option Refusal → Type 0
-IsOnlyIf failed ended = IfSome ended (λ refusal. is_of_device refusal ≡ true → failed)
+abbrev pub IsDeviceRefusalOnlyIf : Type 0 → Option Refusal → Type 0
+IsDeviceRefusalOnlyIf failed ended = IfSome ended (λ refusal. is_of_device refusal ≡ true → failed)
 
 -- a machine has come from another by some events and their answers
-abbrev pub Comes : Machine → Machine → Type 0
-Comes old new = (events : List Event) × (replies : List Reply) × Run old events replies new
+abbrev pub ReachedByEvents : Machine → Machine → Type 0
+ReachedByEvents old new = (events : List Event) × (replies : List Reply) × Run old events replies new

@@ -8,16 +8,16 @@ use Rattle.store_model.specs.declared.handle.Tx.{Tx}
 use Rattle.script_runner.specs.declared.labels.Labels.{Labels}
 
 -- what a map of labels has at one
-abbrev pub place_in : BTreeMap (List ℕ) (Option Tx) → List ℕ → Option (Option Tx)
-place_in named label = get (slice_cmp nat_cmp) named label
+abbrev pub label_entry : BTreeMap (List ℕ) (Option Tx) → List ℕ → Option (Option Tx)
+label_entry named label = get (slice_cmp nat_cmp) named label
 
 -- the transaction that a label names: one that has room may name none
 abbrev pub named_by : Labels → List ℕ → Option Tx
-named_by labels label = option_and_then (λ tx. tx) (place_in labels.named label)
+named_by labels label = option_and_then (λ tx. tx) (label_entry labels.named label)
 
 -- there is room for a label
 abbrev pub HasRoom : Labels → List ℕ → Type 0
-HasRoom labels label = IsSome (place_in labels.named label)
+HasRoom labels label = IsSome (label_entry labels.named label)
 
 -- there is no label
 abbrev pub NamesNothing : Labels → Type 0

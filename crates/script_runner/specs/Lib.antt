@@ -6,7 +6,7 @@ pub mod Work
 pub mod Scripts
 pub mod Parting
 pub mod Labels
-pub mod Players
+pub mod Interpreters
 pub mod Plays
-pub mod Turns
+pub mod OutcomeOfLine
 pub mod Running

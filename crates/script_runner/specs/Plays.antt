@@ -10,13 +10,13 @@ use Rattle.script_syntax.specs.declared.line.Line.{Line}
 use Rattle.script_syntax.specs.declared.reply.ReplyLine.{ReplyLine}
 use Rattle.script_syntax.specs.declared.reply.ReplyLine.TheVariants as reply
 use Rattle.script_runner.specs.Scripts.{Script, Answers, fresh_script, hives_asked, line_asked}
-use Rattle.script_runner.specs.Faults.{tells_of_device}
-use Rattle.script_runner.specs.Work.{Between, is_fault}
-use Rattle.script_runner.specs.declared.working.Pace.{Pace}
-use Rattle.script_runner.specs.declared.working.Pace.TheVariants.{AsAsked, FreesRoom}
+use Rattle.script_runner.specs.Faults.{is_device_reply}
+use Rattle.script_runner.specs.Work.{WorksBetweenLines, is_fault}
+use Rattle.script_runner.specs.declared.background_work.FlushPolicy.{FlushPolicy}
+use Rattle.script_runner.specs.declared.background_work.FlushPolicy.TheVariants.{OnRequest, WhenHalfFull}
 use Rattle.script_syntax.specs.Statuses.{with_refusal}
-use Rattle.script_runner.specs.declared.ending.Ending.{Ending}
-use Rattle.script_runner.specs.declared.ending.Ending.TheVariants.{Ended, Broken, OutOfMemory}
+use Rattle.script_runner.specs.declared.end_of_script.EndOfScript.{EndOfScript}
+use Rattle.script_runner.specs.declared.end_of_script.EndOfScript.TheVariants.{Ended, Broken, OutOfMemory}
 use Rattle.script_syntax.specs.declared.status.Status.{Status}
 use Rattle.script_syntax.specs.declared.status.Status.TheVariants.{Clean, Refused, Wrong}
 
@@ -35,14 +35,14 @@ AreFirst lines all = (rest : List (List ℕ)) × (all ≡ lines ++ rest)
 
 -- where the bytes of a script are known: a script that was read to its end is these lines; of one that could not be
 -- read on, or was not, these are the first
-abbrev pub AreReadOf : List ℕ → List (List ℕ) → Option Ending → Type 0
+abbrev pub AreReadOf : List ℕ → List (List ℕ) → Option EndOfScript → Type 0
 AreReadOf bytes lines (Some Ended) = lines ≡ lines_of bytes
 AreReadOf bytes lines (Some Broken) = AreFirst lines (lines_of bytes)
 AreReadOf bytes lines (Some OutOfMemory) = AreFirst lines (lines_of bytes)
 AreReadOf bytes lines None = AreFirst lines (lines_of bytes)
 
-abbrev pub WereRead : Option (List ℕ) → List (List ℕ) → Option Ending → Type 0
-WereRead known lines ending = IfSome known (λ bytes. AreReadOf bytes lines ending)
+abbrev pub WereRead : Option (List ℕ) → List (List ℕ) → Option EndOfScript → Type 0
+WereRead known lines end_of_script = IfSome known (λ bytes. AreReadOf bytes lines end_of_script)
 
 -- what is printed at a line that is none, which ends the run
 abbrev pub wrong_text : ℕ → List ℕ
@@ -54,59 +54,59 @@ is_refusal (reply.Refused refusal) = true
 is_refusal _ = false
 
 -- a line is not understood, and nothing more is read
-pub record IsWrong (number : ℕ) (lines : List (List ℕ)) (ending : Option Ending) (text : List ℕ) (status : Status) : Type 0 where
+pub record IsWrong (number : ℕ) (lines : List (List ℕ)) (end_of_script : Option EndOfScript) (text : List ℕ) (status : Status) : Type 0 where
   pub last : lines ≡ []
-  pub stopped : ending ≡ None
+  pub stopped : end_of_script ≡ None
   pub printed : text ≡ wrong_text number
   pub wrong : status ≡ Wrong
 
 -- how a run ends when no line is left
-abbrev pub Ends : Ending → List ℕ → Status → Type 0
+abbrev pub Ends : EndOfScript → List ℕ → Status → Type 0
 Ends Ended text status = (text ≡ []) × (status ≡ Clean)
 Ends Broken text status = (text ≡ codes "cannot read script\n") × (status ≡ Refused)
 Ends OutOfMemory text status = (text ≡ refusal_text NoMemory ++ 10 ∷ []) × (status ≡ Refused)
 
-abbrev pub EndsAs : Option Ending → List ℕ → Status → Type 0
+abbrev pub EndsAs : Option EndOfScript → List ℕ → Status → Type 0
 EndsAs None text status = ⊥
-EndsAs (Some ending) text status = Ends ending text status
+EndsAs (Some end_of_script) text status = Ends end_of_script text status
 
 -- Between two lines the store works at this pace. Of the script it changes the machine, and whether the device has failed in that.
-abbrev pub KeepsUp : Pace → Script → Script → Type 0
-KeepsUp pace old new = (ended : Option Refusal) × Between pace ended old.machine new.machine × (new ≡ record old { machine = new.machine; failed = old.failed || is_fault ended })
+abbrev pub KeepsUpBetweenLines : FlushPolicy → Script → Script → Type 0
+KeepsUpBetweenLines policy old new = (ended : Option Refusal) × WorksBetweenLines policy ended old.machine new.machine × (new ≡ record old { machine = new.machine; failed = old.failed || is_fault ended })
 
 -- A store that makes no steps between lines is one in memory, whose disk never fails: none of its replies tells of the device.
-abbrev pub MayReply : Pace → ReplyLine → Type 0
-MayReply AsAsked told = tells_of_device told ≡ false
-MayReply FreesRoom told = ⊤
+abbrev pub MayReply : FlushPolicy → ReplyLine → Type 0
+MayReply OnRequest reported = is_device_reply reported ≡ false
+MayReply WhenHalfFull reported = ⊤
 
 -- From old, at the line of this number, the lines and the way that reading ended print this text, end with this status and
 -- leave the script so: each line is answered in turn, by a reply that may be given, up to one that is not understood; and between
 -- the lines the store works at this pace.
-abbrev pub PlaysOn : (ReplyLine → Type 0) → Pace → Script → ℕ → List (List ℕ) → Option Ending → List ℕ → Status → Script → Type 0
-PlaysOn may pace old number [] ending text status end = EndsAs ending text status × (end ≡ old)
-PlaysOn may pace old number (line ∷ lines) ending text status end =
-    ((line_asked line ≡ None) × IsWrong number lines ending text status × (end ≡ old))
-    ⊎ ((asked : Line) × (told : ReplyLine) × (new kept : Script) × (rest : List ℕ) × (later : Status) × (line_asked line ≡ Some asked) × Answers old asked told new
-    × may told × KeepsUp pace new kept × PlaysOn may pace kept (number + 1) lines ending rest later end × (text ≡ reply_line told ++ rest)
-    × (status ≡ with_refusal (is_refusal told) later))
+abbrev pub PlaysOn : (ReplyLine → Type 0) → FlushPolicy → Script → ℕ → List (List ℕ) → Option EndOfScript → List ℕ → Status → Script → Type 0
+PlaysOn may policy old number [] end_of_script text status end = EndsAs end_of_script text status × (end ≡ old)
+PlaysOn may policy old number (line ∷ lines) end_of_script text status end =
+    ((line_asked line ≡ None) × IsWrong number lines end_of_script text status × (end ≡ old))
+    ⊎ ((asked : Line) × (reported : ReplyLine) × (new kept : Script) × (rest : List ℕ) × (later : Status) × (line_asked line ≡ Some asked) × Answers old asked reported new
+    × may reported × KeepsUpBetweenLines policy new kept × PlaysOn may policy kept (number + 1) lines end_of_script rest later end × (text ≡ reply_line reported ++ rest)
+    × (status ≡ with_refusal (is_refusal reported) later))
 
 -- the first line says how many hives there are; a script without a line is wrong at line 1
-abbrev pub Plays : List (List ℕ) → Option Ending → List ℕ → Status → Type 0
+abbrev pub Plays : List (List ℕ) → Option EndOfScript → List ℕ → Status → Type 0
 Plays [] (Some Ended) text status = (text ≡ wrong_text 1) × (status ≡ Wrong)
 Plays [] (Some Broken) text status = Ends Broken text status
 Plays [] (Some OutOfMemory) text status = Ends OutOfMemory text status
 Plays [] None text status = ⊥
-Plays (line ∷ lines) ending text status =
-    ((hives_asked line ≡ None) × IsWrong 1 lines ending text status)
-    ⊎ ((hives : ℕ) × (rest : List ℕ) × (end : Script) × (hives_asked line ≡ Some hives) × PlaysOn (MayReply AsAsked) AsAsked (fresh_script hives) 2 lines ending rest status end
+Plays (line ∷ lines) end_of_script text status =
+    ((hives_asked line ≡ None) × IsWrong 1 lines end_of_script text status)
+    ⊎ ((hives : ℕ) × (rest : List ℕ) × (end : Script) × (hives_asked line ≡ Some hives) × PlaysOn (MayReply OnRequest) OnRequest (fresh_script hives) 2 lines end_of_script rest status end
     × (text ≡ reply_line reply.Done ++ rest))
 
 -- some lines were read, and what was written is what they print
 abbrev pub IsPlayed : Option (List ℕ) → Option (List ℕ) → Option (List ℕ) → Status → Type 0
 IsPlayed known before after status =
-    (lines : List (List ℕ)) × (ending : Option Ending) × (text : List ℕ) × WereRead known lines ending × Plays lines ending text status × Appends before after text
+    (lines : List (List ℕ)) × (end_of_script : Option EndOfScript) × (text : List ℕ) × WereRead known lines end_of_script × Plays lines end_of_script text status × Appends before after text
 
 -- the same from a script's later line on, over a store that works at this pace; it leaves the script so
-abbrev pub IsPlayedOn : Pace → Script → ℕ → Option (List ℕ) → Option (List ℕ) → Option (List ℕ) → Status → Script → Type 0
-IsPlayedOn pace old number known before after status end =
-    (lines : List (List ℕ)) × (ending : Option Ending) × (text : List ℕ) × WereRead known lines ending × PlaysOn (MayReply pace) pace old number lines ending text status end × Appends before after text
+abbrev pub IsPlayedOn : FlushPolicy → Script → ℕ → Option (List ℕ) → Option (List ℕ) → Option (List ℕ) → Status → Script → Type 0
+IsPlayedOn policy old number known before after status end =
+    (lines : List (List ℕ)) × (end_of_script : Option EndOfScript) × (text : List ℕ) × WereRead known lines end_of_script × PlaysOn (MayReply policy) policy old number lines end_of_script text status end × Appends before after text

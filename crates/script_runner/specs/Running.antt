@@ -12,7 +12,7 @@ use Rattle.script_syntax.specs.declared.line.Line.TheVariants.{Flush}
 use Rattle.script_syntax.specs.declared.reply.ReplyLine.{ReplyLine}
 use Rattle.script_syntax.specs.declared.status.Status.{Status}
 use Rattle.script_syntax.specs.declared.status.Status.TheVariants.{Refused}
-use Rattle.crash_model.specs.Promises.{Spelled}
+use Rattle.crash_model.specs.Promises.{Content}
 use Rattle.change_codec.specs.ModelChanges.{TimedOp}
 use Rattle.commit_journal.specs.Store.{Store, room_of}
 use Rattle.store_model.specs.Machine.{Machine, bounds_of, opened_machine}
@@ -21,14 +21,14 @@ use Rattle.recovery.specs.Recovered.{IsNoStore, IsRecovered, seen_in}
 use Rattle.recovery.specs.Shown.{Shown}
 use Rattle.script_runner.specs.Scripts.{Script, Answers, script_at}
 use Rattle.script_runner.specs.Plays.{PlaysOn, is_refusal}
-use Rattle.script_runner.specs.Faults.{IsOnlyIf, TellsOnlyIf}
-use Rattle.script_runner.specs.Work.{Works}
+use Rattle.script_runner.specs.Faults.{IsDeviceRefusalOnlyIf, IsDeviceReplyOnlyIf}
+use Rattle.script_runner.specs.Work.{MakesSteps}
 use Rattle.disk_model.specs.FileState.{FileState}
 use Rattle.disk_model.specs.StoreFiles.{journal_file}
-use Rattle.engine_invariant.specs.Prefixes.{IsPrefix, IsSafeAt, Spells}
-use Rattle.engine.specs.Lives.{HasCome, IsLife, IsSafe, Life, ReadsSafely, end_of, faulted_in}
-use Rattle.script_runner.specs.declared.ending.Ending.{Ending}
-use Rattle.script_runner.specs.declared.working.Pace.TheVariants.{FreesRoom}
+use Rattle.engine_invariant.specs.Prefixes.{IsPrefix, IsSafeAt, JournalDecodesTo}
+use Rattle.engine.specs.Lives.{ReachedFromOpening, IsLife, IsSafe, Life, ReadsSafely, end_of, faulted_in}
+use Rattle.script_runner.specs.declared.end_of_script.EndOfScript.{EndOfScript}
+use Rattle.script_runner.specs.declared.background_work.FlushPolicy.TheVariants.{WhenHalfFull}
 
 -- the machine of a store that was opened at a number and trees, whose journal takes so much room, with these sessions open
 abbrev pub BeginsAt : ℕ → List TreeMap → ℕ → List ℕ → Machine → Type 0
@@ -40,7 +40,7 @@ session_0 = 0 ∷ []
 
 -- so much room the journal of these files takes, by what it spells
 abbrev pub IsRoomOf : (ℕ → List ℕ) → Store → ℕ → Type 0
-IsRoomOf files store room = (journal : Spelled TimedOp) → Spells store (files journal_file) journal → room ≡ 65 + room_of journal.elements
+IsRoomOf files store room = (journal : Content TimedOp) → JournalDecodesTo store (files journal_file) journal → room ≡ 65 + room_of journal.elements
 
 -- the room that the journal of an opened store takes
 abbrev pub room_in : {D : Type 0} → Shown D → ℕ
@@ -65,7 +65,7 @@ opened_text number = codes "opened " ++ decimal number ++ codes "\n"
 
 -- a flush that nobody asked for is told of where it is refused
 abbrev pub flushed_text : ReplyLine → List ℕ
-flushed_text told = if is_refusal told then reply_line told else []
+flushed_text reported = if is_refusal reported then reply_line reported else []
 
 -- A store was opened, and its number told: the script begins on it.
 pub record HasBegun (faithful : Type 0) (files : ℕ → List ℕ) (store : Store) (before after : Option (List ℕ)) (script : Script) : Type 0 where
@@ -73,13 +73,13 @@ pub record HasBegun (faithful : Type 0) (files : ℕ → List ℕ) (store : Stor
   pub machine : Machine
   pub opened : IsOpenedOn faithful files store number session_0 machine
   pub script_is : script ≡ script_at machine
-  pub told : Appends before after (opened_text number)
+  pub reported : Appends before after (opened_text number)
 
 -- No store was opened: why is told.
 pub record IsUnopened (failed faithful : Type 0) (files : ℕ → List ℕ) (before after : Option (List ℕ)) (status : Status) : Type 0 where
   pub why : Refusal
   pub may : MayNotOpen failed faithful files why
-  pub told : Appends before after (refusal_text why ++ 10 ∷ [])
+  pub reported : Appends before after (refusal_text why ++ 10 ∷ [])
   pub status_is : status ≡ Refused
 
 -- What is left undone as a run ends, of the steps that no line asked for: the device failed in one between two lines; else what
@@ -105,21 +105,21 @@ MayHaveFailed script before after = (script.failed ≡ true) ⊎ HasFailedSince 
 -- A script that came to this status ends: all is flushed, and then the store works on. What is left of it holds of its machine then.
 -- The flush is told if it is refused, and what is left undone after it. Neither tells of the device unless it has failed.
 pub record HasEnded (failed : Type 0) (IsLeft : Machine → Type 0) (script : Script) (came_to : Status) (before after : Option (List ℕ)) (status : Status) : Type 0 where
-  pub told : ReplyLine
+  pub reported : ReplyLine
   pub last : Script
-  pub flushed : Answers script Flush told last
-  pub may : TellsOnlyIf failed told
+  pub flushed : Answers script Flush reported last
+  pub may : IsDeviceReplyOnlyIf failed reported
   pub machine : Machine
   pub ended : Option Refusal
-  pub worked : Works ended last.machine machine
-  pub only : IsOnlyIf failed (undone last.failed ended)
+  pub worked : MakesSteps ended last.machine machine
+  pub only : IsDeviceRefusalOnlyIf failed (undone last.failed ended)
   pub left : IsLeft machine
-  pub wrote : Appends before after (flushed_text told ++ undone_text (undone last.failed ended))
-  pub status_is : status ≡ with_refusal (is_some (undone last.failed ended)) (with_refusal (is_refusal told) came_to)
+  pub wrote : Appends before after (flushed_text reported ++ undone_text (undone last.failed ended))
+  pub status_is : status ≡ with_refusal (is_some (undone last.failed ended)) (with_refusal (is_refusal reported) came_to)
 
 -- A store was opened; these lines were played over it, up to this ending, while it freed its room; and at the end all was
 -- flushed. No reply tells of the device unless it has failed. What is left holds of the store and of its machine at the end.
-pub record RunsOver (failed faithful : Type 0) (IsLeft : Store → Machine → Type 0) (files : ℕ → List ℕ) (lines : List (List ℕ)) (ending : Option Ending) (before after : Option (List ℕ)) (status : Status) : Type 0 where
+pub record RunsOver (failed faithful : Type 0) (IsLeft : Store → Machine → Type 0) (files : ℕ → List ℕ) (lines : List (List ℕ)) (end_of_script : Option EndOfScript) (before after : Option (List ℕ)) (status : Status) : Type 0 where
   pub store : Store
   pub script : Script
   pub opened : Option (List ℕ)
@@ -127,15 +127,15 @@ pub record RunsOver (failed faithful : Type 0) (IsLeft : Store → Machine → T
   pub text : List ℕ
   pub came_to : Status
   pub end : Script
-  pub plays : PlaysOn (TellsOnlyIf failed) FreesRoom script 1 lines ending text came_to end
+  pub plays : PlaysOn (IsDeviceReplyOnlyIf failed) WhenHalfFull script 1 lines end_of_script text came_to end
   pub played : Option (List ℕ)
   pub wrote : Appends opened played text
   pub ends : HasEnded failed (IsLeft store) end came_to played after status
 
 -- A run: no store was opened, or the lines were played over one, of which this is left.
-abbrev pub IsRun : Type 0 → Type 0 → (Store → Machine → Type 0) → (ℕ → List ℕ) → List (List ℕ) → Option Ending → Option (List ℕ) → Option (List ℕ) → Status → Type 0
-IsRun failed faithful IsLeft files lines ending before after status =
-    IsUnopened failed faithful files before after status ⊎ RunsOver failed faithful IsLeft files lines ending before after status
+abbrev pub IsRun : Type 0 → Type 0 → (Store → Machine → Type 0) → (ℕ → List ℕ) → List (List ℕ) → Option EndOfScript → Option (List ℕ) → Option (List ℕ) → Status → Type 0
+IsRun failed faithful IsLeft files lines end_of_script before after status =
+    IsUnopened failed faithful files before after status ⊎ RunsOver failed faithful IsLeft files lines end_of_script before after status
 
 -- Where a disk that has these states is faithful, whatever a crash leaves of it at its last moment recovers one number, not below the
 -- machine's durable one, and the trees after the accepted changes up to it; and so does what a read gives, unless the device has
@@ -145,14 +145,14 @@ LeavesPrefix faithful states clock store machine = faithful → IsSafeAt store s
 
 -- A machine has gone on so far on the files of a store, and is faulted only if the device has failed; and whatever a crash leaves of
 -- these files is a prefix of its changes, and so is what a read gives unless it is faulted.
-pub record GoesOnTo (failed : Type 0) (store : Store) (last : Machine) (end : ℕ → FileState) : Type 0 where
+pub record LifeReaches (failed : Type 0) (store : Store) (last : Machine) (end : ℕ → FileState) : Type 0 where
   pub safe : IsSafe store last end
   pub reads : last.faulted ≡ false → ReadsSafely (length last.opened) end
   pub why : last.faulted ≡ true → failed
 
 -- Since a store was opened at a number and trees, a machine has gone on so far.
 abbrev pub HasLived : Type 0 → Store → ℕ → List TreeMap → (ℕ → FileState) → Type 0
-HasLived failed store number trees end = (last : Machine) × HasCome number trees last × GoesOnTo failed store last end
+HasLived failed store number trees end = (last : Machine) × ReachedFromOpening number trees last × LifeReaches failed store last end
 
 -- What is left of files, where the device has answered as it should, is what a life of a store leaves: each file is as it was or
 -- synced; or what they recover was opened, and whatever a crash leaves then is a prefix of what was accepted since. The life is a

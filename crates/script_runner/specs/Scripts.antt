@@ -10,20 +10,20 @@ use Rattle.script_syntax.specs.declared.reply.ReplyLine.TheVariants as reply
 use Rattle.store_model.specs.Machine.{Machine, bounds_for, fresh_machine}
 use Rattle.store_model.specs.Steps.{Step, with_session}
 use Rattle.store_model.specs.declared.handle.Tx.{Tx}
-use Rattle.store_model.specs.declared.handle.Outcome.{Outcome as Standing}
+use Rattle.store_model.specs.declared.handle.Outcome.{Outcome as TxOutcome}
 use Rattle.store_model.specs.declared.handle.Outcome.TheVariants as standing
 use Rattle.store_model.specs.declared.event.Event.{Event}
 use Rattle.store_model.specs.declared.event.Event.TheVariants as event
-use Rattle.store_model.specs.declared.event.Found.{Found}
-use Rattle.store_model.specs.declared.event.Found.TheVariants as found
+use Rattle.store_model.specs.declared.event.ReadResult.{ReadResult}
+use Rattle.store_model.specs.declared.event.ReadResult.TheVariants as found
 use Rattle.disk_model.specs.declared.progress.Progress.{Progress}
 use Rattle.disk_model.specs.declared.progress.Progress.TheVariants as progress
 use Rattle.store_model.specs.declared.event.Reply.{Reply}
 use Rattle.store_model.specs.declared.event.Reply.TheVariants as answer
-use Rattle.script_runner.specs.Requests.{demand_of}
+use Rattle.script_runner.specs.Requests.{operation_of}
 use Rattle.script_runner.specs.Waits.{IsWaited}
-use Rattle.script_runner.specs.declared.demand.Demand.{Demand}
-use Rattle.script_runner.specs.declared.demand.Demand.TheVariants.{Write, Read}
+use Rattle.script_runner.specs.declared.operation.Operation.{Operation}
+use Rattle.script_runner.specs.declared.operation.Operation.TheVariants.{Write, Read}
 
 -- a script between two lines: the machine, the moment and the session of what follows, the transaction that each label
 -- names, and whether the device failed in a step that no line asked for
@@ -44,7 +44,7 @@ abbrev pub fresh_script : ℕ → Script
 fresh_script hives = script_at (with_session (fresh_machine (bounds_for hives)) 0)
 
 -- what was read as a reply; no line asks for a subkey by its index
-abbrev pub found_reply : Found → ReplyLine
+abbrev pub found_reply : ReadResult → ReplyLine
 found_reply (found.Value value) = reply.Value value.kind value.«data»
 found_reply (found.Key name) = reply.Done
 found_reply (found.Keys names) = reply.Keys names
@@ -61,10 +61,10 @@ added_reply None = reply.Done
 added_reply (Some levels) = reply.CreatedInside levels
 
 -- where a transaction stands
-abbrev pub standing_reply : Standing → ReplyLine
-standing_reply standing.Active = reply.StillActive
-standing_reply standing.Committed = reply.HasCommitted
-standing_reply standing.RolledBack = reply.RolledBack
+abbrev pub outcome_reply : TxOutcome → ReplyLine
+outcome_reply standing.Active = reply.StillActive
+outcome_reply standing.Committed = reply.HasCommitted
+outcome_reply standing.RolledBack = reply.RolledBack
 
 -- how far a step came
 abbrev pub step_reply : Progress → ReplyLine
@@ -81,7 +81,7 @@ reply_of (answer.Added levels) = added_reply levels
 reply_of answer.Opened = reply.Opened
 reply_of (answer.Read found) = found_reply found
 reply_of (answer.Begun tx) = reply.Done
-reply_of (answer.Stands outcome) = standing_reply outcome
+reply_of (answer.OutcomeIs outcome) = outcome_reply outcome
 reply_of (answer.Refused refusal) = reply.Refused refusal
 reply_of (answer.Awaits number) = reply.Accepted number
 reply_of (answer.Receipt number) = reply.Done
@@ -90,59 +90,59 @@ reply_of (answer.Stepped progress) = step_reply progress
 
 -- the machine is asked one event, and its answer is the reply; nothing else of the script changes
 abbrev pub Asks : Script → Event → ReplyLine → Script → Type 0
-Asks old event told new = (answer : Reply) × Step old.machine event answer new.machine × (told ≡ reply_of answer) × (new ≡ record old { machine = new.machine })
+Asks old event reported new = (answer : Reply) × Step old.machine event answer new.machine × (reported ≡ reply_of answer) × (new ≡ record old { machine = new.machine })
 
 -- the same of an event that is refused
 abbrev pub IsRefusedBy : Script → Event → ReplyLine → Script → Type 0
-IsRefusedBy old event told new =
-    (refusal : Refusal) × Step old.machine event (answer.Refused refusal) new.machine × (told ≡ reply.Refused refusal) × (new ≡ record old { machine = new.machine })
+IsRefusedBy old event reported new =
+    (refusal : Refusal) × Step old.machine event (answer.Refused refusal) new.machine × (reported ≡ reply.Refused refusal) × (new ≡ record old { machine = new.machine })
 
 -- the reply of a line that has waited: its own, with the change's number, or the refusal that ended the wait
 abbrev pub waited_reply : Option Refusal → ReplyLine → ReplyLine
-waited_reply None told = told
-waited_reply (Some refusal) told = reply.Refused refusal
+waited_reply None reported = reported
+waited_reply (Some refusal) reported = reply.Refused refusal
 
 -- What follows an answer: the change whose number it tells is waited for, up to its receipt; any other is the reply.
-abbrev pub Follows : Reply → (ℕ → ReplyLine) → Machine → ReplyLine → Machine → Type 0
-Follows (answer.Awaits number) tell old told new = (ended : Option Refusal) × IsWaited old number ended new × (told ≡ waited_reply ended (tell number))
-Follows answer tell old told new = (told ≡ reply_of answer) × (new ≡ old)
+abbrev pub WaitsForChange : Reply → (ℕ → ReplyLine) → Machine → ReplyLine → Machine → Type 0
+WaitsForChange (answer.Awaits number) tell old reported new = (ended : Option Refusal) × IsWaited old number ended new × (reported ≡ waited_reply ended (tell number))
+WaitsForChange answer tell old reported new = (reported ≡ reply_of answer) × (new ≡ old)
 
 -- the machine is asked an event, and what it says is to be waited for is waited for
 abbrev pub AsksAndWaits : Script → Event → (ℕ → ReplyLine) → ReplyLine → Script → Type 0
-AsksAndWaits old event tell told new =
-    (answer : Reply) × (mid : Machine) × Step old.machine event answer mid × Follows answer tell mid told new.machine × (new ≡ record old { machine = new.machine })
+AsksAndWaits old event tell reported new =
+    (answer : Reply) × (mid : Machine) × Step old.machine event answer mid × WaitsForChange answer tell mid reported new.machine × (new ≡ record old { machine = new.machine })
 
 -- a refusal that changes nothing
 abbrev pub IsRefused : Script → Refusal → ReplyLine → Script → Type 0
-IsRefused old refusal told new = (told ≡ reply.Refused refusal) × (new ≡ old)
+IsRefused old refusal reported new = (reported ≡ reply.Refused refusal) × (new ≡ old)
 
 -- a name that may not stand is refused, and else what the request asks for is asked
-abbrev pub IsNamed : Result Demand Refusal → (Demand → Type 0) → Script → ReplyLine → Script → Type 0
-IsNamed (Ok asked) asks old told new = asks asked
-IsNamed (Err refusal) asks old told new = IsRefused old refusal told new
+abbrev pub IsNamed : Result Operation Refusal → (Operation → Type 0) → Script → ReplyLine → Script → Type 0
+IsNamed (Ok asked) asks old reported new = asks asked
+IsNamed (Err refusal) asks old reported new = IsRefused old refusal reported new
 
 -- a label that names nothing is refused, and else its transaction is asked about
 abbrev pub IsLabelled : Option Tx → (Tx → Type 0) → Script → ReplyLine → Script → Type 0
-IsLabelled (Some tx) asks old told new = asks tx
-IsLabelled None asks old told new = IsRefused old NoSuchHandle told new
+IsLabelled (Some tx) asks old reported new = asks tx
+IsLabelled None asks old reported new = IsRefused old NoSuchHandle reported new
 
 -- memory for a name or a label may be refused
-abbrev pub IsHeard : Script → ReplyLine → Script → Type 0 → Type 0
-IsHeard old told new heard = heard ⊎ IsRefused old NoMemory told new
+abbrev pub OrNoMemory : Script → ReplyLine → Script → Type 0 → Type 0
+OrNoMemory old reported new heard = heard ⊎ IsRefused old NoMemory reported new
 
 -- the event of a request alone, in the current session, and of one in a transaction
-abbrev pub event_alone : Script → Demand → Event
+abbrev pub event_alone : Script → Operation → Event
 event_alone script (Write op) = event.Write script.session script.moment op
 event_alone script (Read hive path question) = event.Read script.session hive path question
 
-abbrev pub event_inside : Script → Tx → Demand → Event
+abbrev pub event_inside : Script → Tx → Operation → Event
 event_inside script tx (Write op) = event.TxWrite script.session tx script.moment op
 event_inside script tx (Read hive path question) = event.TxRead script.session tx hive path question
 
 -- the session is open, and the current one from now on
 abbrev pub Enters : Script → ℕ → ReplyLine → Script → Type 0
-Enters old number told new =
-    Step old.machine (event.StartSession number) answer.Done new.machine × (told ≡ reply.Done) × (new ≡ record old { machine = new.machine; session = number })
+Enters old number reported new =
+    Step old.machine (event.StartSession number) answer.Done new.machine × (reported ≡ reply.Done) × (new ≡ record old { machine = new.machine; session = number })
 
 -- a label names a transaction, and every other label names what it named
 pub record Names (old new : List ℕ → Option Tx) (label : List ℕ) (tx : Tx) : Type 0 where
@@ -155,35 +155,35 @@ SameNames old new = (label : List ℕ) → new label ≡ old label
 
 -- a transaction is begun, and the label names it from now on
 abbrev pub Begins : Script → List ℕ → List ℕ → ReplyLine → Script → Type 0
-Begins old label id told new =
-    (tx : Tx) × Step old.machine (event.Begin old.session id) (answer.Begun tx) new.machine × (told ≡ reply.Done)
+Begins old label id reported new =
+    (tx : Tx) × Step old.machine (event.Begin old.session id) (answer.Begun tx) new.machine × (reported ≡ reply.Done)
     × (new ≡ record old { machine = new.machine; labels = new.labels }) × Names old.labels new.labels label tx
 
 -- no transaction is begun, and each label names what it named
 abbrev pub BeginsNothing : Script → List ℕ → ReplyLine → Script → Type 0
-BeginsNothing old id told new =
-    (refusal : Refusal) × Step old.machine (event.Begin old.session id) (answer.Refused refusal) new.machine × (told ≡ reply.Refused refusal)
+BeginsNothing old id reported new =
+    (refusal : Refusal) × Step old.machine (event.Begin old.session id) (answer.Refused refusal) new.machine × (reported ≡ reply.Refused refusal)
     × (new ≡ record old { machine = new.machine; labels = new.labels }) × SameNames old.labels new.labels
 
 -- From old, the line may be answered this reply, and leave new. Its names are tested first: the path, then a value's
 -- name; then its label.
 abbrev pub Answers : Script → Line → ReplyLine → Script → Type 0
-Answers old (Hives count) told new = ⊥
-Answers old (At moment) told new = (told ≡ reply.Done) × (new ≡ record old { moment = moment })
-Answers old (Session number) told new = Enters old number told new ⊎ IsRefusedBy old (event.StartSession number) told new
-Answers old (End number) told new = Asks old (event.EndSession number) told new
-Answers old (Plain request) told new =
-    IsHeard old told new (IsNamed (demand_of request) (λ asked. Asks old (event_alone old asked) told new) old told new)
-Answers old (Inside label request) told new =
-    IsHeard old told new (IsNamed (demand_of request) (λ asked. IsLabelled (old.labels label) (λ tx. Asks old (event_inside old tx asked) told new) old told new) old told new)
-Answers old (Begin label id) told new = IsHeard old told new (Begins old label id told new ⊎ BeginsNothing old id told new)
-Answers old (Commit label) told new =
-    IsLabelled (old.labels label) (λ tx. AsksAndWaits old (event.CommitAccept old.session tx old.moment) reply.Committed told new) old told new
-Answers old (Rollback label) told new = IsLabelled (old.labels label) (λ tx. Asks old (event.Rollback old.session tx) told new) old told new
-Answers old (Close label) told new = IsLabelled (old.labels label) (λ tx. Asks old (event.Close old.session tx) told new) old told new
-Answers old (Outcome label) told new = IsLabelled (old.labels label) (λ tx. Asks old (event.Outcome old.session tx) told new) old told new
-Answers old Flush told new = AsksAndWaits old event.FlushAsk reply.Flushed told new
-Answers old (Lab line) told new = ⊥
+Answers old (Hives count) reported new = ⊥
+Answers old (At moment) reported new = (reported ≡ reply.Done) × (new ≡ record old { moment = moment })
+Answers old (Session number) reported new = Enters old number reported new ⊎ IsRefusedBy old (event.StartSession number) reported new
+Answers old (End number) reported new = Asks old (event.EndSession number) reported new
+Answers old (Plain request) reported new =
+    OrNoMemory old reported new (IsNamed (operation_of request) (λ asked. Asks old (event_alone old asked) reported new) old reported new)
+Answers old (Inside label request) reported new =
+    OrNoMemory old reported new (IsNamed (operation_of request) (λ asked. IsLabelled (old.labels label) (λ tx. Asks old (event_inside old tx asked) reported new) old reported new) old reported new)
+Answers old (Begin label id) reported new = OrNoMemory old reported new (Begins old label id reported new ⊎ BeginsNothing old id reported new)
+Answers old (Commit label) reported new =
+    IsLabelled (old.labels label) (λ tx. AsksAndWaits old (event.CommitAccept old.session tx old.moment) reply.Committed reported new) old reported new
+Answers old (Rollback label) reported new = IsLabelled (old.labels label) (λ tx. Asks old (event.Rollback old.session tx) reported new) old reported new
+Answers old (Close label) reported new = IsLabelled (old.labels label) (λ tx. Asks old (event.Close old.session tx) reported new) old reported new
+Answers old (Outcome label) reported new = IsLabelled (old.labels label) (λ tx. Asks old (event.Outcome old.session tx) reported new) old reported new
+Answers old Flush reported new = AsksAndWaits old event.FlushAsk reply.Flushed reported new
+Answers old (Lab line) reported new = ⊥
 
 -- `hives` is the first line and stands nowhere else
 abbrev pub first_line : Option Line → Option ℕ

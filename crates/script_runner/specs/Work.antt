@@ -8,8 +8,8 @@ use Rattle.store_model.specs.declared.event.Reply.{Reply}
 use Rattle.store_model.specs.declared.event.Reply.TheVariants.{Refused}
 use Rattle.refusals.specs.declared.refusal.Refusal.{Refusal}
 use Rattle.refusals.specs.declared.refusal.Refusal.TheVariants.{DiskFault}
-use Rattle.script_runner.specs.declared.working.Pace.{Pace}
-use Rattle.script_runner.specs.declared.working.Pace.TheVariants.{AsAsked, FreesRoom}
+use Rattle.script_runner.specs.declared.background_work.FlushPolicy.{FlushPolicy}
+use Rattle.script_runner.specs.declared.background_work.FlushPolicy.TheVariants.{OnRequest, WhenHalfFull}
 
 abbrev pub IsStep : Event → Type 0
 IsStep event = is_step event ≡ true
@@ -24,13 +24,13 @@ refused_by None = []
 refused_by (Some why) = Refused why ∷ []
 
 -- Some steps are made, one after another, or none; and then one is refused so, if one is.
-abbrev pub Works : Option Refusal → Machine → Machine → Type 0
-Works ended old new = (events : List Event) × (made : List Reply) × AllByRecursion IsStep events × AllByRecursion WasMade made × Run old events (made ++ refused_by ended) new
+abbrev pub MakesSteps : Option Refusal → Machine → Machine → Type 0
+MakesSteps ended old new = (events : List Event) × (made : List Reply) × AllByRecursion IsStep events × AllByRecursion WasMade made × Run old events (made ++ refused_by ended) new
 
 -- Between two lines a store that frees its room makes some steps, up to one that is refused; one that works as it is asked, none.
-abbrev pub Between : Pace → Option Refusal → Machine → Machine → Type 0
-Between FreesRoom ended old new = Works ended old new
-Between AsAsked ended old new = (ended ≡ None) × (new ≡ old)
+abbrev pub WorksBetweenLines : FlushPolicy → Option Refusal → Machine → Machine → Type 0
+WorksBetweenLines WhenHalfFull ended old new = MakesSteps ended old new
+WorksBetweenLines OnRequest ended old new = (ended ≡ None) × (new ≡ old)
 
 -- whether the device failed in a step
 abbrev pub is_fault : Option Refusal → Bool

@@ -7,28 +7,28 @@
 //!
 //! What a run is made of is public, for runs of another kind: [`begin_on`] makes the store that a script's first line asks for,
 //! on a disk in memory that fails as a plan says; [`open_store`] opens the one that is on a disk, and [`open_engine`] does so
-//! without a session; a [`Player`] answers one line after another; [`next_line`], [`end`] and [`wrong`] read a script's lines and
+//! without a session; a [`Interpreter`] answers one line after another; [`next_line`], [`end`] and [`wrong`] read a script's lines and
 //! tell how they end.
 #![tactic(auto)]
 
-mod asking;
-mod demand;
-mod ending;
+mod background_work;
+mod durable_wait;
+mod end_of_script;
+mod engine_call;
+mod interpreter;
 mod labels;
-mod making;
-mod opening;
-mod player;
+mod operation;
 mod replies;
 mod runner;
-mod running;
-mod waiting;
-mod working;
+mod store_opening;
+mod store_run;
+mod store_setup;
 
-pub use ending::Ending;
-pub use making::{begin_on, make_journal_room};
-pub use opening::{open_engine, open_store};
-pub use player::Player;
+pub use background_work::{FlushPolicy, frees_room, next_step, run_until_idle};
+pub use end_of_script::EndOfScript;
+pub use interpreter::Interpreter;
 pub use runner::{end, is_refusal, next_line, play, refuse_script, wrong};
-pub use running::{run, run_unread};
 pub use script_syntax::Status;
-pub use working::{Pace, frees_room, next_step, settle};
+pub use store_opening::{open_engine, open_store};
+pub use store_run::{run, run_unread};
+pub use store_setup::{begin_on, make_journal_room};

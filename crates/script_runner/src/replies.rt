@@ -1,12 +1,12 @@
 //! An answer of the store as the reply to a line.
 ghost use Rattle.std.specs.Prelude.{◌≡◌};
-ghost use Rattle.script_runner.specs.Faults.{tells_of_device};
-ghost use Rattle.script_runner.specs.Scripts.{reply_of, found_reply, accepted_reply, added_reply, standing_reply, step_reply};
+ghost use Rattle.script_runner.specs.Faults.{is_device_reply};
+ghost use Rattle.script_runner.specs.Scripts.{reply_of, found_reply, accepted_reply, added_reply, outcome_reply, step_reply};
 
 use refusals::Refusal;
 use reg_tree::Value;
 use script_syntax::ReplyLine;
-use store_model::{Found, Outcome, Progress, Reply};
+use store_model::{Outcome, Progress, ReadResult, Reply};
 
 /// The reply to the line that asked. What is to be waited for is told as accepted, for the lines that wait have replies of
 /// their own. A receipt is no line's reply, and no line asks for a subkey by its index.
@@ -18,7 +18,7 @@ pub(crate) fn reply_of(answer: Reply) -> ReplyLine
         Reply::Added { levels } => added_reply(levels),
         Reply::Opened => ReplyLine::Opened,
         Reply::Read { found } => found_reply(found),
-        Reply::Stands { outcome } => standing_reply(outcome),
+        Reply::OutcomeIs { outcome } => outcome_reply(outcome),
         Reply::Refused { refusal } => ReplyLine::Refused { refusal },
         Reply::Awaits { number } => ReplyLine::Accepted { number },
         Reply::Stepped { progress } => step_reply(progress),
@@ -29,10 +29,10 @@ pub(crate) fn reply_of(answer: Reply) -> ReplyLine
 }
 
 /// Whether a reply tells of the device: that it failed in this call, or in an earlier one.
-pub(crate) fn tells_of_device(told: &ReplyLine) -> bool
-    ensures { result ≡ tells_of_device told.now }
+pub(crate) fn is_device_reply(reported: &ReplyLine) -> bool
+    ensures { result ≡ is_device_reply reported.now }
 {
-    match told {
+    match reported {
         ReplyLine::Refused {
             refusal: Refusal::DiskFault | Refusal::Faulted,
         } => true,
@@ -68,18 +68,18 @@ fn added_reply(levels: Option<usize>) -> ReplyLine
     }
 }
 
-fn found_reply(found: Found) -> ReplyLine
+fn found_reply(found: ReadResult) -> ReplyLine
     ensures { result ≡ found_reply found }
 {
     match found {
-        Found::Value { value } => {
+        ReadResult::Value { value } => {
             let Value { kind, data, .. } = value;
             ReplyLine::Value { kind, data }
         }
-        Found::Key { .. } => ReplyLine::Done,
-        Found::Keys { names } => ReplyLine::Keys { names },
-        Found::ValueNames { names } => ReplyLine::Values { names },
-        Found::Counts { info } => ReplyLine::Info {
+        ReadResult::Key { .. } => ReplyLine::Done,
+        ReadResult::Keys { names } => ReplyLine::Keys { names },
+        ReadResult::ValueNames { names } => ReplyLine::Values { names },
+        ReadResult::Counts { info } => ReplyLine::Info {
             subkeys: info.subkeys,
             values: info.values,
             time: info.time,
@@ -87,8 +87,8 @@ fn found_reply(found: Found) -> ReplyLine
     }
 }
 
-fn standing_reply(outcome: Outcome) -> ReplyLine
-    ensures { result ≡ standing_reply outcome }
+fn outcome_reply(outcome: Outcome) -> ReplyLine
+    ensures { result ≡ outcome_reply outcome }
 {
     match outcome {
         Outcome::Active => ReplyLine::StillActive,

@@ -3,16 +3,16 @@ ghost use Rattle.std.specs.Prelude.{◌≡◌, ℕ, List, [], ◌++◌, ◌∷�
 ghost use Rattle.std.specs.Io.KnownBytes.{Appends, Keeps};
 ghost use Rattle.std.specs.Io.BufRead.{strip_last};
 ghost use Rattle.script_syntax.specs.Replies.{reply_line};
-ghost use Rattle.script_runner.specs.Plays.{Ends, KeepsUp, WereRead, IsPlayed, is_refusal, wrong_text};
+ghost use Rattle.script_runner.specs.Plays.{Ends, KeepsUpBetweenLines, WereRead, IsPlayed, is_refusal, wrong_text};
 ghost use Rattle.script_runner.specs.Later.{IsLater};
-ghost use Rattle.script_runner.specs.Players.{engine_of, script_of};
-ghost use Rattle.script_runner.specs.Turns.{IsPlayedTo, TakesLine, Turns};
+ghost use Rattle.script_runner.specs.Interpreters.{engine_of, script_of};
+ghost use Rattle.script_runner.specs.OutcomeOfLine.{IsPlayedTo, TakesLine, OutcomeOfLine};
 
-use crate::ending::Ending;
-use crate::making::begin;
-use crate::player::Player;
-use crate::replies::tells_of_device;
-use crate::working::Pace;
+use crate::background_work::FlushPolicy;
+use crate::end_of_script::EndOfScript;
+use crate::interpreter::Interpreter;
+use crate::replies::is_device_reply;
+use crate::store_setup::begin;
 use disk_model::Disk;
 use refusals::Refusal;
 use script_syntax::{ReplyLine, Status};
@@ -24,7 +24,7 @@ use std::io::{BufRead, Write};
 const LINE_END: u8 = b'\n';
 
 /// What one turn of a run came to.
-enum Turn {
+enum LineOutcome {
     /// A line was answered.
     Replied {
         /// Whether the reply was a refusal.
@@ -71,17 +71,17 @@ fn run<R: BufRead, W: Write>(alloc: Global, reader: &mut R, writer: &mut W) -> i
     let mut line = Vec::new(alloc);
     match next_line(reader, &mut line) {
         Ok(()) => {}
-        Err(Ending::Ended) => return wrong(writer, 1),
-        Err(ending) => return end(writer, ending),
+        Err(EndOfScript::Ended) => return wrong(writer, 1),
+        Err(end_of_script) => return end(writer, end_of_script),
     }
     match begin(alloc, &line) {
         Ok(Some(engine)) => {
-            let mut player = Player::new(alloc, engine);
+            let mut interpreter = Interpreter::new(alloc, engine);
             ReplyLine::Done.write(writer)?;
             go_on(
                 alloc,
-                &mut player,
-                Pace::AsAsked,
+                &mut interpreter,
+                FlushPolicy::OnRequest,
                 2,
                 reader,
                 &mut line,
@@ -89,63 +89,67 @@ fn run<R: BufRead, W: Write>(alloc: Global, reader: &mut R, writer: &mut W) -> i
             )
         }
         Ok(None) => wrong(writer, 1),
-        Err(AllocError) => end(writer, Ending::OutOfMemory),
+        Err(AllocError) => end(writer, EndOfScript::OutOfMemory),
     }
 }
 
 /// Runs a script from its first line on, over the player's store, which works between the lines at this pace.
 pub(crate) fn play_lines<D: Disk, R: BufRead, W: Write>(
     alloc: Global,
-    player: &mut Player<D>,
-    pace: Pace,
+    interpreter: &mut Interpreter<D>,
+    policy: FlushPolicy,
     reader: &mut R,
     writer: &mut W,
 ) -> io::Result<Status>
-    ensures played { IfOk result (λ status. IsPlayedTo pace (script_of player.old) 1
+    ensures played { IfOk result (λ status. IsPlayedTo policy (script_of interpreter.old) 1
         (R.remaining reader.old) (W.contents writer.old) (W.contents writer.new) status
-        (script_of player.new)) }
-    ensures later { IsLater D.faithful D.failures (engine_of player.old) (engine_of player.new) }
+        (script_of interpreter.new)) }
+    ensures later { IsLater D.faithful D.failures (engine_of interpreter.old) (engine_of interpreter.new) }
 {
     let mut line = Vec::new(alloc);
-    go_on(alloc, player, pace, 1, reader, &mut line, writer)
+    go_on(alloc, interpreter, policy, 1, reader, &mut line, writer)
 }
 
 // runs the script from the line of this number on
 fn go_on<D: Disk, R: BufRead, W: Write>(
     alloc: Global,
-    player: &mut Player<D>,
-    pace: Pace,
+    interpreter: &mut Interpreter<D>,
+    policy: FlushPolicy,
     first: u64,
     reader: &mut R,
     line: &mut Vec<u8>,
     writer: &mut W,
 ) -> io::Result<Status>
-    ensures played { IfOk result (λ status. IsPlayedTo pace (script_of player.old) first
+    ensures played { IfOk result (λ status. IsPlayedTo policy (script_of interpreter.old) first
         (R.remaining reader.old) (W.contents writer.old) (W.contents writer.new) status
-        (script_of player.new)) }
-    ensures later { IsLater D.faithful D.failures (engine_of player.old) (engine_of player.new) }
+        (script_of interpreter.new)) }
+    ensures later { IsLater D.faithful D.failures (engine_of interpreter.old) (engine_of interpreter.new) }
 {
     let mut has_refusal = false;
     for number in first..u64::MAX {
-        match take_turn(alloc, player, pace, reader, line, writer, number)? {
-            Turn::Replied { is_refusal } => has_refusal |= is_refusal,
-            Turn::Over { status } => return Ok(status.after(has_refusal)),
+        match take_line(alloc, interpreter, policy, reader, line, writer, number)? {
+            LineOutcome::Replied { is_refusal } => has_refusal |= is_refusal,
+            LineOutcome::Over { status } => return Ok(status.after(has_refusal)),
         }
-        keep_up(player, pace, writer)?;
+        work_between_lines(interpreter, policy, writer)?;
     }
     // a script of so many lines isn't read on
-    let status = end(writer, Ending::Broken)?;
+    let status = end(writer, EndOfScript::Broken)?;
     Ok(status.after(has_refusal))
 }
 
 // what the store does between two lines at this pace; the replies so far are written out before, if that is anything
-fn keep_up<D: Disk, W: Write>(player: &mut Player<D>, pace: Pace, writer: &mut W) -> io::Result<()>
-    ensures kept { OnOk result (KeepsUp pace (script_of player.old) (script_of player.new)
+fn work_between_lines<D: Disk, W: Write>(
+    interpreter: &mut Interpreter<D>,
+    policy: FlushPolicy,
+    writer: &mut W,
+) -> io::Result<()>
+    ensures kept { OnOk result (KeepsUpBetweenLines policy (script_of interpreter.old) (script_of interpreter.new)
         × Keeps (W.contents writer.old) (W.contents writer.new)) }
-    ensures later { IsLater D.faithful D.failures (engine_of player.old) (engine_of player.new) }
+    ensures later { IsLater D.faithful D.failures (engine_of interpreter.old) (engine_of interpreter.new) }
 {
-    write_out(writer, player.works_at(pace))?;
-    player.keep_up(pace);
+    write_out(writer, interpreter.works_at(policy))?;
+    interpreter.work_between_lines(policy);
     Ok(())
 }
 
@@ -160,84 +164,84 @@ fn write_out<W: Write>(writer: &mut W, waits: bool) -> io::Result<()>
 }
 
 // reads the line of this number, answers it, and writes the reply
-fn take_turn<D: Disk, R: BufRead, W: Write>(
+fn take_line<D: Disk, R: BufRead, W: Write>(
     alloc: Global,
-    player: &mut Player<D>,
-    pace: Pace,
+    interpreter: &mut Interpreter<D>,
+    policy: FlushPolicy,
     reader: &mut R,
     line: &mut Vec<u8>,
     writer: &mut W,
     number: u64,
-) -> io::Result<Turn>
-    ensures told { IfOk result (λ told. Turns pace (script_of player.old) number
-        (R.remaining reader.old) (W.contents writer.old) told (script_of player.new)
+) -> io::Result<LineOutcome>
+    ensures reported { IfOk result (λ reported. OutcomeOfLine policy (script_of interpreter.old) number
+        (R.remaining reader.old) (W.contents writer.old) reported (script_of interpreter.new)
         (R.remaining reader.new) (W.contents writer.new)) }
-    ensures later { IsLater D.faithful D.failures (engine_of player.old) (engine_of player.new) }
+    ensures later { IsLater D.faithful D.failures (engine_of interpreter.old) (engine_of interpreter.new) }
 {
-    if let Err(ending) = next_line(reader, line) {
-        let status = end(writer, ending)?;
-        return Ok(Turn::Over { status });
+    if let Err(end_of_script) = next_line(reader, line) {
+        let status = end(writer, end_of_script)?;
+        return Ok(LineOutcome::Over { status });
     }
-    let waits = pace.waits_at(line);
+    let waits = policy.waits_at(line);
     write_out(writer, waits)?;
-    match player.reply_to(alloc, line) {
-        Ok(Some(told)) => {
-            if pace.is_in_memory() && tells_of_device(&told) {
+    match interpreter.reply_to(alloc, line) {
+        Ok(Some(reported)) => {
+            if policy.is_in_memory() && is_device_reply(&reported) {
                 // a disk in memory fails only where it finds no memory
-                let status = end(writer, Ending::OutOfMemory)?;
-                return Ok(Turn::Over { status });
+                let status = end(writer, EndOfScript::OutOfMemory)?;
+                return Ok(LineOutcome::Over { status });
             }
-            let is_refusal = write_reply(writer, &told, waits)?;
-            Ok(Turn::Replied { is_refusal })
+            let is_refusal = write_reply(writer, &reported, waits)?;
+            Ok(LineOutcome::Replied { is_refusal })
         }
         Ok(None) => {
             let status = wrong(writer, number)?;
-            Ok(Turn::Over { status })
+            Ok(LineOutcome::Over { status })
         }
         Err(AllocError) => {
-            let status = end(writer, Ending::OutOfMemory)?;
-            Ok(Turn::Over { status })
+            let status = end(writer, EndOfScript::OutOfMemory)?;
+            Ok(LineOutcome::Over { status })
         }
     }
 }
 
 // writes a reply, and writes it out if the line waited for the disk; answers whether it is a refusal
-fn write_reply<W: Write>(writer: &mut W, told: &ReplyLine, waited: bool) -> io::Result<bool>
-    ensures { IfOk result (λ refused. (refused ≡ is_refusal told.now)
-        × Appends (W.contents writer.old) (W.contents writer.new) (reply_line told.now)) }
+fn write_reply<W: Write>(writer: &mut W, reported: &ReplyLine, waited: bool) -> io::Result<bool>
+    ensures { IfOk result (λ refused. (refused ≡ is_refusal reported.now)
+        × Appends (W.contents writer.old) (W.contents writer.new) (reply_line reported.now)) }
 {
-    told.write(writer)?;
+    reported.write(writer)?;
     if waited {
         writer.flush()?;
     }
-    Ok(is_refusal(told))
+    Ok(is_refusal(reported))
 }
 
 /// Whether a reply is a refusal.
-pub fn is_refusal(told: &ReplyLine) -> bool
-    ensures { result ≡ is_refusal told.now }
+pub fn is_refusal(reported: &ReplyLine) -> bool
+    ensures { result ≡ is_refusal reported.now }
 {
-    match told {
+    match reported {
         ReplyLine::Refused { .. } => true,
         _ => false,
     }
 }
 
 /// Reads the next line of a script into the buffer, without the byte that ends it; or answers why there is none.
-pub fn next_line<R: BufRead>(reader: &mut R, line: &mut Vec<u8>) -> Result<(), Ending>
+pub fn next_line<R: BufRead>(reader: &mut R, line: &mut Vec<u8>) -> Result<(), EndOfScript>
     ensures line { OnOk result (TakesLine (R.remaining reader.old)
         (R.remaining reader.new) line.new.items) }
-    ensures none { IfErr result (λ ending. WereRead (R.remaining reader.old) [] (Some ending)) }
+    ensures none { IfErr result (λ end_of_script. WereRead (R.remaining reader.old) [] (Some end_of_script)) }
 {
     line.clear();
     match reader.read_until(LINE_END, line) {
-        Ok(0) => Err(Ending::Ended),
+        Ok(0) => Err(EndOfScript::Ended),
         Ok(_) => {
             strip_end(line);
             Ok(())
         }
-        Err(error) if error.kind() == io::ErrorKind::OutOfMemory => Err(Ending::OutOfMemory),
-        Err(_) => Err(Ending::Broken),
+        Err(error) if error.kind() == io::ErrorKind::OutOfMemory => Err(EndOfScript::OutOfMemory),
+        Err(_) => Err(EndOfScript::Broken),
     }
 }
 
@@ -253,17 +257,17 @@ fn strip_end(line: &mut Vec<u8>)
 
 /// Writes why there is no further line, and answers with which status the run ends by that: nothing is written of a script that was
 /// read to its end.
-pub fn end<W: Write>(writer: &mut W, ending: Ending) -> io::Result<Status>
-    ensures { IfOk result (λ status. (text : List ℕ) × Ends ending text status
+pub fn end<W: Write>(writer: &mut W, end_of_script: EndOfScript) -> io::Result<Status>
+    ensures { IfOk result (λ status. (text : List ℕ) × Ends end_of_script text status
         × Appends (W.contents writer.old) (W.contents writer.new) text) }
 {
-    match ending {
-        Ending::Ended => Ok(Status::Clean),
-        Ending::Broken => {
+    match end_of_script {
+        EndOfScript::Ended => Ok(Status::Clean),
+        EndOfScript::Broken => {
             writer.write_all(b"cannot read script\n")?;
             Ok(Status::Refused)
         }
-        Ending::OutOfMemory => {
+        EndOfScript::OutOfMemory => {
             writeln!(writer, "{}", Refusal::NoMemory)?;
             Ok(Status::Refused)
         }

@@ -46,8 +46,8 @@ at_part front part escapes word parts rest e f kept =
 
 -- the next part spells units
 pub goes_on : (front more part escapes word new : List ℕ) (left_over rest : Option (List ℕ)) → rest ≡ Some escapes → slice_split (λ byte. byte == 37) escapes ≡ part ∷ parts_of 37 left_over → units_from front rest ≡ units_of word → escaped part ≡ Some more → new ≡ front ++ more → units_from new left_over ≡ units_of word
-goes_on front more part escapes word new left_over rest e f kept spelled made =
-    ap (λ units. units_from units left_over) made ∙ sym (one_more front more part (parts_of 37 left_over) spelled) ∙ at_part front part escapes word (parts_of 37 left_over) rest e f kept
+goes_on front more part escapes word new left_over rest e f kept parsed made =
+    ap (λ units. units_from units left_over) made ∙ sym (one_more front more part (parts_of 37 left_over) parsed) ∙ at_part front part escapes word (parts_of 37 left_over) rest e f kept
 
 -- the next part spells none
 pub stops : (front part escapes word : List ℕ) (left_over rest : Option (List ℕ)) → rest ≡ Some escapes → slice_split (λ byte. byte == 37) escapes ≡ part ∷ parts_of 37 left_over → units_from front rest ≡ units_of word → escaped part ≡ None → units_of word ≡ None

@@ -6,7 +6,7 @@ mod Uuids
 mod WordLists
 pub mod Written
 mod Cuts
-mod SpelledUnits
-mod SpelledWords
-mod SpelledRequests
-mod SpelledLines
+mod ParsedUnits
+mod ParsedWords
+mod ParsedRequests
+mod ParsedLines

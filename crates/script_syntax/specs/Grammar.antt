@@ -8,7 +8,7 @@ use Rattle.hex.specs.Hex.{decode_of, decode_sized}
 use Rattle.refusals.specs.declared.limits.TheConstants.{MOST_HIVES}
 use Rattle.script_syntax.specs.Words.{words, uuid_of}
 use Rattle.script_syntax.specs.declared.label.TheConstants.{LONGEST_LABEL}
-use Rattle.script_syntax.specs.declared.line.Place.{Place}
+use Rattle.script_syntax.specs.declared.line.KeyRef.{KeyRef}
 use Rattle.script_syntax.specs.declared.line.Request.{Request}
 use Rattle.script_syntax.specs.declared.line.Request.TheVariants.{Create, Delete, Set, Unset, Get, Keys, Values, Info}
 use Rattle.script_syntax.specs.declared.line.Line.{Line}
@@ -31,7 +31,7 @@ IsPlain piece unit = (unit ≢ 37) × (piece ≡ unit ∷ [])
 pub record IsEscape (piece : List ℕ) (unit : ℕ) : Type 0 where
   pub digits : List ℕ
   pub pair : List ℕ
-  pub spelled : piece ≡ 37 ∷ digits
+  pub parsed : piece ≡ 37 ∷ digits
   pub four : length digits ≡ 4
   pub decoded : decode_sized digits 2 ≡ Ok pair
   pub is : unit ≡ from_be_bytes w16 pair
@@ -42,13 +42,13 @@ AreUnits word [] = word ≡ []
 AreUnits word (unit ∷ units) = (piece : List ℕ) × (rest : List ℕ) × (word ≡ piece ++ rest) × (IsPlain piece unit ⊎ IsEscape piece unit) × AreUnits rest units
 
 -- a hive's number, a colon, and the text of a path
-pub record IsPlace (word : List ℕ) (place : Place) : Type 0 where
+pub record IsKeyRef (word : List ℕ) (key_ref : KeyRef) : Type 0 where
   pub number : List ℕ
   pub text : List ℕ
-  pub spelled : word ≡ number ++ 58 ∷ text
-  pub hive : IsDecimal number place.hive
-  pub within : place.hive ≤ 255
-  pub path : AreUnits text place.path
+  pub parsed : word ≡ number ++ 58 ∷ text
+  pub hive : IsDecimal number key_ref.hive
+  pub within : key_ref.hive ≤ 255
+  pub path : AreUnits text key_ref.path
 
 -- the name of a value: `@` is the empty one, and nothing else is
 abbrev pub IsName : List ℕ → List ℕ → Type 0
@@ -70,30 +70,30 @@ abbrev pub IsUuid : List ℕ → List ℕ → Type 0
 IsUuid word id = uuid_of word ≡ Some id
 
 -- a word with a place behind it; with a place and a name; with a number; with a label
-abbrev pub OfPlace : List ℕ → Place → List (List ℕ) → Type 0
-OfPlace verb at said = (place : List ℕ) × (said ≡ verb ∷ place ∷ []) × IsPlace place at
+abbrev pub VerbAndKeyRef : List ℕ → KeyRef → List (List ℕ) → Type 0
+VerbAndKeyRef verb at said = (key_ref : List ℕ) × (said ≡ verb ∷ key_ref ∷ []) × IsKeyRef key_ref at
 
-abbrev pub OfName : List ℕ → Place → List ℕ → List (List ℕ) → Type 0
-OfName verb at name said = (place : List ℕ) × (named : List ℕ) × (said ≡ verb ∷ place ∷ named ∷ []) × IsPlace place at × IsName named name
+abbrev pub VerbKeyRefAndName : List ℕ → KeyRef → List ℕ → List (List ℕ) → Type 0
+VerbKeyRefAndName verb at name said = (key_ref : List ℕ) × (named : List ℕ) × (said ≡ verb ∷ key_ref ∷ named ∷ []) × IsKeyRef key_ref at × IsName named name
 
-abbrev pub OfNumber : List ℕ → ℕ → List (List ℕ) → Type 0
-OfNumber verb number said = (digits : List ℕ) × (said ≡ verb ∷ digits ∷ []) × IsDecimal digits number
+abbrev pub VerbAndNumber : List ℕ → ℕ → List (List ℕ) → Type 0
+VerbAndNumber verb number said = (digits : List ℕ) × (said ≡ verb ∷ digits ∷ []) × IsDecimal digits number
 
-abbrev pub OfLabel : List ℕ → List ℕ → List (List ℕ) → Type 0
-OfLabel verb label said = (word : List ℕ) × (said ≡ verb ∷ word ∷ []) × IsLabel word label
+abbrev pub VerbAndLabel : List ℕ → List ℕ → List (List ℕ) → Type 0
+VerbAndLabel verb label said = (word : List ℕ) × (said ≡ verb ∷ word ∷ []) × IsLabel word label
 
 -- the words of a request: the first says which it is, and the others what it asks for
-abbrev pub RequestedBy : Request → List (List ℕ) → Type 0
-RequestedBy (Create at) said = OfPlace (codes "create") at said
-RequestedBy (Delete at) said = OfPlace (codes "delete") at said
-RequestedBy (Set at name kind bytes) said =
-    (place : List ℕ) × (named : List ℕ) × (number : List ℕ) × (digits : List ℕ) × (said ≡ codes "set" ∷ place ∷ named ∷ number ∷ digits ∷ [])
-    × IsPlace place at × IsName named name × IsDecimal number kind × (kind < 2 ^ 32) × IsData digits bytes
-RequestedBy (Unset at name) said = OfName (codes "unset") at name said
-RequestedBy (Get at name) said = OfName (codes "get") at name said
-RequestedBy (Keys at) said = OfPlace (codes "keys") at said
-RequestedBy (Values at) said = OfPlace (codes "values") at said
-RequestedBy (Info at) said = OfPlace (codes "info") at said
+abbrev pub RequestWords : Request → List (List ℕ) → Type 0
+RequestWords (Create at) said = VerbAndKeyRef (codes "create") at said
+RequestWords (Delete at) said = VerbAndKeyRef (codes "delete") at said
+RequestWords (Set at name kind bytes) said =
+    (key_ref : List ℕ) × (named : List ℕ) × (number : List ℕ) × (digits : List ℕ) × (said ≡ codes "set" ∷ key_ref ∷ named ∷ number ∷ digits ∷ [])
+    × IsKeyRef key_ref at × IsName named name × IsDecimal number kind × (kind < 2 ^ 32) × IsData digits bytes
+RequestWords (Unset at name) said = VerbKeyRefAndName (codes "unset") at name said
+RequestWords (Get at name) said = VerbKeyRefAndName (codes "get") at name said
+RequestWords (Keys at) said = VerbAndKeyRef (codes "keys") at said
+RequestWords (Values at) said = VerbAndKeyRef (codes "values") at said
+RequestWords (Info at) said = VerbAndKeyRef (codes "info") at said
 
 -- the word of what a loss of power leaves
 abbrev pub tear_word : CrashTear → List ℕ
@@ -102,34 +102,34 @@ tear_word New = codes "new"
 tear_word Torn = codes "torn"
 
 -- the words of a line that only a laboratory takes; calls of the device are counted from 1
-abbrev pub LabSpelledBy : LabLine → List (List ℕ) → Type 0
-LabSpelledBy (Accept label) said = OfLabel (codes "accept") label said
-LabSpelledBy JournalStep said = said ≡ codes "jstep" ∷ []
-LabSpelledBy (FlusherStep hive) said = OfNumber (codes "fstep") hive said × (hive ≤ 255)
-LabSpelledBy TrimStep said = said ≡ codes "tstep" ∷ []
-LabSpelledBy (FlushWhole hive) said = OfNumber (codes "fall") hive said × (hive ≤ 255)
-LabSpelledBy (StopAt call) said = OfNumber (codes "stop") call said × (1 ≤ call) × (call < 2 ^ 64)
-LabSpelledBy (FailAt call) said = OfNumber (codes "fail") call said × (1 ≤ call) × (call < 2 ^ 64)
-LabSpelledBy (Crash tear) said = said ≡ codes "crash" ∷ tear_word tear ∷ []
+abbrev pub LabLineWords : LabLine → List (List ℕ) → Type 0
+LabLineWords (Accept label) said = VerbAndLabel (codes "accept") label said
+LabLineWords JournalStep said = said ≡ codes "jstep" ∷ []
+LabLineWords (FlusherStep hive) said = VerbAndNumber (codes "fstep") hive said × (hive ≤ 255)
+LabLineWords TrimStep said = said ≡ codes "tstep" ∷ []
+LabLineWords (FlushWhole hive) said = VerbAndNumber (codes "fall") hive said × (hive ≤ 255)
+LabLineWords (StopAt call) said = VerbAndNumber (codes "stop") call said × (1 ≤ call) × (call < 2 ^ 64)
+LabLineWords (FailAt call) said = VerbAndNumber (codes "fail") call said × (1 ≤ call) × (call < 2 ^ 64)
+LabLineWords (Crash tear) said = said ≡ codes "crash" ∷ tear_word tear ∷ []
 
 -- the words of a line, likewise; a request stands alone, or behind `tx` and a label
-abbrev pub SpelledBy : Line → List (List ℕ) → Type 0
-SpelledBy (Hives count) said = OfNumber (codes "hives") count said × (1 ≤ count) × (count ≤ MOST_HIVES)
-SpelledBy (At moment) said = OfNumber (codes "at") moment said × (moment < 2 ^ 64)
-SpelledBy (Session number) said = OfNumber (codes "session") number said × (number < 2 ^ 32)
-SpelledBy (End number) said = OfNumber (codes "end") number said × (number < 2 ^ 32)
-SpelledBy (Plain request) said = RequestedBy request said
-SpelledBy (Begin label id) said =
+abbrev pub LineWords : Line → List (List ℕ) → Type 0
+LineWords (Hives count) said = VerbAndNumber (codes "hives") count said × (1 ≤ count) × (count ≤ MOST_HIVES)
+LineWords (At moment) said = VerbAndNumber (codes "at") moment said × (moment < 2 ^ 64)
+LineWords (Session number) said = VerbAndNumber (codes "session") number said × (number < 2 ^ 32)
+LineWords (End number) said = VerbAndNumber (codes "end") number said × (number < 2 ^ 32)
+LineWords (Plain request) said = RequestWords request said
+LineWords (Begin label id) said =
     (word : List ℕ) × (text : List ℕ) × (said ≡ codes "begin" ∷ word ∷ text ∷ []) × IsLabel word label × IsUuid text id
-SpelledBy (Inside label request) said =
-    (word : List ℕ) × (asked : List (List ℕ)) × (said ≡ codes "tx" ∷ word ∷ asked) × IsLabel word label × RequestedBy request asked
-SpelledBy (Commit label) said = OfLabel (codes "commit") label said
-SpelledBy (Rollback label) said = OfLabel (codes "rollback") label said
-SpelledBy (Close label) said = OfLabel (codes "close") label said
-SpelledBy (Outcome label) said = OfLabel (codes "outcome") label said
-SpelledBy Flush said = said ≡ codes "flush" ∷ []
-SpelledBy (Lab line) said = LabSpelledBy line said
+LineWords (Inside label request) said =
+    (word : List ℕ) × (asked : List (List ℕ)) × (said ≡ codes "tx" ∷ word ∷ asked) × IsLabel word label × RequestWords request asked
+LineWords (Commit label) said = VerbAndLabel (codes "commit") label said
+LineWords (Rollback label) said = VerbAndLabel (codes "rollback") label said
+LineWords (Close label) said = VerbAndLabel (codes "close") label said
+LineWords (Outcome label) said = VerbAndLabel (codes "outcome") label said
+LineWords Flush said = said ≡ codes "flush" ∷ []
+LineWords (Lab line) said = LabLineWords line said
 
 -- bytes spell a line where their parts between blanks do
-abbrev pub Spells : List ℕ → Line → Type 0
-Spells bytes line = SpelledBy line (words bytes)
+abbrev pub BytesParseTo : List ℕ → Line → Type 0
+BytesParseTo bytes line = LineWords line (words bytes)

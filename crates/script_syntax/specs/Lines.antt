@@ -2,8 +2,8 @@
 use Rattle.std.specs.Prelude.{ℕ, ◌^◌, ◌-◌, nat_le, if◌then◌else◌, List, [], ◌∷◌, Option, Some, None, codes}
 use Rattle.std.specs.Option.{option_map, option_and_then}
 use Rattle.std.specs.Str.{bytes_eq}
-use Rattle.script_syntax.specs.Words.{words, number_of, data_of, name_of, place_of, label_of, uuid_of}
-use Rattle.script_syntax.specs.declared.line.Place.{Place}
+use Rattle.script_syntax.specs.Words.{words, number_of, data_of, name_of, key_ref_of, label_of, uuid_of}
+use Rattle.script_syntax.specs.declared.line.KeyRef.{KeyRef}
 use Rattle.script_syntax.specs.declared.line.Request.{Request}
 use Rattle.script_syntax.specs.declared.line.Request.TheVariants.{Create, Delete, Set, Unset, Get, Keys, Values, Info}
 use Rattle.script_syntax.specs.declared.line.Line.{Line}
@@ -27,30 +27,30 @@ four_of (a ∷ b ∷ c ∷ d ∷ []) = Some (a, b, c, d)
 four_of _ = None
 
 -- a place alone, and a place with the name of a value
-abbrev pub place_in : List (List ℕ) → Option Place
-place_in args = option_and_then place_of (one_of args)
+abbrev pub key_ref_in : List (List ℕ) → Option KeyRef
+key_ref_in args = option_and_then key_ref_of (one_of args)
 
-abbrev pub named_place : List ℕ × List ℕ → Option (Place × List ℕ)
-named_place args = option_and_then (λ at. option_map (λ units. (at, units)) (name_of args.1)) (place_of args.0)
+abbrev pub named_key_ref : List ℕ × List ℕ → Option (KeyRef × List ℕ)
+named_key_ref args = option_and_then (λ at. option_map (λ units. (at, units)) (name_of args.1)) (key_ref_of args.0)
 
-abbrev pub named_in : List (List ℕ) → Option (Place × List ℕ)
-named_in args = option_and_then named_place (two_of args)
+abbrev pub named_in : List (List ℕ) → Option (KeyRef × List ℕ)
+named_in args = option_and_then named_key_ref (two_of args)
 
 abbrev pub set_request : List ℕ × List ℕ × List ℕ × List ℕ → Option Request
 set_request args =
-    option_and_then (λ at. option_and_then (λ units. option_and_then (λ number. option_map (λ contents. Set at units number contents) (data_of args.3)) (number_of (2 ^ 32 - 1) args.2)) (name_of args.1)) (place_of args.0)
+    option_and_then (λ at. option_and_then (λ units. option_and_then (λ number. option_map (λ contents. Set at units number contents) (data_of args.3)) (number_of (2 ^ 32 - 1) args.2)) (name_of args.1)) (key_ref_of args.0)
 
 -- what is asked of a key: the first word says what
 abbrev pub request_with : List ℕ → List (List ℕ) → Option Request
 request_with verb args =
-    if bytes_eq verb (codes "create") then option_map (λ at. Create at) (place_in args)
-    else if bytes_eq verb (codes "delete") then option_map (λ at. Delete at) (place_in args)
+    if bytes_eq verb (codes "create") then option_map (λ at. Create at) (key_ref_in args)
+    else if bytes_eq verb (codes "delete") then option_map (λ at. Delete at) (key_ref_in args)
     else if bytes_eq verb (codes "set") then option_and_then set_request (four_of args)
     else if bytes_eq verb (codes "unset") then option_map (λ found. Unset found.0 found.1) (named_in args)
     else if bytes_eq verb (codes "get") then option_map (λ found. Get found.0 found.1) (named_in args)
-    else if bytes_eq verb (codes "keys") then option_map (λ at. Keys at) (place_in args)
-    else if bytes_eq verb (codes "values") then option_map (λ at. Values at) (place_in args)
-    else if bytes_eq verb (codes "info") then option_map (λ at. Info at) (place_in args)
+    else if bytes_eq verb (codes "keys") then option_map (λ at. Keys at) (key_ref_in args)
+    else if bytes_eq verb (codes "values") then option_map (λ at. Values at) (key_ref_in args)
+    else if bytes_eq verb (codes "info") then option_map (λ at. Info at) (key_ref_in args)
     else None
 
 abbrev pub request_of_words : List (List ℕ) → Option Request

@@ -11,7 +11,7 @@ use Rattle.hex.specs.Hex.{decode_of, decode_sized}
 use Rattle.hex.specs.declared.error.FromHexError.{FromHexError}
 use Rattle.uuid.specs.Text.{parsed}
 use Rattle.script_syntax.specs.declared.label.TheConstants.{LONGEST_LABEL}
-use Rattle.script_syntax.specs.declared.line.Place.{Place}
+use Rattle.script_syntax.specs.declared.line.KeyRef.{KeyRef}
 
 -- what stands behind the first separator, where there is one
 abbrev pub behind : ℕ → List ℕ → Option (List ℕ)
@@ -65,11 +65,11 @@ abbrev pub name_of : List ℕ → Option (List ℕ)
 name_of word = if bytes_eq word (codes "@") then Some [] else if length word == 0 then None else units_of word
 
 -- a hive's number and a path's text, with a colon between
-abbrev pub placed : Option ℕ → Option (List ℕ) → Option Place
+abbrev pub placed : Option ℕ → Option (List ℕ) → Option KeyRef
 placed hive path = option_and_then (λ number. option_map (λ units. record { hive = number; path = units }) path) hive
 
-abbrev pub place_of : List ℕ → Option Place
-place_of word = placed (number_of 255 (before 58 word)) (option_and_then units_of (behind 58 word))
+abbrev pub key_ref_of : List ℕ → Option KeyRef
+key_ref_of word = placed (number_of 255 (before 58 word)) (option_and_then units_of (behind 58 word))
 
 -- a label: ASCII letters or digits, at least one and at most 16, filled up with zeros
 abbrev pub label_of : List ℕ → Option (List ℕ)

@@ -1,15 +1,15 @@
 //! Laws of the script's grammar: what the reader reads is what the relations of `specs/Grammar` spell.
 ghost use Rattle.std.specs.Prelude.{◌≡◌, ℕ, List, Some};
 ghost use Rattle.script_syntax.specs.Lines.{line_of};
-ghost use Rattle.script_syntax.specs.Grammar.{IsLabel, Spells};
+ghost use Rattle.script_syntax.specs.Grammar.{IsLabel, BytesParseTo};
 ghost use Rattle.script_syntax.specs.declared.line.Line.{Line};
 
 /// The line that bytes are read as is the line that they spell, and no bytes spell two.
-pub fn reads_what_is_spelled()
-    ensures read { (bytes : List ℕ) (line : Line) → Spells bytes line → line_of bytes ≡ Some line }
-    ensures spelled { (bytes : List ℕ) (line : Line) → line_of bytes ≡ Some line →
-        Spells bytes line }
-    ensures one { (bytes : List ℕ) (line other : Line) → Spells bytes line → Spells bytes other →
+pub fn parses_what_is_printed()
+    ensures read { (bytes : List ℕ) (line : Line) → BytesParseTo bytes line → line_of bytes ≡ Some line }
+    ensures parsed { (bytes : List ℕ) (line : Line) → line_of bytes ≡ Some line →
+        BytesParseTo bytes line }
+    ensures one { (bytes : List ℕ) (line other : Line) → BytesParseTo bytes line → BytesParseTo bytes other →
         line ≡ other }
 {}
 

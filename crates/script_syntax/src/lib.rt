@@ -11,24 +11,24 @@
 
 pub mod grammar;
 mod lab_line;
-mod lab_reading;
+mod lab_line_parser;
 mod label;
 mod line;
+mod line_parser;
 mod numbers;
-mod reading;
+mod parse_error;
+mod printer;
 mod reply;
 mod requests;
 mod status;
-mod texts;
-mod unread;
+mod word_parser;
 mod words;
-mod writing;
 
 pub use lab_line::{CrashTear, LabLine};
 pub use label::{LONGEST_LABEL, Label};
-pub use line::{Line, Place, Request, Text};
-pub use reading::read_line;
+pub use line::{KeyRef, Line, Request, Text};
+pub use line_parser::read_line;
+pub use parse_error::ParseError;
+pub use printer::{write_data, write_name};
 pub use reply::ReplyLine;
 pub use status::Status;
-pub use unread::Unread;
-pub use writing::{write_data, write_name};

@@ -39,7 +39,7 @@ impl Text {
 
 /// Where a key stands: `HIVE:PATH`.
 #[derive(Drop)]
-pub struct Place {
+pub struct KeyRef {
     /// The hive's number.
     pub hive: u8,
     /// The path's text.
@@ -52,17 +52,17 @@ pub enum Request {
     /// `create P`: creates a key.
     Create {
         /// Where the key stands.
-        place: Place,
+        key_ref: KeyRef,
     },
     /// `delete P`: deletes a key.
     Delete {
         /// Where the key stands.
-        place: Place,
+        key_ref: KeyRef,
     },
     /// `set P NAME TYPE HEX`: writes a value.
     Set {
         /// Where the key stands.
-        place: Place,
+        key_ref: KeyRef,
         /// The value's name.
         name: Text,
         /// The value's type number.
@@ -73,31 +73,31 @@ pub enum Request {
     /// `unset P NAME`: deletes a value.
     Unset {
         /// Where the key stands.
-        place: Place,
+        key_ref: KeyRef,
         /// The value's name.
         name: Text,
     },
     /// `get P NAME`: reads a value.
     Get {
         /// Where the key stands.
-        place: Place,
+        key_ref: KeyRef,
         /// The value's name.
         name: Text,
     },
     /// `keys P`: lists the names of subkeys.
     Keys {
         /// Where the key stands.
-        place: Place,
+        key_ref: KeyRef,
     },
     /// `values P`: lists the names of values.
     Values {
         /// Where the key stands.
-        place: Place,
+        key_ref: KeyRef,
     },
     /// `info P`: counts subkeys and values, and tells the moment of the last write.
     Info {
         /// Where the key stands.
-        place: Place,
+        key_ref: KeyRef,
     },
 }
 

@@ -3,7 +3,7 @@ ghost use Rattle.std.specs.Prelude.{OnOk};
 ghost use Rattle.std.specs.Io.KnownBytes.{Appends};
 ghost use Rattle.script_syntax.specs.Replies.{reply_line, names_text};
 
-use crate::writing::{write_data, write_name};
+use crate::printer::{write_data, write_name};
 use refusals::Refusal;
 use reg_names::Name;
 use reg_tree::{Data, Names};

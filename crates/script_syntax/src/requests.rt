@@ -2,17 +2,17 @@
 ghost use Rattle.std.specs.Prelude.{◌≡◌};
 ghost use Rattle.std.specs.Option.{option_copied};
 ghost use Rattle.script_syntax.specs.Words.{parts_of};
-ghost use Rattle.script_syntax.specs.Lines.{place_in, named_in, set_request, request_with, request_of_words};
+ghost use Rattle.script_syntax.specs.Lines.{key_ref_in, named_in, set_request, request_with, request_of_words};
 ghost use Rattle.script_syntax.specs.Reads.{Reads};
 
-use crate::line::{Place, Request, Text};
-use crate::texts::{data, name, place, whole_number};
-use crate::unread::Unread;
+use crate::line::{KeyRef, Request, Text};
+use crate::parse_error::ParseError;
+use crate::word_parser::{data, key_ref, name, whole_number};
 use crate::words::{four_words, next_word, one_word, two_words};
 use std::alloc::Global;
 
 /// The request that stands behind a blank.
-pub(crate) fn request(alloc: Global, rest: Option<&[u8]>) -> Result<Request, Unread>
+pub(crate) fn request(alloc: Global, rest: Option<&[u8]>) -> Result<Request, ParseError>
     ensures { Reads result (request_of_words (parts_of 32 (option_copied rest.entry))) }
 {
     let (verb, rest) = next_word(rest)?;
@@ -24,53 +24,53 @@ pub(crate) fn request_with(
     alloc: Global,
     verb: &[u8],
     rest: Option<&[u8]>,
-) -> Result<Request, Unread>
+) -> Result<Request, ParseError>
     ensures { Reads result (request_with verb.now (parts_of 32 (option_copied rest.entry))) }
 {
     if verb == b"create".as_slice() {
-        let place = place_alone(alloc, rest)?;
-        Ok(Request::Create { place })
+        let key_ref = key_ref_alone(alloc, rest)?;
+        Ok(Request::Create { key_ref })
     } else if verb == b"delete".as_slice() {
-        let place = place_alone(alloc, rest)?;
-        Ok(Request::Delete { place })
+        let key_ref = key_ref_alone(alloc, rest)?;
+        Ok(Request::Delete { key_ref })
     } else if verb == b"set".as_slice() {
         set(alloc, four_words(rest)?)
     } else if verb == b"unset".as_slice() {
-        let (place, name) = place_and_name(alloc, rest)?;
-        Ok(Request::Unset { place, name })
+        let (key_ref, name) = key_ref_and_name(alloc, rest)?;
+        Ok(Request::Unset { key_ref, name })
     } else if verb == b"get".as_slice() {
-        let (place, name) = place_and_name(alloc, rest)?;
-        Ok(Request::Get { place, name })
+        let (key_ref, name) = key_ref_and_name(alloc, rest)?;
+        Ok(Request::Get { key_ref, name })
     } else if verb == b"keys".as_slice() {
-        let place = place_alone(alloc, rest)?;
-        Ok(Request::Keys { place })
+        let key_ref = key_ref_alone(alloc, rest)?;
+        Ok(Request::Keys { key_ref })
     } else if verb == b"values".as_slice() {
-        let place = place_alone(alloc, rest)?;
-        Ok(Request::Values { place })
+        let key_ref = key_ref_alone(alloc, rest)?;
+        Ok(Request::Values { key_ref })
     } else if verb == b"info".as_slice() {
-        let place = place_alone(alloc, rest)?;
-        Ok(Request::Info { place })
+        let key_ref = key_ref_alone(alloc, rest)?;
+        Ok(Request::Info { key_ref })
     } else {
-        Err(Unread::NotUnderstood)
+        Err(ParseError::NotUnderstood)
     }
 }
 
-fn place_alone(alloc: Global, rest: Option<&[u8]>) -> Result<Place, Unread>
-    ensures { Reads result (place_in (parts_of 32 (option_copied rest.entry))) }
+fn key_ref_alone(alloc: Global, rest: Option<&[u8]>) -> Result<KeyRef, ParseError>
+    ensures { Reads result (key_ref_in (parts_of 32 (option_copied rest.entry))) }
 {
-    place(alloc, one_word(rest)?)
+    key_ref(alloc, one_word(rest)?)
 }
 
-fn place_and_name(alloc: Global, rest: Option<&[u8]>) -> Result<(Place, Text), Unread>
+fn key_ref_and_name(alloc: Global, rest: Option<&[u8]>) -> Result<(KeyRef, Text), ParseError>
     ensures { Reads result (named_in (parts_of 32 (option_copied rest.entry))) }
 {
     let words = two_words(rest)?;
-    let place = place(alloc, words.0)?;
+    let key_ref = key_ref(alloc, words.0)?;
     let name = name(alloc, words.1)?;
-    Ok((place, name))
+    Ok((key_ref, name))
 }
 
-fn set(alloc: Global, words: (&[u8], &[u8], &[u8], &[u8])) -> Result<Request, Unread>
+fn set(alloc: Global, words: (&[u8], &[u8], &[u8], &[u8])) -> Result<Request, ParseError>
     ensures { Reads result (set_request (
       words.entry.0.now,
       words.entry.1.now,
@@ -78,12 +78,12 @@ fn set(alloc: Global, words: (&[u8], &[u8], &[u8], &[u8])) -> Result<Request, Un
       words.entry.3.now,
     )) }
 {
-    let place = place(alloc, words.0)?;
+    let key_ref = key_ref(alloc, words.0)?;
     let name = name(alloc, words.1)?;
     let kind = whole_number(words.2)?;
     let data = data(alloc, words.3)?;
     Ok(Request::Set {
-        place,
+        key_ref,
         name,
         kind,
         data,

@@ -6,7 +6,7 @@ ghost use Rattle.script_syntax.specs.Words.{parts_of, before, behind};
 ghost use Rattle.script_syntax.specs.Lines.{one_of, two_of, four_of};
 ghost use Rattle.script_syntax.specs.Reads.{ReadsAs};
 
-use crate::unread::Unread;
+use crate::parse_error::ParseError;
 
 /// The blank between two words.
 const BLANK: u8 = b' ';
@@ -34,17 +34,17 @@ pub(crate) fn first_word(line: &[u8]) -> (&[u8], Option<&[u8]>)
 }
 
 /// The one word that stands behind a blank.
-pub(crate) fn one_word(rest: Option<&[u8]>) -> Result<&[u8], Unread>
+pub(crate) fn one_word(rest: Option<&[u8]>) -> Result<&[u8], ParseError>
     ensures { ReadsAs (λ word. word.now) result (one_of (parts_of 32 (option_copied rest.entry))) }
 {
     match next_word(rest)? {
         (word, None) => Ok(word),
-        (_, Some(_)) => Err(Unread::NotUnderstood),
+        (_, Some(_)) => Err(ParseError::NotUnderstood),
     }
 }
 
 /// The two words that stand behind a blank.
-pub(crate) fn two_words(rest: Option<&[u8]>) -> Result<(&[u8], &[u8]), Unread>
+pub(crate) fn two_words(rest: Option<&[u8]>) -> Result<(&[u8], &[u8]), ParseError>
     ensures { ReadsAs (λ found. (found.0.now, found.1.now)) result
         (two_of (parts_of 32 (option_copied rest.entry))) }
 {
@@ -54,7 +54,7 @@ pub(crate) fn two_words(rest: Option<&[u8]>) -> Result<(&[u8], &[u8]), Unread>
 }
 
 /// The four words that stand behind a blank.
-pub(crate) fn four_words(rest: Option<&[u8]>) -> Result<(&[u8], &[u8], &[u8], &[u8]), Unread>
+pub(crate) fn four_words(rest: Option<&[u8]>) -> Result<(&[u8], &[u8], &[u8], &[u8]), ParseError>
     ensures { ReadsAs (λ found. (found.0.now, found.1.now, found.2.now, found.3.now)) result
         (four_of (parts_of 32 (option_copied rest.entry))) }
 {
@@ -65,15 +65,15 @@ pub(crate) fn four_words(rest: Option<&[u8]>) -> Result<(&[u8], &[u8], &[u8], &[
 }
 
 /// The first word behind a blank, and what stands behind its blank where there is one.
-pub(crate) fn next_word(rest: Option<&[u8]>) -> Result<(&[u8], Option<&[u8]>), Unread>
+pub(crate) fn next_word(rest: Option<&[u8]>) -> Result<(&[u8], Option<&[u8]>), ParseError>
     ensures { MatchResult result (λ found. parts_of 32 (option_copied rest.entry)
         ≡ found.0.now ∷ parts_of 32 (option_copied found.1))
-        (λ unread. (unread ≡ Unread.NotUnderstood)
+        (λ parse_error. (parse_error ≡ ParseError.NotUnderstood)
         × (parts_of 32 (option_copied rest.entry) ≡ [])) }
 {
     match rest {
         Some(rest) => Ok(first_word(rest)),
-        None => Err(Unread::NotUnderstood),
+        None => Err(ParseError::NotUnderstood),
     }
 }
 

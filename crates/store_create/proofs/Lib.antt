@@ -1,3 +1,3 @@
 pub mod Fresh
 pub mod Takings
-pub mod Makings
+pub mod Creations

@@ -4,9 +4,9 @@ use Rattle.std.proofs.lemmas.Option.{same_Some, slice_get_within}
 use Rattle.refusals.specs.declared.refusal.Refusal.{Refusal}
 use Rattle.refusals.specs.declared.refusal.Refusal.TheVariants.{NoMemory}
 use Rattle.reg_tree.specs.Maps.{TreeMap}
-use Rattle.hive_file_reader.specs.Hives.{HoldsHive}
-use Rattle.hive_file_reader.specs.Readings.{IsRefusedAs}
-use Rattle.store_create.specs.Imports.{AreHeldBy, HasTaken, IsToldOf, Taken, TellsOf}
+use Rattle.hive_file_reader.specs.Hives.{FileHoldsHive}
+use Rattle.hive_file_reader.specs.Readings.{FileRefusedAs}
+use Rattle.store_create.specs.Imports.{AreHeldBy, HasTaken, IsRefusalOfFile, Taken, IsOutcomeOfFiles}
 
 -- an entry of a list with one behind it is one before it, or that one
 got_push : {X : Type 0} (xs : List X) (last : X) (i : ℕ) (x : X) → slice_get (xs ++ last ∷ []) i ≡ Some x → (slice_get xs i ≡ Some x) ⊎ ((i ≡ length xs) × (last ≡ x))
@@ -26,28 +26,28 @@ got_last (y ∷ ys) last = got_last ys last
 
 module _ (files : List (Option (List ℕ))) (known : Option (List ℕ)) where
   -- the trees that files hold, and that of one more
-  pub held_more : (trees : List TreeMap) (tree : TreeMap) → AreHeldBy files trees → IfSome known (λ file. HoldsHive file tree) → AreHeldBy (files ++ known ∷ []) (trees ++ tree ∷ [])
+  pub held_more : (trees : List TreeMap) (tree : TreeMap) → AreHeldBy files trees → IfSome known (λ file. FileHoldsHive file tree) → AreHeldBy (files ++ known ∷ []) (trees ++ tree ∷ [])
   held_more trees tree old holds = record {
     many = length-append trees (tree ∷ []) ∙ ap (λ n. n + 1) old.many ∙ sym (length-append files (known ∷ []));
     held = λ i file own at there. each i file own (got_push files known i (Some file) at) (got_push trees tree i own there);
   }
     where
-      each : (i : ℕ) (file : List ℕ) (own : TreeMap) → (slice_get files i ≡ Some (Some file)) ⊎ ((i ≡ length files) × (known ≡ Some file)) → (slice_get trees i ≡ Some own) ⊎ ((i ≡ length trees) × (tree ≡ own)) → HoldsHive file own
+      each : (i : ℕ) (file : List ℕ) (own : TreeMap) → (slice_get files i ≡ Some (Some file)) ⊎ ((i ≡ length files) × (known ≡ Some file)) → (slice_get trees i ≡ Some own) ⊎ ((i ≡ length trees) × (tree ≡ own)) → FileHoldsHive file own
       each i file own (inl at) (inl there) = old.held i file own at there
       each i file own (inl at) (inr there) = absurd (omega (arith, slice_get_within files i (Some file) at, there.0, old.many))
       each i file own (inr at) (inl there) = absurd (omega (arith, slice_get_within trees i own there, at.0, old.many))
-      each i file own (inr at) (inr there) = subst (HoldsHive file) there.1 (subst (λ (o : Option (List ℕ)). IfSome o (λ f. HoldsHive f tree)) at.1 holds)
+      each i file own (inr at) (inr there) = subst (FileHoldsHive file) there.1 (subst (λ (o : Option (List ℕ)). IfSome o (λ f. FileHoldsHive f tree)) at.1 holds)
 
   -- a refusal that was told stays told
-  pub told_before : (why : Refusal) → IsToldOf files why → IsToldOf (files ++ known ∷ []) why
+  pub told_before : (why : Refusal) → IsRefusalOfFile files why → IsRefusalOfFile (files ++ known ∷ []) why
   told_before why (i, other, at, stands) = (i, other, got_before files known i other at, stands)
 
   -- a refusal of one more
-  pub told_last : (why : Refusal) (place : ℕ) → place ≡ length files → IfSome known (λ file. IsRefusedAs place file why) → IsToldOf (files ++ known ∷ []) why
+  pub told_last : (why : Refusal) (place : ℕ) → place ≡ length files → IfSome known (λ file. FileRefusedAs place file why) → IsRefusalOfFile (files ++ known ∷ []) why
   told_last why place is stands = (place, known, ap (slice_get (files ++ known ∷ [])) is ∙ got_last files known, stands)
 
 -- want of memory may be told of any file
-memory_stands : (known : Option (List ℕ)) (place : ℕ) → IfSome known (λ file. IsRefusedAs place file NoMemory)
+memory_stands : (known : Option (List ℕ)) (place : ℕ) → IfSome known (λ file. FileRefusedAs place file NoMemory)
 memory_stands None place = tt
 memory_stands (Some file) place = (NoMemory, inl refl, refl)
 
@@ -56,26 +56,26 @@ module _ (files : List (Option (List ℕ))) (known : Option (List ℕ)) (old new
   more = next ∙ ap (λ n. n + 1) has.many ∙ sym (length-append files (known ∷ []))
 
   -- a file was refused before
-  pub taken_after : (why : Refusal) → old.told ≡ Err why → new.told ≡ Err why → HasTaken (files ++ known ∷ []) new
+  pub taken_after : (why : Refusal) → old.outcome ≡ Err why → new.outcome ≡ Err why → HasTaken (files ++ known ∷ []) new
   taken_after why before now = record {
     many = more;
-    tells = subst (TellsOf (files ++ known ∷ [])) (sym now) (told_before files known why (subst (TellsOf files) before has.tells));
+    tells = subst (IsOutcomeOfFiles (files ++ known ∷ [])) (sym now) (told_before files known why (subst (IsOutcomeOfFiles files) before has.tells));
   }
 
   -- this file is refused
-  pub taken_refused : (why : Refusal) → new.told ≡ Err why → IfSome known (λ file. IsRefusedAs old.count file why) → HasTaken (files ++ known ∷ []) new
+  pub taken_refused : (why : Refusal) → new.outcome ≡ Err why → IfSome known (λ file. FileRefusedAs old.count file why) → HasTaken (files ++ known ∷ []) new
   taken_refused why now stands = record {
     many = more;
-    tells = subst (TellsOf (files ++ known ∷ [])) (sym now) (told_last files known why old.count has.many stands);
+    tells = subst (IsOutcomeOfFiles (files ++ known ∷ [])) (sym now) (told_last files known why old.count has.many stands);
   }
 
   -- memory for its tree is not given
-  pub taken_without_memory : new.told ≡ Err NoMemory → HasTaken (files ++ known ∷ []) new
+  pub taken_without_memory : new.outcome ≡ Err NoMemory → HasTaken (files ++ known ∷ []) new
   taken_without_memory now = taken_refused NoMemory now (memory_stands known old.count)
 
   -- it holds a tree, as each before it does
-  pub taken_held : (trees : List TreeMap) (tree : TreeMap) → old.told ≡ Ok trees → new.told ≡ Ok (trees ++ tree ∷ []) → IfSome known (λ file. HoldsHive file tree) → HasTaken (files ++ known ∷ []) new
+  pub taken_held : (trees : List TreeMap) (tree : TreeMap) → old.outcome ≡ Ok trees → new.outcome ≡ Ok (trees ++ tree ∷ []) → IfSome known (λ file. FileHoldsHive file tree) → HasTaken (files ++ known ∷ []) new
   taken_held trees tree before now holds = record {
     many = more;
-    tells = subst (TellsOf (files ++ known ∷ [])) (sym now) (held_more files known trees tree (subst (TellsOf files) before has.tells) holds);
+    tells = subst (IsOutcomeOfFiles (files ++ known ∷ [])) (sym now) (held_more files known trees tree (subst (IsOutcomeOfFiles files) before has.tells) holds);
   }

@@ -11,4 +11,4 @@ use Rattle.store_create.specs.Imports.{Taken}
 abbrev pub taken_code : Coded Taken
 taken_code =
     code_by (ℕ × Result (List TreeMap) Refusal) (coded× coded_ℕ (coded_result (coded_list (finite.code (coded_list (coded_list coded_ℕ)) row_code)) refusal.the_row.coded))
-    (λ t. (t.count, t.told)) (λ p. record { count = p.0; told = p.1 }) (λ _. refl)
+    (λ t. (t.count, t.outcome)) (λ p. record { count = p.0; outcome = p.1 }) (λ _. refl)

@@ -2,34 +2,34 @@
 use Rattle.std.specs.Prelude.{◌≡◌, ◌⊎◌, ℕ, List, length, slice_get, Option, Some, IfSome, Result, Ok, Err}
 use Rattle.refusals.specs.declared.refusal.Refusal.{Refusal}
 use Rattle.reg_tree.specs.Maps.{TreeMap}
-use Rattle.hive_file_reader.specs.Hives.{HoldsHive}
-use Rattle.hive_file_reader.specs.Readings.{IsRefusedAs}
+use Rattle.hive_file_reader.specs.Hives.{FileHoldsHive}
+use Rattle.hive_file_reader.specs.Readings.{FileRefusedAs}
 use Rattle.recovery.specs.Created.{IsRefusedFor}
 
 -- what an import shows: how many files it has taken, and what it tells of them, which are their trees or the refusal of one
 pub record Taken : Type 0 where
   pub count : ℕ
-  pub told : Result (List TreeMap) Refusal
+  pub outcome : Result (List TreeMap) Refusal
 
 -- each tree is the one that the file in its place holds, wherever the file's bytes are known; and there is one for each file
 pub record AreHeldBy (files : List (Option (List ℕ))) (trees : List TreeMap) : Type 0 where
   pub many : length trees ≡ length files
-  pub held : (i : ℕ) (file : List ℕ) (tree : TreeMap) → slice_get files i ≡ Some (Some file) → slice_get trees i ≡ Some tree → HoldsHive file tree
+  pub held : (i : ℕ) (file : List ℕ) (tree : TreeMap) → slice_get files i ≡ Some (Some file) → slice_get trees i ≡ Some tree → FileHoldsHive file tree
 
 -- a refusal is told of one of the files, with the number of its place, and stands in it wherever its bytes are known
-abbrev pub IsToldOf : List (Option (List ℕ)) → Refusal → Type 0
-IsToldOf files why = (i : ℕ) × (known : Option (List ℕ)) × (slice_get files i ≡ Some known) × IfSome known (λ file. IsRefusedAs i file why)
+abbrev pub IsRefusalOfFile : List (Option (List ℕ)) → Refusal → Type 0
+IsRefusalOfFile files why = (i : ℕ) × (known : Option (List ℕ)) × (slice_get files i ≡ Some known) × IfSome known (λ file. FileRefusedAs i file why)
 
 -- what is told of files: the trees that they hold, or the refusal of one
-abbrev pub TellsOf : List (Option (List ℕ)) → Result (List TreeMap) Refusal → Type 0
-TellsOf files (Ok trees) = AreHeldBy files trees
-TellsOf files (Err why) = IsToldOf files why
+abbrev pub IsOutcomeOfFiles : List (Option (List ℕ)) → Result (List TreeMap) Refusal → Type 0
+IsOutcomeOfFiles files (Ok trees) = AreHeldBy files trees
+IsOutcomeOfFiles files (Err why) = IsRefusalOfFile files why
 
 -- an import has taken just these files, in this order; of a file whose bytes no contract knows there are none here
 pub record HasTaken (files : List (Option (List ℕ))) (taken : Taken) : Type 0 where
   pub many : taken.count ≡ length files
-  pub tells : TellsOf files taken.told
+  pub tells : IsOutcomeOfFiles files taken.outcome
 
 -- why no store is made of files, but for the device: a refusal of one of them; or no store is made of the trees that they hold
 abbrev pub IsRefusedImport : List (Option (List ℕ)) → Refusal → Type 0
-IsRefusedImport files why = IsToldOf files why ⊎ ((trees : List TreeMap) × AreHeldBy files trees × IsRefusedFor trees why)
+IsRefusedImport files why = IsRefusalOfFile files why ⊎ ((trees : List TreeMap) × AreHeldBy files trees × IsRefusedFor trees why)

@@ -7,8 +7,8 @@ use Rattle.store_create.specs.declared.import.Import.TheInside.{Inside}
 
 -- the trees of a vector, or a refusal
 abbrev pub taken_in : Inside → Taken
-taken_in import = record { count = import.count; told = result_map_both (λ trees. trees.items) (λ why. why) import.told }
+taken_in import = record { count = import.count; outcome = result_map_both (λ trees. trees.items) (λ why. why) import.outcome }
 
 -- no more files than hives, and a tree for each of them where none was refused
 abbrev pub IsInPlace : Inside → Type 0
-IsInPlace import = (import.count ≤ MOST_HIVES) × IfOk import.told (λ trees. length trees.items ≡ import.count)
+IsInPlace import = (import.count ≤ MOST_HIVES) × IfOk import.outcome (λ trees. length trees.items ≡ import.count)

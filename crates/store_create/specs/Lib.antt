@@ -1,4 +1,4 @@
-pub mod Makings
+pub mod Creations
 pub mod Imports
 pub mod Codes
 pub mod Inside

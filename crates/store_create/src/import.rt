@@ -3,16 +3,16 @@ ghost use Rattle.std.specs.Prelude.{◌≡◌, ◌+◌, ◌<◌, ◌≤◌, ℕ,
 ghost use Rattle.refusals.specs.declared.limits.TheConstants.{MOST_HIVES};
 ghost use Rattle.refusals.specs.declared.refusal.Refusal.{Refusal};
 ghost use Rattle.reg_tree.specs.Maps.{TreeMap};
-ghost use Rattle.hive_files.specs.Frames.{StaysOff};
-ghost use Rattle.hive_file_reader.specs.Hives.{HoldsHive};
-ghost use Rattle.hive_file_reader.specs.Readings.{IsRefusedAs};
+ghost use Rattle.hive_files.specs.Frames.{TouchesOwnFiles};
+ghost use Rattle.hive_file_reader.specs.Hives.{FileHoldsHive};
+ghost use Rattle.hive_file_reader.specs.Readings.{FileRefusedAs};
 ghost use Rattle.recovery.specs.Created.{IsOfStore};
-ghost use Rattle.store_create.specs.Makings.{IsNewStore, IsNotMade, IsTold};
+ghost use Rattle.store_create.specs.Creations.{IsNewStore, IsNotMade, OutcomeIsWritten};
 ghost use Rattle.store_create.specs.Imports.{AreHeldBy, HasTaken, IsRefusedImport};
 
-use crate::making::{make_store, tell};
+use crate::creation::{make_store, write_outcome};
 use disk_model::Disk;
-use hive_file_reader::{Unread, read_hive};
+use hive_file_reader::{ReadError, read_hive};
 use refusals::Refusal;
 use reg_tree::{Tree, Trees};
 use script_syntax::Status;
@@ -24,7 +24,7 @@ use uuid::Uuid;
 
 /// A file that is to be imported can't be read, or read on.
 #[derive(Clone, Copy, Debug, PartialEq, Eq)]
-pub struct Unreadable;
+pub struct SourceFailed;
 
 /// Hives that are imported from files, up to 16, each as the hive of the file's place. A refusal that stands in a file is kept until
 /// the store would be made: the first one is told, though any that stands may be. From then on no tree is kept, and what
@@ -36,7 +36,7 @@ pub struct Import {
     // how many files were taken
     count: u8,
     // their trees, or the first refusal
-    told: Result<Vec<Tree>, Refusal>,
+    outcome: Result<Vec<Tree>, Refusal>,
 }
 
 impl Model for Import {
@@ -61,7 +61,7 @@ impl Import {
     {
         Import {
             count: 0,
-            told: Ok(Vec::new(alloc)),
+            outcome: Ok(Vec::new(alloc)),
         }
     }
 
@@ -69,7 +69,7 @@ impl Import {
     /// refused for is kept, want of memory too.
     ///
     /// `Err` says that the reader failed: nothing was taken then.
-    pub fn take<R: Read>(&mut self, alloc: Global, reader: &mut R) -> Result<(), Unreadable>
+    pub fn take<R: Read>(&mut self, alloc: Global, reader: &mut R) -> Result<(), SourceFailed>
         requires few { self.old.count < MOST_HIVES }
         ensures taken { OnOk result ((files : List (Option (List ℕ))) → HasTaken files self.old →
             HasTaken (files ++ R.remaining reader.old ∷ []) self.new) }
@@ -78,8 +78,8 @@ impl Import {
     {
         match read_hive(alloc, reader, self.count) {
             Ok(tree) => self.keep(tree),
-            Err(Unread::Refused(why)) => self.refuse(why),
-            Err(Unread::Unreadable) => return Err(Unreadable),
+            Err(ReadError::Refused(why)) => self.refuse(why),
+            Err(ReadError::SourceFailed) => return Err(SourceFailed),
         }
         Ok(())
     }
@@ -88,14 +88,14 @@ impl Import {
     fn keep(&mut self, tree: Tree)
         requires few { self.old.count < MOST_HIVES }
         ensures taken { (files : List (Option (List ℕ))) (known : Option (List ℕ)) →
-            IfSome known (λ file. HoldsHive file tree) → HasTaken files self.old →
+            IfSome known (λ file. FileHoldsHive file tree) → HasTaken files self.old →
             HasTaken (files ++ known ∷ []) self.new }
         ensures count { self.new.count ≡ self.old.count + 1 }
     {
         self.count += 1;
-        if let Ok(trees) = &mut self.told {
+        if let Ok(trees) = &mut self.outcome {
             if trees.push(tree).is_err() {
-                self.told = Err(Refusal::NoMemory);
+                self.outcome = Err(Refusal::NoMemory);
             }
         }
     }
@@ -104,13 +104,13 @@ impl Import {
     fn refuse(&mut self, why: Refusal)
         requires few { self.old.count < MOST_HIVES }
         ensures taken { (files : List (Option (List ℕ))) (known : Option (List ℕ)) →
-            IfSome known (λ file. IsRefusedAs self.old.count file why) → HasTaken files self.old →
+            IfSome known (λ file. FileRefusedAs self.old.count file why) → HasTaken files self.old →
             HasTaken (files ++ known ∷ []) self.new }
         ensures count { self.new.count ≡ self.old.count + 1 }
     {
         self.count += 1;
-        if self.told.is_ok() {
-            self.told = Err(why);
+        if self.outcome.is_ok() {
+            self.outcome = Err(why);
         }
     }
 
@@ -129,24 +129,24 @@ impl Import {
     ) -> io::Result<Status>
         requires some { 1 ≤ self.count }
         ensures made { (files : List (Option (List ℕ))) → HasTaken files self →
-            (told : Result (List TreeMap) Refusal)
-            × IfOk result (IsTold (W.contents writer.old) (W.contents writer.new) told)
-            × MatchResult told
+            (outcome : Result (List TreeMap) Refusal)
+            × IfOk result (OutcomeIsWritten (W.contents writer.old) (W.contents writer.new) outcome)
+            × MatchResult outcome
             (λ trees. AreHeldBy files trees × (D.faithful disk.new →
             IsNewStore id trees (D.state_at disk.new (D.clock disk.new))))
             (IsNotMade (D.failures disk.old < D.failures disk.new) (disk.new ≡ disk.old)
             (IsRefusedImport files)) }
-        ensures stays { StaysOff (IsOfStore self.count) (D.state_at disk.old) (D.state_at disk.new)
+        ensures stays { TouchesOwnFiles (IsOfStore self.count) (D.state_at disk.old) (D.state_at disk.new)
             (D.clock disk.old) (D.clock disk.new) }
         ensures faithful { D.faithful disk.new → D.faithful disk.old }
     {
-        let Import { count: _, told } = self;
-        match told {
+        let Import { count: _, outcome } = self;
+        match outcome {
             Ok(trees) => {
                 let made = make_store(alloc, disk, id, &Trees::from_vec(trees));
-                tell(writer, made)
+                write_outcome(writer, made)
             }
-            Err(why) => tell(writer, Err(why)),
+            Err(why) => write_outcome(writer, Err(why)),
         }
     }
 }

@@ -11,8 +11,8 @@
 //! status is its status.
 #![tactic(auto)]
 
+mod creation;
 mod import;
-mod making;
 
-pub use import::{Import, Unreadable};
-pub use making::make_new;
+pub use creation::make_new;
+pub use import::{Import, SourceFailed};

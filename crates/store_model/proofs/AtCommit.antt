@@ -10,8 +10,8 @@ use Rattle.reg_tree.specs.Sequences.{AreLegal}
 use Rattle.reg_tree.specs.declared.op.Op.{Op}
 use Rattle.reg_tree.specs.declared.op.Legality.{Legality}
 use Rattle.reg_tree.specs.declared.op.Legality.TheVariants.{Legal}
-use Rattle.conflicts.specs.Skeletons.{judged_if, judged_in, AreCarriedOut}
-use Rattle.store_model.specs.Kept.{AreLegalButForWeight, AreLegalChanges}
+use Rattle.conflicts.specs.TreeOutlines.{judged_if, judged_in, AreCarriedOut}
+use Rattle.store_model.specs.Invariant.{AreLegalButForWeight, AreLegalChanges}
 
 -- what may be carried out is legal, or would be too heavy
 abbrev pub ButForWeight : Type 0

@@ -14,16 +14,16 @@ use Rattle.reg_tree.specs.declared.op.Op.{Op}
 use Rattle.reg_tree.specs.declared.op.Op.TheVariants.{CreateKey, DeleteKey, SetValue, DeleteValue}
 use Rattle.reg_tree.specs.declared.op.Legality.{Legality}
 use Rattle.reg_tree.specs.declared.op.Legality.TheVariants.{Legal, Opened}
-use Rattle.store_model.specs.Transactions.{Transaction, Places, missing_refusal, inactive_refusal, view, is_active}
+use Rattle.store_model.specs.Transactions.{Transaction, TxSlots, missing_refusal, inactive_refusal, view, is_active}
 use Rattle.store_model.specs.Machine.{Machine, trees_now, found_in, first_of, refused_if, refusal_by, fault, closed_refusal, call_refusal, tx_call_refusal, start_refusal, read_refusal, room_refusal, write_refusal, begin_refusal, added_refusal_if, commit_refusal_if, is_open, is_of_device}
 use Rattle.store_model.specs.Steps.{Step, Run, Refuses, IsRefused, StepFails, no_hive, after_commit, is_step, with_session}
 use Rattle.store_model.specs.declared.handle.Tx.{Tx}
-use Rattle.store_model.specs.declared.event.Found.{Found}
+use Rattle.store_model.specs.declared.event.ReadResult.{ReadResult}
 use Rattle.store_model.specs.declared.event.Event.{Event}
 use Rattle.store_model.specs.declared.event.Event.TheVariants as event
 use Rattle.store_model.specs.declared.event.Reply.{Reply}
 use Rattle.store_model.specs.declared.event.Reply.TheVariants as reply
-use Rattle.store_model.proofs.Replies.{done_or, read_or, accepted_or, added_or, begun_or, awaits_or, stands_or, receipt_or, stepped_or}
+use Rattle.store_model.proofs.Replies.{done_or, read_or, accepted_or, added_or, begun_or, awaits_or, outcome_or, receipt_or, stepped_or}
 
 -- What faults a store
 
@@ -36,11 +36,11 @@ module _ (old new : Machine) where
   same r e = inl (ap (λ (m : Machine). m.faulted) e)
 
   aside : (r : Reply) (mid : Machine) → mid.faulted ≡ old.faulted → new ≡ mid → Faults old new r
-  aside r mid still e = inl (ap (λ (m : Machine). m.faulted) e ∙ still)
+  aside r mid no_change e = inl (ap (λ (m : Machine). m.faulted) e ∙ no_change)
 
   either_way : (t : Bool) (mid : Machine) → mid.faulted ≡ old.faulted → (cond t old mid).faulted ≡ old.faulted
-  either_way true mid still = refl
-  either_way false mid still = still
+  either_way true mid no_change = refl
+  either_way false mid no_change = no_change
 
   committed : (moment : ℕ) (one : Transaction) → (after_commit old moment one).faulted ≡ old.faulted
   committed moment one = either_way (length one.ops == 0) _ refl
@@ -63,7 +63,7 @@ module _ (old new : Machine) where
   faults (event.CommitAccept session tx moment) r s = awaits_or (Faults old new) _ _ r s (λ n d. aside (reply.Awaits n) _ (committed moment d.one) d.next) (λ e f. same (reply.Refused e) f.1)
   faults (event.Rollback session tx) r s = done_or (Faults old new) _ _ r s (λ d. aside reply.Done _ refl d.1) (λ e f. same (reply.Refused e) f.1)
   faults (event.Close session tx) r s = done_or (Faults old new) _ _ r s (λ d. aside reply.Done _ refl d.1) (λ e f. same (reply.Refused e) f.1)
-  faults (event.Outcome session tx) r s = stands_or (Faults old new) _ _ r s (λ o d. same (reply.Stands o) d.next) (λ e f. same (reply.Refused e) f.1)
+  faults (event.Outcome session tx) r s = outcome_or (Faults old new) _ _ r s (λ o d. same (reply.OutcomeIs o) d.next) (λ e f. same (reply.Refused e) f.1)
   faults event.FlushAsk r s = awaits_or (Faults old new) _ _ r s (λ n d. same (reply.Awaits n) d.2) (λ e f. same (reply.Refused e) f.1)
   faults (event.Acked number) r s = receipt_or (Faults old new) _ _ _ r s (λ n d. same (reply.Receipt n) d.2) (λ d. same reply.NotYet d.2) (λ e f. same (reply.Refused e) f.1.1)
   faults event.JournalStep r s = stepped_or (Faults old new) _ _ r s (λ p d. aside (reply.Stepped p) _ refl d.next) (λ e f. broken _ e f)
@@ -72,7 +72,7 @@ module _ (old new : Machine) where
 
   -- a store that is faulted stays so
   pub stays_faulted : (e : Event) (r : Reply) → Step old e r new → old.faulted ≡ true → new.faulted ≡ true
-  stays_faulted e r s was = elim (faults e r s) [ inl still ↦ still ∙ was | inr broke ↦ broke.1 ]
+  stays_faulted e r s was = elim (faults e r s) [ inl no_change ↦ no_change ∙ was | inr broke ↦ broke.1 ]
 
 pub run_stays_faulted : (old new : Machine) (es : List Event) (rs : List Reply) → Run old es rs new → old.faulted ≡ true → new.faulted ≡ true
 run_stays_faulted old new [] [] run was = ap (λ (m : Machine). m.faulted) run ∙ was
@@ -180,9 +180,9 @@ module _ (old : Machine) where
   beginning : (session : ℕ) → Right (begin_refusal old session)
   beginning session = right_first old.faulted (fault old) _ faulted (right_first old.faulted (closed_refusal old session) _ (closed session) (right_if old.faulted _ _ refl))
 
-  reading : (o : Option Found) → Right (read_refusal o)
-  reading None = right_some old.faulted NotFound refl
-  reading (Some found) = right_none old.faulted
+  queries : (o : Option ReadResult) → Right (read_refusal o)
+  queries None = right_some old.faulted NotFound refl
+  queries (Some found) = right_none old.faulted
 
   missing : (o : Option Transaction) → Right (missing_refusal o)
   missing None = right_some old.faulted _ refl
@@ -199,9 +199,9 @@ module _ (old : Machine) where
   tx_calling : (session : ℕ) (tx : Tx) (hive : ℕ) → Right (tx_call_refusal old session tx hive)
   tx_calling session tx hive = right_first old.faulted _ _ (inactive (found_in old session tx)) (right_if old.faulted _ _ refl)
 
-  adding : (now : List TreeMap) (places : Places) (place : ℕ) (op : Op) (o : Option Transaction) → Right (added_refusal_if now places place op o)
-  adding now places place op None = right_some old.faulted _ refl
-  adding now places place op (Some one) = right_first old.faulted (inactive_refusal (Some one)) _ (inactive (Some one)) (by_legality old.faulted (legal (view now one) op) _ (legality (view now one) op) (right_first old.faulted _ _ (right_if old.faulted _ _ refl) (right_if old.faulted _ _ refl)))
+  adding : (now : List TreeMap) (tx_slots : TxSlots) (slot : ℕ) (op : Op) (o : Option Transaction) → Right (added_refusal_if now tx_slots slot op o)
+  adding now tx_slots slot op None = right_some old.faulted _ refl
+  adding now tx_slots slot op (Some one) = right_first old.faulted (inactive_refusal (Some one)) _ (inactive (Some one)) (by_legality old.faulted (legal (view now one) op) _ (legality (view now one) op) (right_first old.faulted _ _ (right_if old.faulted _ _ refl) (right_if old.faulted _ _ refl)))
 
   committing : (moment : ℕ) (o : Option Transaction) → Right (commit_refusal_if old moment o)
   committing moment None = right_some old.faulted _ refl
@@ -220,26 +220,26 @@ module _ (old : Machine) where
     is_refused wanted right s = let r = right why s.0 tells in (r.0, r.1, s.1)
 
     refuses : (wanted : Option Refusal) → Right wanted → Refuses old wanted why new → Was
-    refuses wanted right (inl e, still) = let r = right why e tells in (r.0, r.1, still)
-    refuses wanted right (inr e, still) = absurd (true≢false (sym tells ∙ ap is_of_device e))
+    refuses wanted right (inl e, no_change) = let r = right why e tells in (r.0, r.1, no_change)
+    refuses wanted right (inr e, no_change) = absurd (true≢false (sym tells ∙ ap is_of_device e))
 
-    calm : (e : Event) → is_step e ≡ false → Step old e (reply.Refused why) new → Was
-    calm (event.StartSession session) q s = refuses _ (starting session) s
-    calm (event.EndSession session) q s = is_refused _ (closed session) s
-    calm (event.Read session hive path question) q s = refuses _ (right_first old.faulted _ _ (calling session hive) (reading _)) s
-    calm (event.Write session moment op) q s = refuses _ (writing session moment op) s
-    calm (event.Begin session id) q s = refuses _ (beginning session) s
-    calm (event.TxRead session tx hive path question) q s = refuses _ (right_first old.faulted _ _ (tx_calling session tx hive) (reading _)) s
-    calm (event.TxWrite session tx moment op) q s = refuses _ (right_first old.faulted _ _ faulted (right_first old.faulted _ _ (tx_calling session tx (hive_of op)) (adding (trees_now old) old.places tx.place op (found_in old session tx)))) s
-    calm (event.CommitAccept session tx moment) q s = refuses _ (right_first old.faulted _ _ faulted (committing moment (found_in old session tx))) s
-    calm (event.Rollback session tx) q s = is_refused _ (inactive _) s
-    calm (event.Close session tx) q s = is_refused _ (missing _) s
-    calm (event.Outcome session tx) q s = is_refused _ (right_first old.faulted _ _ faulted (missing _)) s
-    calm event.FlushAsk q s = is_refused _ faulted s
-    calm (event.Acked number) q s = is_refused _ faulted s.1
-    calm event.JournalStep q s = absurd cc
-    calm (event.FlusherStep hive) q s = absurd cc
-    calm event.TrimStep q s = absurd cc
+    non_step : (e : Event) → is_step e ≡ false → Step old e (reply.Refused why) new → Was
+    non_step (event.StartSession session) q s = refuses _ (starting session) s
+    non_step (event.EndSession session) q s = is_refused _ (closed session) s
+    non_step (event.Read session hive path question) q s = refuses _ (right_first old.faulted _ _ (calling session hive) (queries _)) s
+    non_step (event.Write session moment op) q s = refuses _ (writing session moment op) s
+    non_step (event.Begin session id) q s = refuses _ (beginning session) s
+    non_step (event.TxRead session tx hive path question) q s = refuses _ (right_first old.faulted _ _ (tx_calling session tx hive) (queries _)) s
+    non_step (event.TxWrite session tx moment op) q s = refuses _ (right_first old.faulted _ _ faulted (right_first old.faulted _ _ (tx_calling session tx (hive_of op)) (adding (trees_now old) old.tx_slots tx.slot op (found_in old session tx)))) s
+    non_step (event.CommitAccept session tx moment) q s = refuses _ (right_first old.faulted _ _ faulted (committing moment (found_in old session tx))) s
+    non_step (event.Rollback session tx) q s = is_refused _ (inactive _) s
+    non_step (event.Close session tx) q s = is_refused _ (missing _) s
+    non_step (event.Outcome session tx) q s = is_refused _ (right_first old.faulted _ _ faulted (missing _)) s
+    non_step event.FlushAsk q s = is_refused _ faulted s
+    non_step (event.Acked number) q s = is_refused _ faulted s.1
+    non_step event.JournalStep q s = absurd cc
+    non_step (event.FlusherStep hive) q s = absurd cc
+    non_step event.TrimStep q s = absurd cc
 
     stepping : (wanted : Option Refusal) → Right wanted → StepFails old wanted why new → new.faulted ≡ true
     stepping wanted right (inl s) = by_was (refuses wanted right s)
@@ -267,14 +267,14 @@ module _ (old : Machine) where
       where
         by_test : (t : Bool) → is_step e ≡ t → new.faulted ≡ true
         by_test true q = step e q s
-        by_test false q = let w = calm e q s in ap (λ (m : Machine). m.faulted) w.2 ∙ w.1
+        by_test false q = let w = non_step e q s in ap (λ (m : Machine). m.faulted) w.2 ∙ w.1
 
-pub steps_alone_fail : (old new : Machine) (e : Event) → Step old e (reply.Refused DiskFault) new → is_step e ≡ true
-steps_alone_fail old new e s = by_test (is_step e) refl
+pub only_steps_fail : (old new : Machine) (e : Event) → Step old e (reply.Refused DiskFault) new → is_step e ≡ true
+only_steps_fail old new e s = by_test (is_step e) refl
   where
     apart : DiskFault ≡ Faulted → ⊥
     apart same = cc
 
     by_test : (t : Bool) → is_step e ≡ t → is_step e ≡ true
     by_test true q = q
-    by_test false q = absurd (apart (calm old new DiskFault refl e q s).0)
+    by_test false q = absurd (apart (non_step old new DiskFault refl e q s).0)

@@ -9,9 +9,9 @@ use Rattle.std.specs.Cmp.{nat_cmp_is}
 use Rattle.std.proofs.lemmas.Bool.{eqb-true}
 use Rattle.store_model.specs.Transactions.{Transaction, at, own_if, own, gone_with, with_op, fresh_transaction}
 use Rattle.store_model.specs.Machine.{Machine, is_open, found_in}
-use Rattle.store_model.specs.Acts.{Closes}
-use Rattle.store_model.specs.Steps.{Run, Ends, ChangesPlaces}
-use Rattle.store_model.specs.Kept.{IsKept, IsCounted, IsGone, handle_in, given, numbers_given}
+use Rattle.store_model.specs.Acts.{ClosesTx}
+use Rattle.store_model.specs.Steps.{Run, Ends, ChangesSlots}
+use Rattle.store_model.specs.Invariant.{InvariantHolds, IsCounted, IsGone, handle_in, given, numbers_given}
 use Rattle.store_model.specs.declared.handle.Tx.{Tx}
 use Rattle.store_model.specs.declared.event.Event.{Event}
 use Rattle.store_model.specs.declared.event.Reply.{Reply}
@@ -20,8 +20,8 @@ use Rattle.store_model.proofs.TransactionChanges.{found_at, own_at, Descends, Wa
 pub counted : (old new : Machine) (handle : Option Tx) → Way old new handle → IsCounted old handle new
 counted old new _ (Fewer b t d r) = b
 counted old new _ (Wrote op moment b t d r) = b
-counted old new _ (Longer place moment op one b t a l c n p) = b
-counted old new _ (Accepted place moment one b t a d r) = b
+counted old new _ (Longer slot moment op one b t a l c n p) = b
+counted old new _ (Accepted slot moment one b t a d r) = b
 counted old new _ (Began tx session id n b t p) = (n, b)
 
 -- Numbers rise
@@ -62,21 +62,21 @@ numbers_rise old new (e ∷ events) (r ∷ replies) run =
 
 -- What is gone stays so
 
-descended : (old new : Machine) (tx : Tx) → new.begun ≡ old.begun → Descends old.places new.places → IsGone old tx → IsGone new tx
+descended : (old new : Machine) (tx : Tx) → new.begun ≡ old.begun → Descends old.tx_slots new.tx_slots → IsGone old tx → IsGone new tx
 descended old new tx b d g = record {
   was_begun = omega (arith, g.was_begun, b);
-  not_there = λ one e same. let k = d tx.place one e in g.not_there k.0 k.1 (k.2 ∙ same);
+  not_there = λ one e same. let k = d tx.slot one e in g.not_there k.0 k.1 (k.2 ∙ same);
 }
 
 pub still_gone : (old new : Machine) (handle : Option Tx) (tx : Tx) → Way old new handle → IsGone old tx → IsGone new tx
 still_gone old new _ tx (Fewer b t d r) g = descended old new tx b d g
 still_gone old new _ tx (Wrote op moment b t d r) g = descended old new tx b d g
-still_gone old new _ tx (Accepted place moment one b t a d r) g = descended old new tx b d g
-still_gone old new _ tx (Longer place moment op one b t a l c n p) g =
-    descended old new tx b (put_descends old.places new.places place (Some (with_op one op moment)) p (λ x e. (one, a.there, ap (λ (t : Transaction). t.generation) (let same : with_op one op moment ≡ x = cc e in same)))) g
+still_gone old new _ tx (Accepted slot moment one b t a d r) g = descended old new tx b d g
+still_gone old new _ tx (Longer slot moment op one b t a l c n p) g =
+    descended old new tx b (put_descends old.tx_slots new.tx_slots slot (Some (with_op one op moment)) p (λ x e. (one, a.there, ap (λ (t : Transaction). t.generation) (let same : with_op one op moment ≡ x = cc e in same)))) g
 still_gone old new _ tx (Began handle session id n b t p) g = record {
   was_begun = omega (arith, g.was_begun, n, b);
-  not_there = λ one e same. elim (put_or_not old.places new.places handle.place (Some (fresh_transaction session id handle.generation)) p tx.place one e) [
+  not_there = λ one e same. elim (put_or_not old.tx_slots new.tx_slots handle.slot (Some (fresh_transaction session id handle.generation)) p tx.slot one e) [
     | inl s ↦
         let its : handle.generation ≡ one.generation = ap (λ (t : Transaction). t.generation) (let is : fresh_transaction session id handle.generation ≡ one = cc (s.1) in is) in
         absurd (omega (arith, its, same, n, g.was_begun))
@@ -92,27 +92,27 @@ gone_for_good old new (e ∷ events) (r ∷ replies) tx g run = gone_for_good ru
 
 -- What is let go is gone, and is not found
 
-pub closed_gone : (old new : Machine) (session : ℕ) (tx : Tx) → IsKept old → ChangesPlaces old (Closes old.places (found_in old session tx) tx.place new.places) new → IsGone new tx
+pub closed_gone : (old new : Machine) (session : ℕ) (tx : Tx) → InvariantHolds old → ChangesSlots old (ClosesTx old.tx_slots (found_in old session tx) tx.slot new.tx_slots) new → IsGone new tx
 closed_gone old new session tx kept (c, next) =
     let f = found_at old session tx c.one c.found in
     let begun : new.begun ≡ old.begun = ap (λ (m : Machine). m.begun) next in
-    let known : c.one.generation ≤ old.begun = kept.known tx.place c.one f.0 in
+    let known : c.one.generation ≤ old.begun = kept.known tx.slot c.one f.0 in
     record { was_begun = omega (arith, f.1, known, begun); not_there = λ one e same. absurd (let none : None ≡ Some one = sym c.put.there ∙ e in cc none) }
 
-pub ended_gone : (old new : Machine) (session : ℕ) (tx : Tx) (one : Transaction) → IsKept old → own old.places session tx ≡ Some one → Ends old session new → IsGone new tx
+pub ended_gone : (old new : Machine) (session : ℕ) (tx : Tx) (one : Transaction) → InvariantHolds old → own old.tx_slots session tx ≡ Some one → Ends old session new → IsGone new tx
 ended_gone old new session tx one kept found e =
-    let f = own_at session tx.generation (at old.places tx.place) one found in
+    let f = own_at session tx.generation (at old.tx_slots tx.slot) one found in
     let begun : new.begun ≡ old.begun = ap (λ (m : Machine). m.begun) e.next in
-    let known : one.generation ≤ old.begun = kept.known tx.place one f.0 in
-    let none : at new.places tx.place ≡ None = e.gone tx.place ∙ ap (option_and_then (gone_with session)) f.0 ∙ ap (λ t. cond t None (Some one)) f.2 in
+    let known : one.generation ≤ old.begun = kept.known tx.slot one f.0 in
+    let none : at new.tx_slots tx.slot ≡ None = e.gone tx.slot ∙ ap (option_and_then (gone_with session)) f.0 ∙ ap (λ t. cond t None (Some one)) f.2 in
     record { was_begun = omega (arith, f.1, known, begun); not_there = λ x is same. absurd (let bad : None ≡ Some x = sym none ∙ is in cc bad) }
 
-pub not_own : (machine : Machine) (session : ℕ) (tx : Tx) → IsGone machine tx → own machine.places session tx ≡ None
-not_own machine session tx g = by_slot (at machine.places tx.place) refl
+pub not_own : (machine : Machine) (session : ℕ) (tx : Tx) → IsGone machine tx → own machine.tx_slots session tx ≡ None
+not_own machine session tx g = by_content (at machine.tx_slots tx.slot) refl
   where
-    by_slot : (o : Option Transaction) → at machine.places tx.place ≡ o → own_if session tx.generation o ≡ None
-    by_slot None e = refl
-    by_slot (Some one) e = by_tests (one.session == session) (one.generation == tx.generation) refl
+    by_content : (o : Option Transaction) → at machine.tx_slots tx.slot ≡ o → own_if session tx.generation o ≡ None
+    by_content None e = refl
+    by_content (Some one) e = by_tests (one.session == session) (one.generation == tx.generation) refl
       where
         by_tests : (a b : Bool) → (one.generation == tx.generation) ≡ b → cond (a && b) (Some one) None ≡ None
         by_tests true true t = absurd (g.not_there one e (eqb-true one.generation tx.generation t))
@@ -122,6 +122,6 @@ not_own machine session tx g = by_slot (at machine.places tx.place) refl
 pub not_found : (machine : Machine) (session : ℕ) (tx : Tx) → IsGone machine tx → found_in machine session tx ≡ None
 not_found machine session tx g = opened (is_open machine session)
   where
-    opened : (t : Bool) → cond t (own machine.places session tx) None ≡ None
+    opened : (t : Bool) → cond t (own machine.tx_slots session tx) None ≡ None
     opened true = not_own machine session tx g
     opened false = refl

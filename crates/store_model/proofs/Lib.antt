@@ -5,4 +5,4 @@ pub mod AtCommit
 pub mod Limits
 pub mod Failing
 pub mod Keeping
-pub mod Calm
+pub mod NonSteps

@@ -12,14 +12,14 @@ use Rattle.reg_tree.specs.Maps.{TreeMap}
 use Rattle.reg_tree.specs.Operations.{hive_of}
 use Rattle.reg_tree.specs.Judgement.{applied, any_outweighs}
 use Rattle.reg_tree.specs.Sequences.{after_elements}
-use Rattle.reg_tree.specs.Texts.{element_text_len}
+use Rattle.reg_tree.specs.Encodings.{element_encoded_len}
 use Rattle.reg_tree.specs.declared.element.Element.{Element}
 use Rattle.reg_tree.specs.declared.op.Op.{Op}
-use Rattle.store_model.specs.Transactions.{Transaction, Places, at, with_op, count_held, inactive_refusal}
+use Rattle.store_model.specs.Transactions.{Transaction, TxSlots, at, with_op, count_held, inactive_refusal}
 use Rattle.store_model.specs.Machine.{Machine, trees_now, last_number, pending, room_of, room_with, is_open, change, committed, commit_change, first_of, refused_if, refusal_by, fault, closed_refusal, call_refusal, opened_machine, start_refusal, room_refusal, commit_refusal, commit_refusal_if}
-use Rattle.store_model.specs.Steps.{Accepts, Begins, Commits, Ends, Journals, Trims, EndsTrim, StepFails, Step, with_session}
-use Rattle.store_model.specs.Kept.{IsKept, IsWithin, IsActiveAt, AreLegalChanges, AreLegalHistory}
-use Rattle.store_model.specs.declared.bounds.Bounds.{Bounds}
+use Rattle.store_model.specs.Steps.{AcceptsWrite, Begins, CommitsTx, Ends, Journals, Trims, EndsTrim, StepFails, Step, with_session}
+use Rattle.store_model.specs.Invariant.{InvariantHolds, IsWithin, IsActiveAt, AreLegalChanges, AreLegalHistory}
+use Rattle.store_model.specs.declared.bounds.StoreBounds.{StoreBounds}
 use Rattle.store_model.specs.declared.handle.Tx.{Tx}
 use Rattle.disk_model.specs.declared.progress.Progress.{Progress}
 use Rattle.store_model.specs.declared.event.Event.{Event}
@@ -27,7 +27,7 @@ use Rattle.store_model.specs.declared.event.Event.TheVariants as event
 use Rattle.store_model.specs.declared.event.Reply.{Reply}
 use Rattle.store_model.specs.declared.event.Reply.TheVariants as reply
 use Rattle.store_model.proofs.AtCommit.{WeightAlone, neither, legal_within}
-use Rattle.store_model.proofs.Replies.{done_or, read_or, accepted_or, added_or, begun_or, awaits_or, stands_or, receipt_or, stepped_or}
+use Rattle.store_model.proofs.Replies.{done_or, read_or, accepted_or, added_or, begun_or, awaits_or, outcome_or, receipt_or, stepped_or}
 use Rattle.store_model.proofs.TransactionChanges.{Descends, Way, Fewer, Wrote, Longer, Accepted, Began, way, none_first, not_refused, found_at, active_of, put_descends}
 
 -- Room
@@ -50,59 +50,59 @@ one_more_room elements element = omega (arith, sum_by-append room_of elements (e
 short : (p : ℕ → Bool) (xs : List ℕ) → length (filter p xs) ≤ length xs
 short p xs = omega (arith, length-filter p xs, count_by-le-length p xs)
 
-count_cons : (o : Option Transaction) (places : Places) → count_held (o ∷ places) ≡ cond (is_some o) 1 0 + count_held places
-count_cons o places = sum_by-cons (λ x. cond (is_some x) 1 0) o places
+count_cons : (o : Option Transaction) (tx_slots : TxSlots) → count_held (o ∷ tx_slots) ≡ cond (is_some o) 1 0 + count_held tx_slots
+count_cons o tx_slots = sum_by-cons (λ x. cond (is_some x) 1 0) o tx_slots
 
 at_none : (q : ℕ) → at [] q ≡ None
 at_none zero = refl
 at_none (suc q) = refl
 
-one_slot : (new old : Option Transaction) → (IsSome new → IsSome old) → cond (is_some new) 1 0 ≤ cond (is_some old) 1 0
-one_slot None old known = omega arith
-one_slot (Some one) None known = absurd (false≢true (known refl))
-one_slot (Some one) (Some two) known = omega arith
+one_content : (new old : Option Transaction) → (IsSome new → IsSome old) → cond (is_some new) 1 0 ≤ cond (is_some old) 1 0
+one_content None old known = omega arith
+one_content (Some one) None known = absurd (false≢true (known refl))
+one_content (Some one) (Some two) known = omega arith
 
-any_slot : (slot : Option Transaction) → cond (is_some slot) 1 0 ≤ 1
-any_slot None = omega arith
-any_slot (Some one) = omega arith
+any_content : (content : Option Transaction) → cond (is_some content) 1 0 ≤ 1
+any_content None = omega arith
+any_content (Some one) = omega arith
 
 -- where each that is held was held, no more are
-no_more : (old new : Places) → ((q : ℕ) → IsSome (at new q) → IsSome (at old q)) → count_held new ≤ count_held old
+no_more : (old new : TxSlots) → ((q : ℕ) → IsSome (at new q) → IsSome (at old q)) → count_held new ≤ count_held old
 no_more old [] known = omega arith
 no_more [] (x ∷ xs) known =
-    omega (arith, count_cons x xs, one_slot x None (known zero), no_more [] xs (λ q there. subst IsSome (sym (at_none q)) (known (suc q) there)))
+    omega (arith, count_cons x xs, one_content x None (known zero), no_more [] xs (λ q there. subst IsSome (sym (at_none q)) (known (suc q) there)))
 no_more (y ∷ ys) (x ∷ xs) known =
-    omega (arith, count_cons x xs, count_cons y ys, one_slot x y (known zero), no_more ys xs (λ q there. known (suc q) there))
+    omega (arith, count_cons x xs, count_cons y ys, one_content x y (known zero), no_more ys xs (λ q there. known (suc q) there))
 
 apart : (p q : ℕ) → q ≢ p → suc q ≢ suc p
 apart p q differs same = differs (omega (arith, same))
 
 -- and where one place is different, one more at most
-one_more : (old new : Places) (place : ℕ) → ((q : ℕ) → q ≢ place → IsSome (at new q) → IsSome (at old q)) → count_held new ≤ count_held old + 1
-one_more old [] place known = omega arith
+one_more : (old new : TxSlots) (slot : ℕ) → ((q : ℕ) → q ≢ slot → IsSome (at new q) → IsSome (at old q)) → count_held new ≤ count_held old + 1
+one_more old [] slot known = omega arith
 one_more [] (x ∷ xs) zero known =
-    omega (arith, count_cons x xs, any_slot x, no_more [] xs (λ q there. subst IsSome (sym (at_none q)) (known (suc q) (λ e. cc) there)))
+    omega (arith, count_cons x xs, any_content x, no_more [] xs (λ q there. subst IsSome (sym (at_none q)) (known (suc q) (λ e. cc) there)))
 one_more [] (x ∷ xs) (suc p) known =
-    omega (arith, count_cons x xs, one_slot x None (known zero (λ e. cc)), one_more [] xs p (λ q differs there. subst IsSome (sym (at_none q)) (known (suc q) (apart p q differs) there)))
+    omega (arith, count_cons x xs, one_content x None (known zero (λ e. cc)), one_more [] xs p (λ q differs there. subst IsSome (sym (at_none q)) (known (suc q) (apart p q differs) there)))
 one_more (y ∷ ys) (x ∷ xs) zero known =
-    omega (arith, count_cons x xs, count_cons y ys, any_slot x, no_more ys xs (λ q there. known (suc q) (λ e. cc) there))
+    omega (arith, count_cons x xs, count_cons y ys, any_content x, no_more ys xs (λ q there. known (suc q) (λ e. cc) there))
 one_more (y ∷ ys) (x ∷ xs) (suc p) known =
-    omega (arith, count_cons x xs, count_cons y ys, one_slot x y (known zero (λ e. cc)), one_more ys xs p (λ q differs there. known (suc q) (apart p q differs) there))
+    omega (arith, count_cons x xs, count_cons y ys, one_content x y (known zero (λ e. cc)), one_more ys xs p (λ q differs there. known (suc q) (apart p q differs) there))
 
-descends_fewer : (old new : Places) → Descends old new → count_held new ≤ count_held old
-descends_fewer old new d = no_more old new (λ q there. by_slot q (at new q) refl there)
+descends_fewer : (old new : TxSlots) → Descends old new → count_held new ≤ count_held old
+descends_fewer old new d = no_more old new (λ q there. by_content q (at new q) refl there)
   where
-    by_slot : (q : ℕ) (o : Option Transaction) → at new q ≡ o → IsSome o → IsSome (at old q)
-    by_slot q None e there = absurd (false≢true there)
-    by_slot q (Some one) e there = ap is_some (d q one e).1
+    by_content : (q : ℕ) (o : Option Transaction) → at new q ≡ o → IsSome o → IsSome (at old q)
+    by_content q None e there = absurd (false≢true there)
+    by_content q (Some one) e there = ap is_some (d q one e).1
 
 -- so no more are held after a step that gives no handle
-held_after : (old new : Machine) (handle : Option Tx) → handle ≡ None → Way old new handle → count_held new.places ≤ count_held old.places
-held_after old new _ none (Fewer b t d r) = descends_fewer old.places new.places d
-held_after old new _ none (Wrote op moment b t d r) = descends_fewer old.places new.places d
-held_after old new _ none (Accepted place moment one b t a d r) = descends_fewer old.places new.places d
-held_after old new _ none (Longer place moment op one b t a l c n p) =
-    descends_fewer old.places new.places (put_descends old.places new.places place (Some (with_op one op moment)) p (λ x e. (one, a.there, ap (λ (t : Transaction). t.generation) (let same : with_op one op moment ≡ x = cc e in same))))
+held_after : (old new : Machine) (handle : Option Tx) → handle ≡ None → Way old new handle → count_held new.tx_slots ≤ count_held old.tx_slots
+held_after old new _ none (Fewer b t d r) = descends_fewer old.tx_slots new.tx_slots d
+held_after old new _ none (Wrote op moment b t d r) = descends_fewer old.tx_slots new.tx_slots d
+held_after old new _ none (Accepted slot moment one b t a d r) = descends_fewer old.tx_slots new.tx_slots d
+held_after old new _ none (Longer slot moment op one b t a l c n p) =
+    descends_fewer old.tx_slots new.tx_slots (put_descends old.tx_slots new.tx_slots slot (Some (with_op one op moment)) p (λ x e. (one, a.there, ap (λ (t : Transaction). t.generation) (let same : with_op one op moment ≡ x = cc e in same))))
 held_after old new _ none (Began tx session id n b t p) = absurd cc
 
 -- History
@@ -120,7 +120,7 @@ below n m e = grind (arith, nat_tests)
 within : (n m : ℕ) → nat_lt n m ≡ false → m ≤ n
 within n m e = grind (arith, nat_tests)
 
-pub has_room : (machine : Machine) (element : Element) → room_refusal machine (element_text_len element) ≡ None →
+pub has_room : (machine : Machine) (element : Element) → room_refusal machine (element_encoded_len element) ≡ None →
     (length machine.accepted < machine.bounds.changes) × (last_number machine < GREATEST_NUMBER) × (machine.room + room_of element ≤ MOST_JOURNAL_BYTES)
 has_room machine element e =
     let full = refused_if (nat_le machine.bounds.changes (length machine.accepted) || nat_le GREATEST_NUMBER (last_number machine)) HistoryFull in
@@ -136,11 +136,11 @@ record Leaves (old new : Machine) : Type 0 where
   bounds : new.bounds ≡ old.bounds
   fits : old.room ≤ MOST_JOURNAL_BYTES → new.room ≤ MOST_JOURNAL_BYTES
 
-module _ (law : WeightAlone) (old : Machine) (k : IsKept old) where
+module _ (law : WeightAlone) (old : Machine) (k : InvariantHolds old) where
   -- sessions and transactions alone
-  seats : (new : Machine) (sessions : List ℕ) (places : Places) (begun : ℕ) → length sessions ≤ MOST_SESSIONS → count_held places ≤ MOST_TRANSACTIONS →
-      new ≡ record old { sessions = sessions; places = places; begun = begun } → Leaves old new
-  seats new sessions places begun s h e = subst (Leaves old) (sym e) (record {
+  seats : (new : Machine) (sessions : List ℕ) (tx_slots : TxSlots) (begun : ℕ) → length sessions ≤ MOST_SESSIONS → count_held tx_slots ≤ MOST_TRANSACTIONS →
+      new ≡ record old { sessions = sessions; tx_slots = tx_slots; begun = begun } → Leaves old new
+  seats new sessions tx_slots begun s h e = subst (Leaves old) (sym e) (record {
     within = record {
       opened = k.within.opened;
       known = k.within.known;
@@ -156,16 +156,16 @@ module _ (law : WeightAlone) (old : Machine) (k : IsKept old) where
   })
 
   stays : (new : Machine) → new ≡ old → Leaves old new
-  stays new e = seats new old.sessions old.places old.begun k.within.sessions k.within.held e
+  stays new e = seats new old.sessions old.tx_slots old.begun k.within.sessions k.within.held e
 
-  places_alone : (new : Machine) → count_held new.places ≤ count_held old.places → new ≡ record old { places = new.places } → Leaves old new
-  places_alone new fewer e = seats new old.sessions new.places old.begun k.within.sessions (omega (arith, fewer, k.within.held)) e
+  places_alone : (new : Machine) → count_held new.tx_slots ≤ count_held old.tx_slots → new ≡ record old { tx_slots = new.tx_slots } → Leaves old new
+  places_alone new fewer e = seats new old.sessions new.tx_slots old.begun k.within.sessions (omega (arith, fewer, k.within.held)) e
 
   -- one change more
-  longer : (new : Machine) (element : Element) (places : Places) → count_held places ≤ MOST_TRANSACTIONS → 0 < length element.ops →
-      AreLegalChanges (trees_now old) element.ops element.moment → room_refusal old (element_text_len element) ≡ None →
-      new ≡ record old { accepted = old.accepted ++ element ∷ []; room = old.room + room_of element; places = places } → Leaves old new
-  longer new element places h some l free e =
+  longer : (new : Machine) (element : Element) (tx_slots : TxSlots) → count_held tx_slots ≤ MOST_TRANSACTIONS → 0 < length element.ops →
+      AreLegalChanges (trees_now old) element.ops element.moment → room_refusal old (element_encoded_len element) ≡ None →
+      new ≡ record old { accepted = old.accepted ++ element ∷ []; room = old.room + room_of element; tx_slots = tx_slots } → Leaves old new
+  longer new element tx_slots h some l free e =
       let r = has_room old element free in
       let more = length-append old.accepted (element ∷ []) in
       let left : drop (old.durable - old.before) (old.accepted ++ element ∷ []) ≡ pending old ++ element ∷ [] = drop-append-le (old.durable - old.before) old.accepted (element ∷ []) (omega (arith, k.within.known, k.within.opened)) in
@@ -240,31 +240,31 @@ module _ (law : WeightAlone) (old : Machine) (k : IsKept old) where
       by_case true f e = stays new e
       by_case false f e =
           let few : length old.sessions < MOST_SESSIONS = below MOST_SESSIONS (length old.sessions) (not_refused _ NoSeat f) in
-          seats new (old.sessions ++ session ∷ []) old.places old.begun (omega (arith, few, length-append old.sessions (session ∷ []))) k.within.held e
+          seats new (old.sessions ++ session ∷ []) old.tx_slots old.begun (omega (arith, few, length-append old.sessions (session ∷ []))) k.within.held e
 
-  ends : (new : Machine) (session : ℕ) → count_held new.places ≤ count_held old.places → Ends old session new → Leaves old new
-  ends new session fewer e = seats new _ new.places old.begun (omega (arith, short (λ s. not (s == session)) old.sessions, k.within.sessions)) (omega (arith, fewer, k.within.held)) e.next
+  ends : (new : Machine) (session : ℕ) → count_held new.tx_slots ≤ count_held old.tx_slots → Ends old session new → Leaves old new
+  ends new session fewer e = seats new _ new.tx_slots old.begun (omega (arith, short (λ s. not (s == session)) old.sessions, k.within.sessions)) (omega (arith, fewer, k.within.held)) e.next
 
   begins : (new : Machine) (session : ℕ) (id : List ℕ) (tx : Tx) → Begins old session id tx new → Leaves old new
   begins new session id tx b =
       let f = none_first (fault old) _ b.free in
       let g = none_first (closed_refusal old session) _ f.1 in
-      let few : count_held old.places < MOST_TRANSACTIONS = below MOST_TRANSACTIONS (count_held old.places) (neither _ _ (not_refused _ NoSeat g.1)).0 in
-      let more : count_held new.places ≤ count_held old.places + 1 = one_more old.places new.places tx.place (λ q differs there. subst IsSome (b.starts.put.others q differs) there) in
-      seats new old.sessions new.places (old.begun + 1) k.within.sessions (omega (arith, few, more)) b.next
+      let few : count_held old.tx_slots < MOST_TRANSACTIONS = below MOST_TRANSACTIONS (count_held old.tx_slots) (neither _ _ (not_refused _ NoSeat g.1)).0 in
+      let more : count_held new.tx_slots ≤ count_held old.tx_slots + 1 = one_more old.tx_slots new.tx_slots tx.slot (λ q differs there. subst IsSome (b.starts.put.others q differs) there) in
+      seats new old.sessions new.tx_slots (old.begun + 1) k.within.sessions (omega (arith, few, more)) b.next
 
-  accepts : (new : Machine) (session moment : ℕ) (op : Op) (levels : Option ℕ) (number : ℕ) → count_held new.places ≤ count_held old.places → Accepts old session moment op levels number new → Leaves old new
+  accepts : (new : Machine) (session moment : ℕ) (op : Op) (levels : Option ℕ) (number : ℕ) → count_held new.tx_slots ≤ count_held old.tx_slots → AcceptsWrite old session moment op levels number new → Leaves old new
   accepts new session moment op levels number fewer a =
       let f = none_first (fault old) _ a.free in
       let g = none_first (call_refusal old session (hive_of op)) _ f.1 in
-      let free : room_refusal old (element_text_len (change moment op)) ≡ None = ap (λ j. refusal_by j (room_refusal old (element_text_len (change moment op)))) (sym a.is_legal) ∙ g.1 in
-      longer new (change moment op) new.places (omega (arith, fewer, k.within.held)) (omega arith) (a.is_legal, tt) free a.next
+      let free : room_refusal old (element_encoded_len (change moment op)) ≡ None = ap (λ j. refusal_by j (room_refusal old (element_encoded_len (change moment op)))) (sym a.is_legal) ∙ g.1 in
+      longer new (change moment op) new.tx_slots (omega (arith, fewer, k.within.held)) (omega arith) (a.is_legal, tt) free a.next
 
   some_ops : (ops : List Op) → (length ops == 0) ≡ false → 0 < length ops
   some_ops [] e = absurd cc
   some_ops (op ∷ ops) e = omega arith
 
-  commits : (new : Machine) (session : ℕ) (tx : Tx) (moment number : ℕ) → count_held new.places ≤ count_held old.places → Commits old session tx moment number new → Leaves old new
+  commits : (new : Machine) (session : ℕ) (tx : Tx) (moment number : ℕ) → count_held new.tx_slots ≤ count_held old.tx_slots → CommitsTx old session tx moment number new → Leaves old new
   commits new session tx moment number fewer c = by_case (length c.one.ops == 0) refl g.1 c.next
     where
       f : (fault old ≡ None) × (commit_refusal_if old moment (Some c.one) ≡ None)
@@ -273,18 +273,18 @@ module _ (law : WeightAlone) (old : Machine) (k : IsKept old) where
       g : (inactive_refusal (Some c.one) ≡ None) × (commit_refusal old moment c.one ≡ None)
       g = none_first (inactive_refusal (Some c.one)) (commit_refusal old moment c.one) f.1
 
-      active : IsActiveAt old.places tx.place c.one
+      active : IsActiveAt old.tx_slots tx.slot c.one
       active = record { there = (found_at old session tx c.one c.found).0; active = active_of c.one g.0 }
 
       by_case : (t : Bool) → (length c.one.ops == 0) ≡ t
-          → cond t None (first_of (refused_if (any_outweighs (trees_now old) (committed old c.one) moment) TooLarge) (room_refusal old (element_text_len (commit_change old moment c.one)))) ≡ None
-          → new ≡ record (cond t old (record old { accepted = old.accepted ++ commit_change old moment c.one ∷ []; room = old.room + room_of (commit_change old moment c.one) })) { places = new.places } → Leaves old new
+          → cond t None (first_of (refused_if (any_outweighs (trees_now old) (committed old c.one) moment) TooLarge) (room_refusal old (element_encoded_len (commit_change old moment c.one)))) ≡ None
+          → new ≡ record (cond t old (record old { accepted = old.accepted ++ commit_change old moment c.one ∷ []; room = old.room + room_of (commit_change old moment c.one) })) { tx_slots = new.tx_slots } → Leaves old new
       by_case true t free e = places_alone new fewer e
       by_case false t free e =
-          let p = none_first (refused_if (any_outweighs (trees_now old) (committed old c.one) moment) TooLarge) (room_refusal old (element_text_len (commit_change old moment c.one))) free in
+          let p = none_first (refused_if (any_outweighs (trees_now old) (committed old c.one) moment) TooLarge) (room_refusal old (element_encoded_len (commit_change old moment c.one))) free in
           let light = not_refused (any_outweighs (trees_now old) (committed old c.one) moment) TooLarge p.0 in
-          longer new (commit_change old moment c.one) new.places (omega (arith, fewer, k.within.held)) (some_ops c.one.ops t)
-          (legal_within law (trees_now old) c.one.ops moment (k.carried tx.place c.one active moment) light) p.1 e
+          longer new (commit_change old moment c.one) new.tx_slots (omega (arith, fewer, k.within.held)) (some_ops c.one.ops t)
+          (legal_within law (trees_now old) c.one.ops moment (k.carried tx.slot c.one active moment) light) p.1 e
 
   journals : (new : Machine) (progress : Progress) → Journals old progress new → Leaves old new
   journals new progress j = settles new new.durable new.room j.grows j.within (how j.room) j.next
@@ -320,7 +320,7 @@ module _ (law : WeightAlone) (old : Machine) (k : IsKept old) where
         done_or (λ r. Leaves old new) _ _ r s (λ d. places_alone new (held_after old new None refl (way old new (event.Rollback session tx) reply.Done d)) d.1) (λ e f. stays new f.1)
     leaves (event.Close session tx) r s =
         done_or (λ r. Leaves old new) _ _ r s (λ d. places_alone new (held_after old new None refl (way old new (event.Close session tx) reply.Done d)) d.1) (λ e f. stays new f.1)
-    leaves (event.Outcome session tx) r s = stands_or (λ r. Leaves old new) _ _ r s (λ o d. stays new d.next) (λ e f. stays new f.1)
+    leaves (event.Outcome session tx) r s = outcome_or (λ r. Leaves old new) _ _ r s (λ o d. stays new d.next) (λ e f. stays new f.1)
     leaves event.FlushAsk r s = awaits_or (λ r. Leaves old new) _ _ r s (λ n d. stays new d.2) (λ e f. stays new f.1)
     leaves (event.Acked number) r s = receipt_or (λ r. Leaves old new) _ _ _ r s (λ n d. stays new d.2) (λ d. stays new d.2) (λ e f. stays new f.1.1)
     leaves event.JournalStep r s = stepped_or (λ r. Leaves old new) _ _ r s (λ p d. journals new p d) (λ e f. fails new _ e f)
@@ -328,19 +328,19 @@ module _ (law : WeightAlone) (old : Machine) (k : IsKept old) where
     leaves event.TrimStep r s = stepped_or (λ r. Leaves old new) _ _ r s (λ p d. trims new p d) (λ e f. fails new _ e f)
 
 -- numbers, seats and room after a step
-pub within_after : WeightAlone → (old new : Machine) (e : Event) (r : Reply) → IsKept old → Step old e r new → IsWithin new
+pub within_after : WeightAlone → (old new : Machine) (e : Event) (r : Reply) → InvariantHolds old → Step old e r new → IsWithin new
 within_after law old new e r k s = (leaves law old k new e r s).within
 
 -- the changes that were accepted
-pub history_after : WeightAlone → (old new : Machine) (e : Event) (r : Reply) → IsKept old → Step old e r new → AreLegalHistory new.opened new.accepted
+pub history_after : WeightAlone → (old new : Machine) (e : Event) (r : Reply) → InvariantHolds old → Step old e r new → AreLegalHistory new.opened new.accepted
 history_after law old new e r k s = (leaves law old k new e r s).history
 
 -- the room
-pub fits_after : WeightAlone → (old new : Machine) (e : Event) (r : Reply) → IsKept old → Step old e r new → old.room ≤ MOST_JOURNAL_BYTES → new.room ≤ MOST_JOURNAL_BYTES
+pub fits_after : WeightAlone → (old new : Machine) (e : Event) (r : Reply) → InvariantHolds old → Step old e r new → old.room ≤ MOST_JOURNAL_BYTES → new.room ≤ MOST_JOURNAL_BYTES
 fits_after law old new e r k s = (leaves law old k new e r s).fits
 
 -- as a store is opened
-pub within_at_first : (bounds : Bounds) (trees : List TreeMap) (number : ℕ) (journaled : List Element) (failures : ℕ) → number ≤ GREATEST_NUMBER → IsWithin (opened_machine bounds trees number journaled failures)
+pub within_at_first : (bounds : StoreBounds) (trees : List TreeMap) (number : ℕ) (journaled : List Element) (failures : ℕ) → number ≤ GREATEST_NUMBER → IsWithin (opened_machine bounds trees number journaled failures)
 within_at_first bounds trees number journaled failures few = record {
   opened = omega arith;
   known = omega arith;
@@ -352,5 +352,5 @@ within_at_first bounds trees number journaled failures few = record {
 }
 
 -- the bounds
-pub bounds_after : WeightAlone → (old new : Machine) (e : Event) (r : Reply) → IsKept old → Step old e r new → new.bounds ≡ old.bounds
+pub bounds_after : WeightAlone → (old new : Machine) (e : Event) (r : Reply) → InvariantHolds old → Step old e r new → new.bounds ≡ old.bounds
 bounds_after law old new e r k s = (leaves law old k new e r s).bounds

@@ -1,10 +1,10 @@
 -- What holds of each answer that an event may have holds of its reply.
 use Rattle.std.proofs.Common.{ℕ, Option}
 use Rattle.refusals.specs.declared.refusal.Refusal.{Refusal}
-use Rattle.store_model.specs.Shapes.{DoneOr, ReadOr, AcceptedOr, AddedOr, BegunOr, AwaitsOr, StandsOr, ReceiptOr, SteppedOr}
+use Rattle.store_model.specs.Shapes.{DoneOr, ReadOr, AcceptedOr, AddedOr, BegunOr, AwaitsOr, OutcomeOr, ReceiptOr, SteppedOr}
 use Rattle.store_model.specs.declared.handle.Tx.{Tx}
 use Rattle.store_model.specs.declared.handle.Outcome.{Outcome}
-use Rattle.store_model.specs.declared.event.Found.{Found}
+use Rattle.store_model.specs.declared.event.ReadResult.{ReadResult}
 use Rattle.disk_model.specs.declared.progress.Progress.{Progress}
 use Rattle.store_model.specs.declared.event.Reply.{Reply}
 use Rattle.store_model.specs.declared.event.Reply.TheVariants as reply
@@ -15,7 +15,7 @@ module _ (X : Reply → Type 0) where
   done_or D R (reply.Refused e) s f g = g e s
   done_or D R _ s f g = absurd s
 
-  pub read_or : (D : Found → Type 0) (R : Refusal → Type 0) (r : Reply) → ReadOr D R r → ((v : Found) → D v → X (reply.Read v)) → ((e : Refusal) → R e → X (reply.Refused e)) → X r
+  pub read_or : (D : ReadResult → Type 0) (R : Refusal → Type 0) (r : Reply) → ReadOr D R r → ((v : ReadResult) → D v → X (reply.Read v)) → ((e : Refusal) → R e → X (reply.Refused e)) → X r
   read_or D R (reply.Read v) s f g = f v s
   read_or D R (reply.Refused e) s f g = g e s
   read_or D R _ s f g = absurd s
@@ -42,10 +42,10 @@ module _ (X : Reply → Type 0) where
   awaits_or D R (reply.Refused e) s f g = g e s
   awaits_or D R _ s f g = absurd s
 
-  pub stands_or : (D : Outcome → Type 0) (R : Refusal → Type 0) (r : Reply) → StandsOr D R r → ((o : Outcome) → D o → X (reply.Stands o)) → ((e : Refusal) → R e → X (reply.Refused e)) → X r
-  stands_or D R (reply.Stands o) s f g = f o s
-  stands_or D R (reply.Refused e) s f g = g e s
-  stands_or D R _ s f g = absurd s
+  pub outcome_or : (D : Outcome → Type 0) (R : Refusal → Type 0) (r : Reply) → OutcomeOr D R r → ((o : Outcome) → D o → X (reply.OutcomeIs o)) → ((e : Refusal) → R e → X (reply.Refused e)) → X r
+  outcome_or D R (reply.OutcomeIs o) s f g = f o s
+  outcome_or D R (reply.Refused e) s f g = g e s
+  outcome_or D R _ s f g = absurd s
 
   pub receipt_or : (D : ℕ → Type 0) (W : Type 0) (R : Refusal → Type 0) (r : Reply) → ReceiptOr D W R r → ((n : ℕ) → D n → X (reply.Receipt n)) → (W → X reply.NotYet) → ((e : Refusal) → R e → X (reply.Refused e)) → X r
   receipt_or D W R (reply.Receipt n) s f h g = f n s

@@ -14,12 +14,12 @@ use Rattle.reg_tree.specs.declared.element.Element.{Element}
 use Rattle.reg_tree.specs.declared.op.Op.{Op}
 use Rattle.reg_tree.specs.declared.op.Legality.TheVariants.{Legal}
 use Rattle.conflicts.specs.Claims.{claim_of}
-use Rattle.store_model.specs.Transactions.{Transaction, Places, Puts, Becomes, at, own_if, view, is_active, holds, is_claimed, fresh_transaction, ended, with_op, rolled_back_by, gone_with, inactive_refusal}
+use Rattle.store_model.specs.Transactions.{Transaction, TxSlots, SetsSlot, EachSlotBecomes, at, own_if, view, is_active, holds, is_claimed, fresh_transaction, ended, with_op, rolled_back_by, gone_with, inactive_refusal}
 use Rattle.store_model.specs.Machine.{Machine, trees_now, is_open, found_in, change, committed, commit_change, first_of, refused_if, refusal_by, too_long, added_refusal, commit_refusal, commit_refusal_if, fault, unnamed_refusal, room_of}
-use Rattle.store_model.specs.Acts.{Adds, Finishes, Closes}
-use Rattle.store_model.specs.Steps.{Accepts, Begins, Commits, Ends, Step, StepFails, after_commit, with_session}
-use Rattle.store_model.specs.Kept.{IsActiveAt, handle_in}
-use Rattle.store_model.proofs.Replies.{done_or, read_or, accepted_or, added_or, begun_or, awaits_or, stands_or, receipt_or, stepped_or}
+use Rattle.store_model.specs.Acts.{AddsOp, EndsTx, ClosesTx}
+use Rattle.store_model.specs.Steps.{AcceptsWrite, Begins, CommitsTx, Ends, Step, StepFails, after_commit, with_session}
+use Rattle.store_model.specs.Invariant.{IsActiveAt, handle_in}
+use Rattle.store_model.proofs.Replies.{done_or, read_or, accepted_or, added_or, begun_or, awaits_or, outcome_or, receipt_or, stepped_or}
 use Rattle.store_model.specs.declared.handle.Tx.{Tx}
 use Rattle.store_model.specs.declared.handle.Outcome.{Outcome}
 use Rattle.store_model.specs.declared.handle.Outcome.TheVariants.{Committed, RolledBack}
@@ -62,59 +62,59 @@ own_at session generation (Some two) one e =
     (ap Some p.0, sym (ap (λ (t : Transaction). t.generation) p.0) ∙ eqb-true two.generation generation p.2, sym (ap (λ (t : Transaction). t.session == session) p.0) ∙ p.1)
 
 -- what a handle finds is at its place, with its number
-pub found_at : (machine : Machine) (session : ℕ) (tx : Tx) (one : Transaction) → found_in machine session tx ≡ Some one → (at machine.places tx.place ≡ Some one) × (one.generation ≡ tx.generation) × ((one.session == session) ≡ true)
-found_at machine session tx one e = own_at session tx.generation (at machine.places tx.place) one (opened (is_open machine session) e)
+pub found_at : (machine : Machine) (session : ℕ) (tx : Tx) (one : Transaction) → found_in machine session tx ≡ Some one → (at machine.tx_slots tx.slot ≡ Some one) × (one.generation ≡ tx.generation) × ((one.session == session) ≡ true)
+found_at machine session tx one e = own_at session tx.generation (at machine.tx_slots tx.slot) one (opened (is_open machine session) e)
   where
-    opened : (t : Bool) → cond t (own_if session tx.generation (at machine.places tx.place)) None ≡ Some one → own_if session tx.generation (at machine.places tx.place) ≡ Some one
+    opened : (t : Bool) → cond t (own_if session tx.generation (at machine.tx_slots tx.slot)) None ≡ Some one → own_if session tx.generation (at machine.tx_slots tx.slot) ≡ Some one
     opened true e = e
     opened false e = absurd cc
 
 -- Places, before and after
 
 -- each transaction that is held was held at its place before, with its number
-abbrev pub Descends : Places → Places → Type 0
+abbrev pub Descends : TxSlots → TxSlots → Type 0
 Descends old new = (q : ℕ) (one : Transaction) → at new q ≡ Some one → (before : Transaction) × (at old q ≡ Some before) × (before.generation ≡ one.generation)
 
 -- each that is active was so before, and this holds of its place and itself
-abbrev pub RemainsIf : (ℕ → Transaction → Type 0) → Places → Places → Type 0
+abbrev pub RemainsIf : (ℕ → Transaction → Type 0) → TxSlots → TxSlots → Type 0
 RemainsIf P old new = (q : ℕ) (one : Transaction) → IsActiveAt new q one → IsActiveAt old q one × P q one
 
-pub put_or_not : (old new : Places) (place : ℕ) (slot : Option Transaction) → Puts old new place slot → (q : ℕ) (one : Transaction) → at new q ≡ Some one → ((q ≡ place) × (slot ≡ Some one)) ⊎ ((q ≢ place) × (at old q ≡ Some one))
-put_or_not old new place slot p q one e = elim (same_or_not q place) [
+pub put_or_not : (old new : TxSlots) (slot : ℕ) (content : Option Transaction) → SetsSlot old new slot content → (q : ℕ) (one : Transaction) → at new q ≡ Some one → ((q ≡ slot) × (content ≡ Some one)) ⊎ ((q ≢ slot) × (at old q ≡ Some one))
+put_or_not old new slot content p q one e = elim (same_or_not q slot) [
   | inl s ↦ inl (s, sym p.there ∙ ap (at new) (sym s) ∙ e)
   | inr n ↦ inr (n, sym (p.others q n) ∙ e)
 ]
 
-pub put_descends : (old new : Places) (place : ℕ) (slot : Option Transaction) → Puts old new place slot →
-    ((one : Transaction) → slot ≡ Some one → (before : Transaction) × (at old place ≡ Some before) × (before.generation ≡ one.generation)) → Descends old new
-put_descends old new place slot p known q one e = elim (put_or_not old new place slot p q one e) [
+pub put_descends : (old new : TxSlots) (slot : ℕ) (content : Option Transaction) → SetsSlot old new slot content →
+    ((one : Transaction) → content ≡ Some one → (before : Transaction) × (at old slot ≡ Some before) × (before.generation ≡ one.generation)) → Descends old new
+put_descends old new slot content p known q one e = elim (put_or_not old new slot content p q one e) [
   | inl s ↦ let k = known one s.1 in (k.0, ap (at old) s.0 ∙ k.1, k.2)
   | inr n ↦ (one, n.1, refl)
 ]
 
 -- nothing active is put
-put_remains : (old new : Places) (place : ℕ) (slot : Option Transaction) → Puts old new place slot →
-    ((one : Transaction) → slot ≡ Some one → is_active one ≡ false) → RemainsIf (λ q one. q ≢ place) old new
-put_remains old new place slot p idle q one a = elim (put_or_not old new place slot p q one a.there) [
+put_remains : (old new : TxSlots) (slot : ℕ) (content : Option Transaction) → SetsSlot old new slot content →
+    ((one : Transaction) → content ≡ Some one → is_active one ≡ false) → RemainsIf (λ q one. q ≢ slot) old new
+put_remains old new slot content p idle q one a = elim (put_or_not old new slot content p q one a.there) [
   | inl s ↦ never (sym (idle one s.1) ∙ a.active)
   | inr n ↦ (record { there = n.1; active = a.active }, n.0)
 ]
 
-becomes_descends : (after : Transaction → Option Transaction) (old new : Places) → Becomes after old new →
+becomes_descends : (after : Transaction → Option Transaction) (old new : TxSlots) → EachSlotBecomes after old new →
     ((x one : Transaction) → after x ≡ Some one → x.generation ≡ one.generation) → Descends old new
 becomes_descends after old new b kept q one e = option_and_then_some after (at old q) one (sym (b q) ∙ e) (λ x is made. (x, is, kept x one made))
 
-becomes_remains : (after : Transaction → Option Transaction) (P : ℕ → Transaction → Type 0) (old new : Places) → Becomes after old new →
+becomes_remains : (after : Transaction → Option Transaction) (P : ℕ → Transaction → Type 0) (old new : TxSlots) → EachSlotBecomes after old new →
     ((q : ℕ) (x one : Transaction) → after x ≡ Some one → is_active one ≡ true → (x ≡ one) × P q one) → RemainsIf P old new
 becomes_remains after P old new b kept q one a = option_and_then_some after (at old q) one (sym (b q) ∙ a.there)
     (λ x is made. let k = kept q x one made a.active in (record { there = is ∙ ap Some k.0; active = a.active }, k.1))
 
 -- a transaction ends, and nothing else changes
-ended_descends : (old new : Places) (place : ℕ) (outcome : Outcome) (one : Transaction) → at old place ≡ Some one → Puts old new place (Some (ended outcome one)) → Descends old new
-ended_descends old new place outcome one is p = put_descends old new place (Some (ended outcome one)) p (λ x e. (one, is, ap (λ (t : Transaction). t.generation) (let same : ended outcome one ≡ x = cc e in same)))
+ended_descends : (old new : TxSlots) (slot : ℕ) (outcome : Outcome) (one : Transaction) → at old slot ≡ Some one → SetsSlot old new slot (Some (ended outcome one)) → Descends old new
+ended_descends old new slot outcome one is p = put_descends old new slot (Some (ended outcome one)) p (λ x e. (one, is, ap (λ (t : Transaction). t.generation) (let same : ended outcome one ≡ x = cc e in same)))
 
-ended_remains : (old new : Places) (place : ℕ) (outcome : Outcome) (one : Transaction) → is_active (ended outcome one) ≡ false → Puts old new place (Some (ended outcome one)) → RemainsIf (λ q x. q ≢ place) old new
-ended_remains old new place outcome one idle p = put_remains old new place (Some (ended outcome one)) p (λ x e. ap is_active (let same : x ≡ ended outcome one = cc e in same) ∙ idle)
+ended_remains : (old new : TxSlots) (slot : ℕ) (outcome : Outcome) (one : Transaction) → is_active (ended outcome one) ≡ false → SetsSlot old new slot (Some (ended outcome one)) → RemainsIf (λ q x. q ≢ slot) old new
+ended_remains old new slot outcome one idle p = put_remains old new slot (Some (ended outcome one)) p (λ x e. ap is_active (let same : x ≡ ended outcome one = cc e in same) ∙ idle)
 
 -- a transaction that holds a conflicting claim is rolled back
 rolled : (t : Bool) (x one : Transaction) → cond t (Some (ended RolledBack x)) (Some x) ≡ Some one → x.generation ≡ one.generation
@@ -136,41 +136,41 @@ stayed false x one e = cc
 -- write changes the trees and rolls back those whose claims conflict; one holds an operation more; one is committed; or
 -- one is begun.
 pub data Way (old new : Machine) : Option Tx → Type 0 where
-  Fewer : new.begun ≡ old.begun → trees_now new ≡ trees_now old → Descends old.places new.places → RemainsIf (λ q one. ⊤) old.places new.places → Way old new None
+  Fewer : new.begun ≡ old.begun → trees_now new ≡ trees_now old → Descends old.tx_slots new.tx_slots → RemainsIf (λ q one. ⊤) old.tx_slots new.tx_slots → Way old new None
   Wrote : (op : Op) (moment : ℕ) → new.begun ≡ old.begun → trees_now new ≡ applied (trees_now old) (op ∷ []) moment →
-      Descends old.places new.places → RemainsIf (λ q one. holds (claim_of op) one ≡ false) old.places new.places → Way old new None
-  Longer : (place moment : ℕ) (op : Op) (one : Transaction) → new.begun ≡ old.begun → trees_now new ≡ trees_now old → IsActiveAt old.places place one →
-      legal (view (trees_now old) one) op ≡ Ok Legal → is_claimed old.places place (claim_of op) ≡ false → hive_of op < old.bounds.hives →
-      Puts old.places new.places place (Some (with_op one op moment)) → Way old new None
-  Accepted : (place moment : ℕ) (one : Transaction) → new.begun ≡ old.begun → trees_now new ≡ applied (trees_now old) one.ops moment → IsActiveAt old.places place one →
-      Descends old.places new.places → RemainsIf (λ q x. q ≢ place) old.places new.places → Way old new None
+      Descends old.tx_slots new.tx_slots → RemainsIf (λ q one. holds (claim_of op) one ≡ false) old.tx_slots new.tx_slots → Way old new None
+  Longer : (slot moment : ℕ) (op : Op) (one : Transaction) → new.begun ≡ old.begun → trees_now new ≡ trees_now old → IsActiveAt old.tx_slots slot one →
+      legal (view (trees_now old) one) op ≡ Ok Legal → is_claimed old.tx_slots slot (claim_of op) ≡ false → hive_of op < old.bounds.hives →
+      SetsSlot old.tx_slots new.tx_slots slot (Some (with_op one op moment)) → Way old new None
+  Accepted : (slot moment : ℕ) (one : Transaction) → new.begun ≡ old.begun → trees_now new ≡ applied (trees_now old) one.ops moment → IsActiveAt old.tx_slots slot one →
+      Descends old.tx_slots new.tx_slots → RemainsIf (λ q x. q ≢ slot) old.tx_slots new.tx_slots → Way old new None
   Began : (tx : Tx) (session : ℕ) (id : List ℕ) → tx.generation ≡ old.begun + 1 → new.begun ≡ tx.generation → trees_now new ≡ trees_now old →
-      Puts old.places new.places tx.place (Some (fresh_transaction session id tx.generation)) → Way old new (Some tx)
+      SetsSlot old.tx_slots new.tx_slots tx.slot (Some (fresh_transaction session id tx.generation)) → Way old new (Some tx)
 
 -- places and trees stay
-still : (old new : Machine) → new.begun ≡ old.begun → trees_now new ≡ trees_now old → new.places ≡ old.places → Way old new None
-still old new b t p = Fewer b t
+no_change : (old new : Machine) → new.begun ≡ old.begun → trees_now new ≡ trees_now old → new.tx_slots ≡ old.tx_slots → Way old new None
+no_change old new b t p = Fewer b t
     (λ q one e. (one, ap (λ ps. at ps q) (sym p) ∙ e, refl))
     (λ q one a. (record { there = ap (λ ps. at ps q) (sym p) ∙ a.there; active = a.active }, tt))
 
 same : (old new : Machine) → new ≡ old → Way old new None
-same old new e = still old new (ap (λ (m : Machine). m.begun) e) (ap trees_now e) (ap (λ (m : Machine). m.places) e)
+same old new e = no_change old new (ap (λ (m : Machine). m.begun) e) (ap trees_now e) (ap (λ (m : Machine). m.tx_slots) e)
 
 ends : (old new : Machine) (session : ℕ) → Ends old session new → Way old new None
 ends old new session e = Fewer (ap (λ (m : Machine). m.begun) e.next) (ap trees_now e.next)
-    (becomes_descends (gone_with session) old.places new.places e.gone (λ x one m. ap (λ (t : Transaction). t.generation) (stayed (x.session == session) x one m)))
-    (becomes_remains (gone_with session) (λ q one. ⊤) old.places new.places e.gone (λ q x one m a. (stayed (x.session == session) x one m, tt)))
+    (becomes_descends (gone_with session) old.tx_slots new.tx_slots e.gone (λ x one m. ap (λ (t : Transaction). t.generation) (stayed (x.session == session) x one m)))
+    (becomes_remains (gone_with session) (λ q one. ⊤) old.tx_slots new.tx_slots e.gone (λ q x one m a. (stayed (x.session == session) x one m, tt)))
 
 -- the trees after one change more
 after_one_more : (trees : List TreeMap) (elements : List Element) (element : Element) → after_elements trees (elements ++ element ∷ []) ≡ applied (after_elements trees elements) element.ops element.moment
 after_one_more trees [] element = refl
 after_one_more trees (first ∷ elements) element = after_one_more (applied trees first.ops first.moment) elements element
 
-accepts : (old new : Machine) (session moment : ℕ) (op : Op) (levels : Option ℕ) (number : ℕ) → Accepts old session moment op levels number new → Way old new None
+accepts : (old new : Machine) (session moment : ℕ) (op : Op) (levels : Option ℕ) (number : ℕ) → AcceptsWrite old session moment op levels number new → Way old new None
 accepts old new session moment op levels number a = Wrote op moment (ap (λ (m : Machine). m.begun) a.next)
     (ap trees_now a.next ∙ after_one_more old.opened old.accepted (change moment op))
-    (becomes_descends (rolled_back_by (claim_of op)) old.places new.places a.rolled_back (λ x one m. rolled (holds (claim_of op) x) x one m))
-    (becomes_remains (rolled_back_by (claim_of op)) (λ q one. holds (claim_of op) one ≡ false) old.places new.places a.rolled_back
+    (becomes_descends (rolled_back_by (claim_of op)) old.tx_slots new.tx_slots a.rolled_back (λ x one m. rolled (holds (claim_of op) x) x one m))
+    (becomes_remains (rolled_back_by (claim_of op)) (λ q one. holds (claim_of op) one ≡ false) old.tx_slots new.tx_slots a.rolled_back
     (λ q x one m active. let k : (x ≡ one) × (holds (claim_of op) x ≡ false) = not_rolled (holds (claim_of op) x) x one m active in (k.0, ap (holds (claim_of op)) (sym k.0) ∙ k.1)))
 
 begins : (old new : Machine) (session : ℕ) (id : List ℕ) (tx : Tx) → Begins old session id tx new → Way old new (Some tx)
@@ -183,25 +183,25 @@ named_hive old hive e = below old.bounds.hives hive (not_refused (nat_le old.bou
     below : (n m : ℕ) → nat_le n m ≡ false → m < n
     below n m e = grind (arith, nat_tests)
 
-adds : (old new : Machine) (session : ℕ) (tx : Tx) (moment : ℕ) (op : Op) (levels : Option ℕ) → first_of (fault old) (unnamed_refusal old (hive_of op)) ≡ None → Adds (trees_now old) old.places (found_in old session tx) tx.place moment op levels new.places → new ≡ record old { places = new.places } → Way old new None
+adds : (old new : Machine) (session : ℕ) (tx : Tx) (moment : ℕ) (op : Op) (levels : Option ℕ) → first_of (fault old) (unnamed_refusal old (hive_of op)) ≡ None → AddsOp (trees_now old) old.tx_slots (found_in old session tx) tx.slot moment op levels new.tx_slots → new ≡ record old { tx_slots = new.tx_slots } → Way old new None
 adds old new session tx moment op levels named a next =
-    let f = none_first (inactive_refusal (Some a.one)) (added_refusal (trees_now old) old.places tx.place op a.one) a.free in
-    let further : Option Refusal = first_of (refused_if (too_long a.one op) TooLarge) (refused_if (is_claimed old.places tx.place (claim_of op)) Conflict) in
+    let f = none_first (inactive_refusal (Some a.one)) (added_refusal (trees_now old) old.tx_slots tx.slot op a.one) a.free in
+    let further : Option Refusal = first_of (refused_if (too_long a.one op) TooLarge) (refused_if (is_claimed old.tx_slots tx.slot (claim_of op)) Conflict) in
     let g : further ≡ None = ap (λ j. refusal_by j further) (sym a.is_legal) ∙ f.1 in
-    let h = none_first (refused_if (too_long a.one op) TooLarge) (refused_if (is_claimed old.places tx.place (claim_of op)) Conflict) g in
-    Longer tx.place moment op a.one (ap (λ (m : Machine). m.begun) next) (ap trees_now next)
+    let h = none_first (refused_if (too_long a.one op) TooLarge) (refused_if (is_claimed old.tx_slots tx.slot (claim_of op)) Conflict) g in
+    Longer tx.slot moment op a.one (ap (λ (m : Machine). m.begun) next) (ap trees_now next)
     (record { there = (found_at old session tx a.one a.found).0; active = active_of a.one f.0 }) a.is_legal
-    (not_refused (is_claimed old.places tx.place (claim_of op)) Conflict h.1) (named_hive old (hive_of op) named) a.put
+    (not_refused (is_claimed old.tx_slots tx.slot (claim_of op)) Conflict h.1) (named_hive old (hive_of op) named) a.put
 
-finishes : (old new : Machine) (session : ℕ) (tx : Tx) → Finishes old.places (found_in old session tx) tx.place RolledBack new.places → new ≡ record old { places = new.places } → Way old new None
+finishes : (old new : Machine) (session : ℕ) (tx : Tx) → EndsTx old.tx_slots (found_in old session tx) tx.slot RolledBack new.tx_slots → new ≡ record old { tx_slots = new.tx_slots } → Way old new None
 finishes old new session tx f next = Fewer (ap (λ (m : Machine). m.begun) next) (ap trees_now next)
-    (ended_descends old.places new.places tx.place RolledBack f.one (found_at old session tx f.one f.found).0 f.put)
-    (λ q one a. ((ended_remains old.places new.places tx.place RolledBack f.one refl f.put q one a).0, tt))
+    (ended_descends old.tx_slots new.tx_slots tx.slot RolledBack f.one (found_at old session tx f.one f.found).0 f.put)
+    (λ q one a. ((ended_remains old.tx_slots new.tx_slots tx.slot RolledBack f.one refl f.put q one a).0, tt))
 
-closes : (old new : Machine) (session : ℕ) (tx : Tx) → Closes old.places (found_in old session tx) tx.place new.places → new ≡ record old { places = new.places } → Way old new None
+closes : (old new : Machine) (session : ℕ) (tx : Tx) → ClosesTx old.tx_slots (found_in old session tx) tx.slot new.tx_slots → new ≡ record old { tx_slots = new.tx_slots } → Way old new None
 closes old new session tx c next = Fewer (ap (λ (m : Machine). m.begun) next) (ap trees_now next)
-    (put_descends old.places new.places tx.place None c.put (λ one e. absurd cc))
-    (λ q one a. ((put_remains old.places new.places tx.place None c.put (λ one e. absurd cc) q one a).0, tt))
+    (put_descends old.tx_slots new.tx_slots tx.slot None c.put (λ one e. absurd cc))
+    (λ q one a. ((put_remains old.tx_slots new.tx_slots tx.slot None c.put (λ one e. absurd cc) q one a).0, tt))
 
 none_of : (ops : List Op) → length ops ≡ 0 → ops ≡ []
 none_of [] e = refl
@@ -221,27 +221,27 @@ after_commit_begun old moment one = by_case (length one.ops == 0)
     by_case true = refl
     by_case false = refl
 
-commits : (old new : Machine) (session : ℕ) (tx : Tx) (moment number : ℕ) → Commits old session tx moment number new → Way old new None
+commits : (old new : Machine) (session : ℕ) (tx : Tx) (moment number : ℕ) → CommitsTx old session tx moment number new → Way old new None
 commits old new session tx moment number c =
     let f = none_first (fault old) (commit_refusal_if old moment (Some c.one)) c.free in
     let g = none_first (inactive_refusal (Some c.one)) (commit_refusal old moment c.one) f.1 in
     let there = (found_at old session tx c.one c.found).0 in
-    Accepted tx.place moment c.one (ap (λ (m : Machine). m.begun) c.next ∙ after_commit_begun old moment c.one)
+    Accepted tx.slot moment c.one (ap (λ (m : Machine). m.begun) c.next ∙ after_commit_begun old moment c.one)
     (ap trees_now c.next ∙ after_commit_trees old moment c.one)
     (record { there = there; active = active_of c.one g.0 })
-    (ended_descends old.places new.places tx.place Committed c.one there c.put)
-    (ended_remains old.places new.places tx.place Committed c.one refl c.put)
+    (ended_descends old.tx_slots new.tx_slots tx.slot Committed c.one there c.put)
+    (ended_remains old.tx_slots new.tx_slots tx.slot Committed c.one refl c.put)
 
 step_fails : (old new : Machine) (wanted : Option Refusal) (r : Refusal) → StepFails old wanted r new → Way old new None
 step_fails old new wanted r (inl h) = same old new h.1
-step_fails old new wanted r (inr h) = still old new (ap (λ (m : Machine). m.begun) h.1.next) (ap trees_now h.1.next) (ap (λ (m : Machine). m.places) h.1.next)
+step_fails old new wanted r (inr h) = no_change old new (ap (λ (m : Machine). m.begun) h.1.next) (ap trees_now h.1.next) (ap (λ (m : Machine). m.tx_slots) h.1.next)
 
 session_opened : (old new : Machine) (session : ℕ) → new ≡ with_session old session → Way old new None
 session_opened old new session e = by_case (is_open old session) e
   where
     by_case : (t : Bool) → new ≡ cond t old (record old { sessions = old.sessions ++ session ∷ [] }) → Way old new None
     by_case true e = same old new e
-    by_case false e = still old new (ap (λ (m : Machine). m.begun) e) (ap trees_now e) (ap (λ (m : Machine). m.places) e)
+    by_case false e = no_change old new (ap (λ (m : Machine). m.begun) e) (ap trees_now e) (ap (λ (m : Machine). m.tx_slots) e)
 
 -- Each step is one of the ways
 
@@ -256,9 +256,9 @@ way old new (event.TxWrite session tx moment op) r s = added_or (λ r. Way old n
 way old new (event.CommitAccept session tx moment) r s = awaits_or (λ r. Way old new (handle_in r)) _ _ r s (λ n d. commits old new session tx moment n d) (λ e f. same old new f.1)
 way old new (event.Rollback session tx) r s = done_or (λ r. Way old new (handle_in r)) _ _ r s (λ d. finishes old new session tx d.0 d.1) (λ e f. same old new f.1)
 way old new (event.Close session tx) r s = done_or (λ r. Way old new (handle_in r)) _ _ r s (λ d. closes old new session tx d.0 d.1) (λ e f. same old new f.1)
-way old new (event.Outcome session tx) r s = stands_or (λ r. Way old new (handle_in r)) _ _ r s (λ o d. same old new d.next) (λ e f. same old new f.1)
+way old new (event.Outcome session tx) r s = outcome_or (λ r. Way old new (handle_in r)) _ _ r s (λ o d. same old new d.next) (λ e f. same old new f.1)
 way old new event.FlushAsk r s = awaits_or (λ r. Way old new (handle_in r)) _ _ r s (λ n d. same old new d.2) (λ e f. same old new f.1)
 way old new (event.Acked number) r s = receipt_or (λ r. Way old new (handle_in r)) _ _ _ r s (λ n d. same old new d.2) (λ d. same old new d.2) (λ e f. same old new f.1.1)
-way old new event.JournalStep r s = stepped_or (λ r. Way old new (handle_in r)) _ _ r s (λ p d. still old new (ap (λ (m : Machine). m.begun) d.next) (ap trees_now d.next) (ap (λ (m : Machine). m.places) d.next)) (λ e f. step_fails old new _ e f)
+way old new event.JournalStep r s = stepped_or (λ r. Way old new (handle_in r)) _ _ r s (λ p d. no_change old new (ap (λ (m : Machine). m.begun) d.next) (ap trees_now d.next) (ap (λ (m : Machine). m.tx_slots) d.next)) (λ e f. step_fails old new _ e f)
 way old new (event.FlusherStep hive) r s = stepped_or (λ r. Way old new (handle_in r)) _ _ r s (λ p d. same old new d.next) (λ e f. step_fails old new _ e f)
-way old new event.TrimStep r s = stepped_or (λ r. Way old new (handle_in r)) _ _ r s (λ p d. still old new (ap (λ (m : Machine). m.begun) d.next) (ap trees_now d.next) (ap (λ (m : Machine). m.places) d.next)) (λ e f. step_fails old new _ e f)
+way old new event.TrimStep r s = stepped_or (λ r. Way old new (handle_in r)) _ _ r s (λ p d. no_change old new (ap (λ (m : Machine). m.begun) d.next) (ap trees_now d.next) (ap (λ (m : Machine). m.tx_slots) d.next)) (λ e f. step_fails old new _ e f)

@@ -6,7 +6,7 @@ use Rattle.reg_tree_parts.specs.Rows.{row_code}
 use Rattle.reg_tree.specs.Maps.{TreeMap}
 use Rattle.reg_tree.specs.declared.op.Op.{Op}
 use Rattle.reg_tree.specs.contracts.op.Op as op
-use Rattle.store_model.specs.Transactions.{Transaction, Places}
+use Rattle.store_model.specs.Transactions.{Transaction, TxSlots}
 use Rattle.store_model.specs.declared.handle.Outcome.{Outcome}
 use Rattle.store_model.specs.contracts.handle.Outcome as outcome
 
@@ -20,5 +20,5 @@ transaction_code =
     (λ t. (t.session, (t.id, (t.generation, (t.outcome, (t.ops, t.moment))))))
     (λ p. record { session = p.0; id = p.1.0; generation = p.1.1.0; outcome = p.1.1.1.0; ops = p.1.1.1.1.0; moment = p.1.1.1.1.1 }) (λ _. refl)
 
-abbrev pub places_code : Coded Places
-places_code = coded_list (coded_option transaction_code)
+abbrev pub tx_slots_code : Coded TxSlots
+tx_slots_code = coded_list (coded_option transaction_code)

@@ -4,5 +4,5 @@ pub mod Machine
 pub mod Shapes
 pub mod Acts
 pub mod Steps
-pub mod Kept
+pub mod Invariant
 pub mod Codes

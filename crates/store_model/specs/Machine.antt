@@ -9,7 +9,7 @@ use Rattle.refusals.specs.declared.refusal.Refusal.TheVariants as refusal
 use Rattle.refusals.specs.declared.limits.TheConstants.{MOST_JOURNAL_BYTES, MOST_HISTORY, GREATEST_NUMBER, MOST_ELEMENT_BYTES, MOST_SESSIONS, MOST_TRANSACTIONS}
 use Rattle.reg_tree.specs.Maps.{TreeMap}
 use Rattle.reg_tree.specs.Fresh.{fresh_tree}
-use Rattle.reg_tree.specs.Texts.{element_text_len}
+use Rattle.reg_tree.specs.Encodings.{element_encoded_len}
 use Rattle.reg_tree.specs.Operations.{hive_of}
 use Rattle.reg_tree.specs.Judgement.{legal}
 use Rattle.reg_tree.specs.Judgement.{any_outweighs}
@@ -20,13 +20,13 @@ use Rattle.reg_tree.specs.declared.op.Op.{Op}
 use Rattle.reg_tree.specs.declared.op.Legality.{Legality}
 use Rattle.reg_tree.specs.declared.op.Legality.TheVariants.{Legal, Opened}
 use Rattle.conflicts.specs.Claims.{claim_of}
-use Rattle.store_model.specs.Transactions.{Transaction, Places, is_claimed, view, own, count_held, inactive_refusal}
-use Rattle.store_model.specs.declared.bounds.Bounds.{Bounds}
+use Rattle.store_model.specs.Transactions.{Transaction, TxSlots, is_claimed, view, own, count_held, inactive_refusal}
+use Rattle.store_model.specs.declared.bounds.StoreBounds.{StoreBounds}
 use Rattle.store_model.specs.declared.handle.Tx.{Tx}
 use Rattle.store_model.specs.declared.event.Question.{Question}
 use Rattle.store_model.specs.declared.event.Question.TheVariants.{ValueOf, ValueAt, KeyAt, KeysOf, ValuesOf, InfoOf}
-use Rattle.store_model.specs.declared.event.Found.{Found}
-use Rattle.store_model.specs.declared.event.Found.TheVariants as found
+use Rattle.store_model.specs.declared.event.ReadResult.{ReadResult}
+use Rattle.store_model.specs.declared.event.ReadResult.TheVariants as found
 
 -- the trees as the store was opened, the number of the last change before that, and the changes accepted since; the
 -- sessions that are open, in the order in which they were opened; the transaction at each place, and how many were
@@ -37,39 +37,39 @@ pub record Machine : Type 0 where
   pub before : ℕ
   pub accepted : List Element
   pub sessions : List ℕ
-  pub places : Places
+  pub tx_slots : TxSlots
   pub begun : ℕ
   pub durable : ℕ
   pub room : ℕ
   pub failures : ℕ
   pub faulted : Bool
-  pub bounds : Bounds
+  pub bounds : StoreBounds
 
 -- the journal's header and first gate take 65 bytes, and each change 17 and its length
 abbrev pub room_of : Element → ℕ
-room_of element = 17 + element_text_len element
+room_of element = 17 + element_encoded_len element
 
 abbrev pub room_with : List Element → ℕ
 room_with elements = 65 + sum_by room_of elements
 
 -- the bounds of a store whose calls name so many hives
-abbrev pub bounds_for : ℕ → Bounds
+abbrev pub bounds_for : ℕ → StoreBounds
 bounds_for hives = record { changes = MOST_HISTORY; hives = hives }
 
 -- the bounds of a store whose calls name each of its trees
-abbrev pub bounds_of : List TreeMap → Bounds
+abbrev pub bounds_of : List TreeMap → StoreBounds
 bounds_of trees = bounds_for (length trees)
 
 -- a store as it was opened within bounds, on trees after the change of a number, its journal spelling changes: no change
 -- was accepted since, and nobody is there
-abbrev pub opened_machine : Bounds → List TreeMap → ℕ → List Element → ℕ → Machine
+abbrev pub opened_machine : StoreBounds → List TreeMap → ℕ → List Element → ℕ → Machine
 opened_machine bounds trees number journaled failures =
     record {
       opened = trees;
       before = number;
       accepted = [];
       sessions = [];
-      places = [];
+      tx_slots = [];
       begun = 0;
       durable = number;
       room = room_with journaled;
@@ -79,7 +79,7 @@ opened_machine bounds trees number journaled failures =
     }
 
 -- a store of new hives, each of which calls may name within these bounds; its journal is empty
-abbrev pub fresh_machine : Bounds → Machine
+abbrev pub fresh_machine : StoreBounds → Machine
 fresh_machine bounds = opened_machine bounds (replicate bounds.hives fresh_tree) 0 [] 0
 
 -- the trees after all accepted changes
@@ -100,7 +100,7 @@ is_open machine session = list_any (λ s. s == session) machine.sessions
 
 -- the transaction of a handle, where the session is open and it is the session's
 abbrev pub found_in : Machine → ℕ → Tx → Option Transaction
-found_in machine session tx = if is_open machine session then own machine.places session tx else None
+found_in machine session tx = if is_open machine session then own machine.tx_slots session tx else None
 
 -- a change of one operation
 abbrev pub change : ℕ → Op → Element
@@ -154,7 +154,7 @@ abbrev pub start_refusal : Machine → ℕ → Option Refusal
 start_refusal machine session = first_of (fault machine) (refused_if (not (is_open machine session) && nat_le MOST_SESSIONS (length machine.sessions)) NoSeat)
 
 -- what is read of trees, where it is there
-abbrev pub looked_up : List TreeMap → ℕ → List (List ℕ) → Question → Option Found
+abbrev pub looked_up : List TreeMap → ℕ → List (List ℕ) → Question → Option ReadResult
 looked_up trees hive path (ValueOf name) = option_map found.Value (value_in trees hive (folded_path path) name)
 looked_up trees hive path (ValueAt index) = option_map found.Value (value_index_in trees hive (folded_path path) index)
 looked_up trees hive path (KeyAt index) = option_map found.Key (subkey_index_in trees hive (folded_path path) index)
@@ -163,7 +163,7 @@ looked_up trees hive path ValuesOf = option_map found.ValueNames (value_names_in
 looked_up trees hive path InfoOf = option_map found.Counts (info_in trees hive (folded_path path))
 
 -- what is not there is not found
-abbrev pub read_refusal : Option Found → Option Refusal
+abbrev pub read_refusal : Option ReadResult → Option Refusal
 read_refusal (Some found) = None
 read_refusal None = Some NotFound
 
@@ -184,40 +184,40 @@ room_refusal machine long =
 -- why an operation is not accepted by itself
 abbrev pub write_refusal : Machine → ℕ → ℕ → Op → Option Refusal
 write_refusal machine session moment op =
-    first_of (fault machine) (first_of (call_refusal machine session (hive_of op)) (refusal_by (legal (trees_now machine) op) (room_refusal machine (element_text_len (change moment op)))))
+    first_of (fault machine) (first_of (call_refusal machine session (hive_of op)) (refusal_by (legal (trees_now machine) op) (room_refusal machine (element_encoded_len (change moment op)))))
 
 -- 1,024 transactions are held, or 18,446,744,073,709,551,615 were begun
-abbrev pub seat_refusal : Places → ℕ → Option Refusal
-seat_refusal places begun = refused_if (nat_le MOST_TRANSACTIONS (count_held places) || nat_le (2 ^ 64 - 1) begun) NoSeat
+abbrev pub slot_refusal : TxSlots → ℕ → Option Refusal
+slot_refusal tx_slots begun = refused_if (nat_le MOST_TRANSACTIONS (count_held tx_slots) || nat_le (2 ^ 64 - 1) begun) NoSeat
 
 abbrev pub begin_refusal : Machine → ℕ → Option Refusal
 begin_refusal machine session =
-    first_of (fault machine) (first_of (closed_refusal machine session) (seat_refusal machine.places machine.begun))
+    first_of (fault machine) (first_of (closed_refusal machine session) (slot_refusal machine.tx_slots machine.begun))
 
 -- a transaction that isn't there, or has ended, is not read
-abbrev pub seen : List TreeMap → ℕ → List (List ℕ) → Question → Option Transaction → Option Found
+abbrev pub seen : List TreeMap → ℕ → List (List ℕ) → Question → Option Transaction → Option ReadResult
 seen now hive path question None = None
 seen now hive path question (Some one) = looked_up (view now one) hive path question
 
 -- a change of one more operation is too long
 abbrev pub too_long : Transaction → Op → Bool
-too_long one op = nat_lt MOST_ELEMENT_BYTES (element_text_len (record { moment = one.moment; ops = one.ops ++ op ∷ [] }))
+too_long one op = nat_lt MOST_ELEMENT_BYTES (element_encoded_len (record { moment = one.moment; ops = one.ops ++ op ∷ [] }))
 
 -- why an operation is not added to an active transaction: it is not legal in its view, makes its change too long, or
 -- another active transaction's claim conflicts
-abbrev pub added_refusal : List TreeMap → Places → ℕ → Op → Transaction → Option Refusal
-added_refusal now places place op one =
-    refusal_by (legal (view now one) op) (first_of (refused_if (too_long one op) TooLarge) (refused_if (is_claimed places place (claim_of op)) refusal.Conflict))
+abbrev pub added_refusal : List TreeMap → TxSlots → ℕ → Op → Transaction → Option Refusal
+added_refusal now tx_slots slot op one =
+    refusal_by (legal (view now one) op) (first_of (refused_if (too_long one op) TooLarge) (refused_if (is_claimed tx_slots slot (claim_of op)) refusal.Conflict))
 
-abbrev pub added_refusal_if : List TreeMap → Places → ℕ → Op → Option Transaction → Option Refusal
-added_refusal_if now places place op None = Some NoSuchHandle
-added_refusal_if now places place op (Some one) = first_of (inactive_refusal (Some one)) (added_refusal now places place op one)
+abbrev pub added_refusal_if : List TreeMap → TxSlots → ℕ → Op → Option Transaction → Option Refusal
+added_refusal_if now tx_slots slot op None = Some NoSuchHandle
+added_refusal_if now tx_slots slot op (Some one) = first_of (inactive_refusal (Some one)) (added_refusal now tx_slots slot op one)
 
 -- why the change that a commit makes of an active transaction is not accepted, if the transaction has operations
 abbrev pub commit_refusal : Machine → ℕ → Transaction → Option Refusal
 commit_refusal machine moment one =
     if length one.ops == 0 then None
-    else first_of (refused_if (any_outweighs (trees_now machine) (committed machine one) moment) TooLarge) (room_refusal machine (element_text_len (commit_change machine moment one)))
+    else first_of (refused_if (any_outweighs (trees_now machine) (committed machine one) moment) TooLarge) (room_refusal machine (element_encoded_len (commit_change machine moment one)))
 
 abbrev pub commit_refusal_if : Machine → ℕ → Option Transaction → Option Refusal
 commit_refusal_if machine moment None = Some NoSuchHandle

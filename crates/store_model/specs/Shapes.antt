@@ -3,7 +3,7 @@ use Rattle.std.specs.Prelude.{ℕ, Option}
 use Rattle.refusals.specs.declared.refusal.Refusal.{Refusal}
 use Rattle.store_model.specs.declared.handle.Tx.{Tx}
 use Rattle.store_model.specs.declared.handle.Outcome.{Outcome}
-use Rattle.store_model.specs.declared.event.Found.{Found}
+use Rattle.store_model.specs.declared.event.ReadResult.{ReadResult}
 use Rattle.disk_model.specs.declared.progress.Progress.{Progress}
 use Rattle.store_model.specs.declared.event.Reply.{Reply}
 use Rattle.store_model.specs.declared.event.Reply.TheVariants as reply
@@ -15,7 +15,7 @@ DoneOr done refused (reply.Refused refusal) = refused refusal
 DoneOr done refused _ = ⊥
 
 -- only what was read, or refused
-abbrev pub ReadOr : (Found → Type 0) → (Refusal → Type 0) → Reply → Type 0
+abbrev pub ReadOr : (ReadResult → Type 0) → (Refusal → Type 0) → Reply → Type 0
 ReadOr read refused (reply.Read found) = read found
 ReadOr read refused (reply.Refused refusal) = refused refusal
 ReadOr read refused _ = ⊥
@@ -47,10 +47,10 @@ AwaitsOr awaits refused (reply.Refused refusal) = refused refusal
 AwaitsOr awaits refused _ = ⊥
 
 -- only where a transaction stands, or refused
-abbrev pub StandsOr : (Outcome → Type 0) → (Refusal → Type 0) → Reply → Type 0
-StandsOr stands refused (reply.Stands outcome) = stands outcome
-StandsOr stands refused (reply.Refused refusal) = refused refusal
-StandsOr stands refused _ = ⊥
+abbrev pub OutcomeOr : (Outcome → Type 0) → (Refusal → Type 0) → Reply → Type 0
+OutcomeOr stands refused (reply.OutcomeIs outcome) = stands outcome
+OutcomeOr stands refused (reply.Refused refusal) = refused refusal
+OutcomeOr stands refused _ = ⊥
 
 -- only a receipt, not yet, or refused
 abbrev pub ReceiptOr : (ℕ → Type 0) → Type 0 → (Refusal → Type 0) → Reply → Type 0

@@ -9,14 +9,14 @@ use Rattle.reg_tree.specs.TreeLists.{levels_made}
 use Rattle.reg_tree.specs.declared.op.Op.{Op}
 use Rattle.reg_tree.specs.declared.op.Legality.TheVariants.{Legal, Opened}
 use Rattle.conflicts.specs.Claims.{claim_of}
-use Rattle.store_model.specs.Transactions.{Transaction, Puts, Becomes, ended, rolled_back_by, gone_with, missing_refusal, inactive_refusal}
+use Rattle.store_model.specs.Transactions.{Transaction, SetsSlot, EachSlotBecomes, ended, rolled_back_by, gone_with, missing_refusal, inactive_refusal}
 use Rattle.store_model.specs.Machine.{Machine, trees_now, last_number, pending, room_with, room_of, is_open, found_in, change, commit_change, first_of, fault, closed_refusal, unnamed_refusal, call_refusal, tx_call_refusal, start_refusal, looked_up, read_refusal, write_refusal, begin_refusal, seen, added_refusal_if, commit_refusal_if}
-use Rattle.store_model.specs.Acts.{Starts, Adds, Opens, Finishes, Closes}
-use Rattle.store_model.specs.Shapes.{DoneOr, ReadOr, AcceptedOr, AddedOr, BegunOr, AwaitsOr, StandsOr, ReceiptOr, SteppedOr}
+use Rattle.store_model.specs.Acts.{StartsTx, AddsOp, OpensKey, EndsTx, ClosesTx}
+use Rattle.store_model.specs.Shapes.{DoneOr, ReadOr, AcceptedOr, AddedOr, BegunOr, AwaitsOr, OutcomeOr, ReceiptOr, SteppedOr}
 use Rattle.store_model.specs.declared.handle.Tx.{Tx}
 use Rattle.store_model.specs.declared.handle.Outcome.{Outcome}
 use Rattle.store_model.specs.declared.handle.Outcome.TheVariants.{Committed, RolledBack}
-use Rattle.store_model.specs.declared.event.Found.{Found}
+use Rattle.store_model.specs.declared.event.ReadResult.{ReadResult}
 use Rattle.disk_model.specs.declared.progress.Progress.{Progress}
 use Rattle.disk_model.specs.declared.progress.Progress.TheVariants.{Idle, Done}
 use Rattle.store_model.specs.declared.event.Event.{Event}
@@ -38,23 +38,23 @@ with_session old session = if is_open old session then old else record old { ses
 -- a session is open no more, and its transactions are gone
 pub record Ends (old : Machine) (session : ℕ) (new : Machine) : Type 0 where
   pub free : closed_refusal old session ≡ None
-  pub next : new ≡ record old { sessions = filter (λ s. not (s == session)) old.sessions; places = new.places }
-  pub gone : Becomes (gone_with session) old.places new.places
+  pub next : new ≡ record old { sessions = filter (λ s. not (s == session)) old.sessions; tx_slots = new.tx_slots }
+  pub gone : EachSlotBecomes (gone_with session) old.tx_slots new.tx_slots
 
 -- what is there is told, and nothing changes
-pub record Tells (old : Machine) (refusal : Option Refusal) (there : Option Found) (found : Found) (new : Machine) : Type 0 where
+pub record AnswersRead (old : Machine) (refusal : Option Refusal) (there : Option ReadResult) (found : ReadResult) (new : Machine) : Type 0 where
   pub free : refusal ≡ None
   pub told : there ≡ Some found
   pub next : new ≡ old
 
 -- an operation is the next change, and each active transaction that holds a claim which conflicts is rolled back
-pub record Accepts (old : Machine) (session moment : ℕ) (op : Op) (levels : Option ℕ) (number : ℕ) (new : Machine) : Type 0 where
+pub record AcceptsWrite (old : Machine) (session moment : ℕ) (op : Op) (levels : Option ℕ) (number : ℕ) (new : Machine) : Type 0 where
   pub free : write_refusal old session moment op ≡ None
   pub is_legal : legal (trees_now old) op ≡ Ok Legal
   pub made : levels ≡ levels_made (trees_now old) op
   pub numbered : number ≡ last_number old + 1
-  pub next : new ≡ record old { accepted = old.accepted ++ change moment op ∷ []; room = old.room + room_of (change moment op); places = new.places }
-  pub rolled_back : Becomes (rolled_back_by (claim_of op)) old.places new.places
+  pub next : new ≡ record old { accepted = old.accepted ++ change moment op ∷ []; room = old.room + room_of (change moment op); tx_slots = new.tx_slots }
+  pub rolled_back : EachSlotBecomes (rolled_back_by (claim_of op)) old.tx_slots new.tx_slots
 
 -- a key that is there is opened, and nothing changes
 pub record OpensAlone (old : Machine) (refusal : Option Refusal) (trees : List TreeMap) (op : Op) (new : Machine) : Type 0 where
@@ -65,12 +65,12 @@ pub record OpensAlone (old : Machine) (refusal : Option Refusal) (trees : List T
 -- a transaction is begun
 pub record Begins (old : Machine) (session : ℕ) (id : List ℕ) (tx : Tx) (new : Machine) : Type 0 where
   pub free : begin_refusal old session ≡ None
-  pub starts : Starts old.places old.begun session id tx new.places
-  pub next : new ≡ record old { begun = old.begun + 1; places = new.places }
+  pub starts : StartsTx old.tx_slots old.begun session id tx new.tx_slots
+  pub next : new ≡ record old { begun = old.begun + 1; tx_slots = new.tx_slots }
 
 -- something is done with a transaction, and nothing else changes
-abbrev pub ChangesPlaces : Machine → Type 0 → Machine → Type 0
-ChangesPlaces old act new = act × (new ≡ record old { places = new.places })
+abbrev pub ChangesSlots : Machine → Type 0 → Machine → Type 0
+ChangesSlots old act new = act × (new ≡ record old { tx_slots = new.tx_slots })
 
 -- a transaction without operations commits as nothing, whose number is 0; of any other one change is made, which is the next
 abbrev pub after_commit : Machine → ℕ → Transaction → Machine
@@ -78,16 +78,16 @@ after_commit old moment one =
     if length one.ops == 0 then old
     else record old { accepted = old.accepted ++ commit_change old moment one ∷ []; room = old.room + room_of (commit_change old moment one) }
 
-pub record Commits (old : Machine) (session : ℕ) (tx : Tx) (moment number : ℕ) (new : Machine) : Type 0 where
+pub record CommitsTx (old : Machine) (session : ℕ) (tx : Tx) (moment number : ℕ) (new : Machine) : Type 0 where
   pub one : Transaction
   pub found : found_in old session tx ≡ Some one
   pub free : first_of (fault old) (commit_refusal_if old moment (Some one)) ≡ None
   pub numbered : number ≡ (if length one.ops == 0 then 0 else last_number old + 1)
-  pub next : new ≡ record (after_commit old moment one) { places = new.places }
-  pub put : Puts old.places new.places tx.place (Some (ended Committed one))
+  pub next : new ≡ record (after_commit old moment one) { tx_slots = new.tx_slots }
+  pub put : SetsSlot old.tx_slots new.tx_slots tx.slot (Some (ended Committed one))
 
 -- it is told where a transaction stands
-pub record Stands (old : Machine) (session : ℕ) (tx : Tx) (outcome : Outcome) (new : Machine) : Type 0 where
+pub record OutcomeIs (old : Machine) (session : ℕ) (tx : Tx) (outcome : Outcome) (new : Machine) : Type 0 where
   pub one : Transaction
   pub found : found_in old session tx ≡ Some one
   pub free : fault old ≡ None
@@ -130,14 +130,14 @@ abbrev pub no_hive : Machine → ℕ → Option Refusal
 no_hive old hive = if is_some (slice_get old.opened hive) then None else Some NotFound
 
 -- a step is refused as it should be, or for want of memory, or since the device failed in it: then the store is faulted
-pub record Breaks (old : Machine) (refusal : Refusal) (new : Machine) : Type 0 where
+pub record DeviceFails (old : Machine) (refusal : Refusal) (new : Machine) : Type 0 where
   pub free : fault old ≡ None
   pub told : refusal ≡ DiskFault
   pub failed : old.failures < new.failures
   pub next : new ≡ record old { failures = new.failures; faulted = true }
 
 abbrev pub StepFails : Machine → Option Refusal → Refusal → Machine → Type 0
-StepFails old wanted refusal new = Refuses old wanted refusal new ⊎ ((wanted ≡ None) × Breaks old refusal new)
+StepFails old wanted refusal new = Refuses old wanted refusal new ⊎ ((wanted ≡ None) × DeviceFails old refusal new)
 
 -- the events that may make a call of the device: a step of the journal, of a flush, of a trim
 abbrev pub is_step : Event → Bool
@@ -147,8 +147,8 @@ is_step event.TrimStep = true
 is_step _ = false
 
 -- the events that leave what the journal and the device have to do with, but for one change more: those that make no step
-abbrev pub is_calm : Event → Bool
-is_calm event = not (is_step event)
+abbrev pub is_not_step : Event → Bool
+is_not_step event = not (is_step event)
 
 -- From old, the machine may give this answer to the event and go on to new.
 abbrev pub Step : Machine → Event → Reply → Machine → Type 0
@@ -159,33 +159,33 @@ Step old (event.EndSession session) reply new =
     DoneOr (Ends old session new) (λ r. IsRefused old (closed_refusal old session) r new) reply
 -- a read tells what is there now
 Step old (event.Read session hive path question) reply new =
-    ReadOr (λ found. Tells old (call_refusal old session hive) (looked_up (trees_now old) hive path question) found new)
+    ReadOr (λ found. AnswersRead old (call_refusal old session hive) (looked_up (trees_now old) hive path question) found new)
     (λ r. Refuses old (first_of (call_refusal old session hive) (read_refusal (looked_up (trees_now old) hive path question))) r new) reply
 -- a write by itself is accepted at once
 Step old (event.Write session moment op) reply new =
-    AcceptedOr (λ levels number. Accepts old session moment op levels number new)
+    AcceptedOr (λ levels number. AcceptsWrite old session moment op levels number new)
     (OpensAlone old (write_refusal old session moment op) (trees_now old) op new)
     (λ r. Refuses old (write_refusal old session moment op) r new) reply
 -- a transaction is begun; it is read and written as it sees the trees
 Step old (event.Begin session id) reply new =
     BegunOr (λ tx. Begins old session id tx new) (λ r. Refuses old (begin_refusal old session) r new) reply
 Step old (event.TxRead session tx hive path question) reply new =
-    ReadOr (λ found. Tells old (tx_call_refusal old session tx hive) (seen (trees_now old) hive path question (found_in old session tx)) found new)
+    ReadOr (λ found. AnswersRead old (tx_call_refusal old session tx hive) (seen (trees_now old) hive path question (found_in old session tx)) found new)
     (λ r. Refuses old (first_of (tx_call_refusal old session tx hive) (read_refusal (seen (trees_now old) hive path question (found_in old session tx)))) r new) reply
 Step old (event.TxWrite session tx moment op) reply new =
-    AddedOr (λ levels. (first_of (fault old) (unnamed_refusal old (hive_of op)) ≡ None) × ChangesPlaces old (Adds (trees_now old) old.places (found_in old session tx) tx.place moment op levels new.places) new)
-    ((first_of (fault old) (unnamed_refusal old (hive_of op)) ≡ None) × Opens (trees_now old) old.places (found_in old session tx) tx.place op × (new ≡ old))
-    (λ r. Refuses old (first_of (fault old) (first_of (tx_call_refusal old session tx (hive_of op)) (added_refusal_if (trees_now old) old.places tx.place op (found_in old session tx)))) r new) reply
+    AddedOr (λ levels. (first_of (fault old) (unnamed_refusal old (hive_of op)) ≡ None) × ChangesSlots old (AddsOp (trees_now old) old.tx_slots (found_in old session tx) tx.slot moment op levels new.tx_slots) new)
+    ((first_of (fault old) (unnamed_refusal old (hive_of op)) ≡ None) × OpensKey (trees_now old) old.tx_slots (found_in old session tx) tx.slot op × (new ≡ old))
+    (λ r. Refuses old (first_of (fault old) (first_of (tx_call_refusal old session tx (hive_of op)) (added_refusal_if (trees_now old) old.tx_slots tx.slot op (found_in old session tx)))) r new) reply
 -- a transaction ends, and is let go
 Step old (event.CommitAccept session tx moment) reply new =
-    AwaitsOr (λ number. Commits old session tx moment number new)
+    AwaitsOr (λ number. CommitsTx old session tx moment number new)
     (λ r. Refuses old (first_of (fault old) (commit_refusal_if old moment (found_in old session tx))) r new) reply
 Step old (event.Rollback session tx) reply new =
-    DoneOr (ChangesPlaces old (Finishes old.places (found_in old session tx) tx.place RolledBack new.places) new) (λ r. IsRefused old (inactive_refusal (found_in old session tx)) r new) reply
+    DoneOr (ChangesSlots old (EndsTx old.tx_slots (found_in old session tx) tx.slot RolledBack new.tx_slots) new) (λ r. IsRefused old (inactive_refusal (found_in old session tx)) r new) reply
 Step old (event.Close session tx) reply new =
-    DoneOr (ChangesPlaces old (Closes old.places (found_in old session tx) tx.place new.places) new) (λ r. IsRefused old (missing_refusal (found_in old session tx)) r new) reply
+    DoneOr (ChangesSlots old (ClosesTx old.tx_slots (found_in old session tx) tx.slot new.tx_slots) new) (λ r. IsRefused old (missing_refusal (found_in old session tx)) r new) reply
 Step old (event.Outcome session tx) reply new =
-    StandsOr (λ outcome. Stands old session tx outcome new)
+    OutcomeOr (λ outcome. OutcomeIs old session tx outcome new)
     (λ r. IsRefused old (first_of (fault old) (missing_refusal (found_in old session tx))) r new) reply
 -- what is accepted becomes durable in time, and then there is a receipt of it
 Step old event.FlushAsk reply new =

@@ -26,28 +26,28 @@ pub record Transaction : Type 0 where
   pub moment : ℕ
 
 -- the transaction at each place from 0 on, or nothing
-abbrev pub Places : Type 0
-Places = List (Option Transaction)
+abbrev pub TxSlots : Type 0
+TxSlots = List (Option Transaction)
 
-abbrev pub at : Places → ℕ → Option Transaction
-at places place = slice_index_or places place None
+abbrev pub at : TxSlots → ℕ → Option Transaction
+at tx_slots slot = slice_index_or tx_slots slot None
 
 -- the transactions that are held, each with its place
-abbrev pub held : Places → List (ℕ × Transaction)
-held places = entries_from 0 places
+abbrev pub held : TxSlots → List (ℕ × Transaction)
+held tx_slots = entries_from 0 tx_slots
 
 -- how many transactions are held
-abbrev pub count_held : Places → ℕ
-count_held places = count_by is_some places
+abbrev pub count_held : TxSlots → ℕ
+count_held tx_slots = count_by is_some tx_slots
 
 -- a place has this, and every other place has what it had
-pub record Puts (old new : Places) (place : ℕ) (slot : Option Transaction) : Type 0 where
-  pub there : at new place ≡ slot
-  pub others : (other : ℕ) → other ≢ place → at new other ≡ at old other
+pub record SetsSlot (old new : TxSlots) (slot : ℕ) (content : Option Transaction) : Type 0 where
+  pub there : at new slot ≡ content
+  pub others : (other : ℕ) → other ≢ slot → at new other ≡ at old other
 
 -- each place has what its transaction became
-abbrev pub Becomes : (Transaction → Option Transaction) → Places → Places → Type 0
-Becomes after old new = (place : ℕ) → at new place ≡ option_and_then after (at old place)
+abbrev pub EachSlotBecomes : (Transaction → Option Transaction) → TxSlots → TxSlots → Type 0
+EachSlotBecomes after old new = (slot : ℕ) → at new slot ≡ option_and_then after (at old slot)
 
 -- a transaction as it is begun: it has no operations
 abbrev pub fresh_transaction : ℕ → List ℕ → ℕ → Transaction
@@ -78,8 +78,8 @@ abbrev pub holds : Claim → Transaction → Bool
 holds claim one = is_active one && list_any (λ op. meets claim (claim_of op)) one.ops
 
 -- whether another place's transaction does
-abbrev pub is_claimed : Places → ℕ → Claim → Bool
-is_claimed places place claim = list_any (λ (e : ℕ × Transaction). not (e.0 == place) && holds claim e.1) (held places)
+abbrev pub is_claimed : TxSlots → ℕ → Claim → Bool
+is_claimed tx_slots slot claim = list_any (λ (e : ℕ × Transaction). not (e.0 == slot) && holds claim e.1) (held tx_slots)
 
 -- a transaction that holds a claim which conflicts is rolled back; every other one stays
 abbrev pub rolled_back_by : Claim → Transaction → Option Transaction
@@ -94,8 +94,8 @@ abbrev pub own_if : ℕ → ℕ → Option Transaction → Option Transaction
 own_if session generation None = None
 own_if session generation (Some one) = if one.session == session && one.generation == generation then Some one else None
 
-abbrev pub own : Places → ℕ → Tx → Option Transaction
-own places session tx = own_if session tx.generation (at places tx.place)
+abbrev pub own : TxSlots → ℕ → Tx → Option Transaction
+own tx_slots session tx = own_if session tx.generation (at tx_slots tx.slot)
 
 -- a transaction that isn't there is no handle's, and one that has ended isn't active
 abbrev pub missing_refusal : Option Transaction → Option Refusal

@@ -34,7 +34,7 @@ pub enum Question {
 
 /// What was read of a key.
 #[derive(Drop)]
-pub enum Found {
+pub enum ReadResult {
     /// A value.
     Value {
         /// The value.
@@ -196,7 +196,7 @@ pub enum Reply {
     /// What was read.
     Read {
         /// What was found.
-        found: Found,
+        found: ReadResult,
     },
     /// A transaction was begun.
     Begun {
@@ -209,7 +209,7 @@ pub enum Reply {
         number: u64,
     },
     /// Where a transaction stands.
-    Stands {
+    OutcomeIs {
         /// The outcome.
         outcome: Outcome,
     },

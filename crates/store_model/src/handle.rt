@@ -10,7 +10,7 @@ use refusals::Refusal;
 #[derive(Clone, Copy, Debug, PartialEq, Eq)]
 pub struct Tx {
     /// The place.
-    pub place: usize,
+    pub slot: usize,
     /// How many transactions were begun, itself included.
     pub generation: u64,
 }
@@ -32,7 +32,7 @@ pub struct NoSuchTransaction;
 
 /// Why a transaction cannot be ended. There is no place here for want of memory, which ending one never takes.
 #[derive(Clone, Copy, Debug, PartialEq, Eq)]
-pub enum NotEnded {
+pub enum TxEndError {
     /// There is no such transaction in the session.
     NoSuchTransaction,
     /// It has committed or was rolled back.
@@ -47,13 +47,13 @@ impl From<NoSuchTransaction> for Refusal {
     }
 }
 
-impl From<NotEnded> for Refusal {
+impl From<TxEndError> for Refusal {
     ghost from_gives = { λ why refusal. refusal ≡ refusal_of why };
 
-    fn from(why: NotEnded) -> Refusal {
+    fn from(why: TxEndError) -> Refusal {
         match why {
-            NotEnded::NoSuchTransaction => Refusal::NoSuchHandle,
-            NotEnded::NotActive => Refusal::NotActive,
+            TxEndError::NoSuchTransaction => Refusal::NoSuchHandle,
+            TxEndError::NotActive => Refusal::NotActive,
         }
     }
 }

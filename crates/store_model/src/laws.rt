@@ -13,9 +13,9 @@ ghost use Rattle.reg_tree.specs.Judgement.{any_outweighs};
 ghost use Rattle.reg_tree.specs.Sequences.{AreTrees, AreLegal};
 ghost use Rattle.store_model.specs.Transactions.{Transaction, own};
 ghost use Rattle.store_model.specs.Machine.{Machine, committed, opened_machine, trees_now, found_in};
-ghost use Rattle.store_model.specs.Steps.{Step, Run, is_calm, is_step};
-ghost use Rattle.store_model.specs.Kept.{IsKept, IsActiveAt, AreLegalButForWeight, AreLegalChanges, IsCounted, IsGone, Stays, Grows, handle_in, numbers_given};
-ghost use Rattle.store_model.specs.declared.bounds.Bounds.{Bounds};
+ghost use Rattle.store_model.specs.Steps.{Step, Run, is_not_step, is_step};
+ghost use Rattle.store_model.specs.Invariant.{InvariantHolds, IsActiveAt, AreLegalButForWeight, AreLegalChanges, IsCounted, IsGone, JournalStateStays, AcceptsOneChange, handle_in, numbers_given};
+ghost use Rattle.store_model.specs.declared.bounds.StoreBounds.{StoreBounds};
 ghost use Rattle.store_model.specs.declared.handle.Tx.{Tx};
 ghost use Rattle.store_model.specs.declared.event.Event.{Event};
 ghost use Rattle.store_model.specs.declared.event.Event.TheVariants as event;
@@ -34,21 +34,21 @@ ghost use Rattle.store_model.specs.declared.event.Reply.TheVariants as reply;
 /// - `begins`: it is so as a store is opened on trees, whatever its bounds are and its journal spells.
 /// - `step`, `run`: each step keeps it, and so does every run.
 /// - `room`, `room_run`: the journal's room stays within its limit, where it was at the opening.
-pub fn states_are_kept()
-    ensures begins { (bounds : Bounds) (trees : List TreeMap) (number : ℕ)
+pub fn steps_keep_invariant()
+    ensures begins { (bounds : StoreBounds) (trees : List TreeMap) (number : ℕ)
         (journaled : List Element) (failures : ℕ) →
         AreTrees trees → number ≤ GREATEST_NUMBER →
-        IsKept (opened_machine bounds trees number journaled failures) }
-    ensures step { (old new : Machine) (event : Event) (reply : Reply) → IsKept old →
+        InvariantHolds (opened_machine bounds trees number journaled failures) }
+    ensures step { (old new : Machine) (event : Event) (reply : Reply) → InvariantHolds old →
         Step old event reply new →
-        IsKept new }
-    ensures run { (old new : Machine) (events : List Event) (replies : List Reply) → IsKept old →
-        Run old events replies new → IsKept new }
-    ensures room { (old new : Machine) (event : Event) (reply : Reply) → IsKept old →
+        InvariantHolds new }
+    ensures run { (old new : Machine) (events : List Event) (replies : List Reply) → InvariantHolds old →
+        Run old events replies new → InvariantHolds new }
+    ensures room { (old new : Machine) (event : Event) (reply : Reply) → InvariantHolds old →
         Step old event reply new →
         old.room ≤ MOST_JOURNAL_BYTES → new.room ≤ MOST_JOURNAL_BYTES }
     ensures room_run { (old new : Machine) (events : List Event) (replies : List Reply) →
-        IsKept old →
+        InvariantHolds old →
         Run old events replies new → old.room ≤ MOST_JOURNAL_BYTES → new.room ≤ MOST_JOURNAL_BYTES }
 {
     reg_tree::laws::trees_stay();
@@ -59,16 +59,16 @@ pub fn states_are_kept()
 }
 
 /// Only a step may be answered that the device failed: every other event makes no call of it.
-pub fn steps_alone_fail()
+pub fn only_steps_fail()
     ensures { (old new : Machine) (event : Event) → Step old event (reply.Refused DiskFault) new →
         is_step event ≡ true }
 {}
 
 /// Only a step may change what is durable, free room, or fault a store: every other event is calm, leaves all of that, and
 /// accepts one change at most.
-pub fn steps_alone_settle()
-    ensures { (old new : Machine) (event : Event) (reply : Reply) → IsKept old →
-        is_calm event ≡ true → Step old event reply new → Stays old new ⊎ Grows old new }
+pub fn only_steps_make_durable()
+    ensures { (old new : Machine) (event : Event) (reply : Reply) → InvariantHolds old →
+        is_not_step event ≡ true → Step old event reply new → JournalStateStays old new ⊎ AcceptsOneChange old new }
 {
     commits_stay_legal();
 }
@@ -81,15 +81,15 @@ pub fn steps_alone_settle()
 /// - `within`, `in_order`: where none takes a tree over the limit of weight, each is legal, and so is the change that a
 ///   commit makes of them.
 pub fn commits_stay_legal()
-    ensures but_for_weight { (machine : Machine) (place : ℕ) (one : Transaction) → IsKept machine →
-        IsActiveAt machine.places place one →
+    ensures but_for_weight { (machine : Machine) (slot : ℕ) (one : Transaction) → InvariantHolds machine →
+        IsActiveAt machine.tx_slots slot one →
         (moment : ℕ) → AreLegalButForWeight (trees_now machine) one.ops moment }
-    ensures within { (machine : Machine) (place : ℕ) (one : Transaction) (moment : ℕ) →
-        IsKept machine → IsActiveAt machine.places place one →
+    ensures within { (machine : Machine) (slot : ℕ) (one : Transaction) (moment : ℕ) →
+        InvariantHolds machine → IsActiveAt machine.tx_slots slot one →
         any_outweighs (trees_now machine) (committed machine one) moment ≡ false →
         AreLegalChanges (trees_now machine) (committed machine one) moment }
-    ensures in_order { (machine : Machine) (place : ℕ) (one : Transaction) (moment : ℕ) →
-        IsKept machine → IsActiveAt machine.places place one →
+    ensures in_order { (machine : Machine) (slot : ℕ) (one : Transaction) (moment : ℕ) →
+        InvariantHolds machine → IsActiveAt machine.tx_slots slot one →
         any_outweighs (trees_now machine) (committed machine one) moment ≡ false →
         AreLegal (trees_now machine) (committed machine one) moment }
 {
@@ -112,11 +112,11 @@ pub fn handles_are_given_once()
     ensures run { (old new : Machine) (events : List Event) (replies : List Reply) →
         Run old events replies new →
         IsStrictlySortedBy nat_cmp (numbers_given replies) }
-    ensures closed { (old new : Machine) (session : ℕ) (tx : Tx) → IsKept old →
+    ensures closed { (old new : Machine) (session : ℕ) (tx : Tx) → InvariantHolds old →
         Step old (event.Close session tx) reply.Done new →
         IsGone new tx }
-    ensures ended { (old new : Machine) (session : ℕ) (tx : Tx) (one : Transaction) → IsKept old →
-        own old.places session tx ≡ Some one →
+    ensures ended { (old new : Machine) (session : ℕ) (tx : Tx) (one : Transaction) → InvariantHolds old →
+        own old.tx_slots session tx ≡ Some one →
         Step old (event.EndSession session) reply.Done new → IsGone new tx }
     ensures gone { (old new : Machine) (event : Event) (reply : Reply) (tx : Tx) → IsGone old tx →
         Step old event reply new →
@@ -125,7 +125,7 @@ pub fn handles_are_given_once()
         IsGone old tx →
         Run old events replies new → IsGone new tx }
     ensures answered { (machine : Machine) (session : ℕ) (tx : Tx) → IsGone machine tx →
-        own machine.places session tx ≡ None }
+        own machine.tx_slots session tx ≡ None }
     ensures not_found { (machine : Machine) (session : ℕ) (tx : Tx) → IsGone machine tx →
         found_in machine session tx ≡ None }
 {}

@@ -12,13 +12,13 @@ mod bounds;
 mod event;
 mod handle;
 pub mod laws;
-mod reading;
+mod queries;
 pub mod room;
 mod sessions;
 
-pub use bounds::Bounds;
+pub use bounds::StoreBounds;
 pub use disk_model::Progress;
-pub use event::{Event, Found, Question, Reply};
-pub use handle::{NoSuchTransaction, NotEnded, Outcome, Tx};
-pub use reading::{levels_made, look_up};
+pub use event::{Event, Question, ReadResult, Reply};
+pub use handle::{NoSuchTransaction, Outcome, Tx, TxEndError};
+pub use queries::{levels_made, look_up};
 pub use sessions::{NoSeat, Sessions};

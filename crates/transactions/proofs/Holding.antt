@@ -10,10 +10,10 @@ use Rattle.slab.specs.Slab.{Slab}
 use Rattle.slab.proofs.SlabLemmas.{Contains-entries}
 use Rattle.conflicts.specs.Skeleton.{Claim, Conflict}
 use Rattle.conflicts.specs.Claims.{claim_of, meets}
-use Rattle.conflicts.specs.Holders.{Held, IsHolder, StandApart, holders_of}
+use Rattle.conflicts.specs.Holders.{HeldClaim, IsHolder, OwnersDontConflict, holders_of}
 use Rattle.conflicts.proofs.Meets.{meets_conflict, conflict_meets}
 use Rattle.conflicts.proofs.Members.{here, later, first_or_later, none_empty, who}
-use Rattle.store_model.specs.Transactions.{Transaction, Places, at, own_if, held, inactive_refusal, is_active, holds, is_claimed}
+use Rattle.store_model.specs.Transactions.{Transaction, TxSlots, at, own_if, held, inactive_refusal, is_active, holds, is_claimed}
 use Rattle.transactions.specs.Entries.{Claims}
 use Rattle.transactions.specs.Tables.{IsPending, MeetNone, holds_if, is_listed}
 use Rattle.transactions.proofs.Claimed.{AreClaimed, some_same}
@@ -71,11 +71,11 @@ of_mapped f (z ∷ xs) y c = elim (first_or_later (f z) (map f xs) y c) [
   | inr d ↦ let t = of_mapped f xs y d in (t.0, later z xs t.0 t.1, t.2)
 ]
 
-listed : (places : List ℕ) (place : ℕ) → Contains places place → is_listed places place ≡ true
-listed places place c = any_of (λ p. p == place) places place c (eq-eqb place place refl)
+listed : (tx_slots : List ℕ) (slot : ℕ) → Contains tx_slots slot → is_listed tx_slots slot ≡ true
+listed tx_slots slot c = any_of (λ p. p == slot) tx_slots slot c (eq-eqb slot slot refl)
 
-of_listed : (places : List ℕ) (place : ℕ) → is_listed places place ≡ true → Contains places place
-of_listed places place h = let t = of_any (λ p. p == place) places h in subst (Contains places) (eqb-true t.0 place t.2) t.1
+of_listed : (tx_slots : List ℕ) (slot : ℕ) → is_listed tx_slots slot ≡ true → Contains tx_slots slot
+of_listed tx_slots slot h = let t = of_any (λ p. p == slot) tx_slots h in subst (Contains tx_slots) (eqb-true t.0 slot t.2) t.1
 
 may_act : (one : Transaction) → inactive_refusal (Some one) ≡ None → is_active one ≡ true
 may_act one = by_state (is_active one)
@@ -98,85 +98,85 @@ of_holding claim one h =
     let t = of_any (λ op. meets claim (claim_of op)) one.ops p.1 in
     (p.0, (claim_of t.0, mapped claim_of one.ops t.0 t.1, meets_conflict claim (claim_of t.0) t.2))
 
-abbrev slab_of : Places → Slab Transaction
-slab_of places = record { slots = places; vacant_key = 0; capacity = 0 }
+abbrev slab_of : TxSlots → Slab Transaction
+slab_of tx_slots = record { slots = tx_slots; vacant_key = 0; capacity = 0 }
 
-module _ (places : Places) (claims : List Held) (all : AreClaimed places claims) (claim : Claim) where
+module _ (tx_slots : TxSlots) (claims : List HeldClaim) (all : AreClaimed tx_slots claims) (claim : Claim) where
   -- who holds one is at its place
-  pub holder : (asker : Option ℕ) (owner : ℕ) → Contains (holders_of claims asker claim) owner → (one : Transaction) × (at places owner ≡ Some one) × (holds claim one ≡ true) × (asker ≢ Some owner)
+  pub holder : (asker : Option ℕ) (owner : ℕ) → Contains (holders_of claims asker claim) owner → (one : Transaction) × (at tx_slots owner ≡ Some one) × (holds claim one ≡ true) × (asker ≢ Some owner)
   holder asker owner c =
       let i : IsHolder claims asker claim owner = (who claims asker claim owner).0 c in
-      let k : Claims places owner i.0 = (all owner i.0).0 i.1 in
+      let k : Claims tx_slots owner i.0 = (all owner i.0).0 i.1 in
       (k.one, k.there, holding claim k.one i.0 k.active k.made i.2, i.3)
 
-  pub is_holder : (asker : Option ℕ) (owner : ℕ) (one : Transaction) → at places owner ≡ Some one → holds claim one ≡ true → asker ≢ Some owner → Contains (holders_of claims asker claim) owner
+  pub is_holder : (asker : Option ℕ) (owner : ℕ) (one : Transaction) → at tx_slots owner ≡ Some one → holds claim one ≡ true → asker ≢ Some owner → Contains (holders_of claims asker claim) owner
   is_holder asker owner one there h ne =
       let t = of_holding claim one h in
       (who claims asker claim owner).1 (t.1.0, (all owner t.1.0).1 (record { one = one; there = there; active = t.0; made = t.1.1 }), t.1.2, ne)
 
   -- without an asker they are all that hold one
-  pub all_holders : (list : List ℕ) → list ≡ holders_of claims None claim → (place : ℕ) → is_listed list place ≡ holds_if claim (at places place)
-  all_holders list e place = alike (is_listed list place) (holds_if claim (at places place)) to (from (at places place) refl)
+  pub all_holders : (list : List ℕ) → list ≡ holders_of claims None claim → (slot : ℕ) → is_listed list slot ≡ holds_if claim (at tx_slots slot)
+  all_holders list e slot = alike (is_listed list slot) (holds_if claim (at tx_slots slot)) to (from (at tx_slots slot) refl)
     where
-      to : is_listed list place ≡ true → holds_if claim (at places place) ≡ true
-      to h = let t = holder None place (subst (λ l. Contains l place) e (of_listed list place h)) in ap (holds_if claim) t.1 ∙ t.2
+      to : is_listed list slot ≡ true → holds_if claim (at tx_slots slot) ≡ true
+      to h = let t = holder None slot (subst (λ l. Contains l slot) e (of_listed list slot h)) in ap (holds_if claim) t.1 ∙ t.2
 
-      from : (there : Option Transaction) → at places place ≡ there → holds_if claim there ≡ true → is_listed list place ≡ true
+      from : (there : Option Transaction) → at tx_slots slot ≡ there → holds_if claim there ≡ true → is_listed list slot ≡ true
       from None there h = absurd (true≢false (sym h))
-      from (Some one) there h = listed list place (subst (λ l. Contains l place) (sym e) (is_holder None place one there h (λ n. none-some place n)))
+      from (Some one) there h = listed list slot (subst (λ l. Contains l slot) (sym e) (is_holder None slot one there h (λ n. none-some slot n)))
 
   -- some other place's transaction holds one, exactly where there is a holder
-  pub claimed_by : (place owner : ℕ) → Contains (holders_of claims (Some place) claim) owner → is_claimed places place claim ≡ true
-  claimed_by place owner c =
-      let t = holder (Some place) owner c in
-      any_of (λ (e : ℕ × Transaction). not (e.0 == place) && holds claim e.1) (held places) (owner, t.0) ((Contains-entries (slab_of places) owner t.0).1 t.1)
-      (both (not (owner == place)) (holds claim t.0) (ap not (ne_eqb owner place (λ same. t.3 (ap Some (sym same))))) t.2)
+  pub claimed_by : (slot owner : ℕ) → Contains (holders_of claims (Some slot) claim) owner → is_claimed tx_slots slot claim ≡ true
+  claimed_by slot owner c =
+      let t = holder (Some slot) owner c in
+      any_of (λ (e : ℕ × Transaction). not (e.0 == slot) && holds claim e.1) (held tx_slots) (owner, t.0) ((Contains-entries (slab_of tx_slots) owner t.0).1 t.1)
+      (both (not (owner == slot)) (holds claim t.0) (ap not (ne_eqb owner slot (λ same. t.3 (ap Some (sym same))))) t.2)
 
-  pub claimed_by_none : (place : ℕ) → holders_of claims (Some place) claim ≡ [] → is_claimed places place claim ≡ false
-  claimed_by_none place none = false_from_ne_true (is_claimed places place claim) (λ h.
-      let t : (x : ℕ × Transaction) × Contains (held places) x × ((not (x.0 == place) && holds claim x.1) ≡ true) = of_any (λ (e : ℕ × Transaction). not (e.0 == place) && holds claim e.1) (held places) h in
-      let p = two (not (t.0.0 == place)) (holds claim t.0.1) t.2 in
-      none_empty t.0.0 (subst (λ l. Contains l t.0.0) none (is_holder (Some place) t.0.0 t.0.1 ((Contains-entries (slab_of places) t.0.0 t.0.1).0 t.1) p.1
-      (λ same. true≢false (sym p.0 ∙ ap not (eq-eqb t.0.0 place (sym (some_same place t.0.0 same))))))))
+  pub claimed_by_none : (slot : ℕ) → holders_of claims (Some slot) claim ≡ [] → is_claimed tx_slots slot claim ≡ false
+  claimed_by_none slot none = false_from_ne_true (is_claimed tx_slots slot claim) (λ h.
+      let t : (x : ℕ × Transaction) × Contains (held tx_slots) x × ((not (x.0 == slot) && holds claim x.1) ≡ true) = of_any (λ (e : ℕ × Transaction). not (e.0 == slot) && holds claim e.1) (held tx_slots) h in
+      let p = two (not (t.0.0 == slot)) (holds claim t.0.1) t.2 in
+      none_empty t.0.0 (subst (λ l. Contains l t.0.0) none (is_holder (Some slot) t.0.0 t.0.1 ((Contains-entries (slab_of tx_slots) t.0.0 t.0.1).0 t.1) p.1
+      (λ same. true≢false (sym p.0 ∙ ap not (eq-eqb t.0.0 slot (sym (some_same slot t.0.0 same))))))))
 
   -- as a claim that was asked for says
-  pub claimed_free : (place : ℕ) → holders_of claims (Some place) claim ≡ [] → is_claimed places place claim ≡ false
-  claimed_free place none = claimed_by_none place none
+  pub claimed_free : (slot : ℕ) → holders_of claims (Some slot) claim ≡ [] → is_claimed tx_slots slot claim ≡ false
+  claimed_free slot none = claimed_by_none slot none
 
-  pub claimed_met : (place : ℕ) → holders_of claims (Some place) claim ≢ [] → is_claimed places place claim ≡ true
-  claimed_met place some = by_list (holders_of claims (Some place) claim) refl
+  pub claimed_met : (slot : ℕ) → holders_of claims (Some slot) claim ≢ [] → is_claimed tx_slots slot claim ≡ true
+  claimed_met slot some = by_list (holders_of claims (Some slot) claim) refl
     where
-      by_list : (owners : List ℕ) → holders_of claims (Some place) claim ≡ owners → is_claimed places place claim ≡ true
+      by_list : (owners : List ℕ) → holders_of claims (Some slot) claim ≡ owners → is_claimed tx_slots slot claim ≡ true
       by_list [] e = absurd (some e)
-      by_list (o ∷ owners) e = claimed_by place o (subst (λ l. Contains l o) (sym e) (here o owners))
+      by_list (o ∷ owners) e = claimed_by slot o (subst (λ l. Contains l o) (sym e) (here o owners))
 
 -- where no claims of two transactions conflict, no operation of an active one meets a claim of another
-module _ (places : Places) (claims : List Held) (all : AreClaimed places claims) (apart : StandApart claims) (place other : ℕ) (elsewhere : other ≡ place → ⊥) where
-  meets_nobody : (one : Transaction) → at places place ≡ Some one → is_active one ≡ true → (op : Op) → Contains one.ops op → holds_if (claim_of op) (at places other) ≡ false
-  meets_nobody one there active op made = by_place (at places other) refl
+module _ (tx_slots : TxSlots) (claims : List HeldClaim) (all : AreClaimed tx_slots claims) (apart : OwnersDontConflict claims) (slot other : ℕ) (elsewhere : other ≡ slot → ⊥) where
+  meets_nobody : (one : Transaction) → at tx_slots slot ≡ Some one → is_active one ≡ true → (op : Op) → Contains one.ops op → holds_if (claim_of op) (at tx_slots other) ≡ false
+  meets_nobody one there active op made = by_place (at tx_slots other) refl
     where
-      by_place : (slot : Option Transaction) → at places other ≡ slot → holds_if (claim_of op) slot ≡ false
+      by_place : (content : Option Transaction) → at tx_slots other ≡ content → holds_if (claim_of op) content ≡ false
       by_place None e = refl
       by_place (Some their) e = false_from_ne_true (holds (claim_of op) their) (λ h.
           let t = of_holding (claim_of op) their h in
-          let mine : Contains claims (record { owner = place; claim = claim_of op }) = (all place (claim_of op)).1 (record { one = one; there = there; active = active; made = mapped claim_of one.ops op made }) in
+          let mine : Contains claims (record { owner = slot; claim = claim_of op }) = (all slot (claim_of op)).1 (record { one = one; there = there; active = active; made = mapped claim_of one.ops op made }) in
           let theirs : Contains claims (record { owner = other; claim = t.1.0 }) = (all other t.1.0).1 (record { one = their; there = e; active = t.0; made = t.1.1 }) in
-          true≢false (sym (both (not (place == other)) (meets (claim_of op) t.1.0) (ap not (ne_eqb place other (λ same. elsewhere (sym same)))) (conflict_meets (claim_of op) t.1.0 t.1.2))
-          ∙ apart (record { owner = place; claim = claim_of op }) (record { owner = other; claim = t.1.0 }) mine theirs))
+          true≢false (sym (both (not (slot == other)) (meets (claim_of op) t.1.0) (ap not (ne_eqb slot other (λ same. elsewhere (sym same)))) (conflict_meets (claim_of op) t.1.0 t.1.2))
+          ∙ apart (record { owner = slot; claim = claim_of op }) (record { owner = other; claim = t.1.0 }) mine theirs))
 
-  all_meet_none : (ops : List Op) → ((op : Op) → Contains ops op → holds_if (claim_of op) (at places other) ≡ false) → MeetNone ops (at places other)
+  all_meet_none : (ops : List Op) → ((op : Op) → Contains ops op → holds_if (claim_of op) (at tx_slots other) ≡ false) → MeetNone ops (at tx_slots other)
   all_meet_none [] none = tt
   all_meet_none (op ∷ ops) none = (none op (here op ops), all_meet_none ops (λ o c. none o (later op ops o c)))
 
-  pub pending_meet_none : (change : List Op) (length : ℕ) → IsPending (at places place) change length → MeetNone change (at places other)
-  pending_meet_none change length pending = by_place (at places place) refl pending
+  pub pending_meet_none : (change : List Op) (length : ℕ) → IsPending (at tx_slots slot) change length → MeetNone change (at tx_slots other)
+  pending_meet_none change length pending = by_place (at tx_slots slot) refl pending
     where
-      by_place : (slot : Option Transaction) → at places place ≡ slot → IsPending slot change length → MeetNone change (at places other)
+      by_place : (content : Option Transaction) → at tx_slots slot ≡ content → IsPending content change length → MeetNone change (at tx_slots other)
       by_place None e p = absurd p
-      by_place (Some one) e p = subst (λ ops. MeetNone ops (at places other)) (sym p.given) (all_meet_none one.ops (meets_nobody one e (may_act one p.active)))
+      by_place (Some one) e p = subst (λ ops. MeetNone ops (at tx_slots other)) (sym p.given) (all_meet_none one.ops (meets_nobody one e (may_act one p.active)))
 
 -- the operations of the transaction that a handle names are those of its place's
-pub pending_there : (session generation : ℕ) (slot : Option Transaction) (ops : List Op) (length : ℕ) → IsPending (own_if session generation slot) ops length → IsPending slot ops length
+pub pending_there : (session generation : ℕ) (content : Option Transaction) (ops : List Op) (length : ℕ) → IsPending (own_if session generation content) ops length → IsPending content ops length
 pending_there session generation None ops length p = p
 pending_there session generation (Some one) ops length p = if_own (one.session == session && one.generation == generation) p
   where

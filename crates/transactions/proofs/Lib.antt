@@ -3,10 +3,10 @@ mod Claimed
 mod Kept
 mod TableChanges
 mod Holding
-mod PlacesInTurn
+mod SlotsInTurn
 mod Stored
-mod Foretold
+mod Predictions
 mod ShortOnes
-mod TimesTold
+mod TimesAsRead
 mod Looks
 mod Views

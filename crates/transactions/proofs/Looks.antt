@@ -8,7 +8,7 @@ use Rattle.reg_tree.proofs.Times.{value_alike, value_index_alike, subkeys_alike,
 use Rattle.store_model.specs.Machine.{looked_up}
 use Rattle.store_model.specs.declared.event.Question.{Question}
 use Rattle.store_model.specs.declared.event.Question.TheVariants.{ValueOf, ValueAt, KeyAt, KeysOf, ValuesOf, InfoOf}
-use Rattle.store_model.specs.declared.event.Found.TheVariants as found
+use Rattle.store_model.specs.declared.event.ReadResult.TheVariants as found
 
 -- it is the same, where no time is asked for
 pub looked_alike : (trees others : List TreeMap) → SameButTimes trees others → (hive : ℕ) (path : List (List ℕ)) (question : Question) → (question ≡ InfoOf → ⊥) → looked_up trees hive path question ≡ looked_up others hive path question

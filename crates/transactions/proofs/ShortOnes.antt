@@ -8,7 +8,7 @@ use Rattle.refusals.specs.declared.refusal.Refusal.TheVariants.{TooLarge}
 use Rattle.refusals.specs.declared.limits.TheConstants.{MOST_PATH_NAMES, MOST_KEY_NAME_UNITS, MOST_VALUE_NAME_UNITS, MOST_VALUE_BYTES}
 use Rattle.reg_names.specs.Names.{is_path, is_key_name, is_key_unit, is_value_name, is_name_unit}
 use Rattle.reg_tree.specs.Maps.{TreeMap}
-use Rattle.reg_tree.specs.Texts.{path_text_len}
+use Rattle.reg_tree.specs.Encodings.{path_encoded_len}
 use Rattle.reg_tree.specs.Operations.{spelled_path}
 use Rattle.reg_tree_parts.specs.Rows.{Row}
 use Rattle.reg_names.specs.Names.{folded_path}
@@ -34,7 +34,7 @@ names_short (name ∷ names) e =
     let one : length name ≤ MOST_KEY_NAME_UNITS = let f = second.1 in grind (arith, nat_tests, f) in
     omega (arith, rest, one, sum_by-cons (λ (n : List ℕ). 1 + length n) name names)
 
-pub path_short : (path : List (List ℕ)) → is_path path ≡ true → path_text_len path ≤ 131074
+pub path_short : (path : List (List ℕ)) → is_path path ≡ true → path_encoded_len path ≤ 131074
 path_short path e =
     let parts = both (nat_le (length path) MOST_PATH_NAMES) (list_all is_key_name path) e in
     let few : length path ≤ MOST_PATH_NAMES = let f = parts.0 in grind (arith, nat_tests, f) in
@@ -57,12 +57,12 @@ module _ (hive : ℕ) (path : List (List ℕ)) (name : List ℕ) (kind : ℕ) (b
       by_size true f = absurd cc
       by_size false f = refl
 
-  by_slot : (slot : Option TreeMap) → legal_if slot (SetValue hive path name kind bytes) ≡ Ok Legal → nat_lt MOST_VALUE_BYTES (length bytes) ≡ false
-  by_slot None e = absurd cc
-  by_slot (Some tree) e = by_key (row tree (folded_path path)) (weight (changed tree (SetValue hive path name kind bytes) 0)) e
+  by_content : (content : Option TreeMap) → legal_if content (SetValue hive path name kind bytes) ≡ Ok Legal → nat_lt MOST_VALUE_BYTES (length bytes) ≡ false
+  by_content None e = absurd cc
+  by_content (Some tree) e = by_key (row tree (folded_path path)) (weight (changed tree (SetValue hive path name kind bytes) 0)) e
 
   pub data_short : (trees : List TreeMap) → legal trees (SetValue hive path name kind bytes) ≡ Ok Legal → length bytes ≤ MOST_VALUE_BYTES
-  data_short trees e = let f = by_slot (slice_get trees hive) e in grind (arith, nat_tests, f)
+  data_short trees e = let f = by_content (slice_get trees hive) e in grind (arith, nat_tests, f)
 
 -- an operation whose value, if it has one, has a name of a call
 abbrev pub IsNamed : Op → Type 0

@@ -5,19 +5,19 @@ use Rattle.std.specs.Option.{option_map}
 use Rattle.std.proofs.lemmas.Bool.{eqb-true, eqb-false}
 use Rattle.slab.specs.Slab.{Slab, Updates}
 use Rattle.reg_tree.specs.Maps.{TreeMap}
-use Rattle.store_model.specs.Transactions.{Puts, at}
-use Rattle.transactions.specs.Entries.{transaction_of, places_of, IsViewed, IsEntry}
+use Rattle.store_model.specs.Transactions.{SetsSlot, at}
+use Rattle.transactions.specs.Entries.{transaction_of, tx_slots_of, IsViewed, IsEntry}
 use Rattle.transactions.specs.declared.entry.Entry.{Entry}
 use Rattle.transactions.specs.declared.view.View.{View}
 
-abbrev pub slot : List (Option Entry) → ℕ → Option Entry
-slot slots place = slice_index_or slots place None
+abbrev pub content : List (Option Entry) → ℕ → Option Entry
+content slots slot = slice_index_or slots slot None
 
 -- what is at a place
-pub at_of : (slots : List (Option Entry)) (place : ℕ) → at (places_of slots) place ≡ option_map transaction_of (slot slots place)
-at_of [] place = refl
+pub at_of : (slots : List (Option Entry)) (slot : ℕ) → at (tx_slots_of slots) slot ≡ option_map transaction_of (content slots slot)
+at_of [] slot = refl
 at_of (s ∷ slots) zero = refl
-at_of (s ∷ slots) (suc place) = at_of slots place
+at_of (s ∷ slots) (suc slot) = at_of slots slot
 
 -- one number is another, or isn't
 pub same_or_other : (a b : ℕ) → (a ≡ b) ⊎ (a ≢ b)
@@ -28,7 +28,7 @@ same_or_other a b = by_case (a == b) refl
     by_case false e = inr (eqb-false a b e)
 
 -- a changed slot is a changed place
-pub puts : (old new : Slab Entry) (key : ℕ) (s : Option Entry) → Updates old new key s → Puts (places_of old.slots) (places_of new.slots) key (option_map transaction_of s)
+pub puts : (old new : Slab Entry) (key : ℕ) (s : Option Entry) → Updates old new key s → SetsSlot (tx_slots_of old.slots) (tx_slots_of new.slots) key (option_map transaction_of s)
 puts old new key s u = record {
   there = at_of new.slots key ∙ ap (option_map transaction_of) u.changed;
   others = λ other ne. at_of new.slots other ∙ ap (option_map transaction_of) (u.others other ne) ∙ sym (at_of old.slots other);
@@ -36,14 +36,14 @@ puts old new key s u = record {
 
 -- what holds of all entries
 abbrev pub AreEntries : List TreeMap → ℕ → ℕ → List (Option Entry) → Type 0
-AreEntries trees number begun slots = (place : ℕ) (e : Entry) → slot slots place ≡ Some e → IsEntry trees number begun e
+AreEntries trees number begun slots = (slot : ℕ) (e : Entry) → content slots slot ≡ Some e → IsEntry trees number begun e
 
 -- and after one of them changed
 pub entries_put : (trees : List TreeMap) (number begun : ℕ) (old new : Slab Entry) (key : ℕ) (s : Option Entry) → AreEntries trees number begun old.slots → Updates old new key s →
     ((e : Entry) → s ≡ Some e → IsEntry trees number begun e) → AreEntries trees number begun new.slots
-entries_put trees number begun old new key s all u one place e at = elim (same_or_other place key) [
-  | inl same ↦ one e (sym u.changed ∙ ap (slot new.slots) (sym same) ∙ at)
-  | inr other ↦ all place e (sym (u.others place other) ∙ at)
+entries_put trees number begun old new key s all u one slot e at = elim (same_or_other slot key) [
+  | inl same ↦ one e (sym u.changed ∙ ap (content new.slots) (sym same) ∙ at)
+  | inr other ↦ all slot e (sym (u.others slot other) ∙ at)
 ]
 
 later_view : (trees : List TreeMap) (number : ℕ) (ops : _) (view : Option View) (others : List TreeMap) → IsViewed trees number ops view → IsViewed others (number + 1) ops view
@@ -52,12 +52,12 @@ later_view trees number ops (Some view) others v = record { known = omega (arith
 
 -- after a change no view is of now
 pub entries_moved : (trees others : List TreeMap) (number begun : ℕ) (slots : List (Option Entry)) → AreEntries trees number begun slots → AreEntries others (number + 1) begun slots
-entries_moved trees others number begun slots all place e at =
-    let i : IsEntry trees number begun e = all place e at in
+entries_moved trees others number begun slots all slot e at =
+    let i : IsEntry trees number begun e = all slot e at in
     record { known = i.known; counted = i.counted; short = i.short; spare = i.spare; viewed = later_view trees number e.ops.items e.view others i.viewed }
 
 -- one more was begun
 pub entries_begun : (trees : List TreeMap) (number begun : ℕ) (slots : List (Option Entry)) → AreEntries trees number begun slots → AreEntries trees number (begun + 1) slots
-entries_begun trees number begun slots all place e at =
-    let i : IsEntry trees number begun e = all place e at in
+entries_begun trees number begun slots all slot e at =
+    let i : IsEntry trees number begun e = all slot e at in
     record { known = omega (arith, i.known); counted = i.counted; short = i.short; spare = i.spare; viewed = i.viewed }

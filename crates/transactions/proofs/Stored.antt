@@ -13,7 +13,7 @@ use Rattle.refusals.specs.declared.limits.TheConstants.{MOST_ELEMENT_BYTES, GREA
 use Rattle.reg_tree.specs.Maps.{TreeMap}
 use Rattle.reg_tree.specs.Fresh.{fresh_tree}
 use Rattle.reg_tree.specs.Operations.{hive_of}
-use Rattle.reg_tree.specs.Texts.{op_text_len, element_text_len, ops_text_len}
+use Rattle.reg_tree.specs.Encodings.{op_encoded_len, element_encoded_len, ops_encoded_len}
 use Rattle.reg_tree.specs.Judgement.{legal, applied, applied_one, applied_if, changed, any_outweighs}
 use Rattle.reg_tree.specs.TreeLists.{levels_made}
 use Rattle.reg_tree.specs.Sequences.{after_elements}
@@ -23,10 +23,10 @@ use Rattle.reg_tree.specs.declared.op.Legality.TheVariants.{Legal}
 use Rattle.conflicts.specs.Skeleton.{Claim}
 use Rattle.conflicts.specs.Claims.{claim_of, meets}
 use Rattle.store_model.specs.Machine.{Machine, trees_now, last_number, is_open, found_in, change, committed, commit_change, first_of, refused_if, fault, closed_refusal, unnamed_refusal, call_refusal, tx_call_refusal, commit_refusal, looked_up, read_refusal, refusal_by, room_of, room_refusal, write_refusal, commit_refusal_if}
-use Rattle.store_model.specs.Steps.{Step, Accepts, Commits, Flushes, Journals, Trims, StepFails, no_hive}
+use Rattle.store_model.specs.Steps.{Step, AcceptsWrite, CommitsTx, Flushes, Journals, Trims, StepFails, no_hive}
 use Rattle.disk_model.specs.declared.progress.Progress.TheVariants.{Done, Idle}
-use Rattle.store_model.specs.Transactions.{Transaction, Puts, at, own, is_active, ended, rolled_back_by, missing_refusal, inactive_refusal}
-use Rattle.store_model.specs.declared.bounds.Bounds.{Bounds}
+use Rattle.store_model.specs.Transactions.{Transaction, SetsSlot, at, own, is_active, ended, rolled_back_by, missing_refusal, inactive_refusal}
+use Rattle.store_model.specs.declared.bounds.StoreBounds.{StoreBounds}
 use Rattle.store_model.specs.declared.handle.Tx.{Tx}
 use Rattle.store_model.specs.declared.handle.Outcome.TheVariants.{Committed, RolledBack}
 use Rattle.store_model.specs.declared.event.Event.{Event}
@@ -36,9 +36,9 @@ use Rattle.store_model.specs.declared.event.Reply.{Reply}
 use Rattle.store_model.specs.declared.event.Reply.TheVariants as reply
 use Rattle.transactions.specs.Tables.{Table, EndsWith, IsPending, IsPendingOf, holds_if, is_listed, rolled_back_if}
 use Rattle.transactions.specs.Histories.{IsShort}
-use Rattle.transactions.specs.Stores.{Answers, IsTied, store_of}
-use Rattle.transactions.specs.Entries.{AreMoved}
-use Rattle.transactions.specs.Prepared.{IsReadyCommit, Readies, JudgesWrite, ReadiesWrite}
+use Rattle.transactions.specs.Stores.{Answers, TableMatchesMachine, store_of}
+use Rattle.transactions.specs.Entries.{AreRebased}
+use Rattle.transactions.specs.Prepared.{IsReadyCommit, PreparesEvent, JudgesWrite, PreparesWrite}
 use Rattle.transactions.specs.declared.prepared.Ready.{Ready}
 use Rattle.transactions.specs.declared.prepared.JudgedWrite.{JudgedWrite}
 use Rattle.transactions.specs.declared.prepared.ReadyCommit.{ReadyCommit}
@@ -58,7 +58,7 @@ no_session : (m : Machine) (session : ℕ) (why : Refusal) → IsClosed m sessio
 no_session m session why i = ap (λ b. refused_if (not b) NoSuchHandle) i.shut ∙ ap Some (sym i.named)
 
 none_found : (m : Machine) (session : ℕ) (tx : Tx) (why : Refusal) → IsClosed m session why → found_in m session tx ≡ None
-none_found m session tx why i = ap (λ b. cond b (own m.places session tx) None) i.shut
+none_found m session tx why i = ap (λ b. cond b (own m.tx_slots session tx) None) i.shut
 
 first : (one other : Option Refusal) (why : Refusal) → one ≡ Some why → first_of one other ≡ Some why
 first one other why e = ap (λ x. first_of x other) e
@@ -115,7 +115,7 @@ missed m session hive path question trees res why o c e w h =
     (either w (λ r. second (call_refusal m session hive) (read_refusal (looked_up (trees_now m) hive path question)) (Some why) (may_call m session hive o c) (ap (λ t. read_refusal (looked_up t hive path question)) (sym e) ∙ r)), refl)
 
 -- what a write is refused after its session
-pub may_write : (m : Machine) (session moment : ℕ) (op : Op) (wanted : Option Refusal) → fault m ≡ None → is_open m session ≡ true → unnamed_refusal m (hive_of op) ≡ None → refusal_by (legal (trees_now m) op) (room_refusal m (element_text_len (change moment op))) ≡ wanted → write_refusal m session moment op ≡ wanted
+pub may_write : (m : Machine) (session moment : ℕ) (op : Op) (wanted : Option Refusal) → fault m ≡ None → is_open m session ≡ true → unnamed_refusal m (hive_of op) ≡ None → refusal_by (legal (trees_now m) op) (room_refusal m (element_encoded_len (change moment op))) ≡ wanted → write_refusal m session moment op ≡ wanted
 may_write m session moment op wanted f o c e = second _ _ wanted f (second _ _ wanted (may_call m session (hive_of op) o c) e)
 
 -- a write that is not legal
@@ -123,7 +123,7 @@ pub illegal_write : (m : Machine) (session moment : ℕ) (op : Op) (trees : List
     IsErrAnd res (λ e. e ≡ why) → Answers m (event.Write session moment op) res m
 illegal_write m session moment op trees res why f o c e w h =
     on_refusal m (event.Write session moment op) res why h
-    (either w (λ r. may_write m session moment op (Some why) f o c (ap (λ l. refusal_by l (room_refusal m (element_text_len (change moment op)))) (ap (λ t. legal t op) (sym e) ∙ r))), refl)
+    (either w (λ r. may_write m session moment op (Some why) f o c (ap (λ l. refusal_by l (room_refusal m (element_encoded_len (change moment op)))) (ap (λ t. legal t op) (sym e) ∙ r))), refl)
 
 -- the hive is one that calls may not name
 module _ (m : Machine) (session : ℕ) (why : Refusal) (res : Result Reply Refusal) (o : is_open m session ≡ true) (h : IsErrAnd res (λ e. e ≡ why)) where
@@ -142,11 +142,11 @@ module _ (m : Machine) (session : ℕ) (tx : Tx) (hive : ℕ) (why : Refusal) wh
   closed_call i = first _ _ why (ap inactive_refusal (none_found m session tx why i) ∙ ap Some (sym i.named))
 
   module _ (o : is_open m session ≡ true) where
-    pub inactive_call : inactive_refusal (own m.places session tx) ≡ Some why → tx_call_refusal m session tx hive ≡ Some why
-    inactive_call e = first _ _ why (ap (λ b. inactive_refusal (cond b (own m.places session tx) None)) o ∙ e)
+    pub inactive_call : inactive_refusal (own m.tx_slots session tx) ≡ Some why → tx_call_refusal m session tx hive ≡ Some why
+    inactive_call e = first _ _ why (ap (λ b. inactive_refusal (cond b (own m.tx_slots session tx) None)) o ∙ e)
 
-    pub unnamed_call : inactive_refusal (own m.places session tx) ≡ None → unnamed_refusal m hive ≡ Some why → tx_call_refusal m session tx hive ≡ Some why
-    unnamed_call active e = second _ _ (Some why) (ap (λ b. inactive_refusal (cond b (own m.places session tx) None)) o ∙ active) e
+    pub unnamed_call : inactive_refusal (own m.tx_slots session tx) ≡ None → unnamed_refusal m hive ≡ Some why → tx_call_refusal m session tx hive ≡ Some why
+    unnamed_call active e = second _ _ (Some why) (ap (λ b. inactive_refusal (cond b (own m.tx_slots session tx) None)) o ∙ active) e
 
 -- such a call is refused
 module _ (m : Machine) (session : ℕ) (tx : Tx) (why : Refusal) (res : Result Reply Refusal) (h : IsErrAnd res (λ e. e ≡ why)) where
@@ -164,13 +164,13 @@ pub capped : (m : Machine) (long cut : ℕ) → cut ≡ min long 184467440737095
 capped m long cut e = ap (λ b. first_of (refused_if (nat_le m.bounds.changes (length m.accepted) || nat_le GREATEST_NUMBER (last_number m)) HistoryFull) (refused_if b JournalFull)) (tests m.room long cut e)
 
 pub crowded_write : (m : Machine) (session moment : ℕ) (op : Op) (trees : List TreeMap) (res : Result Reply Refusal) (why : Refusal) (long : ℕ) → fault m ≡ None → is_open m session ≡ true → unnamed_refusal m (hive_of op) ≡ None → trees ≡ trees_now m → legal trees op ≡ Ok Legal →
-    long ≡ min (element_text_len (change moment op)) 18446744073709551615 → room_refusal m long ≡ Some why → IsErrAnd res (λ e. e ≡ why) → Answers m (event.Write session moment op) res m
+    long ≡ min (element_encoded_len (change moment op)) 18446744073709551615 → room_refusal m long ≡ Some why → IsErrAnd res (λ e. e ≡ why) → Answers m (event.Write session moment op) res m
 crowded_write m session moment op trees res why long f o n e l c r h =
     on_refusal m (event.Write session moment op) res why h
-    (inl (may_write m session moment op (Some why) f o n (ap (λ x. refusal_by x (room_refusal m (element_text_len (change moment op)))) (ap (λ t. legal t op) (sym e) ∙ l) ∙ sym (capped m (element_text_len (change moment op)) long c) ∙ r)), refl)
+    (inl (may_write m session moment op (Some why) f o n (ap (λ x. refusal_by x (room_refusal m (element_encoded_len (change moment op)))) (ap (λ t. legal t op) (sym e) ∙ l) ∙ sym (capped m (element_encoded_len (change moment op)) long c) ∙ r)), refl)
 
 -- as many hives are there as were
-one_as_long : (trees : List TreeMap) (slot : Option TreeMap) (op : Op) (moment : ℕ) → length (applied_if trees slot op moment) ≡ length trees
+one_as_long : (trees : List TreeMap) (content : Option TreeMap) (op : Op) (moment : ℕ) → length (applied_if trees content op moment) ≡ length trees
 one_as_long trees None op moment = refl
 one_as_long trees (Some tree) op moment = length-set trees (hive_of op) (changed tree op moment)
 
@@ -220,8 +220,8 @@ pub below_greatest : (m : Machine) (long number : ℕ) → number ≡ last_numbe
 below_greatest m long number is e = omega (arith, is, leb-false GREATEST_NUMBER (last_number m) (not_last (nat_le m.bounds.changes (length m.accepted)) (nat_le GREATEST_NUMBER (last_number m)) _ e))
 
 -- a table that has moved on is tied to the store with one change more
-pub tied_more : (o : List TreeMap) (n : ℕ) (a b : List Element) (s : List ℕ) (t u : Table) (d r q : ℕ) (f : Bool) (w : Bounds) (element : Element) → IsTied t (store_of o n a s t d r f w) → length a < w.changes →
-    b ≡ a ++ element ∷ [] → u.trees ≡ applied t.trees element.ops element.moment → u.number ≡ t.number + 1 → IsTied u (store_of o n b s u d q f w)
+pub tied_more : (o : List TreeMap) (n : ℕ) (a b : List Element) (s : List ℕ) (t u : Table) (d r q : ℕ) (f : Bool) (w : StoreBounds) (element : Element) → TableMatchesMachine t (store_of o n a s t d r f w) → length a < w.changes →
+    b ≡ a ++ element ∷ [] → u.trees ≡ applied t.trees element.ops element.moment → u.number ≡ t.number + 1 → TableMatchesMachine u (store_of o n b s u d q f w)
 tied_more o n a b s t u d r q f w element i below grown trees number =
     let long : length b ≡ length a + 1 = ap length grown ∙ length-append a (element ∷ []) in
     let old_number = i.number in
@@ -238,30 +238,30 @@ roll_by : (active met : Bool) (over one : Transaction) → cond (active && met) 
 roll_by true met over one = refl
 roll_by false met over one = refl
 
-roll : (claim : Claim) (slot : Option Transaction) → rolled_back_if (holds_if claim slot) slot ≡ option_and_then (rolled_back_by claim) slot
+roll : (claim : Claim) (content : Option Transaction) → rolled_back_if (holds_if claim content) content ≡ option_and_then (rolled_back_by claim) content
 roll claim None = refl
 roll claim (Some one) = roll_by (is_active one) (list_any (λ op. meets claim (claim_of op)) one.ops) (ended RolledBack one) one
 
-module _ (o : List TreeMap) (n : ℕ) (a b : List Element) (s : List ℕ) (t u v : Table) (d r q : ℕ) (faulted : Bool) (w : Bounds) (free : fault (store_of o n a s t d r faulted w) ≡ None) where
-  pub accepts : (session moment number : ℕ) (op : Op) (levels : Option ℕ) (trees : List TreeMap) (listed : List ℕ) → IsTied t (store_of o n a s t d r faulted w) → is_open (store_of o n a s t d r faulted w) session ≡ true → unnamed_refusal (store_of o n a s t d r faulted w) (hive_of op) ≡ None →
-      legal t.trees op ≡ Ok Legal → room_refusal (store_of o n a s t d r faulted w) (element_text_len (change moment op)) ≡ None → levels ≡ levels_made t.trees op → number ≡ v.number →
-      b ≡ a ++ change moment op ∷ [] → q ≡ r + room_of (change moment op) → u ≡ record t { trees = trees; number = t.number + 1 } → v ≡ record u { places = v.places } →
-      ((place : ℕ) → at v.places place ≡ rolled_back_if (is_listed listed place) (at u.places place)) → ((place : ℕ) → is_listed listed place ≡ holds_if (claim_of op) (at t.places place)) →
-      Accepts (store_of o n a s t d r faulted w) session moment op levels number (store_of o n b s v d q faulted w)
-  accepts session moment number op levels trees listed i there named l room made told grown g moved rest rolled lists =
+module _ (o : List TreeMap) (n : ℕ) (a b : List Element) (s : List ℕ) (t u v : Table) (d r q : ℕ) (faulted : Bool) (w : StoreBounds) (free : fault (store_of o n a s t d r faulted w) ≡ None) where
+  pub accepts : (session moment number : ℕ) (op : Op) (levels : Option ℕ) (trees : List TreeMap) (listed : List ℕ) → TableMatchesMachine t (store_of o n a s t d r faulted w) → is_open (store_of o n a s t d r faulted w) session ≡ true → unnamed_refusal (store_of o n a s t d r faulted w) (hive_of op) ≡ None →
+      legal t.trees op ≡ Ok Legal → room_refusal (store_of o n a s t d r faulted w) (element_encoded_len (change moment op)) ≡ None → levels ≡ levels_made t.trees op → number ≡ v.number →
+      b ≡ a ++ change moment op ∷ [] → q ≡ r + room_of (change moment op) → u ≡ record t { trees = trees; number = t.number + 1 } → v ≡ record u { tx_slots = v.tx_slots } →
+      ((slot : ℕ) → at v.tx_slots slot ≡ rolled_back_if (is_listed listed slot) (at u.tx_slots slot)) → ((slot : ℕ) → is_listed listed slot ≡ holds_if (claim_of op) (at t.tx_slots slot)) →
+      AcceptsWrite (store_of o n a s t d r faulted w) session moment op levels number (store_of o n b s v d q faulted w)
+  accepts session moment number op levels trees listed i there named l room made told grown g rebased rest rolled lists =
       let old = store_of o n a s t d r faulted w in
-      let begun : v.begun ≡ t.begun = ap (λ (x : Table). x.begun) rest ∙ ap (λ (x : Table). x.begun) moved in
-      let count : v.number ≡ t.number + 1 = ap (λ (x : Table). x.number) rest ∙ ap (λ (x : Table). x.number) moved in
+      let begun : v.begun ≡ t.begun = ap (λ (x : Table). x.begun) rest ∙ ap (λ (x : Table). x.begun) rebased in
+      let count : v.number ≡ t.number + 1 = ap (λ (x : Table). x.number) rest ∙ ap (λ (x : Table). x.number) rebased in
       let legal_now : legal (trees_now old) op ≡ Ok Legal = ap (λ x. legal x op) (sym i.trees) ∙ l in
       record {
-        free = may_write old session moment op None free there named (ap (λ x. refusal_by x (room_refusal old (element_text_len (change moment op)))) legal_now ∙ room);
+        free = may_write old session moment op None free there named (ap (λ x. refusal_by x (room_refusal old (element_encoded_len (change moment op)))) legal_now ∙ room);
         is_legal = legal_now;
         made = made ∙ ap (λ x. levels_made x op) i.trees;
         numbered = told ∙ count ∙ ap (λ x. x + 1) i.number;
-        next = ap (λ x. record old { accepted = x; places = v.places; begun = v.begun; room = q }) grown
-            ∙ ap (λ x. record old { accepted = a ++ change moment op ∷ []; places = v.places; begun = x; room = q }) begun
-            ∙ ap (λ x. record old { accepted = a ++ change moment op ∷ []; places = v.places; room = x }) g;
-        rolled_back = λ place. rolled place ∙ ap (λ (x : Table). rolled_back_if (is_listed listed place) (at x.places place)) moved ∙ ap (λ x. rolled_back_if x (at t.places place)) (lists place) ∙ roll (claim_of op) (at t.places place);
+        next = ap (λ x. record old { accepted = x; tx_slots = v.tx_slots; begun = v.begun; room = q }) grown
+            ∙ ap (λ x. record old { accepted = a ++ change moment op ∷ []; tx_slots = v.tx_slots; begun = x; room = q }) begun
+            ∙ ap (λ x. record old { accepted = a ++ change moment op ∷ []; tx_slots = v.tx_slots; room = x }) g;
+        rolled_back = λ slot. rolled slot ∙ ap (λ (x : Table). rolled_back_if (is_listed listed slot) (at x.tx_slots slot)) rebased ∙ ap (λ x. rolled_back_if x (at t.tx_slots slot)) (lists slot) ∙ roll (claim_of op) (at t.tx_slots slot);
       }
 
 -- a length with which there is room is not cut off
@@ -276,101 +276,101 @@ uncut m long cut e f =
     grind (arith, nat_tests, within, f)
 
 -- the length of a change of one operation
-pub cut_change : (moment : ℕ) (op : Op) (one cut : ℕ) → one ≡ min (op_text_len op) 18446744073709551615 → cut ≡ min (16 + one) 18446744073709551615 → cut ≡ min (element_text_len (change moment op)) 18446744073709551615
+pub cut_change : (moment : ℕ) (op : Op) (one cut : ℕ) → one ≡ min (op_encoded_len op) 18446744073709551615 → cut ≡ min (16 + one) 18446744073709551615 → cut ≡ min (element_encoded_len (change moment op)) 18446744073709551615
 cut_change moment op one cut e f = omega (arith, e, f)
 
 -- what the change of some transaction's operations is refused
-pub pending_refusal : (m : Machine) (moment : ℕ) (slot : Option Transaction) (ops : List Op) (long : ℕ) (wanted : Option Refusal) → IsPending slot ops long → (length ops == 0) ≡ false →
-    first_of (refused_if (any_outweighs (trees_now m) ops moment) TooLarge) (room_refusal m long) ≡ wanted → commit_refusal_if m moment slot ≡ wanted
+pub pending_refusal : (m : Machine) (moment : ℕ) (content : Option Transaction) (ops : List Op) (long : ℕ) (wanted : Option Refusal) → IsPending content ops long → (length ops == 0) ≡ false →
+    first_of (refused_if (any_outweighs (trees_now m) ops moment) TooLarge) (room_refusal m long) ≡ wanted → commit_refusal_if m moment content ≡ wanted
 pending_refusal m moment None ops long wanted p some e = absurd p
 pending_refusal m moment (Some one) ops long wanted p some e =
-    let full : Option Refusal = first_of (refused_if (any_outweighs (trees_now m) (committed m one) moment) TooLarge) (room_refusal m (element_text_len (commit_change m moment one))) in
+    let full : Option Refusal = first_of (refused_if (any_outweighs (trees_now m) (committed m one) moment) TooLarge) (room_refusal m (element_encoded_len (commit_change m moment one))) in
     second (inactive_refusal (Some one)) (cond (length one.ops == 0) None full) wanted p.active
     (ap (λ x. cond x None full) (ap (λ (x : List Op). length x == 0) (sym p.given) ∙ some)
-    ∙ ap (λ x. first_of (refused_if (any_outweighs (trees_now m) x moment) TooLarge) (room_refusal m (element_text_len (commit_change m moment one)))) (sym p.given)
+    ∙ ap (λ x. first_of (refused_if (any_outweighs (trees_now m) x moment) TooLarge) (room_refusal m (element_encoded_len (commit_change m moment one)))) (sym p.given)
     ∙ ap (λ x. first_of (refused_if (any_outweighs (trees_now m) ops moment) TooLarge) (room_refusal m x)) (sym (p.long moment)) ∙ e)
 
 -- the transaction of a handle in an open session
-pub found : (m : Machine) (session : ℕ) (tx : Tx) → is_open m session ≡ true → found_in m session tx ≡ own m.places session tx
-found m session tx there = ap (λ b. cond b (own m.places session tx) None) there
+pub found : (m : Machine) (session : ℕ) (tx : Tx) → is_open m session ≡ true → found_in m session tx ≡ own m.tx_slots session tx
+found m session tx there = ap (λ b. cond b (own m.tx_slots session tx) None) there
 
-not_ended_if : (m : Machine) (moment : ℕ) (slot : Option Transaction) (why : Refusal) → inactive_refusal slot ≡ Some why → commit_refusal_if m moment slot ≡ Some why
+not_ended_if : (m : Machine) (moment : ℕ) (content : Option Transaction) (why : Refusal) → inactive_refusal content ≡ Some why → commit_refusal_if m moment content ≡ Some why
 not_ended_if m moment None why e = e
 not_ended_if m moment (Some one) why e = first (inactive_refusal (Some one)) _ why e
 
 module _ (m : Machine) (session moment : ℕ) (tx : Tx) (why : Refusal) (res : Result Reply Refusal) (free : fault m ≡ None) (there : is_open m session ≡ true) (h : IsErrAnd res (λ e. e ≡ why)) where
-  uncommitted : (commit_refusal_if m moment (own m.places session tx) ≡ Some why) ⊎ (why ≡ NoMemory) → Answers m (event.CommitAccept session tx moment) res m
+  uncommitted : (commit_refusal_if m moment (own m.tx_slots session tx) ≡ Some why) ⊎ (why ≡ NoMemory) → Answers m (event.CommitAccept session tx moment) res m
   uncommitted w =
       on_refusal m (event.CommitAccept session tx moment) res why h
       (either w (λ r. second (fault m) (commit_refusal_if m moment (found_in m session tx)) (Some why) free (ap (commit_refusal_if m moment) (found m session tx there) ∙ r)), refl)
 
-  pub not_ended : inactive_refusal (own m.places session tx) ≡ Some why → Answers m (event.CommitAccept session tx moment) res m
-  not_ended e = uncommitted (inl (not_ended_if m moment (own m.places session tx) why e))
+  pub not_ended : inactive_refusal (own m.tx_slots session tx) ≡ Some why → Answers m (event.CommitAccept session tx moment) res m
+  not_ended e = uncommitted (inl (not_ended_if m moment (own m.tx_slots session tx) why e))
 
-  pub heavy_commit : (trees : List TreeMap) (ops : List Op) (long : ℕ) → trees ≡ trees_now m → IsPending (own m.places session tx) ops long → (length ops == 0) ≡ false →
+  pub heavy_commit : (trees : List TreeMap) (ops : List Op) (long : ℕ) → trees ≡ trees_now m → IsPending (own m.tx_slots session tx) ops long → (length ops == 0) ≡ false →
       ((any_outweighs trees ops moment ≡ true) × (why ≡ TooLarge)) ⊎ (why ≡ NoMemory) → Answers m (event.CommitAccept session tx moment) res m
   heavy_commit trees ops long e p some w =
-      uncommitted (either w (λ both. pending_refusal m moment (own m.places session tx) ops long (Some why) p some
+      uncommitted (either w (λ both. pending_refusal m moment (own m.tx_slots session tx) ops long (Some why) p some
       (first _ (room_refusal m long) why (ap (λ x. refused_if x TooLarge) (ap (λ x. any_outweighs x ops moment) (sym e) ∙ both.0) ∙ ap Some (sym both.1)))))
 
-  pub crowded_commit : (trees : List TreeMap) (ops : List Op) (long : ℕ) → trees ≡ trees_now m → IsPending (own m.places session tx) ops long → (length ops == 0) ≡ false → any_outweighs trees ops moment ≡ false →
+  pub crowded_commit : (trees : List TreeMap) (ops : List Op) (long : ℕ) → trees ≡ trees_now m → IsPending (own m.tx_slots session tx) ops long → (length ops == 0) ≡ false → any_outweighs trees ops moment ≡ false →
       room_refusal m long ≡ Some why → Answers m (event.CommitAccept session tx moment) res m
   crowded_commit trees ops long e p some light r =
-      uncommitted (inl (pending_refusal m moment (own m.places session tx) ops long (Some why) p some
+      uncommitted (inl (pending_refusal m moment (own m.tx_slots session tx) ops long (Some why) p some
       (second _ (room_refusal m long) (Some why) (ap (λ x. refused_if x TooLarge) (ap (λ x. any_outweighs x ops moment) (sym e) ∙ light)) r)))
 
 -- what holds of a transaction's operations holds of those that are pending
-pub of_pending : (P : List Op → Type 0) (slot : Option Transaction) (ops : List Op) (long : ℕ) → IsPending slot ops long → IfSome slot (λ one. P one.ops) → P ops
+pub of_pending : (P : List Op → Type 0) (content : Option Transaction) (ops : List Op) (long : ℕ) → IsPending content ops long → IfSome content (λ one. P one.ops) → P ops
 of_pending P None ops long p h = absurd p
 of_pending P (Some one) ops long p h = subst P (sym p.given) h
 
 -- how long the change of pending operations is
-pub pending_len : (slot : Option Transaction) (ops : List Op) (long : ℕ) → IsPending slot ops long → long ≡ 16 + ops_text_len ops
+pub pending_len : (content : Option Transaction) (ops : List Op) (long : ℕ) → IsPending content ops long → long ≡ 16 + ops_encoded_len ops
 pending_len None ops long p = absurd p
-pending_len (Some one) ops long p = p.long 0 ∙ ap (λ (x : List Op). 16 + ops_text_len x) (sym p.given)
+pending_len (Some one) ops long p = p.long 0 ∙ ap (λ (x : List Op). 16 + ops_encoded_len x) (sym p.given)
 
 -- a transaction that ended after the trees of now were replaced ended before
 pub ends_before : (t after u : Table) (trees : List TreeMap) (session : ℕ) (tx : Tx) (given : List Op) → after ≡ record t { trees = trees; number = t.number + 1 } → EndsWith after session tx Committed given u →
-    EndsWith t session tx Committed given (record t { places = u.places }) × (u ≡ record t { trees = trees; number = t.number + 1; places = u.places })
-ends_before t after u trees session tx given moved ends =
-    let e : EndsWith (record t { trees = trees; number = t.number + 1 }) session tx Committed given u = subst (λ x. EndsWith x session tx Committed given u) moved ends in
+    EndsWith t session tx Committed given (record t { tx_slots = u.tx_slots }) × (u ≡ record t { trees = trees; number = t.number + 1; tx_slots = u.tx_slots })
+ends_before t after u trees session tx given rebased ends =
+    let e : EndsWith (record t { trees = trees; number = t.number + 1 }) session tx Committed given u = subst (λ x. EndsWith x session tx Committed given u) rebased ends in
     (record { finishes = e.finishes; given = e.given; next = refl }, e.next)
 
 -- the operations that are handed out are those that were pending
-pub same_ops : (t u : Table) (session : ℕ) (tx : Tx) (ops given : List Op) (long : ℕ) → IsPending (own t.places session tx) ops long → EndsWith t session tx Committed given u → ops ≡ given
+pub same_ops : (t u : Table) (session : ℕ) (tx : Tx) (ops given : List Op) (long : ℕ) → IsPending (own t.tx_slots session tx) ops long → EndsWith t session tx Committed given u → ops ≡ given
 same_ops t u session tx ops given long p e =
     let q : IsPendingOf e.finishes.one ops long = subst (λ x. IsPending x ops long) e.finishes.found p in
     q.given ∙ sym e.given
 
-module _ (o : List TreeMap) (n : ℕ) (a b : List Element) (s : List ℕ) (t u v : Table) (d r q : ℕ) (faulted : Bool) (w : Bounds) (free : fault (store_of o n a s t d r faulted w) ≡ None) where
-  pub commits : (session moment number : ℕ) (tx : Tx) (trees : List TreeMap) (ops given : List Op) (long : ℕ) → IsTied t (store_of o n a s t d r faulted w) → is_open (store_of o n a s t d r faulted w) session ≡ true →
-      IsPending (own t.places session tx) ops long → EndsWith t session tx Committed given u → (length ops == 0) ≡ false → any_outweighs t.trees ops moment ≡ false → room_refusal (store_of o n a s t d r faulted w) long ≡ None →
+module _ (o : List TreeMap) (n : ℕ) (a b : List Element) (s : List ℕ) (t u v : Table) (d r q : ℕ) (faulted : Bool) (w : StoreBounds) (free : fault (store_of o n a s t d r faulted w) ≡ None) where
+  pub commits : (session moment number : ℕ) (tx : Tx) (trees : List TreeMap) (ops given : List Op) (long : ℕ) → TableMatchesMachine t (store_of o n a s t d r faulted w) → is_open (store_of o n a s t d r faulted w) session ≡ true →
+      IsPending (own t.tx_slots session tx) ops long → EndsWith t session tx Committed given u → (length ops == 0) ≡ false → any_outweighs t.trees ops moment ≡ false → room_refusal (store_of o n a s t d r faulted w) long ≡ None →
       number ≡ v.number → b ≡ a ++ record { moment = moment; ops = given } ∷ [] → q ≡ r + (17 + long) → v ≡ record u { trees = trees; number = u.number + 1 } →
-      Commits (store_of o n a s t d r faulted w) session tx moment number (store_of o n b s v d q faulted w)
-  commits session moment number tx trees ops given long i there p ends some light room told e g moved =
+      CommitsTx (store_of o n a s t d r faulted w) session tx moment number (store_of o n b s v d q faulted w)
+  commits session moment number tx trees ops given long i there p ends some light room told e g rebased =
       let old = store_of o n a s t d r faulted w in
       let element : Element = commit_change old moment ends.finishes.one in
       let mine : IsPendingOf ends.finishes.one ops long = subst (λ x. IsPending x ops long) ends.finishes.found p in
       let kept : (length ends.finishes.one.ops == 0) ≡ false = ap (λ (x : List Op). length x == 0) (sym mine.given) ∙ some in
       let grown : b ≡ a ++ element ∷ [] = e ∙ ap (λ (x : List Op). let y : Element = record { moment = moment; ops = x } in a ++ y ∷ []) ends.given in
-      let begun : v.begun ≡ t.begun = ap (λ (x : Table). x.begun) moved ∙ ap (λ (x : Table). x.begun) ends.next in
-      let count : v.number ≡ t.number + 1 = ap (λ (x : Table). x.number) moved ∙ ap (λ (x : Table). x.number + 1) ends.next in
+      let begun : v.begun ≡ t.begun = ap (λ (x : Table). x.begun) rebased ∙ ap (λ (x : Table). x.begun) ends.next in
+      let count : v.number ≡ t.number + 1 = ap (λ (x : Table). x.number) rebased ∙ ap (λ (x : Table). x.number + 1) ends.next in
       let full : q ≡ r + room_of element = g ∙ ap (λ x. r + (17 + x)) (mine.long moment) in
       record {
         one = ends.finishes.one;
         found = found old session tx there ∙ ends.finishes.found;
         free = second (fault old) (commit_refusal_if old moment (Some ends.finishes.one)) None free (pending_refusal old moment (Some ends.finishes.one) ops long None mine some (second _ (room_refusal old long) None (ap (λ x. refused_if x TooLarge) (ap (λ x. any_outweighs x ops moment) (sym i.trees) ∙ light)) room));
         numbered = told ∙ count ∙ ap (λ x. x + 1) i.number ∙ ap (λ x. cond x 0 (last_number old + 1)) (sym kept);
-        next = ap (λ x. record old { accepted = x; places = v.places; begun = v.begun; room = q }) grown
-            ∙ ap (λ x. record old { accepted = a ++ element ∷ []; places = v.places; begun = x; room = q }) begun
-            ∙ ap (λ x. record old { accepted = a ++ element ∷ []; places = v.places; room = x }) full
-            ∙ ap (λ x. record (cond x old (record old { accepted = a ++ element ∷ []; room = r + room_of element })) { places = v.places }) (sym kept);
-        put = subst (λ x. Puts t.places x tx.place (Some (ended Committed ends.finishes.one))) (sym (ap (λ (x : Table). x.places) moved)) ends.finishes.put;
+        next = ap (λ x. record old { accepted = x; tx_slots = v.tx_slots; begun = v.begun; room = q }) grown
+            ∙ ap (λ x. record old { accepted = a ++ element ∷ []; tx_slots = v.tx_slots; begun = x; room = q }) begun
+            ∙ ap (λ x. record old { accepted = a ++ element ∷ []; tx_slots = v.tx_slots; room = x }) full
+            ∙ ap (λ x. record (cond x old (record old { accepted = a ++ element ∷ []; room = r + room_of element })) { tx_slots = v.tx_slots }) (sym kept);
+        put = subst (λ x. SetsSlot t.tx_slots x tx.slot (Some (ended Committed ends.finishes.one))) (sym (ap (λ (x : Table). x.tx_slots) rebased)) ends.finishes.put;
       }
 
 -- the operations of a commit that is prepared are pending
-pub ready_pending : (m : Machine) (made : ReadyCommit) (r : IsReadyCommit m made) → IsPending (own m.places made.session made.tx) r.one.ops (element_text_len (commit_change m made.moment r.one))
-ready_pending m made r = subst (λ x. IsPending x r.one.ops (element_text_len (commit_change m made.moment r.one))) (sym r.found) (record { active = r.active; given = refl; long = λ moment. refl })
+pub ready_pending : (m : Machine) (made : ReadyCommit) (r : IsReadyCommit m made) → IsPending (own m.tx_slots made.session made.tx) r.one.ops (element_encoded_len (commit_change m made.moment r.one))
+ready_pending m made r = subst (λ x. IsPending x r.one.ops (element_encoded_len (commit_change m made.moment r.one))) (sym r.found) (record { active = r.active; given = refl; long = λ moment. refl })
 
 -- a change of these operations, of so many bytes, may be accepted, and what it leads to is made
 pub record IsMadeOf (m : Machine) (made : ReadyCommit) (ops : List Op) (long : ℕ) : Type 0 where
@@ -383,14 +383,14 @@ pub record IsMadeOf (m : Machine) (made : ReadyCommit) (ops : List Op) (long : �
   pub room : made.room ≡ m.room + (17 + long)
 
 -- the change that a commit makes, where pending operations are made into one
-pub ready_commit : (m : Machine) (made : ReadyCommit) (ops : List Op) (long : ℕ) → fault m ≡ None → is_open m made.session ≡ true → IsPending (own m.places made.session made.tx) ops long →
-    AreMoved made.trees (last_number m + 1) m.places made.moved.items → IsMadeOf m made ops long → IsReadyCommit m made
-ready_commit m made ops long free there pending moved is = by_slot (own m.places made.session made.tx) refl pending
+pub ready_commit : (m : Machine) (made : ReadyCommit) (ops : List Op) (long : ℕ) → fault m ≡ None → is_open m made.session ≡ true → IsPending (own m.tx_slots made.session made.tx) ops long →
+    AreRebased made.trees (last_number m + 1) m.tx_slots made.rebased.items → IsMadeOf m made ops long → IsReadyCommit m made
+ready_commit m made ops long free there pending rebased is = by_content (own m.tx_slots made.session made.tx) refl pending
   where
-    by_slot : (slot : Option Transaction) → own m.places made.session made.tx ≡ slot → IsPending slot ops long → IsReadyCommit m made
-    by_slot None found p = absurd p
-    by_slot (Some one) found p =
-        let i : IsMadeOf m made one.ops (element_text_len (commit_change m made.moment one)) = subst (IsMadeOf m made one.ops) (p.long made.moment) (subst (λ x. IsMadeOf m made x long) p.given is) in
+    by_content : (content : Option Transaction) → own m.tx_slots made.session made.tx ≡ content → IsPending content ops long → IsReadyCommit m made
+    by_content None found p = absurd p
+    by_content (Some one) found p =
+        let i : IsMadeOf m made one.ops (element_encoded_len (commit_change m made.moment one)) = subst (IsMadeOf m made one.ops) (p.long made.moment) (subst (λ x. IsMadeOf m made x long) p.given is) in
         record {
           one = one;
           free = free;
@@ -402,7 +402,7 @@ ready_commit m made ops long free there pending moved is = by_slot (own m.places
           short = subst IsShort (sym i.element) i.short;
           light = i.light;
           trees = i.trees;
-          moved = moved;
+          rebased = rebased;
           roomy = i.roomy;
           room = i.room;
         }
@@ -417,11 +417,11 @@ trims_none m free = record { free = sound m free; next = refl; room = inl refl }
 -- Events that are prepared
 
 -- why one is refused
-pub unready : (m : Machine) (spare : ℕ) (event : Event) (res : Result Ready Refusal) (why : Refusal) → IsErrAnd res (λ e. e ≡ why) → Step m event (reply.Refused why) m → Readies m spare event res
+pub unready : (m : Machine) (spare : ℕ) (event : Event) (res : Result Ready Refusal) (why : Refusal) → IsErrAnd res (λ e. e ≡ why) → Step m event (reply.Refused why) m → PreparesEvent m spare event res
 unready m spare event (Ok x) why h s = absurd h
 unready m spare event (Err e) why h s = subst (λ r. Step m event (reply.Refused r) m) (sym h) s
 
-pub unready_write : (m : Machine) (session moment : ℕ) (op : Op) (res : Result (Option ReadyWrite) Refusal) (why : Refusal) → IsErrAnd res (λ e. e ≡ why) → Step m (event.Write session moment op) (reply.Refused why) m → ReadiesWrite m session moment op res
+pub unready_write : (m : Machine) (session moment : ℕ) (op : Op) (res : Result (Option ReadyWrite) Refusal) (why : Refusal) → IsErrAnd res (λ e. e ≡ why) → Step m (event.Write session moment op) (reply.Refused why) m → PreparesWrite m session moment op res
 unready_write m session moment op (Ok x) why h s = absurd h
 unready_write m session moment op (Err e) why h s = subst (λ r. Step m (event.Write session moment op) (reply.Refused r) m) (sym h) s
 
@@ -430,13 +430,13 @@ unjudged_write m session moment op (Ok x) why h s = absurd h
 unjudged_write m session moment op (Err e) why h s = subst (λ r. Step m (event.Write session moment op) (reply.Refused r) m) (sym h) s
 
 -- a transaction that is active
-pub active_pending : (slot : Option Transaction) (ops : List Op) (long : ℕ) → IsPending slot ops long → inactive_refusal slot ≡ None
+pub active_pending : (content : Option Transaction) (ops : List Op) (long : ℕ) → IsPending content ops long → inactive_refusal content ≡ None
 active_pending None ops long p = absurd p
 active_pending (Some one) ops long p = p.active
 
 -- a transaction without operations commits as nothing
-pub commits_nothing : (o : List TreeMap) (n : ℕ) (a : List Element) (s : List ℕ) (t u : Table) (d r : ℕ) (faulted : Bool) (w : Bounds) → fault (store_of o n a s t d r faulted w) ≡ None → (session moment : ℕ) (tx : Tx) (ops given : List Op) (long : ℕ) → is_open (store_of o n a s t d r faulted w) session ≡ true
-    → IsPending (own t.places session tx) ops long → (length ops == 0) ≡ true → EndsWith t session tx Committed given u → Commits (store_of o n a s t d r faulted w) session tx moment 0 (store_of o n a s u d r faulted w)
+pub commits_nothing : (o : List TreeMap) (n : ℕ) (a : List Element) (s : List ℕ) (t u : Table) (d r : ℕ) (faulted : Bool) (w : StoreBounds) → fault (store_of o n a s t d r faulted w) ≡ None → (session moment : ℕ) (tx : Tx) (ops given : List Op) (long : ℕ) → is_open (store_of o n a s t d r faulted w) session ≡ true
+    → IsPending (own t.tx_slots session tx) ops long → (length ops == 0) ≡ true → EndsWith t session tx Committed given u → CommitsTx (store_of o n a s t d r faulted w) session tx moment 0 (store_of o n a s u d r faulted w)
 commits_nothing o n a s t u d r faulted w free session moment tx ops given long there p none ends =
     let old = store_of o n a s t d r faulted w in
     let mine : IsPendingOf ends.finishes.one ops long = subst (λ x. IsPending x ops long) ends.finishes.found p in
@@ -447,8 +447,8 @@ commits_nothing o n a s t u d r faulted w free session moment tx ops given long 
       one = ends.finishes.one;
       found = found old session tx there ∙ ends.finishes.found;
       free = second (fault old) (commit_refusal_if old moment (Some ends.finishes.one)) None free (second (inactive_refusal (Some ends.finishes.one)) (commit_refusal old moment ends.finishes.one) None mine.active
-          (ap (λ x. cond x None (first_of (refused_if (any_outweighs (trees_now old) (committed old ends.finishes.one) moment) TooLarge) (room_refusal old (element_text_len element)))) empty));
+          (ap (λ x. cond x None (first_of (refused_if (any_outweighs (trees_now old) (committed old ends.finishes.one) moment) TooLarge) (room_refusal old (element_encoded_len element)))) empty));
       numbered = ap (λ x. cond x 0 (last_number old + 1)) (sym empty);
-      next = ap (λ x. record old { places = u.places; begun = x }) begun ∙ ap (λ x. record (cond x old (record old { accepted = a ++ element ∷ []; room = r + room_of element })) { places = u.places }) (sym empty);
+      next = ap (λ x. record old { tx_slots = u.tx_slots; begun = x }) begun ∙ ap (λ x. record (cond x old (record old { accepted = a ++ element ∷ []; room = r + room_of element })) { tx_slots = u.tx_slots }) (sym empty);
       put = ends.finishes.put;
     }

@@ -10,49 +10,49 @@ use Rattle.refusals.specs.declared.refusal.Refusal.{Refusal}
 use Rattle.refusals.specs.declared.refusal.Refusal.TheVariants.{NoSuchHandle, NotActive, NoSeat, NoMemory, TooLarge, Conflict}
 use Rattle.refusals.specs.declared.limits.TheConstants.{MOST_TRANSACTIONS}
 use Rattle.reg_tree.specs.Maps.{TreeMap}
-use Rattle.reg_tree.specs.Texts.{ops_text_len}
+use Rattle.reg_tree.specs.Encodings.{ops_encoded_len}
 use Rattle.reg_tree.specs.Judgement.{legal}
 use Rattle.reg_tree.specs.declared.op.Legality.{Legality}
 use Rattle.reg_tree.specs.declared.op.Legality.TheVariants.{Legal, Opened}
 use Rattle.conflicts.specs.Claims.{claim_of}
 use Rattle.reg_tree.specs.declared.op.Op.{Op}
-use Rattle.store_model.specs.Transactions.{Transaction, Places, Puts, view, is_claimed, at, own, own_if, ended, is_active, inactive_refusal, fresh_transaction, count_held}
-use Rattle.store_model.specs.Acts.{Adds}
-use Rattle.store_model.specs.Machine.{seat_refusal, refused_if, first_of, refusal_by, too_long, added_refusal, added_refusal_if}
+use Rattle.store_model.specs.Transactions.{Transaction, TxSlots, SetsSlot, view, is_claimed, at, own, own_if, ended, is_active, inactive_refusal, fresh_transaction, count_held}
+use Rattle.store_model.specs.Acts.{AddsOp}
+use Rattle.store_model.specs.Machine.{slot_refusal, refused_if, first_of, refusal_by, too_long, added_refusal, added_refusal_if}
 use Rattle.store_model.specs.declared.handle.Tx.{Tx}
 use Rattle.store_model.specs.declared.handle.Outcome.{Outcome}
 use Rattle.store_model.specs.declared.handle.Outcome.TheVariants.{RolledBack}
 use Rattle.transactions.specs.Tables.{Table, EndsWith, Begins, Writes, rolled_back_if}
-use Rattle.transactions.specs.Entries.{transaction_of, places_of, IsEntry, IsViewed, IsJudged, IsJudgedBy, IsJudgedOf, MayAdd, AddsTo, with_op_if, judge_refusal, illegal}
+use Rattle.transactions.specs.Entries.{transaction_of, tx_slots_of, IsEntry, IsViewed, IsJudged, IsJudgedBy, IsJudgedOf, MayAdd, AddsTo, with_op_if, judge_refusal, illegal}
 use Rattle.transactions.specs.declared.entry.Entry.{Entry}
-use Rattle.transactions.specs.declared.table.Written.{Written}
+use Rattle.transactions.specs.declared.table.TxWriteOutcome.{TxWriteOutcome}
 use Rattle.transactions.specs.declared.view.Judged.{Judged}
-use Rattle.transactions.proofs.Slots.{slot, at_of, puts}
+use Rattle.transactions.proofs.Slots.{content, at_of, puts}
 use Rattle.transactions.proofs.Kept.{at_slot}
 
 -- what a table with these slots shows
 abbrev pub shown : List TreeMap → ℕ → ℕ → List (Option Entry) → Table
-shown trees number begun slots = record { trees = trees; number = number; places = places_of slots; begun = begun }
+shown trees number begun slots = record { trees = trees; number = number; tx_slots = tx_slots_of slots; begun = begun }
 
 -- the transaction of a handle
-pub own_found : (slots : List (Option Entry)) (session : ℕ) (tx : Tx) (e : Entry) → slot slots tx.place ≡ Some e → (e.session == session && e.generation == tx.generation) ≡ true → own (places_of slots) session tx ≡ Some (transaction_of e)
-own_found slots session tx e there its = ap (own_if session tx.generation) (at_slot slots tx.place e there) ∙ ap (λ b. cond b (Some (transaction_of e)) None) its
+pub own_found : (slots : List (Option Entry)) (session : ℕ) (tx : Tx) (e : Entry) → content slots tx.slot ≡ Some e → (e.session == session && e.generation == tx.generation) ≡ true → own (tx_slots_of slots) session tx ≡ Some (transaction_of e)
+own_found slots session tx e there its = ap (own_if session tx.generation) (at_slot slots tx.slot e there) ∙ ap (λ b. cond b (Some (transaction_of e)) None) its
 
-pub own_none : (slots : List (Option Entry)) (session : ℕ) (tx : Tx) → slot slots tx.place ≡ None → own (places_of slots) session tx ≡ None
-own_none slots session tx none = ap (own_if session tx.generation) (at_of slots tx.place ∙ ap (option_map transaction_of) none)
+pub own_none : (slots : List (Option Entry)) (session : ℕ) (tx : Tx) → content slots tx.slot ≡ None → own (tx_slots_of slots) session tx ≡ None
+own_none slots session tx none = ap (own_if session tx.generation) (at_of slots tx.slot ∙ ap (option_map transaction_of) none)
 
 -- an active transaction may be ended, and no other
 pub may_end : (one : Transaction) → is_active one ≡ true → inactive_refusal (Some one) ≡ None
 may_end one active = ap (λ b. cond b None (Some NotActive)) active
 
 -- a handle that passes its test is that of the active transaction at its place
-module _ (slots : List (Option Entry)) (session : ℕ) (tx : Tx) (passes : inactive_refusal (own (places_of slots) session tx) ≡ None) where
-  pub never_missing : slot slots tx.place ≡ None → ⊥
+module _ (slots : List (Option Entry)) (session : ℕ) (tx : Tx) (passes : inactive_refusal (own (tx_slots_of slots) session tx) ≡ None) where
+  pub never_missing : content slots tx.slot ≡ None → ⊥
   never_missing none = none-some NoSuchHandle (sym passes ∙ ap inactive_refusal (own_none slots session tx none))
 
-  module _ (e : Entry) (there : slot slots tx.place ≡ Some e) where
+  module _ (e : Entry) (there : content slots tx.slot ≡ Some e) where
     pub its_own : ((e.session == session && e.generation == tx.generation) ≡ true) × (is_active (transaction_of e) ≡ true)
-    its_own = by_case (e.session == session && e.generation == tx.generation) refl (sym (ap inactive_refusal (ap (own_if session tx.generation) (at_slot slots tx.place e there))) ∙ passes)
+    its_own = by_case (e.session == session && e.generation == tx.generation) refl (sym (ap inactive_refusal (ap (own_if session tx.generation) (at_slot slots tx.slot e there))) ∙ passes)
       where
         active : (b : Bool) → cond b None (Some NotActive) ≡ None → b ≡ true
         active true h = refl
@@ -63,7 +63,7 @@ module _ (slots : List (Option Entry)) (session : ℕ) (tx : Tx) (passes : inact
         by_case true t h = (t, active (is_active (transaction_of e)) h)
         by_case false t h = absurd (none-some NoSuchHandle (sym h))
 
-    pub own_is : own (places_of slots) session tx ≡ Some (transaction_of e)
+    pub own_is : own (tx_slots_of slots) session tx ≡ Some (transaction_of e)
     own_is = own_found slots session tx e there its_own.0
 
 -- where there are no operations
@@ -75,133 +75,133 @@ pub ended_entry : (trees : List TreeMap) (number begun : ℕ) (e after : Entry) 
     IsEntry trees number begun after
 ended_entry trees number begun e after outcome i kept length unseen = record {
   known = omega (arith, i.known, ap (λ (t : Transaction). t.generation) kept);
-  counted = length ∙ ap (λ (ops : List Op). 16 + ops_text_len ops) (sym (ap (λ (t : Transaction). t.ops) kept));
+  counted = length ∙ ap (λ (ops : List Op). 16 + ops_encoded_len ops) (sym (ap (λ (t : Transaction). t.ops) kept));
   short = omega (arith, length);
   spare = λ some. absurd (none_some _ (ap (λ (t : Transaction). t.ops) kept) some);
   viewed = subst (IsViewed trees number after.ops.items) (sym unseen) tt;
 }
 
 -- a transaction ends
-pub ends : (trees : List TreeMap) (number begun : ℕ) (old new : Slab Entry) (session : ℕ) (tx : Tx) (outcome : Outcome) (ops : List Op) (e after : Entry) → slot old.slots tx.place ≡ Some e →
-    (e.session == session && e.generation == tx.generation) ≡ true → is_active (transaction_of e) ≡ true → Updates old new tx.place (Some after) → transaction_of after ≡ ended outcome (transaction_of e) → ops ≡ e.ops.items →
+pub ends : (trees : List TreeMap) (number begun : ℕ) (old new : Slab Entry) (session : ℕ) (tx : Tx) (outcome : Outcome) (ops : List Op) (e after : Entry) → content old.slots tx.slot ≡ Some e →
+    (e.session == session && e.generation == tx.generation) ≡ true → is_active (transaction_of e) ≡ true → Updates old new tx.slot (Some after) → transaction_of after ≡ ended outcome (transaction_of e) → ops ≡ e.ops.items →
     EndsWith (shown trees number begun old.slots) session tx outcome ops (shown trees number begun new.slots)
 ends trees number begun old new session tx outcome ops e after there its active u kept given = record {
   finishes = record {
     one = transaction_of e;
     found = own_found old.slots session tx e there its;
     active = may_end (transaction_of e) active;
-    put = subst (λ t. Puts (places_of old.slots) (places_of new.slots) tx.place (Some t)) kept (puts old new tx.place (Some after) u);
+    put = subst (λ t. SetsSlot (tx_slots_of old.slots) (tx_slots_of new.slots) tx.slot (Some t)) kept (puts old new tx.slot (Some after) u);
   };
   given = given;
   next = refl;
 }
 
 -- a transaction is begun
-pub begins : (trees : List TreeMap) (number begun : ℕ) (old new : Slab Entry) (session : ℕ) (id : List ℕ) (place : ℕ) (e : Entry) → seat_refusal (places_of old.slots) begun ≡ None → slot old.slots place ≡ None →
-    Updates old new place (Some e) → transaction_of e ≡ fresh_transaction session id (begun + 1) → Begins (shown trees number begun old.slots) session id (record { place = place; generation = begun + 1 }) (shown trees number (begun + 1) new.slots)
-begins trees number begun old new session id place e free vacant u kept = record {
+pub begins : (trees : List TreeMap) (number begun : ℕ) (old new : Slab Entry) (session : ℕ) (id : List ℕ) (slot : ℕ) (e : Entry) → slot_refusal (tx_slots_of old.slots) begun ≡ None → content old.slots slot ≡ None →
+    Updates old new slot (Some e) → transaction_of e ≡ fresh_transaction session id (begun + 1) → Begins (shown trees number begun old.slots) session id (record { slot = slot; generation = begun + 1 }) (shown trees number (begun + 1) new.slots)
+begins trees number begun old new session id slot e free vacant u kept = record {
   free = free;
   starts = record {
-    vacant = at_of old.slots place ∙ ap (option_map transaction_of) vacant;
+    vacant = at_of old.slots slot ∙ ap (option_map transaction_of) vacant;
     numbered = refl;
-    put = subst (λ t. Puts (places_of old.slots) (places_of new.slots) place (Some t)) kept (puts old new place (Some e) u);
+    put = subst (λ t. SetsSlot (tx_slots_of old.slots) (tx_slots_of new.slots) slot (Some t)) kept (puts old new slot (Some e) u);
   };
   next = refl;
 }
 
 -- as many transactions are held as entries
-as_long : (key : ℕ) (slots : List (Option Entry)) → length (entries_from key (places_of slots)) ≡ length (entries_from key slots)
+as_long : (key : ℕ) (slots : List (Option Entry)) → length (entries_from key (tx_slots_of slots)) ≡ length (entries_from key slots)
 as_long key [] = refl
 as_long key (None ∷ slots) = as_long (key + 1) slots
 as_long key (Some e ∷ slots) = ap suc (as_long (key + 1) slots)
 
-count_shown : (slots : List (Option Entry)) → count_held (places_of slots) ≡ count_by is_some slots
-count_shown slots = sym (length-entries_from 0 (places_of slots)) ∙ as_long 0 slots ∙ length-entries_from 0 slots
+count_shown : (slots : List (Option Entry)) → count_held (tx_slots_of slots) ≡ count_by is_some slots
+count_shown slots = sym (length-entries_from 0 (tx_slots_of slots)) ∙ as_long 0 slots ∙ length-entries_from 0 slots
 
 seats : (held begun : ℕ) (few left : Bool) → nat_le MOST_TRANSACTIONS held ≡ few → nat_le (2 ^ 64 - 1) begun ≡ left → (nat_le MOST_TRANSACTIONS held || nat_le (2 ^ 64 - 1) begun) ≡ (few || left)
 seats held begun few left e f = ap (λ b. b || nat_le (2 ^ 64 - 1) begun) e ∙ ap (λ b. few || b) f
 
 module _ (begun : ℕ) (slots : List (Option Entry)) (held : ℕ) (counted : held ≡ count_by is_some slots) where
-  by_count : seat_refusal (places_of slots) begun ≡ refused_if (nat_le MOST_TRANSACTIONS held || nat_le (2 ^ 64 - 1) begun) NoSeat
+  by_count : slot_refusal (tx_slots_of slots) begun ≡ refused_if (nat_le MOST_TRANSACTIONS held || nat_le (2 ^ 64 - 1) begun) NoSeat
   by_count = ap (λ n. refused_if (nat_le MOST_TRANSACTIONS n || nat_le (2 ^ 64 - 1) begun) NoSeat) (count_shown slots ∙ sym counted)
 
-  pub some_seat : held < MOST_TRANSACTIONS → begun + 1 < 2 ^ 64 → seat_refusal (places_of slots) begun ≡ None
+  pub some_seat : held < MOST_TRANSACTIONS → begun + 1 < 2 ^ 64 → slot_refusal (tx_slots_of slots) begun ≡ None
   some_seat few below = by_count ∙ ap (λ b. refused_if b NoSeat) (seats held begun false false (lt-leb MOST_TRANSACTIONS held few) (lt-leb (2 ^ 64 - 1) begun (omega (arith, below))))
 
-  pub no_seat : MOST_TRANSACTIONS ≤ held → seat_refusal (places_of slots) begun ≡ Some NoSeat
+  pub no_seat : MOST_TRANSACTIONS ≤ held → slot_refusal (tx_slots_of slots) begun ≡ Some NoSeat
   no_seat many = by_count ∙ ap (λ b. refused_if b NoSeat) (ap (λ b. b || nat_le (2 ^ 64 - 1) begun) (le-leb MOST_TRANSACTIONS held many))
 
-  pub none_left : held < MOST_TRANSACTIONS → 2 ^ 64 ≤ begun + 1 → seat_refusal (places_of slots) begun ≡ Some NoSeat
+  pub none_left : held < MOST_TRANSACTIONS → 2 ^ 64 ≤ begun + 1 → slot_refusal (tx_slots_of slots) begun ≡ Some NoSeat
   none_left few many = by_count ∙ ap (λ b. refused_if b NoSeat) (seats held begun false true (lt-leb MOST_TRANSACTIONS held few) (le-leb (2 ^ 64 - 1) begun (omega (arith, many))))
 
 -- a slab with more room has the same entries
 pub updates_of : (s r new : Slab Entry) (key : ℕ) (entry : Option Entry) → r ≡ record s { capacity = r.capacity } → Updates r new key entry → Updates s new key entry
-updates_of s r new key entry same u = record { changed = u.changed; others = λ other ne. u.others other ne ∙ ap (λ (x : Slab Entry). slot x.slots other) same }
+updates_of s r new key entry same u = record { changed = u.changed; others = λ other ne. u.others other ne ∙ ap (λ (x : Slab Entry). content x.slots other) same }
 
-pub slot_of : (s r : Slab Entry) (key : ℕ) (entry : Option Entry) → r ≡ record s { capacity = r.capacity } → slot r.slots key ≡ entry → slot s.slots key ≡ entry
-slot_of s r key entry same there = sym (ap (λ (x : Slab Entry). slot x.slots key) same) ∙ there
+pub slot_of : (s r : Slab Entry) (key : ℕ) (entry : Option Entry) → r ≡ record s { capacity = r.capacity } → content r.slots key ≡ entry → content s.slots key ≡ entry
+slot_of s r key entry same there = sym (ap (λ (x : Slab Entry). content x.slots key) same) ∙ there
 
 -- a transaction that is begun
 pub begun_entry : (trees : List TreeMap) (number begun : ℕ) (session : ℕ) (id : List ℕ) (e : Entry) → transaction_of e ≡ fresh_transaction session id begun → e.length ≡ 16 → e.view ≡ None → IsEntry trees number begun e
 begun_entry trees number begun session id e kept length unseen = record {
   known = omega (arith, ap (λ (t : Transaction). t.generation) kept);
-  counted = length ∙ ap (λ (ops : List Op). 16 + ops_text_len ops) (sym (ap (λ (t : Transaction). t.ops) kept));
+  counted = length ∙ ap (λ (ops : List Op). 16 + ops_encoded_len ops) (sym (ap (λ (t : Transaction). t.ops) kept));
   short = omega (arith, length);
   spare = λ some. absurd (none_some _ (ap (λ (t : Transaction). t.ops) kept) some);
   viewed = subst (IsViewed trees number e.ops.items) (sym unseen) tt;
 }
 
 -- an active transaction is rolled back
-pub rolled_back_put : (old new : Slab Entry) (place : ℕ) (e after : Entry) → slot old.slots place ≡ Some e → is_active (transaction_of e) ≡ true → Updates old new place (Some after) → transaction_of after ≡ ended RolledBack (transaction_of e) →
-    Puts (places_of old.slots) (places_of new.slots) place (rolled_back_if true (at (places_of old.slots) place))
-rolled_back_put old new place e after there active u kept =
-    subst (Puts (places_of old.slots) (places_of new.slots) place) (ap Some (kept ∙ sym (ap (λ b. cond b (ended RolledBack (transaction_of e)) (transaction_of e)) active)) ∙ sym (ap (rolled_back_if true) (at_slot old.slots place e there))) (puts old new place (Some after) u)
+pub rolled_back_put : (old new : Slab Entry) (slot : ℕ) (e after : Entry) → content old.slots slot ≡ Some e → is_active (transaction_of e) ≡ true → Updates old new slot (Some after) → transaction_of after ≡ ended RolledBack (transaction_of e) →
+    SetsSlot (tx_slots_of old.slots) (tx_slots_of new.slots) slot (rolled_back_if true (at (tx_slots_of old.slots) slot))
+rolled_back_put old new slot e after there active u kept =
+    subst (SetsSlot (tx_slots_of old.slots) (tx_slots_of new.slots) slot) (ap Some (kept ∙ sym (ap (λ b. cond b (ended RolledBack (transaction_of e)) (transaction_of e)) active)) ∙ sym (ap (rolled_back_if true) (at_slot old.slots slot e there))) (puts old new slot (Some after) u)
 
 -- what the view says of an operation is what the table says
-pub judge_ok : (table : Table) (session : ℕ) (tx : Tx) (op : Op) (one : Transaction) → own table.places session tx ≡ Some one → is_active one ≡ true → (r : Result (Option Judged) Refusal) →
+pub judge_ok : (table : Table) (session : ℕ) (tx : Tx) (op : Op) (one : Transaction) → own table.tx_slots session tx ≡ Some one → is_active one ≡ true → (r : Result (Option Judged) Refusal) →
     IfOk r (IsJudged table.trees table.number one op) → IfOk r (IsJudgedOf table session tx op)
 judge_ok table session tx op one its active (Ok judged) h =
     (subst (λ o. IfSome o (IsJudgedBy table.trees table.number op judged)) (sym its) record { active = active; told = h }, subst IsSome (sym its) refl)
 judge_ok table session tx op one its active (Err why) h = tt
 
 -- so an operation that was judged may be added
-pub may_add : (table : Table) (session : ℕ) (tx : Tx) (op : Op) (judged : Judged) → IsJudgedOf table session tx op (Some judged) → MayAdd table tx.place op judged.made
-may_add table session tx op judged h = by_place (at table.places tx.place) refl h.0 h.1
+pub may_add : (table : Table) (session : ℕ) (tx : Tx) (op : Op) (judged : Judged) → IsJudgedOf table session tx op (Some judged) → MayAdd table tx.slot op judged.made
+may_add table session tx op judged h = by_place (at table.tx_slots tx.slot) refl h.0 h.1
   where
-    by_place : (o : Option Transaction) → at table.places tx.place ≡ o → IfSome (own_if session tx.generation o) (IsJudgedBy table.trees table.number op (Some judged)) → IsSome (own_if session tx.generation o) → MayAdd table tx.place op judged.made
+    by_place : (o : Option Transaction) → at table.tx_slots tx.slot ≡ o → IfSome (own_if session tx.generation o) (IsJudgedBy table.trees table.number op (Some judged)) → IsSome (own_if session tx.generation o) → MayAdd table tx.slot op judged.made
     by_place None there told some = cc
     by_place (Some one) there told some = by_test (one.session == session && one.generation == tx.generation) told some
       where
-        by_test : (b : Bool) → IfSome (cond b (Some one) None) (IsJudgedBy table.trees table.number op (Some judged)) → IsSome (cond b (Some one) None) → MayAdd table tx.place op judged.made
+        by_test : (b : Bool) → IfSome (cond b (Some one) None) (IsJudgedBy table.trees table.number op (Some judged)) → IsSome (cond b (Some one) None) → MayAdd table tx.slot op judged.made
         by_test true told some = record { one = one; there = there; active = told.active; short = told.told.short; numbered = told.told.numbered; seen = told.told.seen }
         by_test false told some = cc
 
 -- and once it was, it is its transaction's last
-pub adds : (old new : Table) (session : ℕ) (tx : Tx) (moment : ℕ) (op : Op) (judged : Judged) (r : Result Written Refusal) → IsJudgedOf old session tx op (Some judged) → IfOk r (AddsTo old tx.place moment op judged.levels new) → IfOk r (λ written. Writes old session tx moment op written new)
+pub adds : (old new : Table) (session : ℕ) (tx : Tx) (moment : ℕ) (op : Op) (judged : Judged) (r : Result TxWriteOutcome Refusal) → IsJudgedOf old session tx op (Some judged) → IfOk r (AddsTo old tx.slot moment op judged.levels new) → IfOk r (λ written. Writes old session tx moment op written new)
 adds old new session tx moment op judged (Err why) j a = tt
-adds old new session tx moment op judged (Ok written) j a = subst (λ w. Writes old session tx moment op w new) (sym a.0) (by_place (at old.places tx.place) refl j.0 j.1, a.2)
+adds old new session tx moment op judged (Ok written) j a = subst (λ w. Writes old session tx moment op w new) (sym a.0) (by_place (at old.tx_slots tx.slot) refl j.0 j.1, a.2)
   where
-    by_place : (o : Option Transaction) → at old.places tx.place ≡ o → IfSome (own_if session tx.generation o) (IsJudgedBy old.trees old.number op (Some judged)) → IsSome (own_if session tx.generation o) → Adds old.trees old.places (own_if session tx.generation (at old.places tx.place)) tx.place moment op judged.levels new.places
+    by_place : (o : Option Transaction) → at old.tx_slots tx.slot ≡ o → IfSome (own_if session tx.generation o) (IsJudgedBy old.trees old.number op (Some judged)) → IsSome (own_if session tx.generation o) → AddsOp old.trees old.tx_slots (own_if session tx.generation (at old.tx_slots tx.slot)) tx.slot moment op judged.levels new.tx_slots
     by_place None there told some = cc
     by_place (Some one) there told some = by_test (one.session == session && one.generation == tx.generation) refl told some
       where
-        by_test : (b : Bool) → (one.session == session && one.generation == tx.generation) ≡ b → IfSome (cond b (Some one) None) (IsJudgedBy old.trees old.number op (Some judged)) → IsSome (cond b (Some one) None) → Adds old.trees old.places (own_if session tx.generation (at old.places tx.place)) tx.place moment op judged.levels new.places
+        by_test : (b : Bool) → (one.session == session && one.generation == tx.generation) ≡ b → IfSome (cond b (Some one) None) (IsJudgedBy old.trees old.number op (Some judged)) → IsSome (cond b (Some one) None) → AddsOp old.trees old.tx_slots (own_if session tx.generation (at old.tx_slots tx.slot)) tx.slot moment op judged.levels new.tx_slots
         by_test true its told some = record {
           one = one;
           found = ap (own_if session tx.generation) there ∙ ap (λ b. cond b (Some one) None) its;
-          free = ap (λ o. first_of o (added_refusal old.trees old.places tx.place op one)) (may_end one told.active)
-              ∙ ap (λ l. refusal_by l (first_of (refused_if (too_long one op) TooLarge) (refused_if (is_claimed old.places tx.place (claim_of op)) Conflict))) told.told.is_legal
-              ∙ ap (λ b. first_of (refused_if b TooLarge) (refused_if (is_claimed old.places tx.place (claim_of op)) Conflict)) told.told.short
+          free = ap (λ o. first_of o (added_refusal old.trees old.tx_slots tx.slot op one)) (may_end one told.active)
+              ∙ ap (λ l. refusal_by l (first_of (refused_if (too_long one op) TooLarge) (refused_if (is_claimed old.tx_slots tx.slot (claim_of op)) Conflict))) told.told.is_legal
+              ∙ ap (λ b. first_of (refused_if b TooLarge) (refused_if (is_claimed old.tx_slots tx.slot (claim_of op)) Conflict)) told.told.short
               ∙ ap (λ b. refused_if b Conflict) a.1;
           is_legal = told.told.is_legal;
           made = told.told.made;
-          put = subst (λ (o : Option Transaction). Puts old.places new.places tx.place (with_op_if op moment o)) there a.3;
+          put = subst (λ (o : Option Transaction). SetsSlot old.tx_slots new.tx_slots tx.slot (with_op_if op moment o)) there a.3;
         }
         by_test false its told some = cc
 
-pub judge_refused : (table : Table) (session : ℕ) (tx : Tx) (op : Op) (one : Transaction) → own table.places session tx ≡ Some one → is_active one ≡ true → (r : Result (Option Judged) Refusal) →
+pub judge_refused : (table : Table) (session : ℕ) (tx : Tx) (op : Op) (one : Transaction) → own table.tx_slots session tx ≡ Some one → is_active one ≡ true → (r : Result (Option Judged) Refusal) →
     IfErr r (λ why. (illegal table.trees op one ≡ Some why) ⊎ (why ≡ NoMemory)) →
-    IfErr r (λ why. (judge_refusal table.trees op (own table.places session tx) ≡ Some why) ⊎ (why ≡ NoMemory))
+    IfErr r (λ why. (judge_refusal table.trees op (own table.tx_slots session tx) ≡ Some why) ⊎ (why ≡ NoMemory))
 judge_refused table session tx op one its active (Ok judged) h = tt
 judge_refused table session tx op one its active (Err why) h = elim h [
   | inl e ↦ inl (ap (judge_refusal table.trees op) its ∙ ap (λ first. first_of first (illegal table.trees op one)) (may_end one active) ∙ e)
@@ -209,9 +209,9 @@ judge_refused table session tx op one its active (Err why) h = elim h [
 ]
 
 -- a handle that doesn't pass its test adds nothing
-pub unadded : (trees : List TreeMap) (places : Places) (place : ℕ) (op : Op) (its : Option Transaction) (why : Refusal) → inactive_refusal its ≡ Some why → added_refusal_if trees places place op its ≡ Some why
-unadded trees places place op None why e = e
-unadded trees places place op (Some one) why e = ap (λ first. first_of first (added_refusal trees places place op one)) e
+pub unadded : (trees : List TreeMap) (tx_slots : TxSlots) (slot : ℕ) (op : Op) (its : Option Transaction) (why : Refusal) → inactive_refusal its ≡ Some why → added_refusal_if trees tx_slots slot op its ≡ Some why
+unadded trees tx_slots slot op None why e = e
+unadded trees tx_slots slot op (Some one) why e = ap (λ first. first_of first (added_refusal trees tx_slots slot op one)) e
 
 first_same : (first : Option Refusal) (l : Result Legality Refusal) (near further : Option Refusal) (why : Refusal) → first_of first (refusal_by l near) ≡ Some why → first_of first (refusal_by l (first_of near further)) ≡ Some why
 first_same (Some x) l near further why e = e
@@ -221,6 +221,6 @@ first_same None (Ok Legal) (Some x) further why e = e
 first_same None (Ok Legal) None further why e = absurd (none-some why e)
 
 -- a refusal of the judgement is one of the write
-pub judged_refused : (trees : List TreeMap) (places : Places) (place : ℕ) (op : Op) (there : Option Transaction) (why : Refusal) → judge_refusal trees op there ≡ Some why → added_refusal_if trees places place op there ≡ Some why
-judged_refused trees places place op None why e = e
-judged_refused trees places place op (Some one) why e = first_same (inactive_refusal (Some one)) (legal (view trees one) op) (refused_if (too_long one op) TooLarge) (refused_if (is_claimed places place (claim_of op)) Conflict) why e
+pub judged_refused : (trees : List TreeMap) (tx_slots : TxSlots) (slot : ℕ) (op : Op) (there : Option Transaction) (why : Refusal) → judge_refusal trees op there ≡ Some why → added_refusal_if trees tx_slots slot op there ≡ Some why
+judged_refused trees tx_slots slot op None why e = e
+judged_refused trees tx_slots slot op (Some one) why e = first_same (inactive_refusal (Some one)) (legal (view trees one) op) (refused_if (too_long one op) TooLarge) (refused_if (is_claimed tx_slots slot (claim_of op)) Conflict) why e

@@ -17,7 +17,7 @@ use Rattle.reg_tree.specs.declared.tree.Info.{Info}
 use Rattle.reg_tree.specs.Judgement.{judged, legal, legal_if, legal_after, changed, applied, applied_one, outweighs, outweighs_if, any_outweighs}
 use Rattle.reg_tree.specs.Operations.{hive_of}
 use Rattle.reg_tree.specs.Sequences.{AreTrees}
-use Rattle.reg_tree.specs.Stamps.{time_in, home_of, stamped}
+use Rattle.reg_tree.specs.Stamps.{time_in, touched_path_of, stamped}
 use Rattle.reg_tree.specs.Times.{untimed, SameButTimes}
 use Rattle.reg_tree.specs.declared.op.Op.{Op}
 use Rattle.reg_tree.specs.declared.op.Op.TheVariants.{CreateKey, DeleteKey, SetValue, DeleteValue}
@@ -28,12 +28,12 @@ use Rattle.reg_tree.proofs.OthersStay.{one_by_one, trees_stay_one}
 use Rattle.conflicts.specs.Skeleton as law
 use Rattle.conflicts.proofs.Tests.{conflict_sym}
 use Rattle.conflicts.specs.Claims.{claim_of, meets}
-use Rattle.conflicts.specs.Skeletons.{judged_in, judged_if, AreCarriedOut, AreApart, MakesAlike, IsBeside}
+use Rattle.conflicts.specs.TreeOutlines.{judged_in, judged_if, AreCarriedOut, OpsDontConflict, MakesAlike, IsBeside}
 use Rattle.conflicts.proofs.StaysLegal.{more, one_more, any_moment}
 use Rattle.conflicts.proofs.Meets.{conflict_meets}
 use Rattle.store_model.specs.Machine.{too_long}
-use Rattle.store_model.specs.Transactions.{Transaction, Places, at, is_active, holds, view}
-use Rattle.transactions.specs.Entries.{IsMade, AreCarried, AreAfter, AreLight, AreKnown, IsViewNow, IsViewed, WritesView, MovesView, IsTimed, KeepsTimes, StaysView, IsLegalIn, IsMovedTo, AreMoved, moment_of}
+use Rattle.store_model.specs.Transactions.{Transaction, TxSlots, at, is_active, holds, view}
+use Rattle.transactions.specs.Entries.{IsMade, AreCarried, AreAfter, AreLight, AreKnown, IsViewNow, IsViewed, WritesView, IsRebasedBy, IsTimed, KeepsTimes, StaysViewAfter, IsLegalIn, IsRebasedTo, AreRebased, moment_of}
 use Rattle.transactions.specs.Tables.{MeetNone}
 use Rattle.transactions.specs.declared.view.Judged.{Judged}
 use Rattle.transactions.specs.declared.view.View.{View}
@@ -77,7 +77,7 @@ none_heavy now (o ∷ ops) op moment light last = by_first (outweighs now o mome
     by_first false none rest = rest none
 
 -- the view after one operation more
-pub written_view : (now : List TreeMap) (ops : List Op) (view made : View) (op : Op) → IsViewNow now ops view → legal view.trees op ≡ Ok Legal → made ≡ record view { trees = applied_one view.trees op (moment_of view.moment); unasked = made.unasked } →
+pub written_view : (now : List TreeMap) (ops : List Op) (view made : View) (op : Op) → IsViewNow now ops view → legal view.trees op ≡ Ok Legal → made ≡ record view { trees = applied_one view.trees op (moment_of view.moment); ops_since_read = made.ops_since_read } →
     IsViewNow now (ops ++ op ∷ []) made
 written_view now ops view made op is allowed written = subst (IsViewNow now (ops ++ op ∷ [])) (sym written) record {
   made = by_moment view.moment view.trees is.made;
@@ -109,13 +109,13 @@ OnceInOrder Then = (trees : List TreeMap) (ops : List Op) (change : Op) (m n : �
 
 pub record EitherOrder : Type 0 where
   pub exact : (trees : List TreeMap) (ops : List Op) (change : Op) (m : ℕ) → IsBeside trees ops change m → applied_one (applied trees ops m) change m ≡ applied (applied_one trees change m) ops m
-  pub unwritten : OnceInOrder (λ trees change m n seen all. (time_in seen (hive_of change) (home_of change (levels_made seen change)) ≡ Some m → ⊥) → applied_one seen change n ≡ all)
-  pub written : OnceInOrder (λ trees change m n seen all. time_in seen (hive_of change) (home_of change (levels_made seen change)) ≡ Some m → (time_in trees (hive_of change) (home_of change (levels_made seen change)) ≡ Some m → ⊥) →
-      stamped (applied_one seen change n) (hive_of change) (home_of change (levels_made seen change)) m ≡ all)
+  pub unwritten : OnceInOrder (λ trees change m n seen all. (time_in seen (hive_of change) (touched_path_of change (levels_made seen change)) ≡ Some m → ⊥) → applied_one seen change n ≡ all)
+  pub written : OnceInOrder (λ trees change m n seen all. time_in seen (hive_of change) (touched_path_of change (levels_made seen change)) ≡ Some m → (time_in trees (hive_of change) (touched_path_of change (levels_made seen change)) ≡ Some m → ⊥) →
+      stamped (applied_one seen change n) (hive_of change) (touched_path_of change (levels_made seen change)) m ≡ all)
   pub but_for_times : (trees seen : List TreeMap) (ops : List Op) (change : Op) (m n k l : ℕ) → IsBeside trees ops change m → SameButTimes seen (applied trees ops m) → SameButTimes (applied_one seen change n) (applied (applied_one trees change k) ops l)
 
 abbrev pub StaysLegal : Type 0
-StaysLegal = (trees : List TreeMap) (first ops : List Op) (m n k : ℕ) → AreTrees trees → AreApart first ops → AreCarriedOut trees ops m → AreCarriedOut (applied trees first n) ops k
+StaysLegal = (trees : List TreeMap) (first ops : List Op) (m n k : ℕ) → AreTrees trees → OpsDontConflict first ops → AreCarriedOut trees ops m → AreCarriedOut (applied trees first n) ops k
 
 alike_made : (change : Op) (trees others : List TreeMap) → levels_made trees change ≡ levels_made others change → MakesAlike change trees others
 alike_made (CreateKey hive path) trees others e = e
@@ -123,7 +123,7 @@ alike_made (DeleteKey hive path) trees others e = tt
 alike_made (SetValue hive path name kind bytes) trees others e = tt
 alike_made (DeleteValue hive path name) trees others e = tt
 
-apart_back : (ops : List Op) (change : Op) → AreApart ops (change ∷ []) → AllByRecursion (λ b. law.Conflict (claim_of change) (claim_of b) → ⊥) ops
+apart_back : (ops : List Op) (change : Op) → OpsDontConflict ops (change ∷ []) → AllByRecursion (λ b. law.Conflict (claim_of change) (claim_of b) → ⊥) ops
 apart_back [] change apart = tt
 apart_back (op ∷ ops) change apart = (λ c. apart.0.0 (conflict_sym (claim_of change) (claim_of op) c), apart_back ops change apart.1)
 
@@ -149,7 +149,7 @@ known_carried now ops moment Carried some k = k
 known_carried now ops moment Light some k = k.0
 
 -- the view after a change that meets no claim of the operations
-pub moved_view : EitherOrder → StaysLegal → (now : List TreeMap) (ops : List Op) (view after : View) (op : Op) (number moment : ℕ) → IsViewNow now ops view → AreApart ops (op ∷ []) → judged_in now op ≡ Ok Legal → MovesView view now op moment number after →
+pub moved_view : EitherOrder → StaysLegal → (now : List TreeMap) (ops : List Op) (view after : View) (op : Op) (number moment : ℕ) → IsViewNow now ops view → OpsDontConflict ops (op ∷ []) → judged_in now op ≡ Ok Legal → IsRebasedBy view now op moment number after →
     IsViewNow (applied_one now op moment) ops after
 moved_view either stays now ops view after op number moment is apart allowed moves =
     record {
@@ -215,7 +215,7 @@ all_parts : (P : Op → Type 0) (front : List Op) (op : Op) → AllByRecursion P
 all_parts P [] op h = (tt, h.0)
 all_parts P (o ∷ front) op h = let rest = all_parts P front op h.1 in ((h.0, rest.0), rest.1)
 
-apart_parts : (ops front : List Op) (op : Op) → AreApart ops (front ++ op ∷ []) → AreApart ops front × AreApart ops (op ∷ [])
+apart_parts : (ops front : List Op) (op : Op) → OpsDontConflict ops (front ++ op ∷ []) → OpsDontConflict ops front × OpsDontConflict ops (op ∷ [])
 apart_parts [] front op h = (tt, tt)
 apart_parts (o ∷ ops) front op h =
     let here = all_parts (λ b. law.Conflict (claim_of o) (claim_of b) → ⊥) front op h.0 in
@@ -233,21 +233,21 @@ carried_last now [] op m c = c.0
 carried_last now (o ∷ front) op m c = carried_last (applied_one now o m) front op m c.1
 
 -- a view past one operation more of a change
-pub stays_more : EitherOrder → StaysLegal → (now trees : List TreeMap) (front done : List Op) (op : Op) (m number : ℕ) (view seen after : View) → StaysView now front m view seen → AreCarriedOut now done m → trees ≡ applied now front m → MovesView seen trees op m number after → done ≡ front ++ op ∷ [] →
-    StaysView now done m view after
+pub stays_more : EitherOrder → StaysLegal → (now trees : List TreeMap) (front done : List Op) (op : Op) (m number : ℕ) (view seen after : View) → StaysViewAfter now front m view seen → AreCarriedOut now done m → trees ≡ applied now front m → IsRebasedBy seen trees op m number after → done ≡ front ++ op ∷ [] →
+    StaysViewAfter now done m view after
 stays_more either stays now trees front done op m number view seen after kept carried made moves all = λ ops is apart.
-    let both = apart_parts ops front op (subst (AreApart ops) all apart) in
+    let both = apart_parts ops front op (subst (OpsDontConflict ops) all apart) in
     subst (λ ts. IsViewNow ts ops after) (sym (one_by_one now front (op ∷ []) m) ∙ ap (λ x. applied now x m) (sym all))
     (moved_view either stays (applied now front m) ops seen after op number m (kept ops is both.0) both.1 (carried_last now front op m (subst (λ x. AreCarriedOut now x m) all carried))
-    (subst (λ ts. MovesView seen ts op m number after) made moves))
+    (subst (λ ts. IsRebasedBy seen ts op m number after) made moves))
 
 -- the trees of now after one operation more
 pub trees_more : (now trees made : List TreeMap) (front done : List Op) (op : Op) (m : ℕ) → trees ≡ applied now front m → made ≡ applied_one trees op m → done ≡ front ++ op ∷ [] → made ≡ applied now done m
 trees_more now trees made front done op m before is all = is ∙ ap (λ ts. applied_one ts op m) before ∙ sym (one_by_one now front (op ∷ []) m) ∙ ap (λ x. applied now x m) (sym all)
 
 -- a view that was moved, or none
-pub moved_any : (now : List TreeMap) (number moment : ℕ) (ops change : List Op) (v : View) {E : Type 0} (r : Result (Option View) E) → IsViewNow now ops v → AreApart ops change →
-    IfOk r (λ moved. IfSome moved (λ after. StaysView now change moment v after × (after.number ≡ number + 1))) → IfOk r (IsViewed (applied now change moment) (number + 1) ops)
+pub moved_any : (now : List TreeMap) (number moment : ℕ) (ops change : List Op) (v : View) {E : Type 0} (r : Result (Option View) E) → IsViewNow now ops v → OpsDontConflict ops change →
+    IfOk r (λ rebased. IfSome rebased (λ after. StaysViewAfter now change moment v after × (after.number ≡ number + 1))) → IfOk r (IsViewed (applied now change moment) (number + 1) ops)
 moved_any now number moment ops change v (Ok (Some after)) is apart told = record {
   known = omega (arith, told.1);
   made = λ same. told.0 ops is apart;
@@ -257,19 +257,19 @@ moved_any now number moment ops change v (Err e) is apart told = tt
 
 -- Views by their places
 
-pub none_moved : (now : List TreeMap) (number : ℕ) (there : Option Transaction) → IsMovedTo now number there None
+pub none_moved : (now : List TreeMap) (number : ℕ) (there : Option Transaction) → IsRebasedTo now number there None
 none_moved now number None = tt
 none_moved now number (Some one) = tt
 
 -- where no view was moved
-pub nothing_moved : (now : List TreeMap) (number : ℕ) (places : Places) → AreMoved now number places []
-nothing_moved now number places place = none_moved now number (at places place)
+pub nothing_moved : (now : List TreeMap) (number : ℕ) (tx_slots : TxSlots) → AreRebased now number tx_slots []
+nothing_moved now number tx_slots slot = none_moved now number (at tx_slots slot)
 
-at_next : {A : Type 0} (xs : List A) (x d : A) (place : ℕ) → (slice_index_or (xs ++ x ∷ []) place d ≡ slice_index_or xs place d) ⊎ ((place ≡ length xs) × (slice_index_or (xs ++ x ∷ []) place d ≡ x))
+at_next : {A : Type 0} (xs : List A) (x d : A) (slot : ℕ) → (slice_index_or (xs ++ x ∷ []) slot d ≡ slice_index_or xs slot d) ⊎ ((slot ≡ length xs) × (slice_index_or (xs ++ x ∷ []) slot d ≡ x))
 at_next [] x d zero = inr (refl, refl)
-at_next [] x d (suc place) = inl refl
+at_next [] x d (suc slot) = inl refl
 at_next (y ∷ xs) x d zero = inl refl
-at_next (y ∷ xs) x d (suc place) = elim (at_next xs x d place) [
+at_next (y ∷ xs) x d (suc slot) = elim (at_next xs x d slot) [
   | inl e ↦ inl e
   | inr h ↦ inr (ap suc h.0, h.1)
 ]
@@ -278,30 +278,30 @@ at_end : {A : Type 0} (xs : List A) (x d : A) → slice_index_or (xs ++ x ∷ []
 at_end [] x d = refl
 at_end (y ∷ xs) x d = at_end xs x d
 
-at_front : {A : Type 0} (xs : List A) (x d : A) (place : ℕ) → (slice_index_or xs place d ≡ slice_index_or (xs ++ x ∷ []) place d) ⊎ (slice_index_or xs place d ≡ d)
-at_front [] x d place = inr refl
+at_front : {A : Type 0} (xs : List A) (x d : A) (slot : ℕ) → (slice_index_or xs slot d ≡ slice_index_or (xs ++ x ∷ []) slot d) ⊎ (slice_index_or xs slot d ≡ d)
+at_front [] x d slot = inr refl
 at_front (y ∷ xs) x d zero = inl refl
-at_front (y ∷ xs) x d (suc place) = at_front xs x d place
+at_front (y ∷ xs) x d (suc slot) = at_front xs x d slot
 
 -- one more
-pub moved_more : (now : List TreeMap) (number : ℕ) (places : Places) (moved : List (Option View)) (one : Option View) (place : ℕ) → length moved ≡ place → AreMoved now number places moved → IsMovedTo now number (at places place) one → AreMoved now number places (moved ++ one ∷ [])
-moved_more now number places moved one place long all its other = elim (at_next moved one None other) [
-  | inl e ↦ subst (IsMovedTo now number (at places other)) (sym e) (all other)
-  | inr h ↦ subst (IsMovedTo now number (at places other)) (sym h.1) (subst (λ p. IsMovedTo now number (at places p) one) (sym (h.0 ∙ long)) its)
+pub moved_more : (now : List TreeMap) (number : ℕ) (tx_slots : TxSlots) (rebased : List (Option View)) (one : Option View) (slot : ℕ) → length rebased ≡ slot → AreRebased now number tx_slots rebased → IsRebasedTo now number (at tx_slots slot) one → AreRebased now number tx_slots (rebased ++ one ∷ [])
+moved_more now number tx_slots rebased one slot long all its other = elim (at_next rebased one None other) [
+  | inl e ↦ subst (IsRebasedTo now number (at tx_slots other)) (sym e) (all other)
+  | inr h ↦ subst (IsRebasedTo now number (at tx_slots other)) (sym h.1) (subst (λ p. IsRebasedTo now number (at tx_slots p) one) (sym (h.0 ∙ long)) its)
 ]
 
 -- one less, and that one
-pub moved_less : (now : List TreeMap) (number : ℕ) (places : Places) (moved : List (Option View)) (one : Option View) → AreMoved now number places (moved ++ one ∷ []) → AreMoved now number places moved
-moved_less now number places moved one all other = elim (at_front moved one None other) [
-  | inl e ↦ subst (IsMovedTo now number (at places other)) (sym e) (all other)
-  | inr e ↦ subst (IsMovedTo now number (at places other)) (sym e) (none_moved now number (at places other))
+pub moved_less : (now : List TreeMap) (number : ℕ) (tx_slots : TxSlots) (rebased : List (Option View)) (one : Option View) → AreRebased now number tx_slots (rebased ++ one ∷ []) → AreRebased now number tx_slots rebased
+moved_less now number tx_slots rebased one all other = elim (at_front rebased one None other) [
+  | inl e ↦ subst (IsRebasedTo now number (at tx_slots other)) (sym e) (all other)
+  | inr e ↦ subst (IsRebasedTo now number (at tx_slots other)) (sym e) (none_moved now number (at tx_slots other))
 ]
 
-pub moved_last : (now : List TreeMap) (number : ℕ) (places : Places) (moved : List (Option View)) (one : Option View) → AreMoved now number places (moved ++ one ∷ []) → IsMovedTo now number (at places (length moved)) one
-moved_last now number places moved one all = subst (IsMovedTo now number (at places (length moved))) (at_end moved one None) (all (length moved))
+pub moved_last : (now : List TreeMap) (number : ℕ) (tx_slots : TxSlots) (rebased : List (Option View)) (one : Option View) → AreRebased now number tx_slots (rebased ++ one ∷ []) → IsRebasedTo now number (at tx_slots (length rebased)) one
+moved_last now number tx_slots rebased one all = subst (IsRebasedTo now number (at tx_slots (length rebased))) (at_end rebased one None) (all (length rebased))
 
 -- whose claims a change does not meet
-apart_all : (ops : List Op) (op : Op) → list_any (λ (o : Op). meets (claim_of op) (claim_of o)) ops ≡ false → AreApart ops (op ∷ [])
+apart_all : (ops : List Op) (op : Op) → list_any (λ (o : Op). meets (claim_of op) (claim_of o)) ops ≡ false → OpsDontConflict ops (op ∷ [])
 apart_all [] op none = tt
 apart_all (o ∷ ops) op none =
     let parts = neither (meets (claim_of op) (claim_of o)) (list_any (λ (x : Op). meets (claim_of op) (claim_of x)) ops) none in
@@ -311,18 +311,18 @@ apart_all (o ∷ ops) op none =
     neither true c e = absurd (true≢false e)
     neither false c e = (refl, e)
 
-apart_if : (op : Op) (one : Transaction) → is_active one ≡ true → holds (claim_of op) one ≡ false → AreApart one.ops (op ∷ [])
+apart_if : (op : Op) (one : Transaction) → is_active one ≡ true → holds (claim_of op) one ≡ false → OpsDontConflict one.ops (op ∷ [])
 apart_if op one active none = apart_all one.ops op (sym (ap (λ b. b && list_any (λ (o : Op). meets (claim_of op) (claim_of o)) one.ops) active) ∙ none)
 
-apart_none : (ops : List Op) → AreApart ops []
+apart_none : (ops : List Op) → OpsDontConflict ops []
 apart_none [] = tt
 apart_none (o ∷ ops) = (tt, apart_none ops)
 
-apart_more : (ops : List Op) (op : Op) (change : List Op) → AreApart ops (op ∷ []) → AreApart ops change → AreApart ops (op ∷ change)
+apart_more : (ops : List Op) (op : Op) (change : List Op) → OpsDontConflict ops (op ∷ []) → OpsDontConflict ops change → OpsDontConflict ops (op ∷ change)
 apart_more [] op change one rest = tt
 apart_more (o ∷ ops) op change one rest = ((one.0.0, rest.0), apart_more ops op change one.1 rest.1)
 
-pub apart_all_if : (change : List Op) (one : Transaction) → is_active one ≡ true → MeetNone change (Some one) → AreApart one.ops change
+pub apart_all_if : (change : List Op) (one : Transaction) → is_active one ≡ true → MeetNone change (Some one) → OpsDontConflict one.ops change
 apart_all_if [] one active none = apart_none one.ops
 apart_all_if (op ∷ change) one active none = apart_more one.ops op change (apart_if op one active none.0) (apart_all_if change one active none.1)
 

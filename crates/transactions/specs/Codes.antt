@@ -2,11 +2,11 @@
 use Rattle.std.specs.Prelude.{ℕ, List, refl}
 use Rattle.std.specs.Coded.{Coded, code_by, coded×, coded_ℕ}
 use Rattle.reg_tree.specs.Maps.{TreeMap}
-use Rattle.store_model.specs.Codes.{trees_code, places_code}
-use Rattle.store_model.specs.Transactions.{Places}
+use Rattle.store_model.specs.Codes.{trees_code, tx_slots_code}
+use Rattle.store_model.specs.Transactions.{TxSlots}
 use Rattle.transactions.specs.Tables.{Table}
 
 abbrev pub table_code : Coded Table
 table_code =
-    code_by (List TreeMap × (ℕ × (Places × ℕ))) (coded× trees_code (coded× coded_ℕ (coded× places_code coded_ℕ)))
-    (λ t. (t.trees, (t.number, (t.places, t.begun)))) (λ p. record { trees = p.0; number = p.1.0; places = p.1.1.0; begun = p.1.1.1 }) (λ _. refl)
+    code_by (List TreeMap × (ℕ × (TxSlots × ℕ))) (coded× trees_code (coded× coded_ℕ (coded× tx_slots_code coded_ℕ)))
+    (λ t. (t.trees, (t.number, (t.tx_slots, t.begun)))) (λ p. record { trees = p.0; number = p.1.0; tx_slots = p.1.1.0; begun = p.1.1.1 }) (λ _. refl)

@@ -5,26 +5,26 @@ use Rattle.refusals.specs.declared.limits.TheConstants.{MOST_ELEMENT_BYTES}
 use Rattle.refusals.specs.declared.refusal.Refusal.{Refusal}
 use Rattle.refusals.specs.declared.refusal.Refusal.TheVariants.{NoSuchHandle, NoMemory, TooLarge, Conflict}
 use Rattle.reg_tree.specs.Maps.{TreeMap}
-use Rattle.reg_tree.specs.Texts.{ops_text_len}
+use Rattle.reg_tree.specs.Encodings.{ops_encoded_len}
 use Rattle.reg_tree.specs.Judgement.{applied, applied_one, legal, any_outweighs}
 use Rattle.reg_tree.specs.Sequences.{AreTrees}
 use Rattle.reg_tree.specs.Operations.{hive_of}
-use Rattle.reg_tree.specs.Stamps.{time_in, home_of, stamped}
+use Rattle.reg_tree.specs.Stamps.{time_in, touched_path_of, stamped}
 use Rattle.reg_tree.specs.Times.{SameButTimes}
-use Rattle.conflicts.specs.Skeletons.{AreCarriedOut, AreApart}
+use Rattle.conflicts.specs.TreeOutlines.{AreCarriedOut, OpsDontConflict}
 use Rattle.reg_tree.specs.TreeLists.{levels_made, info_in}
 use Rattle.reg_tree.specs.declared.tree.Info.{Info}
 use Rattle.reg_tree.specs.declared.op.Op.{Op}
 use Rattle.reg_tree.specs.declared.op.Legality.TheVariants.{Legal, Opened}
 use Rattle.conflicts.specs.Skeleton.{Claim}
 use Rattle.conflicts.specs.Claims.{claim_of}
-use Rattle.conflicts.specs.Holders.{Held}
-use Rattle.store_model.specs.Transactions.{Transaction, Places, Puts, at, own, with_op, is_active, is_claimed, inactive_refusal, view}
+use Rattle.conflicts.specs.Holders.{HeldClaim}
+use Rattle.store_model.specs.Transactions.{Transaction, TxSlots, SetsSlot, at, own, with_op, is_active, is_claimed, inactive_refusal, view}
 use Rattle.store_model.specs.Machine.{refusal_by, refused_if, first_of, too_long}
 use Rattle.store_model.specs.declared.handle.Tx.{Tx}
 use Rattle.transactions.specs.Tables.{Table}
-use Rattle.transactions.specs.declared.table.Written.{Written}
-use Rattle.transactions.specs.declared.table.Written.TheVariants.{Added}
+use Rattle.transactions.specs.declared.table.TxWriteOutcome.{TxWriteOutcome}
+use Rattle.transactions.specs.declared.table.TxWriteOutcome.TheVariants.{Added}
 use Rattle.transactions.specs.declared.entry.Entry.{Entry}
 use Rattle.transactions.specs.declared.entry.Committed.{Committed}
 use Rattle.transactions.specs.declared.view.Judged.{Judged}
@@ -36,8 +36,8 @@ use Rattle.transactions.specs.declared.view.Known.TheVariants.{Nothing, Carried,
 abbrev pub transaction_of : Entry → Transaction
 transaction_of e = record { session = e.session; id = e.id; generation = e.generation; outcome = e.outcome; ops = e.ops.items; moment = e.moment }
 
-abbrev pub places_of : List (Option Entry) → Places
-places_of slots = map (option_map transaction_of) slots
+abbrev pub tx_slots_of : List (Option Entry) → TxSlots
+tx_slots_of slots = map (option_map transaction_of) slots
 
 -- The trees of a view are those of now with the operations applied at its moment; without a moment they are so but for times.
 abbrev pub IsMade : List TreeMap → List Op → Option ℕ → List TreeMap → Type 0
@@ -104,7 +104,7 @@ moment_of (Some moment) = moment
 -- an operation is carried out on a view's trees at its moment, and makes so many keys
 pub record IsWrittenTo (view : View) (op : Op) (written : Judged) : Type 0 where
   pub is_legal : legal view.trees op ≡ Ok Legal
-  pub made : written.made ≡ record view { trees = applied_one view.trees op (moment_of view.moment); unasked = written.made.unasked }
+  pub made : written.made ≡ record view { trees = applied_one view.trees op (moment_of view.moment); ops_since_read = written.made.ops_since_read }
   pub levels : written.levels ≡ levels_made view.trees op
 
 -- or it opens a key
@@ -118,10 +118,10 @@ WritesView view op (Some written) = IsWrittenTo view op written
 abbrev pub KeepsTimes : List TreeMap → List TreeMap → Op → ℕ → ℕ → List TreeMap → Type 0
 KeepsTimes seen now op moment own trees =
     let hive = hive_of op in
-    let home = home_of op (levels_made seen op) in
+    let touched_path = touched_path_of op (levels_made seen op) in
     ((own ≡ moment) × (trees ≡ applied_one seen op moment))
-    ⊎ ((time_in seen hive home ≢ Some own) × (trees ≡ applied_one seen op moment))
-    ⊎ ((time_in seen hive home ≡ Some own) × (time_in now hive home ≢ Some own) × (trees ≡ stamped (applied_one seen op moment) hive home own))
+    ⊎ ((time_in seen hive touched_path ≢ Some own) × (trees ≡ applied_one seen op moment))
+    ⊎ ((time_in seen hive touched_path ≡ Some own) × (time_in now hive touched_path ≢ Some own) × (trees ≡ stamped (applied_one seen op moment) hive touched_path own))
 
 -- without a moment times are nobody's
 abbrev pub IsTimed : View → List TreeMap → Op → ℕ → Option ℕ → List TreeMap → Type 0
@@ -129,7 +129,7 @@ IsTimed view now op moment None trees = trees ≡ applied_one view.trees op mome
 IsTimed view now op moment (Some own) trees = (view.moment ≡ Some own) × KeepsTimes view.trees now op moment own trees
 
 -- a change is carried out on a view's trees, where it makes as many keys as on the trees of now
-pub record MovesView (view : View) (now : List TreeMap) (op : Op) (moment number : ℕ) (after : View) : Type 0 where
+pub record IsRebasedBy (view : View) (now : List TreeMap) (op : Op) (moment number : ℕ) (after : View) : Type 0 where
   pub carried : view.known ≢ Nothing
   pub alike : levels_made view.trees op ≡ levels_made now op
   pub timed : IsTimed view now op moment after.moment after.trees
@@ -137,8 +137,8 @@ pub record MovesView (view : View) (now : List TreeMap) (op : Op) (moment number
   pub numbered : after.number ≡ number
 
 -- what was a view of operations is one after a change none of whose operations meets a claim of theirs
-abbrev pub StaysView : List TreeMap → List Op → ℕ → View → View → Type 0
-StaysView now change moment view after = (ops : List Op) → IsViewNow now ops view → AreApart ops change → IsViewNow (applied now change moment) ops after
+abbrev pub StaysViewAfter : List TreeMap → List Op → ℕ → View → View → Type 0
+StaysViewAfter now change moment view after = (ops : List Op) → IsViewNow now ops view → OpsDontConflict ops change → IsViewNow (applied now change moment) ops after
 
 -- the trees after a transaction's operations, none of which leaves a tree too heavy
 pub record IsCommitted (now : List TreeMap) (ops : List Op) (moment : ℕ) (made : Committed) : Type 0 where
@@ -147,14 +147,14 @@ pub record IsCommitted (now : List TreeMap) (ops : List Op) (moment : ℕ) (made
   pub carried : made.carried ≡ true → AreCarriedOut now ops moment
 
 -- A view tells this of a key for another moment: it is so of the trees of now with the operations applied at that moment, whichever operations made the view.
-abbrev pub Tells : View → List TreeMap → ℕ → List (List ℕ) → ℕ → Option Info → Type 0
-Tells view now hive path moment told = (ops : List Op) → IsMade now ops view.moment view.trees → info_in (applied now ops moment) hive path ≡ told
+abbrev pub ViewShows : View → List TreeMap → ℕ → List (List ℕ) → ℕ → Option Info → Type 0
+ViewShows view now hive path moment told = (ops : List Op) → IsMade now ops view.moment view.trees → info_in (applied now ops moment) hive path ≡ told
 
 -- what a view tells of a key that it has; it can tell nothing only where it has no moment, or the trees of now have the key with the
 -- view's moment as its time
-abbrev pub TellsInfo : View → List TreeMap → ℕ → List (List ℕ) → ℕ → Option Info → Type 0
-TellsInfo view now hive path moment None = (view.moment ≡ None) ⊎ (option_map (λ (info : Info). info.time) (info_in now hive path) ≡ view.moment)
-TellsInfo view now hive path moment (Some info) = Tells view now hive path moment (Some info)
+abbrev pub ViewShowsInfo : View → List TreeMap → ℕ → List (List ℕ) → ℕ → Option Info → Type 0
+ViewShowsInfo view now hive path moment None = (view.moment ≡ None) ⊎ (option_map (λ (info : Info). info.time) (info_in now hive path) ≡ view.moment)
+ViewShowsInfo view now hive path moment (Some info) = ViewShows view now hive path moment (Some info)
 
 -- there is room for two more operations beside those that there are, where there are any: whoever takes the operations of a
 -- commit may add so many without memory
@@ -165,22 +165,22 @@ HasTwoSpare e = 0 < length e.ops.items → length e.ops.items + 2 ≤ vec_capaci
 -- beside its own, and its view is one
 pub record IsEntry (now : List TreeMap) (number begun : ℕ) (e : Entry) : Type 0 where
   pub known : e.generation ≤ begun
-  pub counted : e.length ≡ 16 + ops_text_len e.ops.items
+  pub counted : e.length ≡ 16 + ops_encoded_len e.ops.items
   pub short : e.length ≤ MOST_ELEMENT_BYTES
   pub spare : HasTwoSpare e
   pub viewed : IsViewed now number e.ops.items e.view
 
 -- a claim of the active transaction at a place
-pub record Claims (places : Places) (place : ℕ) (claim : Claim) : Type 0 where
+pub record Claims (tx_slots : TxSlots) (slot : ℕ) (claim : Claim) : Type 0 where
   pub one : Transaction
-  pub there : at places place ≡ Some one
+  pub there : at tx_slots slot ≡ Some one
   pub active : is_active one ≡ true
   pub made : Contains (map claim_of one.ops) claim
 
 -- what holds of all: each entry is one, and the claims are those of active transactions
-pub record AreKept (now : List TreeMap) (number begun : ℕ) (slots : List (Option Entry)) (claims : List Held) : Type 0 where
-  pub entries : (place : ℕ) (e : Entry) → slice_index_or slots place None ≡ Some e → IsEntry now number begun e
-  pub claimed : (place : ℕ) (claim : Claim) → Contains claims (record { owner = place; claim = claim }) ↔ Claims (places_of slots) place claim
+pub record EntriesAreSound (now : List TreeMap) (number begun : ℕ) (slots : List (Option Entry)) (claims : List HeldClaim) : Type 0 where
+  pub entries : (slot : ℕ) (e : Entry) → slice_index_or slots slot None ≡ Some e → IsEntry now number begun e
+  pub claimed : (slot : ℕ) (claim : Claim) → Contains claims (record { owner = slot; claim = claim }) ↔ Claims (tx_slots_of slots) slot claim
 
 -- an operation was judged: it is legal by the view and its change not too long, and this is the view after it, or it opens a key
 pub record IsLegalIn (now : List TreeMap) (number : ℕ) (one : Transaction) (op : Op) (judged : Judged) : Type 0 where
@@ -208,7 +208,7 @@ pub record IsJudgedBy (trees : List TreeMap) (number : ℕ) (op : Op) (judged : 
   pub told : IsJudged trees number one op judged
 
 abbrev pub IsJudgedOf : Table → ℕ → Tx → Op → Option Judged → Type 0
-IsJudgedOf table session tx op judged = IfSome (own table.places session tx) (IsJudgedBy table.trees table.number op judged) × IsSome (own table.places session tx)
+IsJudgedOf table session tx op judged = IfSome (own table.tx_slots session tx) (IsJudgedBy table.trees table.number op judged) × IsSome (own table.tx_slots session tx)
 
 -- why it is not: the transaction is not there or not active, or the operation is not legal or makes its change too long
 abbrev pub illegal : List TreeMap → Op → Transaction → Option Refusal
@@ -219,9 +219,9 @@ judge_refusal trees op None = Some NoSuchHandle
 judge_refusal trees op (Some one) = first_of (inactive_refusal (Some one)) (illegal trees op one)
 
 -- an operation may be added to the active transaction at a place, and this is the view after it
-pub record MayAdd (table : Table) (place : ℕ) (op : Op) (made : View) : Type 0 where
+pub record MayAdd (table : Table) (slot : ℕ) (op : Op) (made : View) : Type 0 where
   pub one : Transaction
-  pub there : at table.places place ≡ Some one
+  pub there : at table.tx_slots slot ≡ Some one
   pub active : is_active one ≡ true
   pub short : too_long one op ≡ false
   pub numbered : made.number ≡ table.number
@@ -232,20 +232,20 @@ abbrev pub with_op_if : Op → ℕ → Option Transaction → Option Transaction
 with_op_if op moment None = None
 with_op_if op moment (Some one) = Some (with_op one op moment)
 
-abbrev pub IsAdded : Places → ℕ → Op → ℕ → Places → Type 0
-IsAdded old place op moment new = Puts old new place (with_op_if op moment (at old place))
+abbrev pub IsAdded : TxSlots → ℕ → Op → ℕ → TxSlots → Type 0
+IsAdded old slot op moment new = SetsSlot old new slot (with_op_if op moment (at old slot))
 
-abbrev pub AddsTo : Table → ℕ → ℕ → Op → Option ℕ → Table → Written → Type 0
-AddsTo old place moment op levels new written = (written ≡ Added levels) × (is_claimed old.places place (claim_of op) ≡ false) × (new ≡ record old { places = new.places }) × IsAdded old.places place op moment new.places
+abbrev pub AddsTo : Table → ℕ → ℕ → Op → Option ℕ → Table → TxWriteOutcome → Type 0
+AddsTo old slot moment op levels new written = (written ≡ Added levels) × (is_claimed old.tx_slots slot (claim_of op) ≡ false) × (new ≡ record old { tx_slots = new.tx_slots }) × IsAdded old.tx_slots slot op moment new.tx_slots
 
 -- or not, since another active transaction's claim conflicts, or for want of memory
 abbrev pub IsNotAdded : Table → ℕ → Op → Refusal → Type 0
-IsNotAdded old place op why = (why ≡ NoMemory) ⊎ ((why ≡ Conflict) × (is_claimed old.places place (claim_of op) ≡ true))
+IsNotAdded old slot op why = (why ≡ NoMemory) ⊎ ((why ≡ Conflict) × (is_claimed old.tx_slots slot (claim_of op) ≡ true))
 
 -- the views after a change, by the places of their transactions; nothing where one is to be made again
-abbrev pub IsMovedTo : List TreeMap → ℕ → Option Transaction → Option View → Type 0
-IsMovedTo now number None moved = ⊤
-IsMovedTo now number (Some one) moved = IsViewed now number one.ops moved
+abbrev pub IsRebasedTo : List TreeMap → ℕ → Option Transaction → Option View → Type 0
+IsRebasedTo now number None rebased = ⊤
+IsRebasedTo now number (Some one) rebased = IsViewed now number one.ops rebased
 
-abbrev pub AreMoved : List TreeMap → ℕ → Places → List (Option View) → Type 0
-AreMoved now number places moved = (place : ℕ) → IsMovedTo now number (at places place) (slice_index_or moved place None)
+abbrev pub AreRebased : List TreeMap → ℕ → TxSlots → List (Option View) → Type 0
+AreRebased now number tx_slots rebased = (slot : ℕ) → IsRebasedTo now number (at tx_slots slot) (slice_index_or rebased slot None)

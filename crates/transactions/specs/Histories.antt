@@ -4,29 +4,29 @@ use Rattle.std.specs.List.{AllByRecursion}
 use Rattle.std.specs.Coded.{Coded, code_by, coded×, coded_ℕ, coded_list}
 use Rattle.std.specs.declared.snapshot.Snapshot.{Snapshot}
 use Rattle.refusals.specs.declared.limits.TheConstants.{MOST_ELEMENT_BYTES}
-use Rattle.reg_tree.specs.Texts.{element_text_len}
+use Rattle.reg_tree.specs.Encodings.{element_encoded_len}
 use Rattle.reg_tree.specs.contracts.element.Element as element
 use Rattle.reg_tree.specs.declared.element.Element.{Element}
 
 -- all changes, how many of the first of them were let go, and for how many more there is place
 pub record Changes : Type 0 where
   pub changes : List Element
-  pub let_go : ℕ
+  pub discard_flushed : ℕ
   pub spare : ℕ
 
 -- the change's text is not longer than an accepted change's may be
 abbrev pub IsShort : Element → Type 0
-IsShort e = element_text_len e ≤ MOST_ELEMENT_BYTES
+IsShort e = element_encoded_len e ≤ MOST_ELEMENT_BYTES
 
 abbrev pub values_of : List (Snapshot Element) → List Element
 values_of all = map (λ change. change.value) all
 
 -- those at hand are the last of all, and each change is short
-pub record AreAtHand (all : List (Snapshot Element)) (recent : List Element) : Type 0 where
+pub record AreLastOfAll (all : List (Snapshot Element)) (recent : List Element) : Type 0 where
   pub within : length recent ≤ length all
   pub last : recent ≡ drop (length all - length recent) (values_of all)
   pub short : AllByRecursion IsShort (values_of all)
 
 abbrev pub changes_code : Coded Changes
 changes_code = code_by (List Element × (ℕ × ℕ)) (coded× (coded_list element.the_row.coded) (coded× coded_ℕ coded_ℕ))
-    (λ c. (c.changes, (c.let_go, c.spare))) (λ p. record { changes = p.0; let_go = p.1.0; spare = p.1.1 }) (λ _. refl)
+    (λ c. (c.changes, (c.discard_flushed, c.spare))) (λ p. record { changes = p.0; discard_flushed = p.1.0; spare = p.1.1 }) (λ _. refl)

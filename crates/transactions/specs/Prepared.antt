@@ -6,7 +6,7 @@ use Rattle.reg_tree.specs.Maps.{TreeMap}
 use Rattle.reg_tree.specs.Operations.{hive_of}
 use Rattle.reg_tree.specs.Judgement.{legal, applied, applied_one, any_outweighs}
 use Rattle.reg_tree.specs.TreeLists.{levels_made}
-use Rattle.reg_tree.specs.Texts.{element_text_len}
+use Rattle.reg_tree.specs.Encodings.{element_encoded_len}
 use Rattle.reg_tree.specs.declared.element.Element.{Element}
 use Rattle.reg_tree.specs.declared.op.Op.{Op}
 use Rattle.reg_tree.specs.declared.op.Legality.TheVariants.{Legal}
@@ -19,7 +19,7 @@ use Rattle.store_model.specs.declared.event.Event.TheVariants as event
 use Rattle.store_model.specs.declared.event.Reply.TheVariants as reply
 use Rattle.store_model.specs.declared.handle.Tx.{Tx}
 use Rattle.transactions.specs.Tables.{IsPending, holds_if, is_listed}
-use Rattle.transactions.specs.Entries.{AreMoved}
+use Rattle.transactions.specs.Entries.{AreRebased}
 use Rattle.transactions.specs.Histories.{IsShort}
 use Rattle.transactions.specs.Stores.{StoreView}
 use Rattle.transactions.specs.declared.prepared.JudgedWrite.{JudgedWrite}
@@ -41,12 +41,12 @@ pub record IsJudgedWrite (machine : Machine) (session moment : ℕ) (op : Op) (j
   pub there : is_open machine session ≡ true
   pub named : unnamed_refusal machine (hive_of op) ≡ None
   pub is_legal : legal (trees_now machine) op ≡ Ok Legal
-  pub roomy : room_refusal machine (element_text_len (change moment op)) ≡ None
+  pub roomy : room_refusal machine (element_encoded_len (change moment op)) ≡ None
   pub short : IsShort (change moment op)
   pub levels : judged.levels ≡ levels_made (trees_now machine) op
   pub trees : judged.trees ≡ applied_one (trees_now machine) op moment
-  pub holders : (place : ℕ) → is_listed judged.holders place ≡ holds_if (claim_of op) (at machine.places place)
-  pub room : judged.room ≡ machine.room + (17 + element_text_len (change moment op))
+  pub holders : (slot : ℕ) → is_listed judged.holders slot ≡ holds_if (claim_of op) (at machine.tx_slots slot)
+  pub room : judged.room ≡ machine.room + (17 + element_encoded_len (change moment op))
 
 -- it may; or it is answered so, and nothing has changed
 abbrev pub JudgesWrite : Machine → ℕ → ℕ → Op → Result (Option JudgedWrite) Refusal → Type 0
@@ -60,29 +60,29 @@ pub record IsReadyWrite (machine : Machine) (session moment : ℕ) (op : Op) (ma
   pub there : is_open machine session ≡ true
   pub named : unnamed_refusal machine (hive_of op) ≡ None
   pub is_legal : legal (trees_now machine) op ≡ Ok Legal
-  pub roomy : room_refusal machine (element_text_len (change moment op)) ≡ None
+  pub roomy : room_refusal machine (element_encoded_len (change moment op)) ≡ None
   pub levels : made.levels ≡ levels_made (trees_now machine) op
   pub element : made.element ≡ change moment op
   pub short : IsShort made.element
   pub trees : made.trees ≡ applied_one (trees_now machine) op moment
-  pub holders : (place : ℕ) → is_listed made.holders place ≡ holds_if (claim_of op) (at machine.places place)
-  pub moved : AreMoved made.trees (last_number machine + 1) machine.places made.moved.items
-  pub room : made.room ≡ machine.room + (17 + element_text_len (change moment op))
+  pub holders : (slot : ℕ) → is_listed made.holders slot ≡ holds_if (claim_of op) (at machine.tx_slots slot)
+  pub rebased : AreRebased made.trees (last_number machine + 1) machine.tx_slots made.rebased.items
+  pub room : made.room ≡ machine.room + (17 + element_encoded_len (change moment op))
 
 -- A transaction has operations, the change that a commit makes of it may be accepted, and what that leads to is made.
 pub record IsReadyCommit (machine : Machine) (made : ReadyCommit) : Type 0 where
   pub one : Transaction
   pub free : fault machine ≡ None
   pub there : is_open machine made.session ≡ true
-  pub found : own machine.places made.session made.tx ≡ Some one
+  pub found : own machine.tx_slots made.session made.tx ≡ Some one
   pub active : inactive_refusal (Some one) ≡ None
   pub some : (length one.ops == 0) ≡ false
   pub element : made.element ≡ commit_change machine made.moment one
   pub short : IsShort made.element
   pub light : any_outweighs (trees_now machine) (committed machine one) made.moment ≡ false
   pub trees : made.trees ≡ applied (trees_now machine) (committed machine one) made.moment
-  pub moved : AreMoved made.trees (last_number machine + 1) machine.places made.moved.items
-  pub roomy : room_refusal machine (element_text_len (commit_change machine made.moment one)) ≡ None
+  pub rebased : AreRebased made.trees (last_number machine + 1) machine.tx_slots made.rebased.items
+  pub roomy : room_refusal machine (element_encoded_len (commit_change machine made.moment one)) ≡ None
   pub room : made.room ≡ machine.room + room_of (commit_change machine made.moment one)
 
 -- A transaction has no operations, and may commit as nothing.
@@ -91,35 +91,35 @@ pub record IsReadyNothing (machine : Machine) (session : ℕ) (tx : Tx) : Type 0
   pub text_len : ℕ
   pub free : fault machine ≡ None
   pub there : is_open machine session ≡ true
-  pub pending : IsPending (own machine.places session tx) ops text_len
+  pub pending : IsPending (own machine.tx_slots session tx) ops text_len
   pub none : (length ops == 0) ≡ true
 
 -- What an event is going to do, in a store with place for so many changes.
 abbrev pub IsReady : Machine → ℕ → Event → Ready → Type 0
-IsReady machine spare wanted (ready.Told answer) = Step machine wanted answer machine × (answer ≡ reply.Refused NoMemory → ⊥)
+IsReady machine spare wanted (ready.Answered answer) = Step machine wanted answer machine × (answer ≡ reply.Refused NoMemory → ⊥)
 IsReady machine spare wanted (ready.Write made) = (0 < spare) × ((session : ℕ) × (moment : ℕ) × (op : Op) × (wanted ≡ event.Write session moment op) × IsReadyWrite machine session moment op made)
 IsReady machine spare wanted (ready.Nothing session tx) = ((moment : ℕ) × (wanted ≡ event.CommitAccept session tx moment)) × IsReadyNothing machine session tx
 IsReady machine spare wanted (ready.Commit made) = (0 < spare) × (wanted ≡ event.CommitAccept made.session made.tx made.moment) × IsReadyCommit machine made
 
 -- what an operation by itself leads to, where it may be accepted; else how it is answered, and nothing has changed
-abbrev pub ReadiesWrite : Machine → ℕ → ℕ → Op → Result (Option ReadyWrite) Refusal → Type 0
-ReadiesWrite machine session moment op (Ok (Some made)) = IsReadyWrite machine session moment op made
-ReadiesWrite machine session moment op (Ok None) = Step machine (event.Write session moment op) reply.Opened machine
-ReadiesWrite machine session moment op (Err why) = Step machine (event.Write session moment op) (reply.Refused why) machine
+abbrev pub PreparesWrite : Machine → ℕ → ℕ → Op → Result (Option ReadyWrite) Refusal → Type 0
+PreparesWrite machine session moment op (Ok (Some made)) = IsReadyWrite machine session moment op made
+PreparesWrite machine session moment op (Ok None) = Step machine (event.Write session moment op) reply.Opened machine
+PreparesWrite machine session moment op (Err why) = Step machine (event.Write session moment op) (reply.Refused why) machine
 
 -- the change that will be accepted, if one will, and the trees that will be those of now then
-abbrev pub shown_by : Ready → Option (Element × List TreeMap)
-shown_by (ready.Told answer) = None
-shown_by (ready.Write made) = Some (made.element, made.trees)
-shown_by (ready.Nothing session tx) = None
-shown_by (ready.Commit made) = Some (made.element, made.trees)
+abbrev pub change_of_ready : Ready → Option (Element × List TreeMap)
+change_of_ready (ready.Answered answer) = None
+change_of_ready (ready.Write made) = Some (made.element, made.trees)
+change_of_ready (ready.Nothing session tx) = None
+change_of_ready (ready.Commit made) = Some (made.element, made.trees)
 
-abbrev pub will_show : Prepared → Option (Element × List TreeMap)
-will_show prepared = shown_by prepared.ready
+abbrev pub change_to_accept : Prepared → Option (Element × List TreeMap)
+change_to_accept prepared = change_of_ready prepared.ready
 
 -- the same, as it is told
-abbrev pub told_by : Next → Element × List TreeMap
-told_by next = (next.change.value, next.trees)
+abbrev pub change_and_trees : Next → Element × List TreeMap
+change_and_trees next = (next.change.value, next.trees)
 
 -- An event asks for this change, and nothing stands against it: a write by itself, whose operation is legal and changes something; or
 -- a commit of a transaction that has operations.
@@ -133,20 +133,20 @@ EventAccepts machine _ element = ⊥
 
 -- What is told before the event: the change that it will accept, and the trees of now with that change applied; or that it will accept
 -- none.
-abbrev pub Foretells : Machine → Event → Option (Element × List TreeMap) → Type 0
-Foretells machine wanted (Some (element, trees)) = EventAccepts machine wanted element × (trees ≡ applied (trees_now machine) element.ops element.moment)
-Foretells machine wanted None = (element : Element) → ¬ (EventAccepts machine wanted element)
+abbrev pub Predicts : Machine → Event → Option (Element × List TreeMap) → Type 0
+Predicts machine wanted (Some (element, trees)) = EventAccepts machine wanted element × (trees ≡ applied (trees_now machine) element.ops element.moment)
+Predicts machine wanted None = (element : Element) → ¬ (EventAccepts machine wanted element)
 
 -- Just the change that was told has been accepted, and the trees of now are those that were told; where none was told, none has been
 -- accepted.
-abbrev pub Shows : Option (Element × List TreeMap) → Machine → Machine → Type 0
-Shows (Some (element, trees)) old new = (trees_now new ≡ trees) × (new.accepted ≡ old.accepted ++ element ∷ [])
-Shows None old new = new.accepted ≡ old.accepted
+abbrev pub AcceptsJust : Option (Element × List TreeMap) → Machine → Machine → Type 0
+AcceptsJust (Some (element, trees)) old new = (trees_now new ≡ trees) × (new.accepted ≡ old.accepted ++ element ∷ [])
+AcceptsJust None old new = new.accepted ≡ old.accepted
 
 -- what an event that may accept a change leads to, or why it is refused
-abbrev pub Readies : Machine → ℕ → Event → Result Ready Refusal → Type 0
-Readies machine spare wanted (Ok made) = IsReady machine spare wanted made
-Readies machine spare wanted (Err why) = Step machine wanted (reply.Refused why) machine
+abbrev pub PreparesEvent : Machine → ℕ → Event → Result Ready Refusal → Type 0
+PreparesEvent machine spare wanted (Ok made) = IsReady machine spare wanted made
+PreparesEvent machine spare wanted (Err why) = Step machine wanted (reply.Refused why) machine
 
 -- An event that may accept a change stands prepared in a store: it is answered so, and nothing changes, which is never for want of memory; or it is accepted as
 -- this says, and there is place for the change.

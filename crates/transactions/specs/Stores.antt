@@ -5,12 +5,12 @@ use Rattle.refusals.specs.declared.refusal.Refusal.{Refusal}
 use Rattle.reg_tree.specs.Maps.{TreeMap}
 use Rattle.reg_tree.specs.contracts.element.Element as element
 use Rattle.reg_tree.specs.declared.element.Element.{Element}
-use Rattle.store_model.specs.Codes.{trees_code, places_code}
+use Rattle.store_model.specs.Codes.{trees_code, tx_slots_code}
 use Rattle.store_model.specs.Machine.{Machine, trees_now, last_number}
 use Rattle.store_model.specs.Steps.{Step}
-use Rattle.store_model.specs.Transactions.{Places}
-use Rattle.store_model.specs.declared.bounds.Bounds.{Bounds}
-use Rattle.store_model.specs.contracts.bounds.Bounds as bounds
+use Rattle.store_model.specs.Transactions.{TxSlots}
+use Rattle.store_model.specs.declared.bounds.StoreBounds.{StoreBounds}
+use Rattle.store_model.specs.contracts.bounds.StoreBounds as bounds
 use Rattle.store_model.specs.declared.event.Event.{Event}
 use Rattle.store_model.specs.declared.event.Event.TheVariants as event
 use Rattle.store_model.specs.declared.event.Reply.{Reply}
@@ -23,13 +23,13 @@ failures_of true = 1
 failures_of false = 0
 
 -- the machine that a store shows
-abbrev pub store_of : List TreeMap → ℕ → List Element → List ℕ → Table → ℕ → ℕ → Bool → Bounds → Machine
+abbrev pub store_of : List TreeMap → ℕ → List Element → List ℕ → Table → ℕ → ℕ → Bool → StoreBounds → Machine
 store_of opened before accepted sessions table durable room faulted bounds = record {
   opened = opened;
   before = before;
   accepted = accepted;
   sessions = sessions;
-  places = table.places;
+  tx_slots = table.tx_slots;
   begun = table.begun;
   durable = durable;
   room = room;
@@ -41,12 +41,12 @@ store_of opened before accepted sessions table durable room faulted bounds = rec
 -- the machine, the number above which its changes are at hand, and for how many changes more there is place
 pub record StoreView : Type 0 where
   pub machine : Machine
-  pub at_hand : ℕ
+  pub retained : ℕ
   pub spare : ℕ
 
 -- the table's trees and number are those of the last accepted change, what is durable was accepted, and the history is
 -- within its limit
-pub record IsTied (table : Table) (machine : Machine) : Type 0 where
+pub record TableMatchesMachine (table : Table) (machine : Machine) : Type 0 where
   pub trees : table.trees ≡ trees_now machine
   pub number : table.number ≡ last_number machine
   pub durable : machine.durable ≤ last_number machine
@@ -71,11 +71,11 @@ needs_device _ = false
 -- how machines are told apart: by their parts
 abbrev pub machine_code : Coded Machine
 machine_code =
-    code_by (List TreeMap × (ℕ × (List Element × (List ℕ × (Places × (ℕ × (ℕ × (ℕ × (ℕ × (Bool × Bounds))))))))))
-    (coded× trees_code (coded× coded_ℕ (coded× (coded_list element.the_row.coded) (coded× (coded_list coded_ℕ) (coded× places_code (coded× coded_ℕ (coded× coded_ℕ (coded× coded_ℕ (coded× coded_ℕ (coded× coded_bool bounds.the_row.coded))))))))))
-    (λ m. (m.opened, (m.before, (m.accepted, (m.sessions, (m.places, (m.begun, (m.durable, (m.room, (m.failures, (m.faulted, m.bounds)))))))))))
-    (λ p. record { opened = p.0; before = p.1.0; accepted = p.1.1.0; sessions = p.1.1.1.0; places = p.1.1.1.1.0; begun = p.1.1.1.1.1.0; durable = p.1.1.1.1.1.1.0; room = p.1.1.1.1.1.1.1.0; failures = p.1.1.1.1.1.1.1.1.0; faulted = p.1.1.1.1.1.1.1.1.1.0; bounds = p.1.1.1.1.1.1.1.1.1.1 })
+    code_by (List TreeMap × (ℕ × (List Element × (List ℕ × (TxSlots × (ℕ × (ℕ × (ℕ × (ℕ × (Bool × StoreBounds))))))))))
+    (coded× trees_code (coded× coded_ℕ (coded× (coded_list element.the_row.coded) (coded× (coded_list coded_ℕ) (coded× tx_slots_code (coded× coded_ℕ (coded× coded_ℕ (coded× coded_ℕ (coded× coded_ℕ (coded× coded_bool bounds.the_row.coded))))))))))
+    (λ m. (m.opened, (m.before, (m.accepted, (m.sessions, (m.tx_slots, (m.begun, (m.durable, (m.room, (m.failures, (m.faulted, m.bounds)))))))))))
+    (λ p. record { opened = p.0; before = p.1.0; accepted = p.1.1.0; sessions = p.1.1.1.0; tx_slots = p.1.1.1.1.0; begun = p.1.1.1.1.1.0; durable = p.1.1.1.1.1.1.0; room = p.1.1.1.1.1.1.1.0; failures = p.1.1.1.1.1.1.1.1.0; faulted = p.1.1.1.1.1.1.1.1.1.0; bounds = p.1.1.1.1.1.1.1.1.1.1 })
     (λ _. refl)
 
 abbrev pub store_code : Coded StoreView
-store_code = code_by (Machine × (ℕ × ℕ)) (coded× machine_code (coded× coded_ℕ coded_ℕ)) (λ s. (s.machine, (s.at_hand, s.spare))) (λ p. record { machine = p.0; at_hand = p.1.0; spare = p.1.1 }) (λ _. refl)
+store_code = code_by (Machine × (ℕ × ℕ)) (coded× machine_code (coded× coded_ℕ coded_ℕ)) (λ s. (s.machine, (s.retained, s.spare))) (λ p. record { machine = p.0; retained = p.1.0; spare = p.1.1 }) (λ _. refl)

@@ -2,10 +2,10 @@
 ghost use Rattle.std.specs.Prelude.{◌≡◌, true, false, ◌⊎◌, ◌+◌, ◌≤◌, ◌==◌, ◌&&◌, ◌<◌, ◌-◌, ◌^◌, IfOk, IfSome, OnErr, OnOk, Some, None, Ok, Err, IfErr};
 ghost use Rattle.refusals.specs.declared.limits.TheConstants.{MOST_ELEMENT_BYTES};
 ghost use Rattle.refusals.specs.declared.refusal.Refusal.TheVariants.{NoMemory, NotFound, TooLarge};
-ghost use Rattle.reg_tree.specs.Texts.{op_text_len, ops_text_len};
+ghost use Rattle.reg_tree.specs.Encodings.{op_encoded_len, ops_encoded_len};
 ghost use Rattle.reg_names.specs.Names.{folded_path};
 ghost use Rattle.reg_tree.specs.Judgement.{applied, any_outweighs};
-ghost use Rattle.conflicts.specs.Skeletons.{AreCarriedOut, AreApart};
+ghost use Rattle.conflicts.specs.TreeOutlines.{AreCarriedOut, OpsDontConflict};
 ghost use Rattle.reg_tree.specs.Reads.{IsMissingOrNoMemory};
 ghost use Rattle.reg_tree.specs.TreeLists.{info_in};
 ghost use Rattle.transactions.specs.Entries.{transaction_of, IsCommitted, IsViewed, HasView, HasViewAt, IsJudged, illegal, IsSameEntry, HasRoom, HasTwoSpare};
@@ -19,7 +19,7 @@ use reg_names::Path;
 use reg_tree::{CHANGE_BYTES, Info, Op, Trees};
 use std::alloc::{AllocError, Global};
 use std::mem;
-use store_model::{Found, Outcome, Question, look_up};
+use store_model::{Outcome, Question, ReadResult, look_up};
 use uuid::Uuid;
 
 /// Operations that whoever takes those of a commit may add without memory.
@@ -28,7 +28,7 @@ const SPARE_OPS: usize = 2;
 const _: () = prove!(SPARE_OPS == 2);
 
 /// A moment that no clock comes to: no key has it as its time, unless a caller gives it.
-const NO_CLOCKS_MOMENT: u64 = u64::MAX;
+const MAX_MOMENT: u64 = u64::MAX;
 
 /// A transaction, how long it is as journal text, and its view, where one was made. The view's moment may be an
 /// earlier one than the transaction's: what a write or a read asks of it depends on no moment, but for the time that a
@@ -121,7 +121,7 @@ impl Entry {
     }
 
     /// Makes the view, where there is none of these trees.
-    fn see(&mut self, alloc: Global, now: &Trees, number: u64) -> Result<(), AllocError>
+    fn ensure_view(&mut self, alloc: Global, now: &Trees, number: u64) -> Result<(), AllocError>
         requires { IsViewed now.now number self.old.ops.items self.old.view }
         ensures rest { self.new ≡ record self.old { view = self.new.view } }
         ensures kept { IsViewed now.now number self.new.ops.items self.new.view }
@@ -129,15 +129,15 @@ impl Entry {
     {
         match &mut self.view {
             Some(view) if view.number == number => {
-                view.unasked = 0;
+                view.ops_since_read = 0;
                 Ok(())
             }
-            _ => self.see_at(alloc, now, number, self.moment),
+            _ => self.make_view_at(alloc, now, number, self.moment),
         }
     }
 
     /// Makes the view at a moment.
-    fn see_at(
+    fn make_view_at(
         &mut self,
         alloc: Global,
         now: &Trees,
@@ -165,7 +165,7 @@ impl Entry {
         op: &Op,
     ) -> Result<Option<Judged>, Refusal>
         requires viewed { IsViewed now.now number self.old.ops.items self.old.view }
-        requires counted { (self.old.length ≡ 16 + ops_text_len self.old.ops.items)
+        requires counted { (self.old.length ≡ 16 + ops_encoded_len self.old.ops.items)
             × (self.old.length ≤ MOST_ELEMENT_BYTES) }
         ensures rest { self.new ≡ record self.old { view = self.new.view } }
         ensures kept { IsViewed now.now number self.new.ops.items self.new.view }
@@ -174,7 +174,7 @@ impl Entry {
             (illegal now.now op.now (transaction_of self.new) ≡ Some refusal)
             ⊎ (refusal ≡ NoMemory)) }
     {
-        self.see(alloc, now, number)?;
+        self.ensure_view(alloc, now, number)?;
         let Some(view) = &self.view else {
             unreachable!();
         };
@@ -196,7 +196,7 @@ impl Entry {
         hive: u8,
         path: &Path,
         question: Question,
-    ) -> Result<Found, Refusal>
+    ) -> Result<ReadResult, Refusal>
         requires { IsViewed now.now number self.old.ops.items self.old.view }
         ensures rest { self.new ≡ record self.old { view = self.new.view } }
         ensures kept { IsViewed now.now number self.new.ops.items self.new.view }
@@ -208,11 +208,11 @@ impl Entry {
             ⊎ (refusal ≡ NoMemory)) }
     {
         match question {
-            Question::InfoOf => Ok(Found::Counts {
+            Question::InfoOf => Ok(ReadResult::Counts {
                 info: self.info(alloc, now, number, hive, path)?,
             }),
             untimed => {
-                self.see(alloc, now, number)?;
+                self.ensure_view(alloc, now, number)?;
                 let Some(view) = &self.view else {
                     unreachable!();
                 };
@@ -241,15 +241,15 @@ impl Entry {
             (IsMissingOrNoMemory
             (info_in (view now.now (transaction_of self.new)) hive (folded_path path.now))) }
     {
-        self.see(alloc, now, number)?;
+        self.ensure_view(alloc, now, number)?;
         if let Some(info) = self.told(now, number, hive, path)? {
             return Ok(info);
         }
-        self.see_at(alloc, now, number, NO_CLOCKS_MOMENT)?;
+        self.make_view_at(alloc, now, number, MAX_MOMENT)?;
         if let Some(info) = self.told(now, number, hive, path)? {
             return Ok(info);
         }
-        self.see_at(alloc, now, number, self.moment)?;
+        self.make_view_at(alloc, now, number, self.moment)?;
         let Some(view) = &self.view else {
             unreachable!();
         };
@@ -272,12 +272,12 @@ impl Entry {
 
     /// Whether there is a view of now that is worth moving past so many operations. One that was not asked for as many of them as
     /// the transaction has is not: to make it again costs no more than they did.
-    pub(crate) fn may_move(&self, number: u64, count: usize) -> bool
+    pub(crate) fn may_rebase(&self, number: u64, count: usize) -> bool
         ensures { result ≡ true → IfSome self.now.view (λ view. view.number ≡ number) }
     {
         match &self.view {
             Some(view) => {
-                view.number == number && view.unasked.saturating_add(count) <= self.ops.len()
+                view.number == number && view.ops_since_read.saturating_add(count) <= self.ops.len()
             }
             None => false,
         }
@@ -285,7 +285,7 @@ impl Entry {
 
     /// The view after the change of this number, none of whose operations meets a claim of the transaction; nothing where none
     /// of now is at hand, or it is to be made again.
-    pub(crate) fn moved(
+    pub(crate) fn rebased(
         &self,
         alloc: Global,
         now: &Trees,
@@ -295,14 +295,14 @@ impl Entry {
     ) -> Result<Option<View>, AllocError>
         requires viewed { IsViewed now.now number self.now.ops.items self.now.view }
         requires carried { AreCarriedOut now.now change.now moment }
-        requires apart { AreApart self.now.ops.items change.now }
+        requires apart { OpsDontConflict self.now.ops.items change.now }
         requires below { number < 2 ^ 64 - 1 }
         ensures { IfOk result
             (IsViewed (applied now.now change.now moment) (number + 1) self.now.ops.items) }
     {
         match &self.view {
-            Some(view) if self.may_move(number, change.len()) => {
-                view.moved_past(alloc, now, change, moment, number + 1)
+            Some(view) if self.may_rebase(number, change.len()) => {
+                view.rebased_past(alloc, now, change, moment, number + 1)
             }
             _ => Ok(None),
         }
@@ -337,7 +337,7 @@ impl Entry {
 
     // whether its change would be too long with this operation
     fn is_too_long(&self, op: &Op) -> bool
-        requires { (self.now.length ≡ 16 + ops_text_len self.now.ops.items)
+        requires { (self.now.length ≡ 16 + ops_encoded_len self.now.ops.items)
             × (self.now.length ≤ MOST_ELEMENT_BYTES) }
         ensures { result ≡ too_long (transaction_of self.now) op.now }
     {
@@ -355,9 +355,9 @@ impl Entry {
     /// Adds an operation, for which there is room, and whose change is not too long with it.
     pub(crate) fn add(&mut self, op: Op, moment: u64, made: View)
         requires room { HasRoom self.old }
-        requires short { self.old.length + op_text_len op ≤ MOST_ELEMENT_BYTES }
+        requires short { self.old.length + op_encoded_len op ≤ MOST_ELEMENT_BYTES }
         ensures kept { transaction_of self.new ≡ with_op (transaction_of self.old) op moment }
-        ensures length { self.new.length ≡ self.old.length + op_text_len op }
+        ensures length { self.new.length ≡ self.old.length + op_encoded_len op }
         ensures spare { HasTwoSpare self.new }
         ensures seen { self.new.view ≡ Some made }
     {

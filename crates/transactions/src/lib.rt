@@ -14,4 +14,4 @@ mod view;
 
 pub use prepared::{Next, Prepared};
 pub use store::Store;
-pub use table::{Holders, Pending, TxTable, Written};
+pub use table::{Holders, PendingOps, TxTable, TxWriteOutcome};

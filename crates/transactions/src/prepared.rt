@@ -1,11 +1,11 @@
 //! What an event that may accept a change is going to do, all that it grows being made.
 ghost use Rattle.std.specs.Prelude.{◌≡◌, IfOk};
 ghost use Rattle.std.specs.Option.{option_map};
-ghost use Rattle.transactions.specs.Prepared.{told_by, will_show};
+ghost use Rattle.transactions.specs.Prepared.{change_and_trees, change_to_accept};
 
 use crate::table::Holders;
 use crate::view::View;
-use change_codec::ChangeText;
+use change_codec::EncodedChange;
 use reg_tree::Trees;
 use std::alloc::{AllocError, Global};
 use std::snapshot::Snapshot;
@@ -23,7 +23,7 @@ pub struct Prepared {
 #[derive(Drop)]
 pub(crate) enum Ready {
     /// It is answered so, and nothing changes.
-    Told(Reply),
+    Answered(Reply),
     /// An operation is accepted by itself.
     Write(ReadyWrite),
     /// A transaction without operations commits as nothing.
@@ -49,7 +49,7 @@ pub(crate) struct JudgedWrite {
 #[derive(Drop)]
 pub(crate) struct ReadyWrite {
     /// The change, kept as its text.
-    pub element: ChangeText,
+    pub element: EncodedChange,
     /// The trees after it.
     pub trees: Trees,
     /// How many keys it makes, where it creates one.
@@ -57,7 +57,7 @@ pub(crate) struct ReadyWrite {
     /// The transactions that are rolled back by it.
     pub holders: Holders,
     /// What the others see then, by their places; nothing where it is to be made again.
-    pub moved: Vec<Option<View>>,
+    pub rebased: Vec<Option<View>>,
     /// The room that the journal has used then.
     pub room: u64,
 }
@@ -72,11 +72,11 @@ pub(crate) struct ReadyCommit {
     /// The moment of the change.
     pub moment: u64,
     /// The change, kept as its text.
-    pub element: ChangeText,
+    pub element: EncodedChange,
     /// The trees after it.
     pub trees: Trees,
     /// What the others see then, by their places; nothing where it is to be made again.
-    pub moved: Vec<Option<View>>,
+    pub rebased: Vec<Option<View>>,
     /// The room that the journal has used then.
     pub room: u64,
 }
@@ -87,13 +87,13 @@ pub struct Next {
     /// The trees then.
     pub trees: Trees,
     /// The change: known to contracts alone.
-    pub change: Snapshot<ChangeText>,
+    pub change: Snapshot<EncodedChange>,
 }
 
 impl Prepared {
     /// The change that will be accepted, and a copy of the trees that will be those of now then; nothing where none will be.
     pub fn next(&self, alloc: Global) -> Result<Option<Next>, AllocError>
-        ensures { IfOk result (λ next. option_map told_by next ≡ will_show self.now) }
+        ensures { IfOk result (λ next. option_map change_and_trees next ≡ change_to_accept self.now) }
     {
         match &self.ready {
             Ready::Write(write) => Ok(Some(next_of(alloc, &write.element, &write.trees)?)),
@@ -104,8 +104,8 @@ impl Prepared {
 }
 
 // a change, and a copy of the trees after it
-fn next_of(alloc: Global, change: &ChangeText, trees: &Trees) -> Result<Next, AllocError>
-    ensures { IfOk result (λ next. told_by next ≡ (change.now, trees.now)) }
+fn next_of(alloc: Global, change: &EncodedChange, trees: &Trees) -> Result<Next, AllocError>
+    ensures { IfOk result (λ next. change_and_trees next ≡ (change.now, trees.now)) }
 {
     let trees = trees.try_clone(alloc)?;
     Ok(Next {

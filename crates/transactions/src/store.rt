@@ -3,18 +3,18 @@ ghost use Rattle.std.specs.Prelude.{◌≡◌, ◌<◌, ◌≤◌, ◌+◌, ◌-
 ghost use Rattle.std.specs.List.{AllByRecursion, list_any};
 ghost use Rattle.refusals.specs.declared.refusal.Refusal.TheVariants.{NoMemory, NoSuchHandle};
 ghost use Rattle.store_model.specs.declared.event.Reply.TheVariants as reply;
-ghost use Rattle.store_model.specs.Steps.{Step, is_calm};
+ghost use Rattle.store_model.specs.Steps.{Step, is_not_step};
 ghost use Rattle.store_model.specs.Machine.{bounds_of, opened_machine, last_number, fault, trees_now, is_open, room_refusal, unnamed_refusal, tx_call_refusal};
 ghost use Rattle.store_model.specs.Transactions.{own, inactive_refusal};
 ghost use Rattle.transactions.specs.Histories.{IsShort};
 ghost use Rattle.transactions.specs.Stores.{Answers, needs_device};
-ghost use Rattle.transactions.specs.Prepared.{Foretells, IsPrepared, IsReady, IsReadyCommit, IsReadyNothing, IsReadyWrite, JudgesWrite, Readies, ReadiesWrite, Shows, may_accept, shown_by, will_show};
+ghost use Rattle.transactions.specs.Prepared.{Predicts, IsPrepared, IsReady, IsReadyCommit, IsReadyNothing, IsReadyWrite, JudgesWrite, PreparesEvent, PreparesWrite, AcceptsJust, may_accept, change_of_ready, change_to_accept};
 
-use crate::history::History;
+use crate::history::ChangeHistory;
 use crate::prepared::{JudgedWrite, Prepared, Ready, ReadyCommit, ReadyWrite};
 use crate::short::change_is_short;
-use crate::table::{TxTable, Written};
-use change_codec::ChangeText;
+use crate::table::{TxTable, TxWriteOutcome};
+use change_codec::EncodedChange;
 use refusals::Refusal;
 use refusals::limits::{GREATEST_NUMBER, MOST_JOURNAL_BYTES};
 use reg_names::Path;
@@ -23,7 +23,7 @@ use std::alloc::{AllocError, Global};
 use std::marker::Model;
 use std::snapshot::Snapshot;
 use store_model::room::CHANGE_START;
-use store_model::{Bounds, Event, Question, Reply, Sessions, Tx, look_up};
+use store_model::{Event, Question, Reply, Sessions, StoreBounds, Tx, look_up};
 use uuid::Uuid;
 
 /// A store in memory, seen by contracts as the state of the machine, the number above which its changes are at hand, and for how
@@ -31,20 +31,20 @@ use uuid::Uuid;
 ///
 /// It keeps the trees of now, and of the accepted changes those that were not let go; the trees as they were opened and the
 /// whole list of accepted changes are known to contracts alone. It makes no step: whoever keeps the journal and the hives tells
-/// it how far changes are durable ([`settle`](Store::settle)), what room is free again ([`free`](Store::free)), and that the
+/// it how far changes are durable ([`mark_durable`](Store::settle)), what room is free again ([`free`](Store::free)), and that the
 /// device has failed ([`fail`](Store::fail)). An event that may accept a change may be made in two parts: [`prepare`](Store::prepare)
 /// makes all that it grows, and [`finish`](Store::finish) answers it and takes no memory.
 pub struct Store {
     alloc: Global,
     opened: Snapshot<Trees>,
     before: u64,
-    history: History,
+    history: ChangeHistory,
     sessions: Sessions,
     table: TxTable,
     durable: u64,
     room: u64,
     faulted: bool,
-    bounds: Bounds,
+    bounds: StoreBounds,
 }
 
 impl Drop for Store {
@@ -66,7 +66,7 @@ impl Drop for Store {
 }
 
 impl Model for Store {
-    ghost use Rattle.transactions.specs.Stores.{StoreView, store_of, store_code, IsTied};
+    ghost use Rattle.transactions.specs.Stores.{StoreView, store_of, store_code, TableMatchesMachine};
     ghost use Rattle.std.specs.Prelude.{◌+◌};
 
     ghost Value = { StoreView };
@@ -77,11 +77,11 @@ impl Model for Store {
       machine =
           store_of inside.opened.value inside.before inside.history.changes inside.sessions
           inside.table inside.durable inside.room inside.faulted inside.bounds;
-      at_hand = inside.before + inside.history.let_go;
+      retained = inside.before + inside.history.discard_flushed;
       spare = inside.history.spare;
     } };
 
-    ghost invariant = { λ inside. IsTied inside.table
+    ghost invariant = { λ inside. TableMatchesMachine inside.table
         (store_of inside.opened.value inside.before inside.history.changes inside.sessions
         inside.table inside.durable inside.room inside.faulted inside.bounds) };
 }
@@ -91,29 +91,29 @@ impl Store {
     pub fn new(alloc: Global, trees: Trees, number: u64, room: u64) -> Result<Store, AllocError>
         ensures machine { IfOk result (λ store. store.machine
             ≡ record (opened_machine (bounds_of trees) trees number [] 0) { room = room }) }
-        ensures at_hand { IfOk result (λ store. store.at_hand ≡ number) }
+        ensures retained { IfOk result (λ store. store.retained ≡ number) }
     {
-        let bounds = Bounds::of(&trees);
+        let bounds = StoreBounds::of(&trees);
         Store::within(alloc, bounds, trees, number, room)
     }
 
     /// The same, within these bounds.
     pub fn within(
         alloc: Global,
-        bounds: Bounds,
+        bounds: StoreBounds,
         trees: Trees,
         number: u64,
         room: u64,
     ) -> Result<Store, AllocError>
         ensures machine { IfOk result (λ store. store.machine
             ≡ record (opened_machine bounds trees number [] 0) { room = room }) }
-        ensures at_hand { IfOk result (λ store. store.at_hand ≡ number) }
+        ensures retained { IfOk result (λ store. store.retained ≡ number) }
     {
         Ok(Store {
             alloc,
             opened: Snapshot::of(&trees),
             before: number,
-            history: History::new(alloc),
+            history: ChangeHistory::new(alloc),
             sessions: Sessions::new(alloc)?,
             table: TxTable::new(alloc, trees, number),
             durable: number,
@@ -125,9 +125,9 @@ impl Store {
 
     /// Answers a calm event, which makes no step.
     pub fn event(&mut self, event: Event) -> Reply
-        requires calm { is_calm event ≡ true }
+        requires non_step { is_not_step event ≡ true }
         ensures step { Step self.old.machine event result self.new.machine }
-        ensures at_hand { self.new.at_hand ≡ self.old.at_hand }
+        ensures retained { self.new.retained ≡ self.old.retained }
     {
         if self.faulted && needs_device(&event) {
             return Reply::Refused {
@@ -147,27 +147,27 @@ impl Store {
         requires accepts { may_accept event ≡ true }
         ensures prepared { IfOk result (λ prepared. (prepared.event.value ≡ event)
             × IsPrepared self.new prepared) }
-        ensures foretold { IfOk result (λ prepared.
-            Foretells self.new.machine event (will_show prepared)) }
+        ensures predicted { IfOk result (λ prepared.
+            Predicts self.new.machine event (change_to_accept prepared)) }
         ensures machine { self.new.machine ≡ self.old.machine }
-        ensures at_hand { self.new.at_hand ≡ self.old.at_hand }
+        ensures retained { self.new.retained ≡ self.old.retained }
     {
         let kept = Snapshot::of(&event);
-        let ready = self.ready_for(event)?;
+        let ready = self.preparation_of(event)?;
         Ok(Prepared { event: kept, ready })
     }
 
     // what an event that may accept a change is going to do, where no memory is wanting
-    fn ready_for(&mut self, event: Event) -> Result<Ready, AllocError>
+    fn preparation_of(&mut self, event: Event) -> Result<Ready, AllocError>
         requires accepts { may_accept event ≡ true }
         ensures ready { IfOk result (IsReady self.new.machine self.new.spare event) }
         ensures machine { self.new.machine ≡ self.old.machine }
-        ensures at_hand { self.new.at_hand ≡ self.old.at_hand }
+        ensures retained { self.new.retained ≡ self.old.retained }
     {
         match self.make(event) {
             Ok(ready) => Ok(ready),
             Err(Refusal::NoMemory) => Err(AllocError),
-            Err(refusal) => Ok(Ready::Told(Reply::Refused { refusal })),
+            Err(refusal) => Ok(Ready::Answered(Reply::Refused { refusal })),
         }
     }
 
@@ -175,9 +175,9 @@ impl Store {
     pub fn finish(&mut self, prepared: Prepared) -> Reply
         requires prepared { IsPrepared self.old prepared }
         ensures step { Step self.old.machine prepared.event.value result self.new.machine }
-        ensures fed { ¬ (result ≡ reply.Refused NoMemory) }
-        ensures shown { Shows (will_show prepared) self.old.machine self.new.machine }
-        ensures at_hand { self.new.at_hand ≡ self.old.at_hand }
+        ensures never_no_memory { ¬ (result ≡ reply.Refused NoMemory) }
+        ensures shown { AcceptsJust (change_to_accept prepared) self.old.machine self.new.machine }
+        ensures retained { self.new.retained ≡ self.old.retained }
     {
         self.accept(prepared.ready)
     }
@@ -185,9 +185,9 @@ impl Store {
     // what an event that may accept a change is going to do
     fn make(&mut self, event: Event) -> Result<Ready, Refusal>
         requires accepts { may_accept event ≡ true }
-        ensures made { Readies self.old.machine self.new.spare event result }
+        ensures made { PreparesEvent self.old.machine self.new.spare event result }
         ensures machine { self.new.machine ≡ self.old.machine }
-        ensures at_hand { self.new.at_hand ≡ self.old.at_hand }
+        ensures retained { self.new.retained ≡ self.old.retained }
     {
         if self.faulted {
             return Err(Refusal::Faulted);
@@ -199,7 +199,7 @@ impl Store {
                 op,
             } => match self.make_write(session, moment, op)? {
                 Some(write) => Ok(Ready::Write(write)),
-                None => Ok(Ready::Told(Reply::Opened)),
+                None => Ok(Ready::Answered(Reply::Opened)),
             },
             Event::CommitAccept {
                 session,
@@ -220,7 +220,7 @@ impl Store {
     /// The number of the last accepted change, or that of the opening where none was.
     pub fn last_number(&self) -> u64
         ensures number { result ≡ last_number self.now.machine }
-        ensures at_hand { self.now.at_hand ≤ result }
+        ensures retained { self.now.retained ≤ result }
     {
         let _ = self.history.len();
         self.table.number()
@@ -256,8 +256,8 @@ impl Store {
     }
 
     /// The accepted changes with numbers above this one, none of which was let go.
-    pub fn above(&self, number: u64) -> &[ChangeText]
-        requires at_hand { self.now.at_hand ≤ number }
+    pub fn above(&self, number: u64) -> &[EncodedChange]
+        requires retained { self.now.retained ≤ number }
         requires there { number ≤ last_number self.now.machine }
         ensures changes { result.now
             ≡ drop (number - self.now.machine.before) self.now.machine.accepted }
@@ -267,27 +267,27 @@ impl Store {
     }
 
     /// The number above which changes are at hand.
-    pub fn at_hand(&self) -> u64
-        ensures { result ≡ self.now.at_hand }
+    pub fn retained(&self) -> u64
+        ensures { result ≡ self.now.retained }
     {
-        self.table.number() - self.history.at_hand() as u64
+        self.table.number() - self.history.retained() as u64
     }
 
     /// Lets the changes up to this number go: they are no longer at hand.
-    pub fn let_go(&mut self, number: u64)
+    pub fn discard_flushed(&mut self, number: u64)
         requires there { number ≤ last_number self.old.machine }
         ensures machine { self.new.machine ≡ self.old.machine }
-        ensures at_hand { self.new.at_hand ≡ max self.old.at_hand number }
+        ensures retained { self.new.retained ≡ max self.old.retained number }
     {
         self.history
-            .let_go(number.saturating_sub(self.before) as usize);
+            .discard_flushed(number.saturating_sub(self.before) as usize);
     }
 
     /// Changes are durable up to this number.
-    pub fn settle(&mut self, durable: u64)
+    pub fn mark_durable(&mut self, durable: u64)
         requires there { durable ≤ last_number self.old.machine }
         ensures machine { self.new.machine ≡ record self.old.machine { durable = durable } }
-        ensures at_hand { self.new.at_hand ≡ self.old.at_hand }
+        ensures retained { self.new.retained ≡ self.old.retained }
     {
         self.durable = durable;
     }
@@ -297,7 +297,7 @@ impl Store {
         requires used { bytes ≤ self.old.machine.room }
         ensures machine { self.new.machine
             ≡ record self.old.machine { room = self.old.machine.room - bytes } }
-        ensures at_hand { self.new.at_hand ≡ self.old.at_hand }
+        ensures retained { self.new.retained ≡ self.old.retained }
     {
         self.room -= bytes;
     }
@@ -307,16 +307,16 @@ impl Store {
         requires sound { self.old.machine.faulted ≡ false }
         ensures machine { self.new.machine
             ≡ record self.old.machine { failures = self.old.machine.failures + 1; faulted = true } }
-        ensures at_hand { self.new.at_hand ≡ self.old.at_hand }
+        ensures retained { self.new.retained ≡ self.old.retained }
     {
         self.faulted = true;
     }
 
     fn answer(&mut self, event: Event) -> Result<Reply, Refusal>
-        requires calm { is_calm event ≡ true }
+        requires non_step { is_not_step event ≡ true }
         requires free { needs_device event ≡ true → fault self.old.machine ≡ None }
         ensures step { Answers self.old.machine event result self.new.machine }
-        ensures at_hand { self.new.at_hand ≡ self.old.at_hand }
+        ensures retained { self.new.retained ≡ self.old.retained }
     {
         match event {
             Event::StartSession { session } => self.start_session(session),
@@ -363,7 +363,7 @@ impl Store {
     fn start_session(&mut self, session: u32) -> Result<Reply, Refusal>
         requires free { fault self.old.machine ≡ None }
         ensures step { Answers self.old.machine (Event.StartSession session) result self.new.machine }
-        ensures at_hand { self.new.at_hand ≡ self.old.at_hand }
+        ensures retained { self.new.retained ≡ self.old.retained }
     {
         if self.sessions.is_open(session) {
             return Ok(Reply::Done);
@@ -376,7 +376,7 @@ impl Store {
 
     fn end_session(&mut self, session: u32) -> Result<Reply, Refusal>
         ensures step { Answers self.old.machine (Event.EndSession session) result self.new.machine }
-        ensures at_hand { self.new.at_hand ≡ self.old.at_hand }
+        ensures retained { self.new.retained ≡ self.old.retained }
     {
         open(&self.sessions, session)?;
         self.table.end_session(session);
@@ -402,7 +402,7 @@ impl Store {
     fn write(&mut self, session: u32, moment: u64, op: Op) -> Result<Reply, Refusal>
         requires free { fault self.old.machine ≡ None }
         ensures step { Answers self.old.machine (Event.Write session moment op) result self.new.machine }
-        ensures at_hand { self.new.at_hand ≡ self.old.at_hand }
+        ensures retained { self.new.retained ≡ self.old.retained }
     {
         match self.make_write(session, moment, op)? {
             Some(write) => Ok(self.accept_write(write)),
@@ -418,24 +418,26 @@ impl Store {
         op: Op,
     ) -> Result<Option<ReadyWrite>, Refusal>
         requires free { fault self.old.machine ≡ None }
-        ensures made { ReadiesWrite self.old.machine session moment op result }
+        ensures made { PreparesWrite self.old.machine session moment op result }
         ensures spare { IfOk result (λ made. OnSome made (0 < self.new.spare)) }
         ensures machine { self.new.machine ≡ self.old.machine }
-        ensures at_hand { self.new.at_hand ≡ self.old.at_hand }
+        ensures retained { self.new.retained ≡ self.old.retained }
     {
         let Some(judged) = self.judge_write(session, moment, &op)? else {
             return Ok(None);
         };
         let ops = Ops::one(self.alloc, op)?;
-        let moved = self.table.move_views(ops.list(), moment, &judged.holders)?;
-        let element = ChangeText::of(self.alloc, &Element { moment, ops })?;
+        let rebased = self
+            .table
+            .rebase_views(ops.list(), moment, &judged.holders)?;
+        let element = EncodedChange::of(self.alloc, &Element { moment, ops })?;
         self.history.reserve()?;
         Ok(Some(ReadyWrite {
             element,
             trees: judged.trees,
             levels: judged.levels,
             holders: judged.holders,
-            moved,
+            rebased,
             room: judged.room,
         }))
     }
@@ -478,20 +480,20 @@ impl Store {
         ensures trees { trees_now self.new.machine ≡ write.trees }
         ensures grows { self.new.machine.accepted
             ≡ self.old.machine.accepted ++ write.element ∷ [] }
-        ensures fed { ¬ (result ≡ reply.Refused NoMemory) }
-        ensures at_hand { self.new.at_hand ≡ self.old.at_hand }
+        ensures never_no_memory { ¬ (result ≡ reply.Refused NoMemory) }
+        ensures retained { self.new.retained ≡ self.old.retained }
     {
         let ReadyWrite {
             element,
             trees,
             levels,
             holders,
-            moved,
+            rebased,
             room,
         } = write;
         self.history.push_reserved(element);
         self.table.accept(trees);
-        self.table.take_views(moved);
+        self.table.take_views(rebased);
         self.table.roll_back_all(&holders);
         self.room = room;
         accepted(&self.table, levels)
@@ -514,7 +516,7 @@ impl Store {
     fn check_call(&self, session: u32, tx: Tx, hive: u8) -> Result<(), Refusal>
         ensures there { OnOk result (is_open self.now.machine session ≡ true) }
         ensures active { OnOk result
-            (inactive_refusal (own self.now.machine.places session tx) ≡ None) }
+            (inactive_refusal (own self.now.machine.tx_slots session tx) ≡ None) }
         ensures named { OnOk result (unnamed_refusal self.now.machine hive ≡ None) }
         ensures refused { IfErr result (λ refusal.
             tx_call_refusal self.now.machine session tx hive ≡ Some refusal) }
@@ -549,7 +551,7 @@ impl Store {
     fn begin(&mut self, session: u32, id: Uuid) -> Result<Reply, Refusal>
         requires free { fault self.old.machine ≡ None }
         ensures step { Answers self.old.machine (Event.Begin session id) result self.new.machine }
-        ensures at_hand { self.new.at_hand ≡ self.old.at_hand }
+        ensures retained { self.new.retained ≡ self.old.retained }
     {
         open(&self.sessions, session)?;
         let tx = self.table.begin(session, id)?;
@@ -565,7 +567,7 @@ impl Store {
         question: Question,
     ) -> Result<Reply, Refusal>
         ensures step { Answers self.old.machine (Event.TxRead session tx hive path.now question) result self.new.machine }
-        ensures at_hand { self.new.at_hand ≡ self.old.at_hand }
+        ensures retained { self.new.retained ≡ self.old.retained }
     {
         self.check_call(session, tx, hive)?;
         let found = self.table.view_read(session, tx, hive, path, question)?;
@@ -575,19 +577,19 @@ impl Store {
     fn tx_write(&mut self, session: u32, tx: Tx, moment: u64, op: Op) -> Result<Reply, Refusal>
         requires free { fault self.old.machine ≡ None }
         ensures step { Answers self.old.machine (Event.TxWrite session tx moment op) result self.new.machine }
-        ensures at_hand { self.new.at_hand ≡ self.old.at_hand }
+        ensures retained { self.new.retained ≡ self.old.retained }
     {
         self.check_call(session, tx, op.hive())?;
         match self.table.write_active(session, tx, moment, op)? {
-            Written::Added { levels } => Ok(Reply::Added { levels }),
-            Written::Opened => Ok(Reply::Opened),
+            TxWriteOutcome::Added { levels } => Ok(Reply::Added { levels }),
+            TxWriteOutcome::Opened => Ok(Reply::Opened),
         }
     }
 
     fn commit_accept(&mut self, session: u32, tx: Tx, moment: u64) -> Result<Reply, Refusal>
         requires free { fault self.old.machine ≡ None }
         ensures step { Answers self.old.machine (Event.CommitAccept session tx moment) result self.new.machine }
-        ensures at_hand { self.new.at_hand ≡ self.old.at_hand }
+        ensures retained { self.new.retained ≡ self.old.retained }
     {
         let ready = self.make_commit(session, tx, moment)?;
         Ok(self.accept(ready))
@@ -596,10 +598,10 @@ impl Store {
     // what a commit leads to, all that it grows being made
     fn make_commit(&mut self, session: u32, tx: Tx, moment: u64) -> Result<Ready, Refusal>
         requires free { fault self.old.machine ≡ None }
-        ensures made { Readies self.old.machine self.new.spare
+        ensures made { PreparesEvent self.old.machine self.new.spare
             (Event.CommitAccept session tx moment) result }
         ensures machine { self.new.machine ≡ self.old.machine }
-        ensures at_hand { self.new.at_hand ≡ self.old.at_hand }
+        ensures retained { self.new.retained ≡ self.old.retained }
     {
         open(&self.sessions, session)?;
         let pending = self.table.commit_ops(session, tx)?;
@@ -608,12 +610,12 @@ impl Store {
         }
         let made = self.table.commit_trees(session, tx, moment)?;
         let room = self.room_with(pending.text_len)?;
-        let moved = if made.carried {
-            self.table.move_others(tx.place, pending.ops, moment)?
+        let rebased = if made.carried {
+            self.table.rebase_others(tx.slot, pending.ops, moment)?
         } else {
             Vec::new(self.alloc)
         };
-        let element = ChangeText::of_ops(self.alloc, moment, pending.ops, pending.text_len)?;
+        let element = EncodedChange::of_ops(self.alloc, moment, pending.ops, pending.text_len)?;
         self.history.reserve()?;
         Ok(Ready::Commit(ReadyCommit {
             session,
@@ -621,7 +623,7 @@ impl Store {
             moment,
             element,
             trees: made.trees,
-            moved,
+            rebased,
             room,
         }))
     }
@@ -631,12 +633,12 @@ impl Store {
         requires ready { (event : Event) × IsReady self.old.machine self.old.spare event ready }
         ensures step { (event : Event) → IsReady self.old.machine self.old.spare event ready →
             Step self.old.machine event result self.new.machine }
-        ensures fed { ¬ (result ≡ reply.Refused NoMemory) }
-        ensures shown { Shows (shown_by ready) self.old.machine self.new.machine }
-        ensures at_hand { self.new.at_hand ≡ self.old.at_hand }
+        ensures never_no_memory { ¬ (result ≡ reply.Refused NoMemory) }
+        ensures shown { AcceptsJust (change_of_ready ready) self.old.machine self.new.machine }
+        ensures retained { self.new.retained ≡ self.old.retained }
     {
         match ready {
-            Ready::Told(reply) => reply,
+            Ready::Answered(reply) => reply,
             Ready::Write(write) => self.accept_write(write),
             Ready::Nothing(session, tx) => self.commit_nothing(session, tx),
             Ready::Commit(commit) => self.accept_commit(commit),
@@ -648,9 +650,9 @@ impl Store {
         requires ready { IsReadyNothing self.old.machine session tx }
         ensures step { (moment : ℕ) → Step self.old.machine
             (Event.CommitAccept session tx moment) result self.new.machine }
-        ensures fed { ¬ (result ≡ reply.Refused NoMemory) }
+        ensures never_no_memory { ¬ (result ≡ reply.Refused NoMemory) }
         ensures accepted { self.new.machine.accepted ≡ self.old.machine.accepted }
-        ensures at_hand { self.new.at_hand ≡ self.old.at_hand }
+        ensures retained { self.new.retained ≡ self.old.retained }
     {
         let Ok(_) = self.table.commit(session, tx) else {
             unreachable!();
@@ -667,8 +669,8 @@ impl Store {
         ensures trees { trees_now self.new.machine ≡ commit.trees }
         ensures grows { self.new.machine.accepted
             ≡ self.old.machine.accepted ++ commit.element ∷ [] }
-        ensures fed { ¬ (result ≡ reply.Refused NoMemory) }
-        ensures at_hand { self.new.at_hand ≡ self.old.at_hand }
+        ensures never_no_memory { ¬ (result ≡ reply.Refused NoMemory) }
+        ensures retained { self.new.retained ≡ self.old.retained }
     {
         let ReadyCommit {
             session,
@@ -676,11 +678,11 @@ impl Store {
             moment: _,
             element: change,
             trees,
-            moved,
+            rebased,
             room,
         } = commit;
         self.table.accept(trees);
-        self.table.take_views(moved);
+        self.table.take_views(rebased);
         let Ok(_ops) = self.table.commit(session, tx) else {
             unreachable!();
         };
@@ -693,7 +695,7 @@ impl Store {
 
     fn roll_back(&mut self, session: u32, tx: Tx) -> Result<Reply, Refusal>
         ensures step { Answers self.old.machine (Event.Rollback session tx) result self.new.machine }
-        ensures at_hand { self.new.at_hand ≡ self.old.at_hand }
+        ensures retained { self.new.retained ≡ self.old.retained }
     {
         open(&self.sessions, session)?;
         self.table.rollback(session, tx)?;
@@ -702,7 +704,7 @@ impl Store {
 
     fn close(&mut self, session: u32, tx: Tx) -> Result<Reply, Refusal>
         ensures step { Answers self.old.machine (Event.Close session tx) result self.new.machine }
-        ensures at_hand { self.new.at_hand ≡ self.old.at_hand }
+        ensures retained { self.new.retained ≡ self.old.retained }
     {
         open(&self.sessions, session)?;
         self.table.close(session, tx)?;
@@ -715,7 +717,7 @@ impl Store {
     {
         open(&self.sessions, session)?;
         let outcome = self.table.outcome(session, tx)?;
-        Ok(Reply::Stands { outcome })
+        Ok(Reply::OutcomeIs { outcome })
     }
 
     fn flush_ask(&self) -> Reply

@@ -3,21 +3,21 @@ ghost use Rattle.std.specs.Prelude.{◌≡◌, ◌⊎◌, ◌+◌, ◌<◌, ◌�
 ghost use Rattle.std.specs.Option.{option_map, option_copied};
 ghost use Rattle.refusals.specs.declared.limits.TheConstants.{MOST_ELEMENT_BYTES, MOST_TRANSACTIONS};
 ghost use Rattle.refusals.specs.declared.refusal.Refusal.TheVariants.{NoMemory, NoSeat, TooLarge, Conflict};
-ghost use Rattle.reg_tree.specs.Texts.{ops_text_len};
+ghost use Rattle.reg_tree.specs.Encodings.{ops_encoded_len};
 ghost use Rattle.reg_tree.specs.Judgement.{legal, applied, any_outweighs};
 ghost use Rattle.conflicts.specs.Claims.{claim_of};
-ghost use Rattle.conflicts.specs.Holders.{AsksFor};
-ghost use Rattle.conflicts.specs.Skeletons.{AreCarriedOut};
+ghost use Rattle.conflicts.specs.Holders.{IsClaimResult};
+ghost use Rattle.conflicts.specs.TreeOutlines.{AreCarriedOut};
 ghost use Rattle.store_model.specs.Ends.{refusal_of};
-ghost use Rattle.transactions.specs.Entries.{transaction_of, IsViewed, IsCommitted, IsSameEntry, HasRoom, MayAdd, AddsTo, IsNotAdded, IsJudgedOf, judge_refusal, IsMovedTo, AreMoved};
-ghost use Rattle.store_model.specs.Acts.{Finishes, Closes};
-ghost use Rattle.store_model.specs.Machine.{first_of, read_refusal, seen, seat_refusal, added_refusal_if};
-ghost use Rattle.transactions.specs.Tables.{Denies, Begins, ChangesPlaces, Writes, EndsWith, IsNotEnded, IsPending, is_of, holds_if, is_listed, MeetNone, rolled_back_if};
-ghost use Rattle.store_model.specs.Transactions.{at, own, is_active_outcome, Becomes, Puts, gone_with, inactive_refusal};
+ghost use Rattle.transactions.specs.Entries.{transaction_of, IsViewed, IsCommitted, IsSameEntry, HasRoom, MayAdd, AddsTo, IsNotAdded, IsJudgedOf, judge_refusal, IsRebasedTo, AreRebased};
+ghost use Rattle.store_model.specs.Acts.{EndsTx, ClosesTx};
+ghost use Rattle.store_model.specs.Machine.{first_of, read_refusal, seen, slot_refusal, added_refusal_if};
+ghost use Rattle.transactions.specs.Tables.{TableRefuses, Begins, ChangesSlots, Writes, EndsWith, EndIsRefused, IsPending, is_of, holds_if, is_listed, MeetNone, rolled_back_if};
+ghost use Rattle.store_model.specs.Transactions.{at, own, is_active_outcome, EachSlotBecomes, SetsSlot, gone_with, inactive_refusal};
 
 use crate::entry::{Committed, Entry};
 use crate::view::{Judged, View};
-use conflicts::{ClaimTable, Owner, claims};
+use conflicts::{ClaimOwner, ClaimTable, claims};
 use refusals::Refusal;
 use refusals::limits::MOST_TRANSACTIONS;
 use reg_names::Path;
@@ -25,7 +25,7 @@ use reg_tree::{Op, Trees};
 use slab::Slab;
 use std::alloc::{AllocError, Global};
 use std::marker::Model;
-use store_model::{Found, NoSuchTransaction, NotEnded, Outcome, Question, Tx};
+use store_model::{NoSuchTransaction, Outcome, Question, ReadResult, Tx, TxEndError};
 use uuid::Uuid;
 
 /// The transactions of a store, and the trees of now, which they see their own operations on.
@@ -37,7 +37,7 @@ pub struct TxTable {
     trees: Trees,
     number: u64,
     begun: u64,
-    places: Slab<Entry>,
+    tx_slots: Slab<Entry>,
     claims: ClaimTable,
 }
 
@@ -49,7 +49,7 @@ impl Drop for TxTable {
             trees: _,
             number: _,
             begun: _,
-            places: _,
+            tx_slots: _,
             claims: _,
         } = self;
     }
@@ -57,7 +57,7 @@ impl Drop for TxTable {
 
 impl Model for TxTable {
     ghost use Rattle.transactions.specs.Tables.{Table};
-    ghost use Rattle.transactions.specs.Entries.{places_of, AreKept};
+    ghost use Rattle.transactions.specs.Entries.{tx_slots_of, EntriesAreSound};
 
     ghost Value = { Table };
 
@@ -68,18 +68,18 @@ impl Model for TxTable {
     ghost view = { λ inside. record {
       trees = inside.trees;
       number = inside.number;
-      places =
-          places_of inside.places.slots;
+      tx_slots =
+          tx_slots_of inside.tx_slots.slots;
       begun = inside.begun;
     } };
 
-    ghost invariant = { λ inside. AreKept inside.trees inside.number inside.begun
-        inside.places.slots inside.claims };
+    ghost invariant = { λ inside. EntriesAreSound inside.trees inside.number inside.begun
+        inside.tx_slots.slots inside.claims };
 }
 
 /// What became of a write in a transaction that was not refused.
 #[derive(Clone, Copy, Debug, PartialEq, Eq)]
-pub enum Written {
+pub enum TxWriteOutcome {
     /// The operation was added.
     Added {
         /// How many keys it makes, where it creates one.
@@ -91,7 +91,7 @@ pub enum Written {
 
 /// The operations of an active transaction, and how long they are as one change.
 #[derive(Drop)]
-pub struct Pending<'a> {
+pub struct PendingOps<'a> {
     /// The operations in order.
     pub ops: &'a [Op],
     /// The bytes of the change that they make, as journal text.
@@ -100,7 +100,7 @@ pub struct Pending<'a> {
 
 /// The transactions that hold a claim which conflicts with that of an operation, by their places.
 pub struct Holders {
-    owners: Vec<Owner>,
+    owners: Vec<ClaimOwner>,
 }
 
 impl Drop for Holders {
@@ -120,11 +120,11 @@ impl Model for Holders {
 
 impl Holders {
     /// Whether the transaction at a place is one of them.
-    fn has(&self, place: usize) -> bool
-        ensures { result ≡ is_listed self.now place }
+    fn has(&self, slot: usize) -> bool
+        ensures { result ≡ is_listed self.now slot }
     {
         for owner in &self.owners {
-            if owner.0 == place as u64 {
+            if owner.0 == slot as u64 {
                 return true;
             }
         }
@@ -135,14 +135,14 @@ impl Holders {
 impl TxTable {
     /// A table without transactions, for trees after the change of this number.
     pub fn new(alloc: Global, trees: Trees, number: u64) -> TxTable
-        ensures { result ≡ record { trees = trees; number = number; places = []; begun = 0 } }
+        ensures { result ≡ record { trees = trees; number = number; tx_slots = []; begun = 0 } }
     {
         TxTable {
             alloc,
             trees,
             number,
             begun: 0,
-            places: Slab::new(alloc),
+            tx_slots: Slab::new(alloc),
             claims: ClaimTable::new(alloc),
         }
     }
@@ -166,31 +166,37 @@ impl TxTable {
     pub fn begin(&mut self, session: u32, id: Uuid) -> Result<Tx, Refusal>
         ensures ok { IfOk result (λ tx. Begins self.old session id tx self.new) }
         ensures refused { IfErr result (λ refusal.
-            Denies self.old (seat_refusal self.old.places self.old.begun) refusal self.new) }
+            TableRefuses self.old (slot_refusal self.old.tx_slots self.old.begun) refusal self.new) }
     {
-        if self.places.len() >= MOST_TRANSACTIONS {
+        if self.tx_slots.len() >= MOST_TRANSACTIONS {
             return Err(Refusal::NoSeat);
         }
         let Some(generation) = self.begun.checked_add(1) else {
             return Err(Refusal::NoSeat);
         };
-        self.places.reserve(1)?;
+        self.tx_slots.reserve(1)?;
         let entry = Entry::begin(self.alloc, session, id, generation);
         self.begun = generation;
-        let place = self.places.insert_reserved(entry);
-        Ok(Tx { place, generation })
+        let slot = self.tx_slots.insert_reserved(entry);
+        Ok(Tx { slot, generation })
     }
 
     /// Adds an operation to a transaction, at a moment. It is judged by what the transaction sees. Refused in this
     /// order: with `NoSuchHandle`, with `NotActive`, where the operation is not legal, with `TooLarge` where the change
     /// would be longer than 4,194,304 bytes, with `Conflict` where another active transaction's claim conflicts; and
     /// with `NoMemory`. The transaction then stays as it is.
-    pub fn write(&mut self, session: u32, tx: Tx, moment: u64, op: Op) -> Result<Written, Refusal>
+    pub fn write(
+        &mut self,
+        session: u32,
+        tx: Tx,
+        moment: u64,
+        op: Op,
+    ) -> Result<TxWriteOutcome, Refusal>
         ensures ok { IfOk result (λ written.
             Writes self.old session tx moment op written self.new) }
         ensures refused { IfErr result (λ refusal.
-            Denies self.old
-            (added_refusal_if self.old.trees self.old.places tx.place op (own self.old.places session tx))
+            TableRefuses self.old
+            (added_refusal_if self.old.trees self.old.tx_slots tx.slot op (own self.old.tx_slots session tx))
             refusal self.new) }
     {
         self.check_active(session, tx)?;
@@ -204,31 +210,31 @@ impl TxTable {
         tx: Tx,
         moment: u64,
         op: Op,
-    ) -> Result<Written, Refusal>
-        requires { inactive_refusal (own self.old.places session tx) ≡ None }
+    ) -> Result<TxWriteOutcome, Refusal>
+        requires { inactive_refusal (own self.old.tx_slots session tx) ≡ None }
         ensures ok { IfOk result (λ written.
             Writes self.old session tx moment op written self.new) }
         ensures refused { IfErr result (λ refusal.
-            Denies self.old
-            (added_refusal_if self.old.trees self.old.places tx.place op (own self.old.places session tx))
+            TableRefuses self.old
+            (added_refusal_if self.old.trees self.old.tx_slots tx.slot op (own self.old.tx_slots session tx))
             refusal self.new) }
     {
         match self.judge(session, tx, &op)? {
-            Some(judged) => self.add(tx.place, moment, op, judged),
-            None => Ok(Written::Opened),
+            Some(judged) => self.add(tx.slot, moment, op, judged),
+            None => Ok(TxWriteOutcome::Opened),
         }
     }
 
     // judges an operation by what the transaction sees and by its length; nothing where it opens a key
     fn judge(&mut self, session: u32, tx: Tx, op: &Op) -> Result<Option<Judged>, Refusal>
-        requires { inactive_refusal (own self.old.places session tx) ≡ None }
+        requires { inactive_refusal (own self.old.tx_slots session tx) ≡ None }
         ensures same { self.new ≡ self.old }
         ensures ok { IfOk result (IsJudgedOf self.old session tx op.now) }
         ensures refused { IfErr result (λ refusal.
-            (judge_refusal self.old.trees op.now (own self.old.places session tx) ≡ Some refusal)
+            (judge_refusal self.old.trees op.now (own self.old.tx_slots session tx) ≡ Some refusal)
             ⊎ (refusal ≡ NoMemory)) }
     {
-        let Some(entry) = self.places.get_mut(tx.place) else {
+        let Some(entry) = self.tx_slots.get_mut(tx.slot) else {
             unreachable!();
         };
         entry.judge(self.alloc, &self.trees, self.number, op)
@@ -236,17 +242,23 @@ impl TxTable {
 
     // adds an operation that was judged to the transaction at a place, with the view after it, where no other active
     // transaction holds a claim which conflicts
-    fn add(&mut self, place: usize, moment: u64, op: Op, judged: Judged) -> Result<Written, Refusal>
-        requires { MayAdd self.old place op judged.made }
-        ensures ok { IfOk result (AddsTo self.old place moment op judged.levels self.new) }
-        ensures refused { IfErr result (λ refusal. IsNotAdded self.old place op refusal × (self.new ≡ self.old)) }
+    fn add(
+        &mut self,
+        slot: usize,
+        moment: u64,
+        op: Op,
+        judged: Judged,
+    ) -> Result<TxWriteOutcome, Refusal>
+        requires { MayAdd self.old slot op judged.made }
+        ensures ok { IfOk result (AddsTo self.old slot moment op judged.levels self.new) }
+        ensures refused { IfErr result (λ refusal. IsNotAdded self.old slot op refusal × (self.new ≡ self.old)) }
     {
-        let Some(entry) = self.places.get_mut(place) else {
+        let Some(entry) = self.tx_slots.get_mut(slot) else {
             unreachable!();
         };
-        hold(entry, &mut self.claims, place, &op)?;
+        add_claim(entry, &mut self.claims, slot, &op)?;
         entry.add(op, moment, judged.made);
-        Ok(Written::Added {
+        Ok(TxWriteOutcome::Added {
             levels: judged.levels,
         })
     }
@@ -260,21 +272,21 @@ impl TxTable {
         hive: u8,
         path: &Path,
         question: Question,
-    ) -> Result<Found, Refusal>
+    ) -> Result<ReadResult, Refusal>
         ensures same { self.new ≡ self.old }
         ensures ok { IfOk result (λ found.
-            (inactive_refusal (own self.old.places session tx) ≡ None)
-            × (seen self.old.trees hive path.now question (own self.old.places session tx)
+            (inactive_refusal (own self.old.tx_slots session tx) ≡ None)
+            × (seen self.old.trees hive path.now question (own self.old.tx_slots session tx)
             ≡ Some found)) }
         ensures refused { IfErr result (λ refusal.
-            (first_of (inactive_refusal (own self.old.places session tx))
-            (read_refusal (seen self.old.trees hive path.now question (own self.old.places session tx)))
+            (first_of (inactive_refusal (own self.old.tx_slots session tx))
+            (read_refusal (seen self.old.trees hive path.now question (own self.old.tx_slots session tx)))
             ≡ Some refusal)
             ⊎ (refusal ≡ NoMemory)) }
     {
         let alloc = self.alloc;
         self.check_active(session, tx)?;
-        let Some(entry) = self.places.get_mut(tx.place) else {
+        let Some(entry) = self.tx_slots.get_mut(tx.slot) else {
             unreachable!();
         };
         entry.look_up(alloc, &self.trees, self.number, hive, path, question)
@@ -283,37 +295,37 @@ impl TxTable {
     // the transaction of a handle, where it is the session's
     fn own(&self, session: u32, tx: Tx) -> Option<&Entry>
         ensures found { option_map transaction_of (option_copied result)
-            ≡ own self.now.places session tx }
+            ≡ own self.now.tx_slots session tx }
         ensures counted { IfSome result (λ entry. entry.now.length
-            ≡ 16 + ops_text_len entry.now.ops.items) }
+            ≡ 16 + ops_encoded_len entry.now.ops.items) }
         ensures short { IfSome result (λ entry. entry.now.length ≤ MOST_ELEMENT_BYTES) }
         ensures viewed { IfSome result (λ entry. IsViewed self.now.trees self.now.number
             entry.now.ops.items entry.now.view) }
     {
-        match self.places.get(tx.place) {
+        match self.tx_slots.get(tx.slot) {
             Some(entry) if entry.is_own(session, tx.generation) => Some(entry),
             _ => None,
         }
     }
 
     /// Refuses a handle that is none of the session's, then one whose transaction isn't active.
-    pub(crate) fn check_active(&self, session: u32, tx: Tx) -> Result<(), NotEnded>
-        ensures ok { OnOk result (inactive_refusal (own self.now.places session tx) ≡ None) }
+    pub(crate) fn check_active(&self, session: u32, tx: Tx) -> Result<(), TxEndError>
+        ensures ok { OnOk result (inactive_refusal (own self.now.tx_slots session tx) ≡ None) }
         ensures refused { IfErr result (λ why.
-            inactive_refusal (own self.now.places session tx) ≡ Some (refusal_of why)) }
+            inactive_refusal (own self.now.tx_slots session tx) ≡ Some (refusal_of why)) }
     {
         match self.own(session, tx) {
             Some(entry) if entry.is_active() => Ok(()),
-            Some(_) => Err(NotEnded::NotActive),
-            None => Err(NotEnded::NoSuchTransaction),
+            Some(_) => Err(TxEndError::NotActive),
+            None => Err(TxEndError::NoSuchTransaction),
         }
     }
 
     /// Where a transaction stands. Takes no memory.
     pub fn outcome(&self, session: u32, tx: Tx) -> Result<Outcome, NoSuchTransaction>
         ensures ok { IfOk result (λ outcome.
-            option_map (λ one. one.outcome) (own self.now.places session tx) ≡ Some outcome) }
-        ensures refused { OnErr result (own self.now.places session tx ≡ None) }
+            option_map (λ one. one.outcome) (own self.now.tx_slots session tx) ≡ Some outcome) }
+        ensures refused { OnErr result (own self.now.tx_slots session tx ≡ None) }
     {
         match self.own(session, tx) {
             Some(entry) => Ok(entry.outcome),
@@ -322,20 +334,20 @@ impl TxTable {
     }
 
     /// The operations of an active transaction, for whoever accepts them as one change. Takes no memory.
-    pub fn commit_ops(&self, session: u32, tx: Tx) -> Result<Pending<'_>, NotEnded>
+    pub fn commit_ops(&self, session: u32, tx: Tx) -> Result<PendingOps<'_>, TxEndError>
         ensures ok { IfOk result (λ pending.
-            IsPending (own self.now.places session tx) pending.ops.now pending.text_len) }
+            IsPending (own self.now.tx_slots session tx) pending.ops.now pending.text_len) }
         ensures short { IfOk result (λ pending. pending.text_len ≤ MOST_ELEMENT_BYTES) }
         ensures refused { IfErr result (λ why.
-            inactive_refusal (own self.now.places session tx) ≡ Some (refusal_of why)) }
+            inactive_refusal (own self.now.tx_slots session tx) ≡ Some (refusal_of why)) }
     {
         match self.own(session, tx) {
-            Some(entry) if entry.is_active() => Ok(Pending {
+            Some(entry) if entry.is_active() => Ok(PendingOps {
                 ops: &entry.ops,
                 text_len: entry.length,
             }),
-            Some(_) => Err(NotEnded::NotActive),
-            None => Err(NotEnded::NoSuchTransaction),
+            Some(_) => Err(TxEndError::NotActive),
+            None => Err(TxEndError::NoSuchTransaction),
         }
     }
 
@@ -347,10 +359,10 @@ impl TxTable {
         tx: Tx,
         moment: u64,
     ) -> Result<Committed, Refusal>
-        requires { inactive_refusal (own self.now.places session tx) ≡ None }
-        ensures ok { IfOk result (λ made. IfSome (own self.now.places session tx) (λ one.
+        requires { inactive_refusal (own self.now.tx_slots session tx) ≡ None }
+        ensures ok { IfOk result (λ made. IfSome (own self.now.tx_slots session tx) (λ one.
             IsCommitted self.now.trees one.ops moment made)) }
-        ensures refused { IfErr result (λ refusal. IfSome (own self.now.places session tx) (λ one.
+        ensures refused { IfErr result (λ refusal. IfSome (own self.now.tx_slots session tx) (λ one.
             ((any_outweighs self.now.trees one.ops moment ≡ true) × (refusal ≡ TooLarge))
             ⊎ (refusal ≡ NoMemory))) }
     {
@@ -362,86 +374,86 @@ impl TxTable {
 
     /// Ends an active transaction as committed, and hands out its operations, with room for two more where there are any: that was
     /// made as they were added. Takes no memory.
-    pub fn commit(&mut self, session: u32, tx: Tx) -> Result<Vec<Op>, NotEnded>
+    pub fn commit(&mut self, session: u32, tx: Tx) -> Result<Vec<Op>, TxEndError>
         ensures ok { IfOk result (λ ops.
             EndsWith self.old session tx Outcome.Committed ops.items self.new) }
         ensures spare { IfOk result (λ ops.
             0 < length ops.items → length ops.items + 2 ≤ vec_capacity ops) }
-        ensures refused { IfErr result (λ why. IsNotEnded self.old session tx why self.new) }
+        ensures refused { IfErr result (λ why. EndIsRefused self.old session tx why self.new) }
     {
         self.end(session, tx, Outcome::Committed)
     }
 
     /// Rolls an active transaction back. Takes no memory.
-    pub fn rollback(&mut self, session: u32, tx: Tx) -> Result<(), NotEnded>
+    pub fn rollback(&mut self, session: u32, tx: Tx) -> Result<(), TxEndError>
         ensures ok { OnOk result
-            (ChangesPlaces self.old
-            (Finishes self.old.places (own self.old.places session tx) tx.place Outcome.RolledBack
-            self.new.places) self.new) }
-        ensures refused { IfErr result (λ why. IsNotEnded self.old session tx why self.new) }
+            (ChangesSlots self.old
+            (EndsTx self.old.tx_slots (own self.old.tx_slots session tx) tx.slot Outcome.RolledBack
+            self.new.tx_slots) self.new) }
+        ensures refused { IfErr result (λ why. EndIsRefused self.old session tx why self.new) }
     {
         self.end(session, tx, Outcome::RolledBack)?;
         Ok(())
     }
 
     // ends an active transaction: its claims and operations are dropped
-    fn end(&mut self, session: u32, tx: Tx, outcome: Outcome) -> Result<Vec<Op>, NotEnded>
+    fn end(&mut self, session: u32, tx: Tx, outcome: Outcome) -> Result<Vec<Op>, TxEndError>
         requires { is_active_outcome outcome ≡ false }
         ensures ok { IfOk result (λ ops. EndsWith self.old session tx outcome ops.items self.new) }
         ensures spare { IfOk result (λ ops.
             0 < length ops.items → length ops.items + 2 ≤ vec_capacity ops) }
-        ensures refused { IfErr result (λ why. IsNotEnded self.old session tx why self.new) }
+        ensures refused { IfErr result (λ why. EndIsRefused self.old session tx why self.new) }
     {
         let alloc = self.alloc;
         self.check_active(session, tx)?;
-        let Some(entry) = self.places.get_mut(tx.place) else {
+        let Some(entry) = self.tx_slots.get_mut(tx.slot) else {
             unreachable!();
         };
-        self.claims.drop_of(Owner(tx.place as u64));
+        self.claims.drop_of(ClaimOwner(tx.slot as u64));
         Ok(entry.end(alloc, outcome))
     }
 
     /// Lets a transaction go; one that is active is rolled back. Takes no memory.
     pub fn close(&mut self, session: u32, tx: Tx) -> Result<(), NoSuchTransaction>
         ensures ok { OnOk result
-            (ChangesPlaces self.old
-            (Closes self.old.places (own self.old.places session tx) tx.place self.new.places) self.new) }
+            (ChangesSlots self.old
+            (ClosesTx self.old.tx_slots (own self.old.tx_slots session tx) tx.slot self.new.tx_slots) self.new) }
         ensures refused { OnErr result
-            ((own self.old.places session tx ≡ None) × (self.new ≡ self.old)) }
+            ((own self.old.tx_slots session tx ≡ None) × (self.new ≡ self.old)) }
     {
         if self.own(session, tx).is_none() {
             return Err(NoSuchTransaction);
         }
-        self.vacate(tx.place);
+        self.vacate(tx.slot);
         Ok(())
     }
 
     // lets go what is at a place
-    fn vacate(&mut self, place: usize)
-        ensures rest { self.new ≡ record self.old { places = self.new.places } }
-        ensures put { Puts self.old.places self.new.places place None }
+    fn vacate(&mut self, slot: usize)
+        ensures rest { self.new ≡ record self.old { tx_slots = self.new.tx_slots } }
+        ensures put { SetsSlot self.old.tx_slots self.new.tx_slots slot None }
     {
-        self.claims.drop_of(Owner(place as u64));
-        self.places.try_remove(place);
+        self.claims.drop_of(ClaimOwner(slot as u64));
+        self.tx_slots.try_remove(slot);
     }
 
     /// Lets all transactions of a session go. Takes no memory.
     pub fn end_session(&mut self, session: u32)
-        ensures rest { self.new ≡ record self.old { places = self.new.places } }
-        ensures gone { Becomes (gone_with session) self.old.places self.new.places }
+        ensures rest { self.new ≡ record self.old { tx_slots = self.new.tx_slots } }
+        ensures gone { EachSlotBecomes (gone_with session) self.old.tx_slots self.new.tx_slots }
     {
-        for place in 0..self.places.capacity() {
-            if self.is_of(session, place) {
-                self.vacate(place);
+        for slot in 0..self.tx_slots.capacity() {
+            if self.is_of(session, slot) {
+                self.vacate(slot);
             }
         }
     }
 
     // whether the transaction at a place is of the session
-    fn is_of(&self, session: u32, place: usize) -> bool
-        ensures { result ≡ is_of session (at self.now.places place) }
+    fn is_of(&self, session: u32, slot: usize) -> bool
+        ensures { result ≡ is_of session (at self.now.tx_slots slot) }
     {
-        match self.places.get(place) {
+        match self.tx_slots.get(slot) {
             Some(entry) => entry.session == session,
             None => false,
         }
@@ -449,8 +461,8 @@ impl TxTable {
 
     /// The active transactions that hold a claim which conflicts with that of the operation.
     pub fn holders(&self, op: &Op) -> Result<Holders, AllocError>
-        ensures { IfOk result (λ holders. (place : ℕ) → is_listed holders place
-            ≡ holds_if (claim_of op.now) (at self.now.places place)) }
+        ensures { IfOk result (λ holders. (slot : ℕ) → is_listed holders slot
+            ≡ holds_if (claim_of op.now) (at self.now.tx_slots slot)) }
     {
         Ok(Holders {
             owners: self.claims.holders(None, &claims(op))?,
@@ -459,9 +471,9 @@ impl TxTable {
 
     /// Rolls back those of these transactions that are active. Takes no memory.
     pub fn roll_back_all(&mut self, holders: &Holders)
-        ensures rest { self.new ≡ record self.old { places = self.new.places } }
-        ensures rolled_back { (place : ℕ) → at self.new.places place
-            ≡ rolled_back_if (is_listed holders.now place) (at self.old.places place) }
+        ensures rest { self.new ≡ record self.old { tx_slots = self.new.tx_slots } }
+        ensures rolled_back { (slot : ℕ) → at self.new.tx_slots slot
+            ≡ rolled_back_if (is_listed holders.now slot) (at self.old.tx_slots slot) }
     {
         for owner in &holders.owners {
             self.roll_back_at(owner.0);
@@ -470,15 +482,15 @@ impl TxTable {
 
     // rolls back the transaction at a place, where it is active
     fn roll_back_at(&mut self, owner: u64)
-        ensures rest { self.new ≡ record self.old { places = self.new.places } }
-        ensures put { Puts self.old.places self.new.places owner (rolled_back_if true (at
-            self.old.places owner)) }
+        ensures rest { self.new ≡ record self.old { tx_slots = self.new.tx_slots } }
+        ensures put { SetsSlot self.old.tx_slots self.new.tx_slots owner (rolled_back_if true (at
+            self.old.tx_slots owner)) }
     {
         let alloc = self.alloc;
-        let place = owner as usize;
-        match self.places.get_mut(place) {
+        let slot = owner as usize;
+        match self.tx_slots.get_mut(slot) {
             Some(entry) if entry.is_active() => {
-                self.claims.drop_of(Owner(owner));
+                self.claims.drop_of(ClaimOwner(owner));
                 entry.end(alloc, Outcome::RolledBack);
             }
             _ => {}
@@ -487,7 +499,7 @@ impl TxTable {
 
     /// The views after a change, by their places: it is applied to that of each active transaction whose claims it does not
     /// meet. Nothing where there is none, or it is to be made again when it is asked for.
-    pub(crate) fn move_views(
+    pub(crate) fn rebase_views(
         &self,
         change: &[Op],
         moment: u64,
@@ -495,38 +507,38 @@ impl TxTable {
     ) -> Result<Vec<Option<View>>, AllocError>
         requires carried { AreCarriedOut self.now.trees change.now moment }
         requires below { self.now.number < 2 ^ 64 - 1 }
-        requires holders { (place : ℕ) → is_listed holders.now place ≡ false →
-            MeetNone change.now (at self.now.places place) }
-        ensures { IfOk result (λ moved.
-            AreMoved (applied self.now.trees change.now moment) (self.now.number + 1) self.now.places
-            moved.items) }
+        requires holders { (slot : ℕ) → is_listed holders.now slot ≡ false →
+            MeetNone change.now (at self.now.tx_slots slot) }
+        ensures { IfOk result (λ rebased.
+            AreRebased (applied self.now.trees change.now moment) (self.now.number + 1) self.now.tx_slots
+            rebased.items) }
     {
-        let mut moved = Vec::new(self.alloc);
-        for place in 0..self.places.capacity() {
-            moved.push(self.moved_at(place, change, moment, holders)?)?;
+        let mut rebased = Vec::new(self.alloc);
+        for slot in 0..self.tx_slots.capacity() {
+            rebased.push(self.rebased_at(slot, change, moment, holders)?)?;
         }
-        Ok(moved)
+        Ok(rebased)
     }
 
     // the view after a change of the transaction at a place
-    fn moved_at(
+    fn rebased_at(
         &self,
-        place: usize,
+        slot: usize,
         change: &[Op],
         moment: u64,
         holders: &Holders,
     ) -> Result<Option<View>, AllocError>
         requires carried { AreCarriedOut self.now.trees change.now moment }
         requires below { self.now.number < 2 ^ 64 - 1 }
-        requires holders { is_listed holders.now place ≡ false →
-            MeetNone change.now (at self.now.places place) }
+        requires holders { is_listed holders.now slot ≡ false →
+            MeetNone change.now (at self.now.tx_slots slot) }
         ensures { IfOk result
-            (IsMovedTo (applied self.now.trees change.now moment) (self.now.number + 1) (at
-            self.now.places place)) }
+            (IsRebasedTo (applied self.now.trees change.now moment) (self.now.number + 1) (at
+            self.now.tx_slots slot)) }
     {
-        match self.places.get(place) {
-            Some(entry) if entry.is_active() && !holders.has(place) => {
-                entry.moved(self.alloc, &self.trees, change, moment, self.number)
+        match self.tx_slots.get(slot) {
+            Some(entry) if entry.is_active() && !holders.has(slot) => {
+                entry.rebased(self.alloc, &self.trees, change, moment, self.number)
             }
             _ => Ok(None),
         }
@@ -534,33 +546,33 @@ impl TxTable {
 
     /// The views after the commit of the transaction at a place, by their places. Its claims conflict with nobody's, so each
     /// view may be moved.
-    pub(crate) fn move_others(
+    pub(crate) fn rebase_others(
         &self,
-        place: usize,
+        slot: usize,
         change: &[Op],
         moment: u64,
     ) -> Result<Vec<Option<View>>, AllocError>
-        requires pending { (length : ℕ) × IsPending (at self.now.places place) change.now length }
+        requires pending { (length : ℕ) × IsPending (at self.now.tx_slots slot) change.now length }
         requires carried { AreCarriedOut self.now.trees change.now moment }
         requires below { self.now.number < 2 ^ 64 - 1 }
-        ensures { IfOk result (λ moved.
-            AreMoved (applied self.now.trees change.now moment) (self.now.number + 1) self.now.places
-            moved.items) }
+        ensures { IfOk result (λ rebased.
+            AreRebased (applied self.now.trees change.now moment) (self.now.number + 1) self.now.tx_slots
+            rebased.items) }
     {
-        if !self.may_move_others(place, change.len()) {
+        if !self.may_rebase_others(slot, change.len()) {
             return Ok(Vec::new(self.alloc));
         }
-        self.claims.stand_apart();
+        self.claims.owners_dont_conflict();
         let mut owners = Vec::new(self.alloc);
-        owners.push(Owner(place as u64))?;
-        self.move_views(change, moment, &Holders { owners })
+        owners.push(ClaimOwner(slot as u64))?;
+        self.rebase_views(change, moment, &Holders { owners })
     }
 
     // whether some view beside that of a place is worth moving past so many operations
-    fn may_move_others(&self, place: usize, count: usize) -> bool {
-        for other in 0..self.places.capacity() {
-            match self.places.get(other) {
-                Some(entry) if other != place && entry.may_move(self.number, count) => return true,
+    fn may_rebase_others(&self, slot: usize, count: usize) -> bool {
+        for other in 0..self.tx_slots.capacity() {
+            match self.tx_slots.get(other) {
+                Some(entry) if other != slot && entry.may_rebase(self.number, count) => return true,
                 _ => {}
             }
         }
@@ -568,22 +580,22 @@ impl TxTable {
     }
 
     /// Takes the views after the change that was just accepted. Takes no memory.
-    pub(crate) fn take_views(&mut self, moved: Vec<Option<View>>)
-        requires { AreMoved self.old.trees self.old.number self.old.places moved.items }
+    pub(crate) fn take_views(&mut self, rebased: Vec<Option<View>>)
+        requires { AreRebased self.old.trees self.old.number self.old.tx_slots rebased.items }
         ensures { self.new ≡ self.old }
     {
-        let mut moved = moved;
-        while let Some(view) = moved.pop() {
-            self.take_view(moved.len(), view);
+        let mut rebased = rebased;
+        while let Some(view) = rebased.pop() {
+            self.take_view(rebased.len(), view);
         }
     }
 
     // takes the view of the transaction at a place
-    fn take_view(&mut self, place: usize, view: Option<View>)
-        requires { IsMovedTo self.old.trees self.old.number (at self.old.places place) view }
+    fn take_view(&mut self, slot: usize, view: Option<View>)
+        requires { IsRebasedTo self.old.trees self.old.number (at self.old.tx_slots slot) view }
         ensures { self.new ≡ self.old }
     {
-        let Some(entry) = self.places.get_mut(place) else {
+        let Some(entry) = self.tx_slots.get_mut(slot) else {
             return;
         };
         entry.take_view(view);
@@ -600,15 +612,15 @@ impl TxTable {
 }
 
 // makes room for an operation of the transaction at a place, and holds its claim; refused where another's conflicts
-fn hold(entry: &mut Entry, held: &mut ClaimTable, place: usize, op: &Op) -> Result<(), Refusal>
+fn add_claim(entry: &mut Entry, held: &mut ClaimTable, slot: usize, op: &Op) -> Result<(), Refusal>
     ensures same { IsSameEntry entry.old entry.new }
     ensures ok { OnOk result (HasRoom entry.new
-        × AsksFor held.old (record { owner = place; claim = claim_of op.now }) true held.new) }
+        × IsClaimResult held.old (record { owner = slot; claim = claim_of op.now }) true held.new) }
     ensures refused { IfErr result (λ refusal. (held.new ≡ held.old) × ((refusal ≡ NoMemory)
-        ⊎ ((refusal ≡ Conflict) × AsksFor held.old (record { owner = place; claim = claim_of op.now }) false held.new))) }
+        ⊎ ((refusal ≡ Conflict) × IsClaimResult held.old (record { owner = slot; claim = claim_of op.now }) false held.new))) }
 {
     entry.reserve()?;
-    if held.claim(Owner(place as u64), &claims(op))? {
+    if held.claim(ClaimOwner(slot as u64), &claims(op))? {
         Ok(())
     } else {
         Err(Refusal::Conflict)

@@ -5,11 +5,11 @@ ghost use Rattle.reg_names.specs.Names.{folded_path};
 ghost use Rattle.reg_tree.specs.Judgement.{legal, applied_one};
 ghost use Rattle.reg_tree.specs.Maps.{TreeMap, IsTree};
 ghost use Rattle.reg_tree.specs.Sequences.{AreTrees};
-ghost use Rattle.reg_tree.specs.Stamps.{home_of};
+ghost use Rattle.reg_tree.specs.Stamps.{touched_path_of};
 ghost use Rattle.reg_tree.specs.TreeLists.{levels_made};
-ghost use Rattle.conflicts.specs.Skeletons.{AreCarriedOut};
+ghost use Rattle.conflicts.specs.TreeOutlines.{AreCarriedOut};
 ghost use Rattle.transactions.specs.declared.view.Known.TheVariants.{Light};
-ghost use Rattle.transactions.specs.Entries.{AreAfter, StaysView, IsFresh, Tells, TellsInfo, WritesView, MovesView, IsTimed};
+ghost use Rattle.transactions.specs.Entries.{AreAfter, StaysViewAfter, IsFresh, ViewShows, ViewShowsInfo, WritesView, IsRebasedBy, IsTimed};
 
 use refusals::Refusal;
 use reg_names::{Name, Path};
@@ -41,7 +41,7 @@ pub(crate) struct View {
     /// What is known of the operations.
     pub(crate) known: Known,
     /// How many operations of others were applied since the view was last asked.
-    pub(crate) unasked: usize,
+    pub(crate) ops_since_read: usize,
 }
 
 impl Drop for View {
@@ -52,7 +52,7 @@ impl Drop for View {
             moment: _,
             number: _,
             known: _,
-            unasked: _,
+            ops_since_read: _,
         } = self;
     }
 }
@@ -91,7 +91,7 @@ impl View {
                 moment: Some(moment),
                 number,
                 known: Known::Light,
-                unasked: 0,
+                ops_since_read: 0,
             });
         }
         Ok(View {
@@ -99,7 +99,7 @@ impl View {
             moment: Some(moment),
             number,
             known: Known::Nothing,
-            unasked: 0,
+            ops_since_read: 0,
         })
     }
 
@@ -122,10 +122,10 @@ impl View {
         moment: u64,
     ) -> Result<Option<Info>, Refusal>
         ensures told { IfOk result
-            (TellsInfo self.now now.now hive (folded_path path.now) moment) }
+            (ViewShowsInfo self.now now.now hive (folded_path path.now) moment) }
         ensures refused { IfErr result (λ refusal.
             (refusal ≡ NotFound)
-            × Tells self.now now.now hive (folded_path path.now) moment None) }
+            × ViewShows self.now now.now hive (folded_path path.now) moment None) }
     {
         let info = self.trees.query_info(hive, path)?;
         let Some(made_at) = self.moment else {
@@ -160,7 +160,7 @@ impl View {
                     moment: self.moment,
                     number: self.number,
                     known: self.known,
-                    unasked: 0,
+                    ops_since_read: 0,
                 },
                 levels,
             })),
@@ -172,7 +172,7 @@ impl View {
     /// The view after the change of this number at a moment, which meets no claim of the operations: the change is applied to
     /// it too. Nothing where that is not known to be the same: where it makes fewer keys here than on the trees of now, since
     /// the operations made the others, and then spelled them.
-    fn moved(
+    fn rebased(
         &self,
         alloc: Global,
         now: &Trees,
@@ -180,8 +180,8 @@ impl View {
         moment: u64,
         number: u64,
     ) -> Result<Option<View>, AllocError>
-        ensures { IfOk result (λ moved.
-            IfSome moved (MovesView self.now now.now op.now moment number)) }
+        ensures { IfOk result (λ rebased.
+            IfSome rebased (IsRebasedBy self.now now.now op.now moment number)) }
     {
         if let Known::Nothing = self.known {
             return Ok(None);
@@ -194,13 +194,13 @@ impl View {
         if levels != levels_made(now, op) {
             return Ok(None);
         }
-        let timed = self.timed(alloc, now, op, op.home(levels), made, moment)?;
+        let timed = self.timed(alloc, now, op, op.touched_path(levels), made, moment)?;
         Ok(Some(View {
             trees: timed.trees,
             moment: timed.moment,
             number,
             known: Known::Carried,
-            unasked: self.unasked.saturating_add(1),
+            ops_since_read: self.ops_since_read.saturating_add(1),
         }))
     }
 
@@ -213,12 +213,12 @@ impl View {
         alloc: Global,
         now: &Trees,
         op: &Op,
-        home: &[Name],
+        touched_path: &[Name],
         made: Trees,
         moment: u64,
     ) -> Result<Timed, AllocError>
         requires made { made ≡ applied_one self.now.trees op.now moment }
-        requires home { folded_path home.now ≡ home_of op.now (levels_made self.now.trees op.now) }
+        requires touched_path { folded_path touched_path.now ≡ touched_path_of op.now (levels_made self.now.trees op.now) }
         ensures { IfOk result (λ timed.
             IsTimed self.now now.now op.now moment timed.moment timed.trees) }
     {
@@ -229,17 +229,17 @@ impl View {
         let Some(own) = self.moment else {
             return Ok(kept);
         };
-        if own == moment || self.trees.time_at(op.hive(), home) != Some(own) {
+        if own == moment || self.trees.time_at(op.hive(), touched_path) != Some(own) {
             return Ok(kept);
         }
-        if now.time_at(op.hive(), home) == Some(own) {
+        if now.time_at(op.hive(), touched_path) == Some(own) {
             return Ok(Timed {
                 moment: None,
                 ..kept
             });
         }
         Ok(Timed {
-            trees: kept.trees.stamped(alloc, op.hive(), home, own)?,
+            trees: kept.trees.stamped(alloc, op.hive(), touched_path, own)?,
             moment: Some(own),
         })
     }
@@ -247,7 +247,7 @@ impl View {
     /// The view after the change of this number, none of whose operations meets a claim of the view's: each is applied to it
     /// in turn. The trees of now go along, for how many keys an operation makes there at its turn. A change of one
     /// operation needs no such trees.
-    pub(crate) fn moved_past(
+    pub(crate) fn rebased_past(
         &self,
         alloc: Global,
         now: &Trees,
@@ -256,8 +256,8 @@ impl View {
         number: u64,
     ) -> Result<Option<View>, AllocError>
         requires { AreCarriedOut now.now change.now moment }
-        ensures { IfOk result (λ moved. IfSome moved (λ after.
-            StaysView now.now change.now moment self.now after × (after.number ≡ number))) }
+        ensures { IfOk result (λ rebased. IfSome rebased (λ after.
+            StaysViewAfter now.now change.now moment self.now after × (after.number ≡ number))) }
     {
         conflicts::laws::either_order();
         conflicts::laws::stay_legal();
@@ -267,13 +267,13 @@ impl View {
             moment: self.moment,
             number,
             known: self.known,
-            unasked: self.unasked,
+            ops_since_read: self.ops_since_read,
         };
         for op in change {
-            let Some(moved) = seen.moved(alloc, &trees, op, moment, number)? else {
+            let Some(rebased) = seen.rebased(alloc, &trees, op, moment, number)? else {
                 return Ok(None);
             };
-            seen = moved;
+            seen = rebased;
             if change.len() > 1 {
                 trees = match trees.write(alloc, op, moment) {
                     Ok(Some(made)) => made,

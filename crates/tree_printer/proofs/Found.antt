@@ -14,31 +14,31 @@ use Rattle.reg_tree_parts.proofs.Finds.{find-all_below}
 
 -- each of some subkeys is found under its name among all
 abbrev pub AreFound : List (List ℕ × Entries) → List (List ℕ × Entries) → Type 0
-AreFound all kids = AllByRecursion (λ (kid : List ℕ × Entries). find name_order kid.0 all ≡ Some kid.1) kids
+AreFound all subkey_list = AllByRecursion (λ (subkey : List ℕ × Entries). find name_order subkey.0 all ≡ Some subkey.1) subkey_list
 
-first_found : (kid : List ℕ × Entries) (kids : List (List ℕ × Entries)) → find name_order kid.0 (kid ∷ kids) ≡ Some kid.1
-first_found kid kids = ap (λ o. cond (is_eq o) (Some kid.1) (find name_order kid.0 kids)) (tied_itself names_total kid.0)
+first_found : (subkey : List ℕ × Entries) (subkey_list : List (List ℕ × Entries)) → find name_order subkey.0 (subkey ∷ subkey_list) ≡ Some subkey.1
+first_found subkey subkey_list = ap (λ o. cond (is_eq o) (Some subkey.1) (find name_order subkey.0 subkey_list)) (tied_itself names_total subkey.0)
 
-later_found : (kid : List ℕ × Entries) (all kids : List (List ℕ × Entries)) → T (below_all name_order kid.0 kids) → AreFound all kids → AreFound (kid ∷ all) kids
-later_found kid all [] h found = tt
-later_found kid all (other ∷ kids) h found = (
-  let less : name_order kid.0 other.0 ≡ Less = less_of (name_order kid.0 other.0) (front_of (is_lt (name_order kid.0 other.0)) (below_all name_order kid.0 kids) h) in
-      let apart : eq_by_cmp name_order other.0 kid.0 ≡ false = sym ((eq_by_cmp_equiv names_total).symm kid.0 other.0) ∙ ap is_eq less in
-      ap (λ b. cond b (Some kid.1) (find name_order other.0 all)) apart ∙ found.0,
-  later_found kid all kids (back_of (is_lt (name_order kid.0 other.0)) (below_all name_order kid.0 kids) h) found.1,
+later_found : (subkey : List ℕ × Entries) (all subkey_list : List (List ℕ × Entries)) → T (below_all name_order subkey.0 subkey_list) → AreFound all subkey_list → AreFound (subkey ∷ all) subkey_list
+later_found subkey all [] h found = tt
+later_found subkey all (other ∷ subkey_list) h found = (
+  let less : name_order subkey.0 other.0 ≡ Less = less_of (name_order subkey.0 other.0) (front_of (is_lt (name_order subkey.0 other.0)) (below_all name_order subkey.0 subkey_list) h) in
+      let apart : eq_by_cmp name_order other.0 subkey.0 ≡ false = sym ((eq_by_cmp_equiv names_total).symm subkey.0 other.0) ∙ ap is_eq less in
+      ap (λ b. cond b (Some subkey.1) (find name_order other.0 all)) apart ∙ found.0,
+  later_found subkey all subkey_list (back_of (is_lt (name_order subkey.0 other.0)) (below_all name_order subkey.0 subkey_list) h) found.1,
 )
 
-pub all_found : (kids : List (List ℕ × Entries)) → T (is_sorted name_order kids) → AreFound kids kids
+pub all_found : (subkey_list : List (List ℕ × Entries)) → T (is_sorted name_order subkey_list) → AreFound subkey_list subkey_list
 all_found [] h = tt
-all_found (kid ∷ kids) h = (
-  first_found kid kids,
-  later_found kid kids kids (front_of (below_all name_order kid.0 kids) (is_sorted name_order kids) h) (all_found kids (back_of (below_all name_order kid.0 kids) (is_sorted name_order kids) h)),
+all_found (subkey ∷ subkey_list) h = (
+  first_found subkey subkey_list,
+  later_found subkey subkey_list subkey_list (front_of (below_all name_order subkey.0 subkey_list) (is_sorted name_order subkey_list) h) (all_found subkey_list (back_of (below_all name_order subkey.0 subkey_list) (is_sorted name_order subkey_list) h)),
 )
 
 -- below the name of a subkey stands what stands in the subkey
 abbrev pub StandsBelow : Entries → List ℕ × Entries → Type 0
-StandsBelow whole kid = (path : List (List ℕ)) → row_at whole (kid.0 ∷ path) ≡ row_at kid.1 path
+StandsBelow whole subkey = (path : List (List ℕ)) → row_at whole (subkey.0 ∷ path) ≡ row_at subkey.1 path
 
-pub all_stand : (row : Row) (all kids : List (List ℕ × Entries)) → T (is_sorted name_order all) → AreFound all kids → AllByRecursion (StandsBelow (entries_of row all)) kids
+pub all_stand : (row : Row) (all subkey_list : List (List ℕ × Entries)) → T (is_sorted name_order all) → AreFound all subkey_list → AllByRecursion (StandsBelow (entries_of row all)) subkey_list
 all_stand row all [] h found = tt
-all_stand row all (kid ∷ kids) h found = (λ path. find-all_below kid.0 path all h ∙ ap (λ o. row_in o path) found.0, all_stand row all kids h found.1)
+all_stand row all (subkey ∷ subkey_list) h found = (λ path. find-all_below subkey.0 path all h ∙ ap (λ o. row_in o path) found.0, all_stand row all subkey_list h found.1)

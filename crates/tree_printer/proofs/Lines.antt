@@ -12,43 +12,43 @@ use Rattle.reg_tree_parts.specs.Rows.{Row, ValueMap}
 use Rattle.reg_tree_parts.specs.Nodes.{Entries, below, all_below, entries_of, row_at, IsNode}
 use Rattle.reg_tree.specs.Maps.{beginnings}
 use Rattle.tree_printer.specs.TreeTexts.{name_of_row, key_lines, spelled_names}
-use Rattle.tree_printer.specs.Ways.{spelled_in, node_lines, kid_lines}
+use Rattle.tree_printer.specs.KeyPaths.{spelled_in, node_lines, subkey_lines}
 use Rattle.tree_printer.proofs.Found.{StandsBelow, all_found, all_stand}
 
 -- the names along beginnings of a path that goes on from a subkey
-shifted : (whole : Entries) (kid : List ℕ × Entries) → StandsBelow whole kid → (starts : List (List (List ℕ))) → map (λ start. name_of_row (row_at whole start)) (map (λ rest. kid.0 ∷ rest) starts) ≡ map (λ start. name_of_row (row_at kid.1 start)) starts
-shifted whole kid stands [] = refl
-shifted whole kid stands (start ∷ starts) =
-    ap (λ r. name_of_row r ∷ map (λ start. name_of_row (row_at whole start)) (map (λ rest. kid.0 ∷ rest) starts)) (stands start)
-    ∙ ap (λ names. name_of_row (row_at kid.1 start) ∷ names) (shifted whole kid stands starts)
+shifted : (whole : Entries) (subkey : List ℕ × Entries) → StandsBelow whole subkey → (starts : List (List (List ℕ))) → map (λ start. name_of_row (row_at whole start)) (map (λ rest. subkey.0 ∷ rest) starts) ≡ map (λ start. name_of_row (row_at subkey.1 start)) starts
+shifted whole subkey stands [] = refl
+shifted whole subkey stands (start ∷ starts) =
+    ap (λ r. name_of_row r ∷ map (λ start. name_of_row (row_at whole start)) (map (λ rest. subkey.0 ∷ rest) starts)) (stands start)
+    ∙ ap (λ names. name_of_row (row_at subkey.1 start) ∷ names) (shifted whole subkey stands starts)
 
-spelled_below : (whole : Entries) (kid : List ℕ × Entries) → StandsBelow whole kid → (path : List (List ℕ)) → spelled_in whole (kid.0 ∷ path) ≡ name_of_row (row_at kid.1 []) ∷ spelled_in kid.1 path
-spelled_below whole kid stands path =
-    ap (λ r. name_of_row r ∷ map (λ start. name_of_row (row_at whole start)) (map (λ rest. kid.0 ∷ rest) (beginnings path))) (stands [])
-    ∙ ap (λ names. name_of_row (row_at kid.1 []) ∷ names) (shifted whole kid stands (beginnings path))
+spelled_below : (whole : Entries) (subkey : List ℕ × Entries) → StandsBelow whole subkey → (path : List (List ℕ)) → spelled_in whole (subkey.0 ∷ path) ≡ name_of_row (row_at subkey.1 []) ∷ spelled_in subkey.1 path
+spelled_below whole subkey stands path =
+    ap (λ r. name_of_row r ∷ map (λ start. name_of_row (row_at whole start)) (map (λ rest. subkey.0 ∷ rest) (beginnings path))) (stands [])
+    ∙ ap (λ names. name_of_row (row_at subkey.1 []) ∷ names) (shifted whole subkey stands (beginnings path))
 
 module _ (hive : ℕ) (names : List (List ℕ)) (whole : Entries) where
   -- the lines of one entry
   abbrev its_lines : List (List ℕ) × Row → List ℕ
   its_lines entry = key_lines hive (names ++ spelled_in whole entry.0) entry.1
 
-  below_lines : (kid : List ℕ × Entries) → StandsBelow whole kid → (some : Entries) → flat_map its_lines (below kid.0 some) ≡ flat_map (λ entry. key_lines hive ((names ++ name_of_row (row_at kid.1 []) ∷ []) ++ spelled_in kid.1 entry.0) entry.1) some
-  below_lines kid stands [] = refl
-  below_lines kid stands (entry ∷ some) =
-      ap (λ ns. key_lines hive ns entry.1 ++ flat_map its_lines (below kid.0 some)) (ap (λ ns. names ++ ns) (spelled_below whole kid stands entry.0) ∙ sym (append_assoc names (name_of_row (row_at kid.1 []) ∷ []) (spelled_in kid.1 entry.0)))
-      ∙ ap (λ t. key_lines hive ((names ++ name_of_row (row_at kid.1 []) ∷ []) ++ spelled_in kid.1 entry.0) entry.1 ++ t) (below_lines kid stands some)
+  below_lines : (subkey : List ℕ × Entries) → StandsBelow whole subkey → (some : Entries) → flat_map its_lines (below subkey.0 some) ≡ flat_map (λ entry. key_lines hive ((names ++ name_of_row (row_at subkey.1 []) ∷ []) ++ spelled_in subkey.1 entry.0) entry.1) some
+  below_lines subkey stands [] = refl
+  below_lines subkey stands (entry ∷ some) =
+      ap (λ ns. key_lines hive ns entry.1 ++ flat_map its_lines (below subkey.0 some)) (ap (λ ns. names ++ ns) (spelled_below whole subkey stands entry.0) ∙ sym (append_assoc names (name_of_row (row_at subkey.1 []) ∷ []) (spelled_in subkey.1 entry.0)))
+      ∙ ap (λ t. key_lines hive ((names ++ name_of_row (row_at subkey.1 []) ∷ []) ++ spelled_in subkey.1 entry.0) entry.1 ++ t) (below_lines subkey stands some)
 
-  kids_lines : (kids : List (List ℕ × Entries)) → AllByRecursion (StandsBelow whole) kids → flat_map its_lines (all_below kids) ≡ flat_map (kid_lines hive names) kids
-  kids_lines [] stand = refl
-  kids_lines (kid ∷ kids) stand =
-      flat_map-append its_lines (below kid.0 kid.1) (all_below kids)
-      ∙ ap (λ t. t ++ flat_map its_lines (all_below kids)) (below_lines kid stand.0 kid.1)
-      ∙ ap (λ t. kid_lines hive names kid ++ t) (kids_lines kids stand.1)
+  subkeys_lines : (subkey_list : List (List ℕ × Entries)) → AllByRecursion (StandsBelow whole) subkey_list → flat_map its_lines (all_below subkey_list) ≡ flat_map (subkey_lines hive names) subkey_list
+  subkeys_lines [] stand = refl
+  subkeys_lines (subkey ∷ subkey_list) stand =
+      flat_map-append its_lines (below subkey.0 subkey.1) (all_below subkey_list)
+      ∙ ap (λ t. t ++ flat_map its_lines (all_below subkey_list)) (below_lines subkey stand.0 subkey.1)
+      ∙ ap (λ t. subkey_lines hive names subkey ++ t) (subkeys_lines subkey_list stand.1)
 
-pub node_text : (hive : ℕ) (names : List (List ℕ)) (row : Row) (kids : List (List ℕ × Entries)) → T (is_sorted name_order kids) → node_lines hive names (entries_of row kids) ≡ key_lines hive names row ++ flat_map (kid_lines hive names) kids
-node_text hive names row kids h =
-    ap (λ ns. key_lines hive ns row ++ flat_map (its_lines hive names (entries_of row kids)) (all_below kids)) (append-nil names)
-    ∙ ap (λ t. key_lines hive names row ++ t) (kids_lines hive names (entries_of row kids) kids (all_stand row kids kids h (all_found kids h)))
+pub node_text : (hive : ℕ) (names : List (List ℕ)) (row : Row) (subkey_list : List (List ℕ × Entries)) → T (is_sorted name_order subkey_list) → node_lines hive names (entries_of row subkey_list) ≡ key_lines hive names row ++ flat_map (subkey_lines hive names) subkey_list
+node_text hive names row subkey_list h =
+    ap (λ ns. key_lines hive ns row ++ flat_map (its_lines hive names (entries_of row subkey_list)) (all_below subkey_list)) (append-nil names)
+    ∙ ap (λ t. key_lines hive names row ++ t) (subkeys_lines hive names (entries_of row subkey_list) subkey_list (all_stand row subkey_list subkey_list h (all_found subkey_list h)))
 
 -- the text of one more
 pub next_text : {X : Type 0} (text : X → List ℕ) (xs : List X) (i : ℕ) (x : X) → slice_get xs i ≡ Some x → flat_map text (take i xs) ++ text x ≡ flat_map text (take (i + 1) xs)
@@ -57,19 +57,19 @@ next_text text xs i x e =
     ∙ flat_map-append text (take i xs) (x ∷ []) ∙ ap (λ t. flat_map text (take i xs) ++ t) (append-nil (text x)))
 
 -- the subkey whose entries stand at a place
-kid_at : (kids : List (List ℕ × Entries)) (i : ℕ) (es : Entries) → Some es ≡ slice_get (map (λ kid. kid.1) kids) i → (kid : List ℕ × Entries) × (slice_get kids i ≡ Some kid) × (kid.1 ≡ es)
-kid_at [] i es e = absurd (let no : ⊥ = cc in no)
-kid_at (kid ∷ kids) zero es e = (kid, refl, cc)
-kid_at (kid ∷ kids) (suc i) es e = kid_at kids i es e
+subkey_at : (subkey_list : List (List ℕ × Entries)) (i : ℕ) (es : Entries) → Some es ≡ slice_get (map (λ subkey. subkey.1) subkey_list) i → (subkey : List ℕ × Entries) × (slice_get subkey_list i ≡ Some subkey) × (subkey.1 ≡ es)
+subkey_at [] i es e = absurd (let no : ⊥ = cc in no)
+subkey_at (subkey ∷ subkey_list) zero es e = (subkey, refl, cc)
+subkey_at (subkey ∷ subkey_list) (suc i) es e = subkey_at subkey_list i es e
 
 -- the lines of one subkey more
-pub next_kid : (hive : ℕ) (names : List (List ℕ)) (kids : List (List ℕ × Entries)) (i : ℕ) (es : Entries) (row : Row) → Some es ≡ slice_get (map (λ kid. kid.1) kids) i → row_at es [] ≡ Some row
-    → flat_map (kid_lines hive names) (take i kids) ++ node_lines hive (names ++ row.name ∷ []) es ≡ flat_map (kid_lines hive names) (take (i + 1) kids)
-next_kid hive names kids i es row at here =
-    let kid = kid_at kids i es at in
-    let its : node_lines hive (names ++ row.name ∷ []) es ≡ kid_lines hive names kid.0 =
-    ap (λ r. node_lines hive (names ++ name_of_row r ∷ []) es) (sym here) ∙ ap (λ xs. node_lines hive (names ++ name_of_row (row_at xs []) ∷ []) xs) (sym kid.2) in
-    ap (λ t. flat_map (kid_lines hive names) (take i kids) ++ t) its ∙ next_text (kid_lines hive names) kids i kid.0 kid.1
+pub next_subkey : (hive : ℕ) (names : List (List ℕ)) (subkey_list : List (List ℕ × Entries)) (i : ℕ) (es : Entries) (row : Row) → Some es ≡ slice_get (map (λ subkey. subkey.1) subkey_list) i → row_at es [] ≡ Some row
+    → flat_map (subkey_lines hive names) (take i subkey_list) ++ node_lines hive (names ++ row.name ∷ []) es ≡ flat_map (subkey_lines hive names) (take (i + 1) subkey_list)
+next_subkey hive names subkey_list i es row at here =
+    let subkey = subkey_at subkey_list i es at in
+    let its : node_lines hive (names ++ row.name ∷ []) es ≡ subkey_lines hive names subkey.0 =
+    ap (λ r. node_lines hive (names ++ name_of_row r ∷ []) es) (sym here) ∙ ap (λ xs. node_lines hive (names ++ name_of_row (row_at xs []) ∷ []) xs) (sym subkey.2) in
+    ap (λ t. flat_map (subkey_lines hive names) (take i subkey_list) ++ t) its ∙ next_text (subkey_lines hive names) subkey_list i subkey.0 subkey.1
 
 -- what is at a place within a list
 pub is_there : {X : Type 0} (xs : List X) (i : ℕ) → i < length xs → None ≡ slice_get xs i → ⊥

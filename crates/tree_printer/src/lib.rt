@@ -5,8 +5,8 @@
 //! with a buffer.
 #![tactic(auto)]
 
+mod key_path;
 mod keys;
 mod values;
-mod way;
 
 pub use keys::write_tree;

@@ -6,6 +6,6 @@ returns g c = record {
   step = λ r most hives old new. step_keeps r most hives old new;
   reopens = λ r most hives old new engine step. (reopens_keeps r most hives old new engine step, reopens_goes r most hives old new engine step);
   quiet = λ r most hives old new kept all step. reopens_quiet r most hives old new kept all step;
-  begins = λ r most hives spelled held n trees. begun r most hives spelled held n trees;
+  begins = λ r most hives decoded held n trees. begun r most hives decoded held n trees;
   created = λ r most hives some trees all_allowed. fresh r most hives some trees all_allowed;
 }

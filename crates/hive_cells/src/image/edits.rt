@@ -4,10 +4,10 @@
 ghost use Rattle.std.specs.Prelude.{◌≡◌, ℕ, ◌+◌, ◌*◌, ◌%◌, ◌^◌, ◌<◌, ◌≤◌, List, length, false};
 ghost use Rattle.refusals.specs.declared.limits.TheConstants.{MOST_BINS_BYTES};
 ghost use Rattle.hive_cells.specs.Tiles.{BeginsCell, IsAllocatedCell, IsFreeCell, cell_size};
-ghost use Rattle.hive_cells.specs.Changes.{PutsSize, Turns, Splits, Joins, JoinsBehind, JoinsBefore, Fits, Takes, Frees};
+ghost use Rattle.hive_cells.specs.Changes.{PutsSize, Turns, Splits, Joins, JoinsBehind, JoinsBefore, IsCutToSize, Takes, Frees};
 
 use super::Image;
-use crate::starts::put_start;
+use crate::starts::set_start_bit;
 use crate::tiling::MARKED_BYTES;
 use crate::words::put_size;
 
@@ -36,7 +36,7 @@ impl Image {
     {
         let rest = self.size_at(at) - size;
         put_two_sizes(&mut self.bytes, at, size, rest);
-        put_start(&mut self.starts, (at + size) / MARKED_BYTES, true);
+        set_start_bit(&mut self.starts, (at + size) / MARKED_BYTES, true);
         self.free.note(at + size, rest);
     }
 
@@ -51,7 +51,7 @@ impl Image {
     {
         let size = self.size_at(at) + self.size_at(next);
         put_size(&mut self.bytes, at, size, false);
-        put_start(&mut self.starts, next / MARKED_BYTES, false);
+        set_start_bit(&mut self.starts, next / MARKED_BYTES, false);
         self.free.note(at, size);
     }
 
@@ -106,7 +106,7 @@ impl Image {
         requires eights { size % 8 ≡ 0 }
         requires least { 8 ≤ size }
         requires fits { size ≤ cell_size self.old.bytes at }
-        ensures fit { Fits self.old.bytes self.new.bytes at size }
+        ensures fit { IsCutToSize self.old.bytes self.new.bytes at size }
         ensures spare { self.new.spare ≡ self.old.spare }
     {
         if self.size_at(at) > size + MARKED_BYTES {

@@ -3,12 +3,12 @@ ghost use Rattle.std.specs.Prelude.{◌≡◌, ℕ, ◌+◌, ◌-◌, ◌*◌, �
 ghost use Rattle.std.specs.Vec.{vec_capacity};
 ghost use Rattle.refusals.specs.declared.limits.TheConstants.{MOST_BINS_BYTES};
 ghost use Rattle.hive_cells.specs.Tiles.{HasFree};
-ghost use Rattle.hive_cells.specs.Changes.{LaysBin, AddsFreeBin, HasRoom, UsesSpare, PlaceRefused};
+ghost use Rattle.hive_cells.specs.Changes.{LaysBin, AddsFreeBin, HasRoom, UsesSpare, RoomRefused};
 
 use super::Image;
-use crate::starts::put_start;
+use crate::starts::set_start_bit;
 use crate::tiling::{BIN_HEADER_BYTES, BIN_SIGNATURE, MARKED_BYTES, PAGE_BYTES, WORD_BYTES};
-use crate::words::{put_size, put_word};
+use crate::words::{put_size, put_u32};
 use refusals::Refusal;
 use refusals::limits::MOST_BINS_BYTES;
 use std::alloc::AllocError;
@@ -41,7 +41,7 @@ impl Image {
         requires none { ¬ HasFree self.old.bytes size }
         ensures { MatchResult result (λ at. HasRoom self.old.bytes self.new.bytes at size
             × UsesSpare self.old self.new)
-            (λ refusal. (self.new ≡ self.old) × PlaceRefused self.old size refusal) }
+            (λ refusal. (self.new ≡ self.old) × RoomRefused self.old size refusal) }
     {
         let bin = (size + BIN_HEADER_BYTES).div_ceil(PAGE_BYTES) * PAGE_BYTES;
         let at = self.bytes.len();
@@ -66,7 +66,7 @@ impl Image {
         let cell = at + BIN_HEADER_BYTES;
         grow(&mut self.bytes, &mut self.starts, size)?;
         lay_bin(&mut self.bytes, at);
-        put_start(&mut self.starts, cell / MARKED_BYTES, true);
+        set_start_bit(&mut self.starts, cell / MARKED_BYTES, true);
         self.free.note(cell, size - BIN_HEADER_BYTES);
         self.spare = self.spare.saturating_sub(size);
         Ok(())
@@ -102,8 +102,8 @@ fn lay_bin(bytes: &mut [u8], at: usize)
     ensures { LaysBin bytes.old bytes.new at }
 {
     let size = bytes.len() - at;
-    put_word(bytes, at, BIN_SIGNATURE);
-    put_word(bytes, at + 4, at as u32);
-    put_word(bytes, at + 8, size as u32);
+    put_u32(bytes, at, BIN_SIGNATURE);
+    put_u32(bytes, at + 4, at as u32);
+    put_u32(bytes, at + 8, size as u32);
     put_size(bytes, at + BIN_HEADER_BYTES, size - BIN_HEADER_BYTES, false);
 }

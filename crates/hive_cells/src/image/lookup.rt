@@ -2,7 +2,7 @@
 ghost use Rattle.std.specs.Prelude.{◌≡◌, ◌≢◌, ℕ, ◌+◌, ◌*◌, ◌/◌, ◌%◌, ◌<◌, ◌≤◌, ◌↔◌, IsTrue, MatchOption, MatchResult, length};
 ghost use Rattle.hive_cells.specs.Tiles.{BeginsCell, IsAllocatedCell, IsFreeCell, HasFree, cell_size, cell_data};
 ghost use Rattle.hive_cells.specs.Marks.{IsWholeCell};
-ghost use Rattle.hive_cells.specs.Starts.{IsKept};
+ghost use Rattle.hive_cells.specs.Starts.{HasStartBits};
 ghost use Rattle.std.specs.Borrow.{sem};
 ghost use Rattle.hive_cells.specs.Lending.{StaysAsLent};
 
@@ -59,7 +59,7 @@ impl Image {
     // the data of the cell that begins at an offset.
     pub(super) fn data_at(&self, at: usize) -> &[u8]
         requires { BeginsCell self.now.bytes at }
-        ensures text { result.now ≡ cell_data self.now.bytes at }
+        ensures encoding { result.now ≡ cell_data self.now.bytes at }
         ensures size { length result.now + 4 ≡ cell_size self.now.bytes at }
     {
         let bytes = self.bytes.as_slice();
@@ -107,7 +107,7 @@ impl Image {
 
 // a free cell of at least a size that begins in a page, or the greatest size of those that do
 fn free_in_page(bytes: &[u8], starts: &[u64], page: usize, size: usize) -> Result<usize, u32>
-    requires kept { IsKept bytes.now starts.now }
+    requires kept { HasStartBits bytes.now starts.now }
     requires page { 4096 * page + 4096 ≤ length bytes.now }
     requires some { 0 < size }
     ensures { MatchResult result

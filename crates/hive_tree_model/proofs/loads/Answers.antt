@@ -12,7 +12,7 @@ pub returns-clause-ends : goal.returns-clause-ends
 returns-clause-ends g c = λ reads old mid new at p f r m l e once some. ends reads old mid new at p f r m l e once some
 
 pub returns-clause-told : goal.returns-clause-told
-returns-clause-told g c = λ reads trail is bad_name shared at p r old mid now m f l kid rest kids cause t. told_up reads trail is bad_name shared at p r old mid now m f l kid rest kids cause t
+returns-clause-told g c = λ reads trail is bad_name shared at p r old mid now m f l subkey rest subkey_list cause t. told_up reads trail is bad_name shared at p r old mid now m f l subkey rest subkey_list cause t
 
 pub returns-clause-settled : goal.returns-clause-settled
 returns-clause-settled g c = λ reads now root parts below l free. settled reads now root parts below l free

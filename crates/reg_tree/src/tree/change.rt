@@ -8,7 +8,7 @@ ghost use Rattle.reg_tree.specs.Operations.{row_after};
 ghost use Rattle.reg_tree.specs.Judgement.{judged, changed, legal_in, legal_after, IsWritten};
 ghost use Rattle.reg_tree.specs.Fresh.{fresh_row, fresh_tree};
 ghost use Rattle.reg_tree.specs.TreeLists.{levels_of};
-ghost use Rattle.reg_tree.specs.Spellable.{IsNamed};
+ghost use Rattle.reg_tree.specs.Encodable.{NamesAreValid};
 
 use super::Tree;
 use crate::op::{Legality, Op};
@@ -36,9 +36,9 @@ impl Tree {
             ≡ row_after self.now op.now moment q)) }
         ensures node { IfOk result (λ made. IfSome made (λ it. IsNode it.0)) }
         ensures levels { IfOk result (λ made. IfSome made (λ it. it.1 ≡ levels_of self.now op.now)) }
-        ensures named { OnOk result (IsNamed op.now) }
+        ensures named { OnOk result (NamesAreValid op.now) }
     {
-        op.is_named();
+        op.names_are_valid();
         match self.root.edited(alloc, op.way(), op, moment) {
             Ok(Some((made, missing))) => {
                 let levels = op.counted(missing);

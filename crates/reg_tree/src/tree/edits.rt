@@ -3,19 +3,19 @@ ghost use Rattle.std.specs.Prelude.{◌≡◌, ◌⊎◌, List, ℕ, Ok, Err, If
 ghost use Rattle.reg_names.specs.Names.{folded, folded_path};
 ghost use Rattle.reg_tree_parts.specs.ValueEdits.{values_with, values_without};
 ghost use Rattle.reg_tree_parts.specs.Nodes.{root_name, IsNode};
-ghost use Rattle.reg_tree.specs.Edits.{way_of, judged_missing, judged_found, judged_last, judged_data, judged_value, IsBranched, LacksSubkey, IsRewritten, counted, makes, refuses};
-ghost use Rattle.reg_tree.specs.Spellable.{IsNamed};
-ghost use Rattle.reg_tree.specs.Stamps.{home_of};
+ghost use Rattle.reg_tree.specs.Edits.{walk_of, judged_missing, judged_found, judged_last, judged_data, judged_value, IsBranched, LacksSubkey, IsRewritten, counted, makes, refuses};
+ghost use Rattle.reg_tree.specs.Encodable.{NamesAreValid};
+ghost use Rattle.reg_tree.specs.Stamps.{touched_path_of};
 
 use super::NOT_DELETABLE;
 use crate::op::{Legality, Op};
 use refusals::Refusal;
 use refusals::limits::{MOST_NEW_LEVELS, MOST_VALUE_BYTES};
 use reg_names::{Name, Path};
-use reg_tree_parts::{Data, Edit, Node};
+use reg_tree_parts::{Data, Node, NodeEdit};
 use std::alloc::Global;
 
-impl Edit for Op {
+impl NodeEdit for Op {
     ghost Makes = { makes };
 
     ghost Refuses = { refuses };
@@ -53,7 +53,7 @@ impl Edit for Op {
 impl Op {
     // the names that the operation walks along
     pub(super) fn way(&self) -> &[Name]
-        ensures { result.now ≡ way_of self.now }
+        ensures { result.now ≡ walk_of self.now }
     {
         match self {
             Op::DeleteKey { path, .. } => parent_of(path.names()),
@@ -65,8 +65,8 @@ impl Op {
     /// The names of the path of the key that the operation writes beside those that it makes: the last key on its way that
     /// was there. `made` is how many keys it made, as [`Trees::write_counted`](crate::Trees::write_counted) tells, and
     /// `None` says none.
-    pub fn home(&self, made: Option<usize>) -> &[Name]
-        ensures { folded_path result.now ≡ home_of self.now made }
+    pub fn touched_path(&self, made: Option<usize>) -> &[Name]
+        ensures { folded_path result.now ≡ touched_path_of self.now made }
     {
         let way = self.way();
         let made = made.unwrap_or(0);
@@ -84,8 +84,8 @@ impl Op {
     }
 
     // its names are such that a hive file can spell them
-    pub(super) fn is_named(&self)
-        ensures { IsNamed self.now }
+    pub(super) fn names_are_valid(&self)
+        ensures { NamesAreValid self.now }
     {
         match self {
             Op::CreateKey { path, .. } | Op::DeleteKey { path, .. } => {
@@ -163,14 +163,14 @@ fn without_subkey(
     let Some((name, _)) = path.names().split_last() else {
         return Err(Refusal::Fixed);
     };
-    may_go(node, name)?;
+    check_deletable(node, name)?;
     let key = node.key().with_time(moment)?;
     let new = node.without_child(alloc, key, name)?;
     Ok(new)
 }
 
 // refuses the subkey of this name that may not be deleted
-fn may_go(node: &Node, name: &Name) -> Result<(), Refusal>
+fn check_deletable(node: &Node, name: &Name) -> Result<(), Refusal>
     ensures legal { OnOk result
         (judged_last node.now (name.now ∷ []) ≡ Ok Legality.Legal) }
     ensures refused { IfErr result (λ why. judged_last node.now (name.now ∷ []) ≡ Err why) }

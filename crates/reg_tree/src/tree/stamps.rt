@@ -11,14 +11,14 @@ ghost use Rattle.reg_tree.specs.Stamps.{stamped_at, stamps};
 use super::Tree;
 use refusals::Refusal;
 use reg_names::Name;
-use reg_tree_parts::{Edit, Node};
+use reg_tree_parts::{Node, NodeEdit};
 use std::alloc::{AllocError, Global};
 use std::sync::Arc;
 
 // the edit that writes the key of the path again as it is, and makes none
 struct Stamp;
 
-impl Edit for Stamp {
+impl NodeEdit for Stamp {
     ghost Makes = { λ stamp. stamps };
 
     ghost Refuses = { λ stamp moment key missing why. why ≡ NoMemory };

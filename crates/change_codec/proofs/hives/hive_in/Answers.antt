@@ -1,8 +1,8 @@
 use Rattle.std.proofs.Common.{◌∙◌, List, ℕ, ap, sym}
 use Rattle.change_codec.specs.Readers.{both, number_at}
-use Rattle.change_codec.specs.Text.{hive_at, path_at, head_at, by_kind}
+use Rattle.change_codec.specs.Encoding.{hive_at, path_at, head_at, by_kind}
 use Rattle.change_codec.proofs.Operations.{kind_law}
-use Rattle.change_codec.proofs.Kept.{split, both_split, one_reading}
+use Rattle.change_codec.proofs.ChangeBytes.{split, both_split, one_reading}
 use Rattle.change_codec.proofs.hives.hive_in.Goals as goal
 
 pub returns : goal.returns

@@ -1,5 +1,5 @@
 use Rattle.std.proofs.Common.{refl}
-use Rattle.change_codec.specs.Text.{element_at}
+use Rattle.change_codec.specs.Encoding.{element_at}
 use Rattle.change_codec.proofs.laws.examples.Goals as goal
 
 pub returns : goal.returns

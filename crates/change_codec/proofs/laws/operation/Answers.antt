@@ -3,4 +3,4 @@ use Rattle.change_codec.proofs.Lengths.{op_length}
 use Rattle.change_codec.proofs.laws.operation.Goals as goal
 
 pub returns : goal.returns
-returns c = record { text = λ hives most. op_law hives most; length = λ op. op_length op }
+returns c = record { encoding = λ hives most. op_law hives most; length = λ op. op_length op }

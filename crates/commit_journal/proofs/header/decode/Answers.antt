@@ -10,9 +10,9 @@ use Rattle.commit_journal.proofs.header.decode.Goals.{then-hives-eq0-via-then-hi
 pub returns-then-hives-eq0 : goal.returns-then-hives-eq0
 returns-then-hives-eq0 c = inl (
   refl,
-  λ store is begin.
+  λ store is begin_batch.
       let bytes = c.args.bytes.now in
-      let there = hives_there bytes store is begin in
+      let there = hives_there bytes store is begin_batch in
       let n = c.read_u32-hives.ensures ∙ ap (little_number 4) (take_all (length bytes - 24) (drop 24 bytes) (omega (arith, length-drop 24 bytes))) in
       elim c.then-hives-eq0.branch [
         | then-hives-eq0-via-then-hives-eq0 w ↦ omega (arith, n, there, is.some_hives, w.if-hives-eq0.true)
@@ -23,9 +23,9 @@ returns-then-hives-eq0 c = inl (
 pub returns-then-ne : goal.returns-then-ne
 returns-then-ne c = inl (
   refl,
-  λ store is begin.
+  λ store is begin_batch.
       let bytes = c.args.bytes.now in
       let n = c.read_u32-hives.ensures ∙ ap (little_number 4) (take_all (length bytes - 24) (drop 24 bytes) (omega (arith, length-drop 24 bytes))) in
       no_other bytes c.from_bytes-id.result c.read_u32-hives.result c.deref.result.now (c.from_bytes-id.ensures ∙ c.copy_from_slice.ensures.after) n (c.deref.ensures.value ∙ c.in_ok-header.ensures)
-      (λ same. let yes = (bytes_eq-Decides (take 64 bytes) c.deref.result.now).1 same in let wrong = c.if-ne.ensures ∙ ap not yes in (cc)) store is begin,
+      (λ same. let yes = (bytes_eq-Decides (take 64 bytes) c.deref.result.now).1 same in let wrong = c.if-ne.ensures ∙ ap not yes in (cc)) store is begin_batch,
 )

@@ -1,4 +1,4 @@
-use Rattle.conflicts.proofs.Machine.{keeps, always, begins}
+use Rattle.conflicts.proofs.ClaimState.{keeps, always, begins}
 use Rattle.conflicts.proofs.skeleton_laws.at_any_time.Goals as goal
 
 pub returns-clause-begins : goal.returns-clause-begins

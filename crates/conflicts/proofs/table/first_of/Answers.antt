@@ -1,5 +1,5 @@
 use Rattle.std.proofs.Common.{rules}
-use Rattle.conflicts.proofs.SpotRanges.{none_listed}
+use Rattle.conflicts.proofs.IndexKeyRanges.{none_listed}
 use Rattle.conflicts.proofs.table.first_of.Goals as goal
 
 pub returns-in-None-clause-none : goal.returns-in-None-clause-none

@@ -1,5 +1,5 @@
 use Rattle.std.proofs.Common.{◌≡◌, ◌≤◌, ◌-◌, ◌%◌, ◌++◌, take, length}
-use Rattle.dirt_log.specs.LogText.{pages_from}
+use Rattle.dirt_log.specs.LogEncoding.{pages_from}
 use Rattle.dirt_log.proofs.steps.put_pages.Given as goal
 
 abbrev pub invariant-loop-end : goal.invariant-loop-end

@@ -6,4 +6,4 @@ pub returns-clause-again : goal.returns-clause-again
 returns-clause-again c = λ loggable.
     let long : length c.write-sector.result ≡ 512 = search rules in
     reads_as c.args.image.now c.args.vector.now c.args.base.now c.write-sector.result c.requires long
-    c.write-sector.ensures.again c.bitmap_reads_again.ensures loggable
+    c.write-sector.ensures.again c.bitmap_round_trip.ensures loggable

@@ -1,6 +1,6 @@
 use Rattle.std.proofs.Common.{◌∙◌, arith, length-set}
 use Rattle.std.proofs.lemmas.List.Elements.{AllWithin-more_set}
-use Rattle.disk_model.specs.MemFile.{HasRoom}
+use Rattle.disk_model.specs.MemFile.{FileHasRoom}
 use Rattle.disk_model.proofs.Files.{state_of_replaced}
 use Rattle.disk_model.proofs.mem_disk.reserve.Goals as goal
 
@@ -15,5 +15,5 @@ loop-number-preserved c =
     record {
       at_first = size ∙ c.loop-number.invariant.at_first;
       same = λ f. state_of_replaced files c.index_mut.result.now c.reserve.new.self c.loop-number.number c.index_mut.ensures.value c.reserve.ensures.same f ∙ c.loop-number.invariant.same f;
-      room = AllWithin-more_set files c.loop-number.number c.reserve.new.self (omega arith) (HasRoom c.args.bytes c.args.calls) c.loop-number.invariant.room c.in_ok-reserve.ensures.room;
+      room = AllWithin-more_set files c.loop-number.number c.reserve.new.self (omega arith) (FileHasRoom c.args.bytes c.args.calls) c.loop-number.invariant.room c.in_ok-reserve.ensures.room;
     }

@@ -1,7 +1,7 @@
 use Rattle.std.proofs.Common.{◌≡◌, ℕ, ◌<◌, length, drop, map}
 use Rattle.std.specs.Prelude.{slice_index}
 use Rattle.disk_model.specs.FileState.{IsWritten}
-use Rattle.disk_model.specs.Written.{range_of}
+use Rattle.disk_model.specs.PendingWrites.{range_of}
 use Rattle.disk_model.proofs.mem_file.catch_up.Given as goal
 
 -- what isn't in a write still to come is as a read gives it

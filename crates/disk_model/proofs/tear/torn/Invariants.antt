@@ -1,7 +1,7 @@
 use Rattle.std.proofs.Common.{◌≡◌, ℕ, ◌<◌, length, take}
 use Rattle.std.specs.Prelude.{slice_index, map, reverse}
 use Rattle.disk_model.specs.Tear.{torn_byte}
-use Rattle.disk_model.specs.Written.{range_of}
+use Rattle.disk_model.specs.PendingWrites.{range_of}
 use Rattle.disk_model.proofs.tear.torn.Given as goal
 
 abbrev pub invariant-loop-write : goal.invariant-loop-write

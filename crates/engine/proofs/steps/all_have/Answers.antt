@@ -1,7 +1,7 @@
 use Rattle.std.proofs.Common.{◌≡◌, ◌∙◌, ◌≤◌, inl, inr, get_or, sym, ap, subst, arith, Some, slice_get}
 use Rattle.std.proofs.lemmas.Bool.{cases_eq}
 use Rattle.std.proofs.lemmas.Option.{same_Some, slice_get_within, slice_get-get_or}
-use Rattle.hive_flush.specs.HiveStates.{files_of}
+use Rattle.hive_flush.specs.HiveStates.{file_choice}
 use Rattle.hive_flush.specs.declared.hive.HiveFile.{HiveFile}
 use Rattle.engine.proofs.Sound.{at_place, same_hive}
 use Rattle.engine.proofs.steps.all_have.Goals as goal
@@ -24,11 +24,11 @@ loop-place-preserved c = λ i m hive lt there named.
     let within = c.loop-place-test.true in
     let its = at_place c.args.hives.now place c.index-hives-place.result (omega (arith, within)) c.index-hives-place.is in
     let number = slice_get-get_or c.args.last.now place 0 (omega (arith, within, c.requires.many)) in
-    elim (cases_eq i place) as (λ z. m ≤ (files_of hive).now.1) [
+    elim (cases_eq i place) as (λ z. m ≤ (file_choice hive).now.1) [
       | inl e ↦
           let same = same_hive c.args.hives.now i hive c.index-hives-place.result there (subst (λ n. slice_get c.args.hives.now n ≡ Some c.index-hives-place.result) (sym e) its) in
           let told = same_Some m (get_or c.args.last.now place 0) (sym named ∙ subst (λ n. slice_get c.args.last.now n ≡ Some (get_or c.args.last.now place 0)) (sym e) number) in
-          omega (arith, told, c.if-applied-last.false, c.applied.ensures, ap (λ (h : HiveFile). (files_of h).now.1) same)
+          omega (arith, told, c.if-applied-last.false, c.applied.ensures, ap (λ (h : HiveFile). (file_choice h).now.1) same)
       | inr ne ↦ c.loop-place.invariant i m hive (omega (arith, lt, ne)) there named
     ]
 

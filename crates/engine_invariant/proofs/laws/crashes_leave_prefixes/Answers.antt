@@ -1,4 +1,4 @@
-use Rattle.engine_invariant.proofs.Standing.{disk_stands, past_stays}
+use Rattle.engine_invariant.proofs.StoreReads.{disk_stands, past_stays}
 use Rattle.engine_invariant.proofs.laws.crashes_leave_prefixes.Goals as goal
 
 pub returns : goal.returns

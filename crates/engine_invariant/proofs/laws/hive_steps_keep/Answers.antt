@@ -11,5 +11,5 @@ returns c = record {
   above = λ machine base opened journal hives i number kept. lacked_is machine base opened kept.begun kept.kept.within.opened i number;
   takes = λ machine base opened journal hives i old kept is idle. takes_in machine base opened journal hives kept i old is idle;
   step = λ machine base opened journal hives i old new result kept free is same sound says.
-      flush_goes c.states_are_kept.ensures.step machine base opened journal hives kept free i old is new same result says sound;
+      flush_goes c.steps_keep_invariant.ensures.step machine base opened journal hives kept free i old is new same result says sound;
 }

@@ -5,7 +5,7 @@ use Rattle.engine_invariant.proofs.laws.safe_runs_go_on.Goals as goal
 
 pub returns : goal.returns
 returns c = record {
-  goes_on = λ store was is old mid new events replies event reply run past told there.
+  continues = λ store was is old mid new events replies event reply run past told there.
       runs_on (IsSafeAt store is) old mid new events replies event reply
       (safe_in (IsSafeAt store was) (IsSafeAt store is) old mid events replies (c.crashes_leave_prefixes.ensures.past store was is mid.clock past) run) told there;
   answers = λ old mid new events replies event reply run told. runs_on (λ k m. ⊤) old mid new events replies event reply run told tt;

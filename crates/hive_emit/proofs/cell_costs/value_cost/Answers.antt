@@ -1,5 +1,5 @@
 use Rattle.std.proofs.Common.{length, ap, arith}
-use Rattle.hive_records.specs.Spellings.{name_text}
+use Rattle.hive_records.specs.NameEncodings.{name_bytes}
 use Rattle.hive_emit.specs.CellCosts.{data_cost, value_cost}
 use Rattle.hive_emit.proofs.Sums.{data_few}
 use Rattle.hive_emit.proofs.cell_costs.value_cost.Goals as goal
@@ -9,4 +9,4 @@ overflow_add-result c = omega (arith, c.cell_cost.ensures, c.data_cost.ensures, 
 
 pub returns : goal.returns
 unfolding value_cost
-returns c = omega (arith, c.cell_cost.ensures, c.data_cost.ensures, c.stored_len-name.ensures, ap (λ n. length (name_text n)) c.units.ensures, ap (λ xs. data_cost (length xs)) c.bytes.ensures)
+returns c = omega (arith, c.cell_cost.ensures, c.data_cost.ensures, c.stored_len-name.ensures, ap (λ n. length (name_bytes n)) c.units.ensures, ap (λ xs. data_cost (length xs)) c.bytes.ensures)

@@ -1,6 +1,6 @@
 use Rattle.hive_emit.proofs.Datas.{one_cell}
 use Rattle.std.proofs.Common.{length}
-use Rattle.hive_emit.specs.Making.{cell_cost}
+use Rattle.hive_emit.specs.CellWrites.{cell_cost}
 use Rattle.hive_emit.specs.CellCosts.{apart_cost}
 use Rattle.hive_emit.proofs.NewCells.{uses_more, lands_used, stops_more}
 use Rattle.hive_emit.proofs.Sums.{one_cell_cost}

@@ -3,7 +3,7 @@ use Rattle.std.proofs.lemmas.List.{take_all}
 use Rattle.reg_tree_parts.specs.Nodes.{subkeys_of}
 use Rattle.hive_emit.specs.KeyCosts.{row_cost, keys_cost}
 use Rattle.hive_emit.proofs.Owns.{row_same, own_can}
-use Rattle.hive_emit.proofs.KeyProofs.{kids_can, can_kid, kid_there}
+use Rattle.hive_emit.proofs.KeyProofs.{subkeys_can, can_subkey, subkey_there}
 use Rattle.hive_emit.proofs.KeySums.{own_least, keys_sum, below_within, below_next}
 use Rattle.hive_emit.proofs.key_costs.+keys_cost.Goals as goal
 
@@ -17,13 +17,13 @@ pub loop-index-init : goal.loop-index-init
 loop-index-init t c = λ row e. omega (arith, c.row_cost-sum.ensures, ap row_cost (row_same c.args.node.now c.key.result.now row c.key.ensures.here e))
 
 pub unreachable-requires : goal.unreachable-requires
-unreachable-requires t c = kid_there (subkeys_of c.args.node.now) c.loop-index.index (omega (arith, c.loop-index-test.true, c.subkey_count-index-end.ensures.subkeys)) c.in_default.ensures.at
+unreachable-requires t c = subkey_there (subkeys_of c.args.node.now) c.loop-index.index (omega (arith, c.loop-index-test.true, c.subkey_count-index-end.ensures.subkeys)) c.in_default.ensures.at
 
 pub keys_cost-requires : goal.keys_cost-requires
 keys_cost-requires t c = (
   omega (arith, c.decreases, c.in-Some.ensures.smaller),
   (
-    can_kid (subkeys_of c.args.node.now) c.loop-index.index c.in-Some.subkey.now c.in-Some.ensures.at (kids_can c.args.node.now c.key.result.now c.in-Some.ensures.has c.key.ensures.here c.requires.can),
+    can_subkey (subkeys_of c.args.node.now) c.loop-index.index c.in-Some.subkey.now c.in-Some.ensures.at (subkeys_can c.args.node.now c.key.result.now c.in-Some.ensures.has c.key.ensures.here c.requires.can),
     omega (arith, keys_sum c.args.node.now c.key.result.now c.subkey_count-index-end.ensures.has c.key.ensures.here, below_within (subkeys_of c.args.node.now) c.loop-index.index c.in-Some.subkey.now c.in-Some.ensures.has.named c.in-Some.ensures.at, c.requires.fits),
   ),
 )

@@ -1,7 +1,7 @@
 use Rattle.std.proofs.Common.{length, ◌<◌, arith}
 use Rattle.hive_emit.proofs.Leaves.{is_zero, not_zero}
 use Rattle.hive_emit.proofs.Owns.{class_none, class_put}
-use Rattle.hive_emit.specs.Making.{cell_cost}
+use Rattle.hive_emit.specs.CellWrites.{cell_cost}
 use Rattle.hive_emit.proofs.NewCells.{none_used, uses_more, lands_used, stops_more}
 use Rattle.hive_emit.specs.KeyCosts.{class_cost}
 use Rattle.hive_emit.proofs.keys.put_class.Goals as goal

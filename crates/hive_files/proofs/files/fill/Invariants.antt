@@ -1,10 +1,10 @@
 use Rattle.std.proofs.Common.{◌≡◌, ◌⊎◌, ◌-◌, ◌+◌, ◌%◌, ◌≤◌, length, take, drop}
-use Rattle.disk_model.specs.Unwritten.{OnlyReads}
-use Rattle.hive_files.specs.Pieces.{reads_of}
+use Rattle.disk_model.specs.ReadOnly.{OnlyReads}
+use Rattle.hive_files.specs.Chunks.{reads_of}
 use Rattle.hive_files.proofs.files.fill.Given as goal
 
-abbrev pub invariant-pieces : goal.invariant-pieces
-invariant-pieces g l =
+abbrev pub invariant-chunks : goal.invariant-chunks
+invariant-chunks g l =
     let seen = (g.D.Disk.state_at l.fn.disk (g.D.Disk.clock l.fn.disk) l.fn.file).seen in
     record {
       size : length l.bytes ≡ length l.fn.bytes;
@@ -17,5 +17,5 @@ invariant-pieces g l =
       faithful : g.D.Disk.faithful l.disk → g.D.Disk.faithful l.fn.disk;
     }
 
-abbrev pub decreases-pieces : goal.decreases-pieces
-decreases-pieces g l = length l.initial.bytes - l.at
+abbrev pub decreases-chunks : goal.decreases-chunks
+decreases-chunks g l = length l.initial.bytes - l.at

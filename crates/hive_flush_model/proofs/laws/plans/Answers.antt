@@ -3,8 +3,8 @@ use Rattle.hive_flush_model.proofs.laws.plans.Goals as goal
 
 pub returns : goal.returns
 returns g c = record {
-  flush = λ stands memory image v old plan size loggable kind tree number fits raised_long raised final_long final text.
-      ready stands memory image v old plan size loggable kind tree number fits raised_long raised final_long final text;
-  repair = λ stands memory old primary log raised final whole covered tree number fits raised_long raised_is final_long final_is.
-      ready_again stands memory old primary log raised final whole covered tree number fits raised_long raised_is final_long final_is;
+  flush = λ decode memory image v old plan size loggable kind tree number fits raised_long raised final_long final encoding.
+      ready decode memory image v old plan size loggable kind tree number fits raised_long raised final_long final encoding;
+  repair = λ decode memory old primary log raised final whole covered tree number fits raised_long raised_is final_long final_is.
+      ready_again decode memory old primary log raised final whole covered tree number fits raised_long raised_is final_long final_is;
 }

@@ -5,11 +5,11 @@ use Rattle.hive_load_parts.proofs.Spread.{spreads_none, spreads_on}
 use Rattle.hive_load.proofs.Sorting.{Nodes, one_more, nodes_more}
 use Rattle.refusals.specs.declared.refusal.Refusal.TheVariants.{TooLarge}
 use Rattle.reg_tree_parts.specs.Nodes.{Entries, root_name, subkey_entries, AreNodes}
-use Rattle.hive_load_parts.specs.Reading.{marks_of}
+use Rattle.hive_load_parts.specs.CellReads.{marks_of}
 use Rattle.hive_records.proofs.Keys.{keys_trail}
 use Rattle.std.proofs.lemmas.Bool.{cases_lt}
 use Rattle.hive_load.specs.Answers.{RefusesKey, LoadsKeys, RefusesKeys}
-use Rattle.hive_load.proofs.Levels.{key_unread, key_too_deep, kid_refused, node_answers, keys_begin, keys_on, keys_stop}
+use Rattle.hive_load.proofs.Levels.{key_unread, key_too_deep, subkey_refused, node_answers, keys_begin, keys_on, keys_stop}
 use Rattle.hive_load.proofs.keys.+levels.Goals as goal
 
 pub load_key-returns-in-Err-clause-answers : goal.load_key-returns-in-Err-clause-answers
@@ -26,7 +26,7 @@ pub load_key-returns-in-Err-load_keys-clause-answers : goal.load_key-returns-in-
 load_key-returns-in-Err-load_keys-clause-answers t c = λ cells shows.
     let below = subst (λ (listed : List ℕ). RefusesKeys c.args.split cells (marks_of c.key.new.seen) (c.args.levels - 1) listed c.in-Err-load_keys.refusal) c.deref.ensures.value (c.in-Err-load_keys.ensures.answers cells shows) in
     subst (λ (n : ℕ). RefusesKey c.args.split cells (marks_of c.args.seen.now) n c.args.at c.in-Err-load_keys.refusal) (more c.args.levels c.if-levels-eq0.false)
-    (kid_refused c.args.split cells c.args.at (marks_of c.args.seen.now) (marks_of c.key.new.seen) c.in-Ok.read.0 c.in-Ok.read.1.items (c.in-Ok.ensures.reads cells shows) (keys_trail c.args.split cells) (c.args.levels - 1) c.in-Err-load_keys.refusal below)
+    (subkey_refused c.args.split cells c.args.at (marks_of c.args.seen.now) (marks_of c.key.new.seen) c.in-Ok.read.0 c.in-Ok.read.1.items (c.in-Ok.ensures.reads cells shows) (keys_trail c.args.split cells) (c.args.levels - 1) c.in-Err-load_keys.refusal below)
 
 pub load_key-returns-clause-answers : goal.load_key-returns-clause-answers
 load_key-returns-clause-answers t c = λ cells shows.

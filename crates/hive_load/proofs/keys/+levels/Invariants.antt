@@ -1,7 +1,7 @@
 use Rattle.std.proofs.Common.{◌≡◌, ◌≤◌, ◌+◌, ◌*◌, length, take}
 use Rattle.reg_tree_parts.specs.Nodes.{subkey_entries, AreNodes}
 use Rattle.hive_cells.specs.Bins.{Cells, Shows}
-use Rattle.hive_load_parts.specs.Reading.{marks_of, set_flags, Spreads}
+use Rattle.hive_load_parts.specs.CellReads.{marks_of, set_flags, Spreads}
 use Rattle.hive_load_parts.specs.Descriptors.{AreDescriptors}
 use Rattle.hive_load.specs.Answers.{LoadsKeys}
 use Rattle.hive_load.proofs.keys.+levels.Given as goal

@@ -4,9 +4,9 @@ use Rattle.refusals.specs.declared.limits.TheConstants.{MOST_WEIGHT}
 use Rattle.std.below.core.specs.declared.int.u64.TheConstants.{MAX}
 use Rattle.reg_tree_parts.specs.Nodes.{entries_weight}
 use Rattle.reg_tree.specs.Maps.{TreeMap}
-use Rattle.hive_records.specs.Images.{StandsFor}
-use Rattle.hive_load.specs.Limits.{IsWithin}
-use Rattle.hive_load.proofs.Ends.{refused_for, stands_for, is_spellable, is_within, too_heavy}
+use Rattle.hive_records.specs.Images.{BinsEncodeTree}
+use Rattle.hive_load.specs.Limits.{TreeIsInLimits}
+use Rattle.hive_load.proofs.Ends.{refused_for, stands_for, is_encodable, is_within, too_heavy}
 use Rattle.hive_load.proofs.tree.load.Goals as goal
 
 heavy : (all kept : ℕ) → kept ≡ min all MAX → MOST_WEIGHT < kept → MOST_WEIGHT < all
@@ -29,17 +29,17 @@ returns-then-weight-gt-MOST_WEIGHT-clause-refused c =
 pub from_root-requires : goal.from_root-requires
 from_root-requires c =
     let shown = c.tiles.ensures.shown in
-    is_spellable c.args.image.now.bytes c.args.root c.args.minor (nat_le 4 c.args.minor) refl shown.0 shown.1 c.in-Ok.node (c.in-Ok.ensures.answers shown.0 shown.1) c.in-Ok.ensures.node c.tiles.ensures.bytes
+    is_encodable c.args.image.now.bytes c.args.root c.args.minor (nat_le 4 c.args.minor) refl shown.0 shown.1 c.in-Ok.node (c.in-Ok.ensures.answers shown.0 shown.1) c.in-Ok.ensures.node c.tiles.ensures.bytes
 
 pub returns-clause-stands : goal.returns-clause-stands
 returns-clause-stands c =
     let shown = c.tiles.ensures.shown in
-    subst (λ (tree : TreeMap). StandsFor c.args.image.now.bytes c.args.root c.args.minor tree) (sym c.in_ok-from_root.ensures)
+    subst (λ (tree : TreeMap). BinsEncodeTree c.args.image.now.bytes c.args.root c.args.minor tree) (sym c.in_ok-from_root.ensures)
     (stands_for c.args.image.now.bytes c.args.root c.args.minor (nat_le 4 c.args.minor) refl shown.0 shown.1 c.in-Ok.node (c.in-Ok.ensures.answers shown.0 shown.1) c.in-Ok.ensures.node c.tiles.ensures.tiles)
 
 pub returns-clause-within : goal.returns-clause-within
 returns-clause-within c =
     let shown = c.tiles.ensures.shown in
-    subst (λ (tree : TreeMap). IsWithin tree) (sym c.in_ok-from_root.ensures)
+    subst (λ (tree : TreeMap). TreeIsInLimits tree) (sym c.in_ok-from_root.ensures)
     (is_within c.args.image.now.bytes c.args.root c.args.minor (nat_le 4 c.args.minor) refl shown.0 shown.1 c.in-Ok.node (c.in-Ok.ensures.answers shown.0 shown.1) c.in-Ok.ensures.node
     (light (entries_weight c.in-Ok.node) c.weight.result c.weight.ensures c.if-weight-gt-MOST_WEIGHT.false))

@@ -1,5 +1,5 @@
 use Rattle.std.proofs.Common.{ℕ, List, refl, subst, arith}
-use Rattle.hive_load_parts.specs.Reading.{marks_of}
+use Rattle.hive_load_parts.specs.CellReads.{marks_of}
 use Rattle.hive_load.specs.Answers.{LoadsKey}
 use Rattle.hive_load.proofs.Ends.{root_loaded, root_lends}
 use Rattle.hive_load.proofs.Bound.{few_looks}

@@ -1,6 +1,6 @@
 use Rattle.std.proofs.Common.{length, ◌*◌, ◌<◌, ◌≤◌, subst}
 use Rattle.hive_records.specs.Values.{segments_of}
-use Rattle.hive_load_parts.specs.Reading.{marks_of}
+use Rattle.hive_load_parts.specs.CellReads.{marks_of}
 use Rattle.hive_load_parts.proofs.Kit.{not_least, least}
 use Rattle.hive_load_parts.proofs.BigSteps.{big_unseen, big_refused, big_listless, big_short, big_gives}
 use Rattle.hive_load_parts.proofs.big.big_data.Goals as goal

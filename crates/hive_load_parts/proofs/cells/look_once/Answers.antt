@@ -5,7 +5,7 @@ use Rattle.hive_load_parts.proofs.Spread.{spreads_one}
 use Rattle.hive_load_parts.proofs.Counted.{one_flag}
 use Rattle.hive_load_parts.proofs.Kit.{err_as}
 use Rattle.hive_records.specs.Readers.{look}
-use Rattle.hive_load_parts.specs.Reading.{marks_of, set_flags, Spreads}
+use Rattle.hive_load_parts.specs.CellReads.{marks_of, set_flags, Spreads}
 use Rattle.hive_load_parts.proofs.cells.look_once.Goals as goal
 
 pub returns-in-Err-clause-reads : goal.returns-in-Err-clause-reads

@@ -1,5 +1,5 @@
 use Rattle.std.proofs.Common.{◌≡◌, take}
-use Rattle.hive_records.specs.GoesOn.{elements_of}
+use Rattle.hive_records.specs.RecordReaders.{elements_of}
 use Rattle.hive_load_parts.proofs.lists.elements.Given as goal
 
 abbrev pub invariant-loop-index : goal.invariant-loop-index

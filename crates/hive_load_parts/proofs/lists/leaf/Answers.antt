@@ -1,4 +1,4 @@
-use Rattle.hive_load_parts.specs.Reading.{marks_of}
+use Rattle.hive_load_parts.specs.CellReads.{marks_of}
 use Rattle.hive_load_parts.proofs.ListSteps.{leaf_unseen, leaf_refused, leaf_of_lists, leaf_read}
 use Rattle.hive_load_parts.proofs.lists.leaf.Goals as goal
 

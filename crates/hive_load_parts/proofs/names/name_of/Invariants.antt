@@ -1,5 +1,5 @@
 use Rattle.std.proofs.Common.{◌≡◌, length, take}
-use Rattle.hive_records.specs.GoesOn.{units_of}
+use Rattle.hive_records.specs.RecordReaders.{units_of}
 use Rattle.hive_load_parts.proofs.names.name_of.Given as goal
 
 abbrev pub invariant-loop-place : goal.invariant-loop-place

@@ -1,8 +1,8 @@
 use Rattle.std.proofs.Common.{◌≡◌, ◌-◌, ◌^◌, length, min, take, List, ℕ, Ok, Err, arith, rules, sym, ◌∙◌}
 use Rattle.std.proofs.lemmas.Grind.{common_steps}
-use Rattle.hive_load_parts.specs.Reading.{marks_of}
+use Rattle.hive_load_parts.specs.CellReads.{marks_of}
 use Rattle.hive_load_parts.proofs.Kit.{not_least, least, ok_as}
-use Rattle.hive_records.specs.Values.{piece, big_data}
+use Rattle.hive_records.specs.Values.{cell_prefix, big_data}
 use Rattle.hive_load_parts.proofs.ValueSteps.{data_small, data_empty, data_big, data_piece}
 use Rattle.hive_load_parts.proofs.values.data_of.Goals as goal
 
@@ -21,9 +21,9 @@ returns-in-Err-clause-reads c = λ cells shows. data_big c.args.split c.args.val
 pub returns-then-is_big-clause-reads : goal.returns-then-is_big-clause-reads
 returns-then-is_big-clause-reads c = λ cells shows. data_big c.args.split c.args.value.now.size c.args.value.now.offset c.args.value.now.small.now cells (marks_of c.args.seen.now) (marks_of c.big_data.new.seen) (Ok c.in_ok-from_vec.field-0) (not_least _ _ c.if-value-ge-IN_RECORD.false) (search (rules, c.if-value-eq0.false)) (sym c.is_big.ensures ∙ c.if-is_big.true) (ok_as (big_data c.args.value.now.size c.args.value.now.offset) cells (marks_of c.args.seen.now) (marks_of c.big_data.new.seen) c.in_ok-from_vec.field-0 c.in-Ok.bytes.items c.in_ok-from_vec.ensures (c.in-Ok.ensures.reads cells shows))
 
-pub returns-in-Err-piece-clause-reads : goal.returns-in-Err-piece-clause-reads
-returns-in-Err-piece-clause-reads c = λ cells shows. data_piece c.args.split c.args.value.now.size c.args.value.now.offset c.args.value.now.small.now cells (marks_of c.args.seen.now) (marks_of c.piece.new.seen) (Err c.in-Err-piece.refusal) (not_least _ _ c.if-value-ge-IN_RECORD.false) (search (rules, c.if-value-eq0.false)) (sym c.is_big.ensures ∙ c.if-is_big.false) (c.in-Err-piece.ensures.reads cells shows)
+pub returns-in-Err-cell_prefix-clause-reads : goal.returns-in-Err-cell_prefix-clause-reads
+returns-in-Err-cell_prefix-clause-reads c = λ cells shows. data_piece c.args.split c.args.value.now.size c.args.value.now.offset c.args.value.now.small.now cells (marks_of c.args.seen.now) (marks_of c.cell_prefix.new.seen) (Err c.in-Err-cell_prefix.refusal) (not_least _ _ c.if-value-ge-IN_RECORD.false) (search (rules, c.if-value-eq0.false)) (sym c.is_big.ensures ∙ c.if-is_big.false) (c.in-Err-cell_prefix.ensures.reads cells shows)
 
 pub returns-clause-reads : goal.returns-clause-reads
-returns-clause-reads c = λ cells shows. data_piece c.args.split c.args.value.now.size c.args.value.now.offset c.args.value.now.small.now cells (marks_of c.args.seen.now) (marks_of c.piece.new.seen) (Ok c.in_ok-new-3.field-0) (not_least _ _ c.if-value-ge-IN_RECORD.false) (search (rules, c.if-value-eq0.false)) (sym c.is_big.ensures ∙ c.if-is_big.false)
-    (ok_as (piece c.args.value.now.size c.args.value.now.offset) cells (marks_of c.args.seen.now) (marks_of c.piece.new.seen) c.in_ok-new-3.field-0 c.in-Ok-piece.bytes.now c.in_ok-new-3.ensures (c.in-Ok-piece.ensures.reads cells shows))
+returns-clause-reads c = λ cells shows. data_piece c.args.split c.args.value.now.size c.args.value.now.offset c.args.value.now.small.now cells (marks_of c.args.seen.now) (marks_of c.cell_prefix.new.seen) (Ok c.in_ok-new-3.field-0) (not_least _ _ c.if-value-ge-IN_RECORD.false) (search (rules, c.if-value-eq0.false)) (sym c.is_big.ensures ∙ c.if-is_big.false)
+    (ok_as (cell_prefix c.args.value.now.size c.args.value.now.offset) cells (marks_of c.args.seen.now) (marks_of c.cell_prefix.new.seen) c.in_ok-new-3.field-0 c.in-Ok-cell_prefix.bytes.now c.in_ok-new-3.ensures (c.in-Ok-cell_prefix.ensures.reads cells shows))

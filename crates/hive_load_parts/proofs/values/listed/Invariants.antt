@@ -4,7 +4,7 @@ use Rattle.hive_records.specs.Readers.{each}
 use Rattle.hive_records.specs.Numbers.{words_from}
 use Rattle.hive_records.specs.Values.{value_at}
 use Rattle.hive_records.specs.Follows.{Follows}
-use Rattle.hive_load_parts.specs.Reading.{Spreads, marks_of, set_flags}
+use Rattle.hive_load_parts.specs.CellReads.{Spreads, marks_of, set_flags}
 use Rattle.hive_load_parts.proofs.values.listed.Given as goal
 
 abbrev pub invariant-loop-index : goal.invariant-loop-index

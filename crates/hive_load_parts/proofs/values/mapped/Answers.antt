@@ -4,7 +4,7 @@ use Rattle.std.proofs.lemmas.List.{take_more}
 use Rattle.reg_tree_parts.specs.declared.value.Value.{Value}
 use Rattle.hive_records.specs.Names.{all_apart}
 use Rattle.hive_records.specs.Values.{map_of}
-use Rattle.hive_load_parts.specs.Reading.{names_in}
+use Rattle.hive_load_parts.specs.CellReads.{names_in}
 use Rattle.hive_load_parts.proofs.Apart.{with_more, apart_more, alike, none_if}
 use Rattle.hive_load_parts.proofs.values.mapped.Goals as goal
 

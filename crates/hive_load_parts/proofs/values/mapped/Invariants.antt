@@ -1,7 +1,7 @@
 use Rattle.std.proofs.Common.{◌≡◌, take, true}
 use Rattle.hive_records.specs.Names.{all_apart}
 use Rattle.hive_records.specs.Values.{map_of}
-use Rattle.hive_load_parts.specs.Reading.{names_in}
+use Rattle.hive_load_parts.specs.CellReads.{names_in}
 use Rattle.hive_load_parts.proofs.values.mapped.Given as goal
 
 abbrev pub invariant-loop-value : goal.invariant-loop-value

@@ -1,4 +1,4 @@
-use Rattle.hive_load_parts.specs.Reading.{marks_of}
+use Rattle.hive_load_parts.specs.CellReads.{marks_of}
 use Rattle.hive_load_parts.proofs.ValueSteps.{value_unseen, value_refused, value_dataless, value_read}
 use Rattle.hive_load_parts.proofs.values.value.Goals as goal
 

@@ -1,5 +1,5 @@
 use Rattle.std.proofs.Common.{◌*◌, length, rules}
-use Rattle.hive_load_parts.specs.Reading.{marks_of}
+use Rattle.hive_load_parts.specs.CellReads.{marks_of}
 use Rattle.hive_load_parts.proofs.Kit.{not_least, least, ok_as}
 use Rattle.hive_records.specs.Readers.{each}
 use Rattle.hive_records.specs.Numbers.{words_from}

@@ -1,6 +1,6 @@
 use Rattle.std.proofs.Common.{◌≡◌, drop}
 use Rattle.reg_names.specs.Names.{folded}
-use Rattle.hive_records.specs.ListTexts.{hash_from}
+use Rattle.hive_records.specs.ListEncodings.{hash_from}
 use Rattle.hive_records.proofs.hashes.name_hash.Given as goal
 
 abbrev pub invariant-loop-unit : goal.invariant-loop-unit

@@ -1,4 +1,4 @@
-use Rattle.hive_records.proofs.GoesOn.{big_out, big_on}
+use Rattle.hive_records.proofs.RecordReaders.{big_out, big_on}
 use Rattle.hive_records.proofs.joined_laws.big_data_go_on.Goals as goal
 
 pub returns-clause-refused : goal.returns-clause-refused

@@ -1,4 +1,4 @@
-use Rattle.hive_records.proofs.GoesOn.{descriptor_out, descriptor_on}
+use Rattle.hive_records.proofs.RecordReaders.{descriptor_out, descriptor_on}
 use Rattle.hive_records.proofs.joined_laws.descriptors_go_on.Goals as goal
 
 pub returns-clause-refused : goal.returns-clause-refused

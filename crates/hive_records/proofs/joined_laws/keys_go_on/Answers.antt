@@ -1,4 +1,4 @@
-use Rattle.hive_records.proofs.GoesOn.{key_out, key_on}
+use Rattle.hive_records.proofs.RecordReaders.{key_out, key_on}
 use Rattle.hive_records.proofs.joined_laws.keys_go_on.Goals as goal
 
 pub returns-clause-refused : goal.returns-clause-refused

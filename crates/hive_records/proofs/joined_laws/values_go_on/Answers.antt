@@ -1,4 +1,4 @@
-use Rattle.hive_records.proofs.GoesOn.{value_out, value_on}
+use Rattle.hive_records.proofs.RecordReaders.{value_out, value_on}
 use Rattle.hive_records.proofs.joined_laws.values_go_on.Goals as goal
 
 pub returns-clause-refused : goal.returns-clause-refused

@@ -3,5 +3,5 @@ use Rattle.hive_records.proofs.writing.put_security.Goals as goal
 
 pub returns : goal.returns
 returns c =
-    rw (c.in_ok-extend_from_slice.ensures.items, c.in_ok-put_word-4.ensures, c.in_ok-put_word-3.ensures, c.in_ok-put_word-2.ensures, c.in_ok-put_word.ensures, c.in_ok-put_half-2.ensures, c.in_ok-put_half.ensures)
+    rw (c.in_ok-extend_from_slice.ensures.items, c.in_ok-put_u32-4.ensures, c.in_ok-put_u32-3.ensures, c.in_ok-put_u32-2.ensures, c.in_ok-put_u32.ensures, c.in_ok-put_u16-2.ensures, c.in_ok-put_u16.ensures)
     (simp append_assoc)

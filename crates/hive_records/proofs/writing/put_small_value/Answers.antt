@@ -1,6 +1,6 @@
 use Rattle.std.proofs.Common.{◌≡◌, ◌+◌, ◌++◌, ℕ, List, length, subst}
 use Rattle.std.specs.Prelude.{OnOk}
-use Rattle.hive_records.specs.ValueTexts.{value_record}
+use Rattle.hive_records.specs.ValueEncodings.{value_record}
 use Rattle.hive_records.proofs.Puts.{small_field}
 use Rattle.hive_records.proofs.writing.put_small_value.Goals as goal
 

@@ -2,7 +2,7 @@ use Rattle.hive_records.proofs.Puts.{wide_on, wide_end}
 use Rattle.hive_records.proofs.writing.put_wide.Goals as goal
 
 pub loop-unit-preserved : goal.loop-unit-preserved
-loop-unit-preserved c = rw c.in_ok-put_half.ensures (wide_on c.loop-unit.bytes.items c.args.name.now _ c.loop-unit.unit-index c.loop-unit-test.true c.loop-unit.invariant)
+loop-unit-preserved c = rw c.in_ok-put_u16.ensures (wide_on c.loop-unit.bytes.items c.args.name.now _ c.loop-unit.unit-index c.loop-unit-test.true c.loop-unit.invariant)
 
 pub returns : goal.returns
 returns c = wide_end c.loop-unit.bytes.items c.args.name.now _ c.loop-unit.unit-index c.loop-unit-test.false c.loop-unit.invariant

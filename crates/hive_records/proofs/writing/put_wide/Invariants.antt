@@ -1,5 +1,5 @@
 use Rattle.std.proofs.Common.{◌≡◌, ◌++◌, drop}
-use Rattle.hive_records.specs.Spellings.{wide}
+use Rattle.hive_records.specs.NameEncodings.{wide}
 use Rattle.hive_records.proofs.writing.put_wide.Given as goal
 
 abbrev pub invariant-loop-unit : goal.invariant-loop-unit

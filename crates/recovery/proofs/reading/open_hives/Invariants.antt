@@ -1,7 +1,7 @@
 use Rattle.std.proofs.Common.{◌≡◌, ◌≤◌, length}
 use Rattle.std.specs.Prelude.{vec_capacity}
 use Rattle.disk_model.specs.Call.{Extends}
-use Rattle.disk_model.specs.Unwritten.{OnlySyncs}
+use Rattle.disk_model.specs.ReadOnly.{OnlySyncs}
 use Rattle.recovery.specs.Reading.{AreOpened}
 use Rattle.recovery.specs.Recovered.{seen_in}
 use Rattle.recovery.specs.Repairs.{most_repairs, repairs_left}

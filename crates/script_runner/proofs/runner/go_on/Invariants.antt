@@ -1,7 +1,7 @@
 use Rattle.std.proofs.Common.{ℕ, List, Option}
 use Rattle.script_syntax.specs.Statuses.{with_refusal}
 use Rattle.script_runner.specs.Later.{IsLater}
-use Rattle.script_runner.specs.Players.{script_of}
+use Rattle.script_runner.specs.Interpreters.{script_of}
 use Rattle.script_runner.specs.Plays.{IsPlayedOn}
 use Rattle.script_runner.specs.Scripts.{Script}
 use Rattle.script_syntax.specs.declared.status.Status.{Status}
@@ -12,5 +12,5 @@ abbrev pub invariant-loop-number : goal.invariant-loop-number
 invariant-loop-number g l =
     let remaining = g.R.Read.remaining in
     let contents = g.W.Write.contents in
-    IsLater g.D.Disk.faithful g.D.Disk.failures l.fn.player.engine l.player.engine × ((status : Status) (after : Option (List ℕ)) (end : Script) → IsPlayedOn l.fn.pace (script_of l.player) l.number (remaining l.reader) (contents l.writer) after status end
-    → IsPlayedOn l.fn.pace (script_of l.fn.player) l.fn.first (remaining l.fn.reader) (contents l.fn.writer) after (with_refusal l.has_refusal status) end)
+    IsLater g.D.Disk.faithful g.D.Disk.failures l.fn.interpreter.engine l.interpreter.engine × ((status : Status) (after : Option (List ℕ)) (end : Script) → IsPlayedOn l.fn.policy (script_of l.interpreter) l.number (remaining l.reader) (contents l.writer) after status end
+    → IsPlayedOn l.fn.policy (script_of l.fn.interpreter) l.fn.first (remaining l.fn.reader) (contents l.fn.writer) after (with_refusal l.has_refusal status) end)

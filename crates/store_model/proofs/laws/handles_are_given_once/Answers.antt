@@ -1,4 +1,4 @@
-use Rattle.store_model.specs.Kept.{handle_in}
+use Rattle.store_model.specs.Invariant.{handle_in}
 use Rattle.store_model.proofs.TransactionChanges.{way}
 use Rattle.store_model.proofs.Handles.{counted, numbers_rise, still_gone, gone_for_good, closed_gone, ended_gone, not_own, not_found}
 use Rattle.store_model.proofs.laws.handles_are_given_once.Goals as goal

@@ -9,12 +9,12 @@ pub put_fields-requires : goal.put_fields-requires
 unfolding zeros
 put_fields-requires c = refl
 
-pub returns-clause-text : goal.returns-clause-text
-returns-clause-text c =
-    written c.args.self.now c.put_fields.new.sector c.put_u32.new.sector c.sum_of_front-sum.result c.put_fields.ensures.long c.put_fields.ensures.put c.sum_of_front-sum.ensures c.put_u32.ensures.put
+pub returns-clause-encoding : goal.returns-clause-encoding
+returns-clause-encoding c =
+    written c.args.self.now c.put_fields.new.sector c.put_u32.new.sector c.sum_of_prefix-sum.result c.put_fields.ensures.long c.put_fields.ensures.put c.sum_of_prefix-sum.ensures c.put_u32.ensures.put
 
 pub returns-clause-again : goal.returns-clause-again
 returns-clause-again c =
-    let text = written c.args.self.now c.put_fields.new.sector c.put_u32.new.sector c.sum_of_front-sum.result c.put_fields.ensures.long c.put_fields.ensures.put c.sum_of_front-sum.ensures c.put_u32.ensures.put in
-    let sum : c.sum_of_front-sum.result ≡ sum_of (body_of c.args.self.now) = c.sum_of_front-sum.ensures ∙ ap sum_of c.put_fields.ensures.put ∙ sum_front (body_of c.args.self.now) (zeros 4) c.put_fields.ensures.long in
-    ap block_at text ∙ read_again c.args.self.now c.put_fields.ensures.fits c.put_fields.ensures.long (subst (λ (n : ℕ). n < 2 ^ 32) sum c.put_u32.ensures.fits)
+    let encoding = written c.args.self.now c.put_fields.new.sector c.put_u32.new.sector c.sum_of_prefix-sum.result c.put_fields.ensures.long c.put_fields.ensures.put c.sum_of_prefix-sum.ensures c.put_u32.ensures.put in
+    let sum : c.sum_of_prefix-sum.result ≡ sum_of (body_of c.args.self.now) = c.sum_of_prefix-sum.ensures ∙ ap sum_of c.put_fields.ensures.put ∙ sum_front (body_of c.args.self.now) (zeros 4) c.put_fields.ensures.long in
+    ap block_at encoding ∙ read_again c.args.self.now c.put_fields.ensures.fits c.put_fields.ensures.long (subst (λ (n : ℕ). n < 2 ^ 32) sum c.put_u32.ensures.fits)

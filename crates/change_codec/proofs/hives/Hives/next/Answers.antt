@@ -1,6 +1,6 @@
 use Rattle.std.proofs.Common.{◌∙◌, ◌-◌, ◌∷◌, ℕ, ap, sym, arith}
 use Rattle.change_codec.specs.Changes.{hives_in}
-use Rattle.change_codec.proofs.Kept.{one_hive, last_hive}
+use Rattle.change_codec.proofs.ChangeBytes.{one_hive, last_hive}
 use Rattle.change_codec.proofs.hives.Hives.next.Goals as goal
 
 pub returns : goal.returns

@@ -1,7 +1,7 @@
 use Rattle.std.proofs.Common.{refl, sym, subst}
-use Rattle.commit_journal.specs.OnDisk.{is_on, value_at, Phase.BodyWritten, Phase.Broken}
-use Rattle.commit_journal.specs.Journals.{spelled_by, texts_of}
-use Rattle.commit_journal.specs.declared.standing.Standing.{Standing}
+use Rattle.commit_journal.specs.OnDisk.{is_on, view_at, Phase.BodyWritten, Phase.Broken}
+use Rattle.commit_journal.specs.Journals.{content_of, encodings_of}
+use Rattle.commit_journal.specs.declared.extent.Extent.{Extent}
 use Rattle.commit_journal.proofs.Calls as calls
 use Rattle.commit_journal.proofs.journal.Journal.sync_body.Goals as goal
 
@@ -9,12 +9,12 @@ pub returns-in-Ok-clause-on : goal.returns-in-Ok-clause-on
 returns-in-Ok-clause-on g c = λ faithful on.
     let j = c.args.self.now in
     let a = c.args.batch.ahead in
-    calls.body_synced (texts_of j) (spelled_by j.stands) (spelled_by a) j.stands.gate a.gate _ _ on (c.in-Ok.ensures.done faithful)
+    calls.body_synced (encodings_of j) (content_of j.on_device) (content_of a) j.on_device.gate a.gate _ _ on (c.in-Ok.ensures.done faithful)
 
 pub returns-in-Err-clause-on : goal.returns-in-Err-clause-on
 returns-in-Err-clause-on g c = λ faithful on.
     let j = c.args.self.now in
     let a = c.args.batch.ahead in
     let st = g.D.Disk.state_at c.sync.new.disk (g.D.Disk.clock c.sync.new.disk) 0 in
-    subst (λ (s : Standing). is_on (texts_of j) (value_at (spelled_by j.stands) (spelled_by s) j.stands.gate s.gate Broken) st) (sym c.of.ensures)
-    (calls.sync_failed (texts_of j) (spelled_by j.stands) (spelled_by a) j.stands.gate a.gate _ _ BodyWritten refl on (c.in-Err.ensures.failed faithful))
+    subst (λ (s : Extent). is_on (encodings_of j) (view_at (content_of j.on_device) (content_of s) j.on_device.gate s.gate Broken) st) (sym c.of.ensures)
+    (calls.sync_failed (encodings_of j) (content_of j.on_device) (content_of a) j.on_device.gate a.gate _ _ BodyWritten refl on (c.in-Err.ensures.failed faithful))

@@ -1,6 +1,6 @@
 use Rattle.std.proofs.Common.{◌++◌, drop, get_or, sym, subst}
-use Rattle.commit_journal.specs.Reading.{reading_at, read_by, texts_for}
-use Rattle.commit_journal.specs.declared.reader.Next.{Next}
+use Rattle.commit_journal.specs.Reading.{reading_at, read_by, encodings_for}
+use Rattle.commit_journal.specs.declared.reader.NextField.{NextField}
 use Rattle.commit_journal.proofs.Transitions.{gate_front, gate_shut, gate_open}
 use Rattle.commit_journal.proofs.reader.Reader.gate.Goals as goal
 use Rattle.commit_journal.proofs.reader.Reader.gate.Goals.{then-bytes, else-bytes}
@@ -9,10 +9,10 @@ pub returns-clause-reads : goal.returns-clause-reads
 returns-clause-reads c = λ id file behind here.
     let r = c.args.self.now in
     let bytes = c.args.bytes.now in
-    let front = gate_front bytes c.requires.there in
+    let prefix = gate_front bytes c.requires.there in
     elim c.if-bytes.branch [
-      | then-bytes w ↦ subst (λ (n : Next). reading_at (texts_for id r) file r.stands (read_by r) n (drop 1 bytes ++ behind)) (sym w.self-is)
-          (gate_open id r.hives r.few file r.stands bytes behind (get_or bytes 0 0) (drop 1 bytes) front w.if-bytes.true here)
-      | else-bytes w ↦ subst (λ (n : Next). reading_at (texts_for id r) file r.stands (read_by r) n (drop 1 bytes ++ behind)) (sym w.self-is)
-          (gate_shut id r.hives r.few file r.stands bytes behind (get_or bytes 0 0) (drop 1 bytes) front w.if-bytes.false here)
+      | then-bytes w ↦ subst (λ (n : NextField). reading_at (encodings_for id r) file r.on_device (read_by r) n (drop 1 bytes ++ behind)) (sym w.self-is)
+          (gate_open id r.hives r.few file r.on_device bytes behind (get_or bytes 0 0) (drop 1 bytes) prefix w.if-bytes.true here)
+      | else-bytes w ↦ subst (λ (n : NextField). reading_at (encodings_for id r) file r.on_device (read_by r) n (drop 1 bytes ++ behind)) (sym w.self-is)
+          (gate_shut id r.hives r.few file r.on_device bytes behind (get_or bytes 0 0) (drop 1 bytes) prefix w.if-bytes.false here)
     ]

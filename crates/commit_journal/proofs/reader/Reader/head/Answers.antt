@@ -4,7 +4,7 @@ use Rattle.byteorder.specs.Endian.{little_number}
 use Rattle.commit_journal.specs.Reading.{read_by}
 use Rattle.std.proofs.lemmas.List.{length-map}
 use Rattle.change_codec.specs.ModelChanges.{timed_element}
-use Rattle.commit_journal.specs.Told.{changes_told}
+use Rattle.commit_journal.specs.GhostLog.{logged_changes}
 use Rattle.commit_journal.proofs.Keepings.{follows_on, head_keeps, head_part}
 use Rattle.commit_journal.proofs.Transitions.{head_on, head_none, ok_on, refused_on}
 use Rattle.commit_journal.proofs.reader.Reader.head.Goals as goal
@@ -18,7 +18,7 @@ returns-then-size-lt-HEAD_BYTES-clause-refused c = inl (
       let bytes = c.args.bytes.now in
       let first = c.read_u64-first.ensures ∙ ap (little_number 8) (take_all (length bytes - 4) (drop 4 bytes) (omega (arith, length-drop 4 bytes))) in
       let count = c.from-count.ensures ∙ c.read_u32-2.ensures ∙ ap (little_number 4) (take_all (length bytes - 12) (drop 12 bytes) (omega (arith, length-drop 12 bytes))) in
-      head_none id r.hives r.few file r.stands (read_by r) bytes behind c.from-size.result c.read_u64-first.result c.from-count.result c.args.left c.requires.there (c.from-size.ensures ∙ c.read_u32.ensures) first count left here
+      head_none id r.hives r.few file r.on_device (read_by r) bytes behind c.from-size.result c.read_u64-first.result c.from-count.result c.args.left c.requires.there (c.from-size.ensures ∙ c.read_u32.ensures) first count left here
       (λ low high there goes. elim c.then-size-lt-HEAD_BYTES.branch [
         | then-size-lt-HEAD_BYTES-via-then-size-lt-HEAD_BYTES w ↦ omega (arith, low, w.if-size-lt-HEAD_BYTES.true)
         | then-size-lt-HEAD_BYTES-via-else-size-lt-HEAD_BYTES+then-size-gt-MOST_BODY_BYTES w ↦ omega (arith, high, w.if-size-gt-MOST_BODY_BYTES.true)
@@ -34,43 +34,43 @@ returns-then-not-may_follow-clause-refused c = inl (
       let bytes = c.args.bytes.now in
       let first = c.read_u64-first.ensures ∙ ap (little_number 8) (take_all (length bytes - 4) (drop 4 bytes) (omega (arith, length-drop 4 bytes))) in
       let count = c.from-count.ensures ∙ c.read_u32-2.ensures ∙ ap (little_number 4) (take_all (length bytes - 12) (drop 12 bytes) (omega (arith, length-drop 12 bytes))) in
-      head_none id r.hives r.few file r.stands (read_by r) bytes behind c.from-size.result c.read_u64-first.result c.from-count.result c.args.left c.requires.there (c.from-size.ensures ∙ c.read_u32.ensures) first count left here
+      head_none id r.hives r.few file r.on_device (read_by r) bytes behind c.from-size.result c.read_u64-first.result c.from-count.result c.args.left c.requires.there (c.from-size.ensures ∙ c.read_u32.ensures) first count left here
       (λ low high there goes. let wrong = c.if-not-may_follow.ensures.1 goes in (cc)),
 )
 
 pub returns-clause-reads : goal.returns-clause-reads
-returns-clause-reads c = ok_on c.part.result _ _ (λ on id file behind left here.
+returns-clause-reads c = ok_on c.partial_body.result _ _ (λ on id file behind left here.
     let r = c.args.self.now in
     let bytes = c.args.bytes.now in
     let first = c.read_u64-first.ensures ∙ ap (little_number 8) (take_all (length bytes - 4) (drop 4 bytes) (omega (arith, length-drop 4 bytes))) in
     let count = c.from-count.ensures ∙ c.read_u32-2.ensures ∙ ap (little_number 4) (take_all (length bytes - 12) (drop 12 bytes) (omega (arith, length-drop 12 bytes))) in
-    on id file _ (head_on id r.hives r.few file r.stands (changes_told c.follow.new.self.read) bytes behind c.from-size.result c.read_u64-first.result c.from-count.result c.args.left c.requires.there (c.from-size.ensures ∙ c.read_u32.ensures) first count left here
-    c.count-start.result (omega (arith, c.count-start.ensures, ap length c.requires.keeps.told, length-map (read_by r) timed_element, ap length c.follow.ensures.read)) (omega (arith, c.if-size-lt-HEAD_BYTES.false)) (omega (arith, c.if-size-gt-MOST_BODY_BYTES.false)) (omega (arith, c.if-size-left.false)))) c.part.ensures.reads
+    on id file _ (head_on id r.hives r.few file r.on_device (logged_changes c.continue_at.new.self.read) bytes behind c.from-size.result c.read_u64-first.result c.from-count.result c.args.left c.requires.there (c.from-size.ensures ∙ c.read_u32.ensures) first count left here
+    c.count-start.result (omega (arith, c.count-start.ensures, ap length c.requires.keeps.ghost_log, length-map (read_by r) timed_element, ap length c.continue_at.ensures.read)) (omega (arith, c.if-size-lt-HEAD_BYTES.false)) (omega (arith, c.if-size-gt-MOST_BODY_BYTES.false)) (omega (arith, c.if-size-left.false)))) c.partial_body.ensures.reads
 
 pub returns-clause-refused : goal.returns-clause-refused
-returns-clause-refused c = refused_on c.part.result _ _ _ (λ none id file behind left here.
+returns-clause-refused c = refused_on c.partial_body.result _ _ _ (λ none id file behind left here.
     let r = c.args.self.now in
     let bytes = c.args.bytes.now in
     let first = c.read_u64-first.ensures ∙ ap (little_number 8) (take_all (length bytes - 4) (drop 4 bytes) (omega (arith, length-drop 4 bytes))) in
     let count = c.from-count.ensures ∙ c.read_u32-2.ensures ∙ ap (little_number 4) (take_all (length bytes - 12) (drop 12 bytes) (omega (arith, length-drop 12 bytes))) in
-    none id file _ (head_on id r.hives r.few file r.stands (changes_told c.follow.new.self.read) bytes behind c.from-size.result c.read_u64-first.result c.from-count.result c.args.left c.requires.there (c.from-size.ensures ∙ c.read_u32.ensures) first count left here
-    c.count-start.result (omega (arith, c.count-start.ensures, ap length c.requires.keeps.told, length-map (read_by r) timed_element, ap length c.follow.ensures.read)) (omega (arith, c.if-size-lt-HEAD_BYTES.false)) (omega (arith, c.if-size-gt-MOST_BODY_BYTES.false)) (omega (arith, c.if-size-left.false)))) c.part.ensures.refused
+    none id file _ (head_on id r.hives r.few file r.on_device (logged_changes c.continue_at.new.self.read) bytes behind c.from-size.result c.read_u64-first.result c.from-count.result c.args.left c.requires.there (c.from-size.ensures ∙ c.read_u32.ensures) first count left here
+    c.count-start.result (omega (arith, c.count-start.ensures, ap length c.requires.keeps.ghost_log, length-map (read_by r) timed_element, ap length c.continue_at.ensures.read)) (omega (arith, c.if-size-lt-HEAD_BYTES.false)) (omega (arith, c.if-size-gt-MOST_BODY_BYTES.false)) (omega (arith, c.if-size-left.false)))) c.partial_body.ensures.refused
 
-pub follow-requires : goal.follow-requires
-follow-requires c =
+pub continue_at-requires : goal.continue_at-requires
+continue_at-requires c =
     let r = c.args.self.now in
     let goes = c.if-not-may_follow.ensures.0 refl in
-    record { kept = c.requires.kept; number = goes.one; follows = follows_on r.stands (read_by r) r.keeping.last c.read_u64-first.result c.requires.keeps.told c.requires.tied goes.one goes.ends }
+    record { kept = c.requires.kept; number = goes.one; follows = follows_on r.on_device (read_by r) r.retention.last c.read_u64-first.result c.requires.keeps.ghost_log c.requires.tied goes.one goes.ends }
 
-pub part-requires : goal.part-requires
-part-requires c =
+pub partial_body-requires : goal.partial_body-requires
+partial_body-requires c =
     let r = c.args.self.now in
     let goes = c.if-not-may_follow.ensures.0 refl in
-    let start : c.count-start.result ≡ length (read_by r) = omega (arith, c.count-start.ensures, ap length c.requires.keeps.told, length-map (read_by r) timed_element) in
-    let again : c.count-start.result ≡ length (changes_told c.follow.new.self.read) = omega (arith, c.count-start.ensures, ap length c.requires.keeps.told, length-map (read_by r) timed_element, ap length c.follow.ensures.read) in
+    let start : c.count-start.result ≡ length (read_by r) = omega (arith, c.count-start.ensures, ap length c.requires.keeps.ghost_log, length-map (read_by r) timed_element) in
+    let sized_element : c.count-start.result ≡ length (logged_changes c.continue_at.new.self.read) = omega (arith, c.count-start.ensures, ap length c.requires.keeps.ghost_log, length-map (read_by r) timed_element, ap length c.continue_at.ensures.read) in
     record {
-      elements = head_keeps r.hives r.stands (read_by r) (changes_told c.follow.new.self.read) c.count-start.result c.follow.ensures.read start c.requires.keeps;
-      part = head_part r.stands (changes_told c.follow.new.self.read) c.read_u64-first.result c.from-size.result c.from-count.result c.count-start.result again goes (omega (arith, c.if-size-lt-HEAD_BYTES.false)) (omega (arith, c.if-size-gt-MOST_BODY_BYTES.false));
-      tied = omega (arith, c.follow.ensures.last, again, length-drop c.count-start.result (changes_told c.follow.new.self.read));
-      kept = c.follow.ensures.kept;
+      elements = head_keeps r.hives r.on_device (read_by r) (logged_changes c.continue_at.new.self.read) c.count-start.result c.continue_at.ensures.read start c.requires.keeps;
+      partial_body = head_part r.on_device (logged_changes c.continue_at.new.self.read) c.read_u64-first.result c.from-size.result c.from-count.result c.count-start.result sized_element goes (omega (arith, c.if-size-lt-HEAD_BYTES.false)) (omega (arith, c.if-size-gt-MOST_BODY_BYTES.false));
+      tied = omega (arith, c.continue_at.ensures.last, sized_element, length-drop c.count-start.result (logged_changes c.continue_at.new.self.read));
+      kept = c.continue_at.ensures.kept;
     }

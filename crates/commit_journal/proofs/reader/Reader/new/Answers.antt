@@ -1,14 +1,14 @@
 use Rattle.std.proofs.Common.{List, sym, ap, subst, arith}
 use Rattle.reg_tree.specs.declared.element.Element.{Element}
-use Rattle.crash_model.specs.Promises.{Spelled, top}
+use Rattle.crash_model.specs.Promises.{Content, top}
 use Rattle.change_codec.specs.ModelChanges.{TimedOp}
-use Rattle.commit_journal.specs.Reading.{KeepsElements}
-use Rattle.commit_journal.proofs.Keepings.{none_told}
+use Rattle.commit_journal.specs.Reading.{ElementsAreSound}
+use Rattle.commit_journal.proofs.Keepings.{none_logged}
 use Rattle.commit_journal.proofs.reader.Reader.new.Goals as goal
 
 pub returns-clause-keeps : goal.returns-clause-keeps
 returns-clause-keeps c =
-    let elements = ap (λ (s : Spelled TimedOp). s.elements) c.nothing.ensures.spells in
-    let last = ap (top 0) c.nothing.ensures.spells in
-    subst (λ (l : List Element). KeepsElements c.args.hives c.nothing.result l l) (sym c.requires.none)
-    (record { are = none_told c.nothing.result.told elements; told = elements; fit = tt; last = omega (arith, c.nothing.result.kept.last_is, last) })
+    let elements = ap (λ (s : Content TimedOp). s.elements) c.nothing.ensures.decodes in
+    let last = ap (top 0) c.nothing.ensures.decodes in
+    subst (λ (l : List Element). ElementsAreSound c.args.hives c.nothing.result l l) (sym c.requires.none)
+    (record { are = none_logged c.nothing.result.ghost_log elements; ghost_log = elements; fit = tt; last = omega (arith, c.nothing.result.kept.last_is, last) })

@@ -2,7 +2,7 @@ use Rattle.std.proofs.Common.{◌++◌, inl, refl, arith}
 use Rattle.commit_journal.specs.Reading.{read_by}
 use Rattle.commit_journal.proofs.Transitions.{number_front, size_none}
 use Rattle.commit_journal.proofs.reader.Reader.size.Goals as goal
-use Rattle.commit_journal.proofs.reader.Reader.size.Goals.{then-len-lt-LEAST_ELEMENT_BYTES-via-then-len-lt-LEAST_ELEMENT_BYTES, then-len-lt-LEAST_ELEMENT_BYTES-via-else-len-lt-LEAST_ELEMENT_BYTES+then-len-part}
+use Rattle.commit_journal.proofs.reader.Reader.size.Goals.{then-len-lt-LEAST_ELEMENT_BYTES-via-then-len-lt-LEAST_ELEMENT_BYTES, then-len-lt-LEAST_ELEMENT_BYTES-via-else-len-lt-LEAST_ELEMENT_BYTES+then-len-partial_body}
 
 pub returns-then-len-lt-LEAST_ELEMENT_BYTES-clause-refused : goal.returns-then-len-lt-LEAST_ELEMENT_BYTES-clause-refused
 returns-then-len-lt-LEAST_ELEMENT_BYTES-clause-refused c = inl (
@@ -12,8 +12,8 @@ returns-then-len-lt-LEAST_ELEMENT_BYTES-clause-refused c = inl (
       let bytes = c.args.bytes.now in
       let n = number_front 0 4 bytes behind c.requires.there in
       let k = c.requires.keeps.1.1 in
-      size_none id r.hives r.few file r.stands (read_by r) c.args.part (bytes ++ behind) here k.0 k.1 (λ low high. elim c.then-len-lt-LEAST_ELEMENT_BYTES.branch [
+      size_none id r.hives r.few file r.on_device (read_by r) c.args.partial_body (bytes ++ behind) here k.0 k.1 (λ low high. elim c.then-len-lt-LEAST_ELEMENT_BYTES.branch [
         | then-len-lt-LEAST_ELEMENT_BYTES-via-then-len-lt-LEAST_ELEMENT_BYTES w ↦ omega (arith, n, low, c.from-len.ensures, c.read_u32.ensures, w.if-len-lt-LEAST_ELEMENT_BYTES.true)
-        | then-len-lt-LEAST_ELEMENT_BYTES-via-else-len-lt-LEAST_ELEMENT_BYTES+then-len-part w ↦ omega (arith, n, high, c.from-len.ensures, c.read_u32.ensures, w.if-len-part.true)
+        | then-len-lt-LEAST_ELEMENT_BYTES-via-else-len-lt-LEAST_ELEMENT_BYTES+then-len-partial_body w ↦ omega (arith, n, high, c.from-len.ensures, c.read_u32.ensures, w.if-len-partial_body.true)
       ]),
 )

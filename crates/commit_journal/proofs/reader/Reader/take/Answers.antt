@@ -1,11 +1,11 @@
 use Rattle.std.proofs.Common.{◌++◌, subst}
-use Rattle.commit_journal.specs.Reading.{reading_at, read_by, texts_for}
-use Rattle.commit_journal.specs.declared.reader.Next.{Next}
+use Rattle.commit_journal.specs.Reading.{reading_at, read_by, encodings_for}
+use Rattle.commit_journal.specs.declared.reader.NextField.{NextField}
 use Rattle.commit_journal.proofs.Transitions.{refused_on}
 use Rattle.commit_journal.proofs.reader.Reader.take.Goals as goal
 
-pub returns-in-Text-clause-refused : goal.returns-in-Text-clause-refused
-returns-in-Text-clause-refused c =
+pub returns-in-Encoding-clause-refused : goal.returns-in-Encoding-clause-refused
+returns-in-Encoding-clause-refused c =
     let r = c.args.self.now in
-    refused_on c.again.result _ _ _ (λ none id file behind left here.
-    none id file behind (subst (λ (n : Next). reading_at (texts_for id r) file r.stands (read_by r) n (c.args.bytes.now ++ behind)) c.in-Text.is here)) c.again.ensures.refused
+    refused_on c.sized_element.result _ _ _ (λ none id file behind left here.
+    none id file behind (subst (λ (n : NextField). reading_at (encodings_for id r) file r.on_device (read_by r) n (c.args.bytes.now ++ behind)) c.in-Encoding.is here)) c.sized_element.ensures.refused

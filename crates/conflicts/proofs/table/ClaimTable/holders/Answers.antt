@@ -13,5 +13,5 @@ pub returns : goal.returns
 returns c =
     c.loop-number.invariant
     ∙ ap (λ ns. holders_of (looked c.self.inside.kept.entries ns) (option_map (λ o. o.0) c.args.asker) c.args.claim.now) (all_taken c.loop-number.number-index c.deref-number-items.result.now c.loop-number-test.false ∙ c.deref-number-items.ensures.value)
-    ∙ all_holders c.self.inside.kept.entries c.in_ok-numbers.numbers.items (option_map (λ o. o.0) c.args.asker) c.args.claim.now c.self.invariant.filed.rises c.in_ok-numbers.ensures.rises (covered _ _ _ c.self.inside.kept.entries c.self.invariant.filed (omega (arith, c.self.inside.added.small, c.self.inside.added.ok)) (option_map (λ o. o.0) c.args.asker) c.args.claim.now c.in_ok-numbers.numbers.items c.in_ok-numbers.ensures.complete)
+    ∙ all_holders c.self.inside.kept.entries c.in_ok-numbers.numbers.items (option_map (λ o. o.0) c.args.asker) c.args.claim.now c.self.invariant.in_indexes.rises c.in_ok-numbers.ensures.rises (covered _ _ _ c.self.inside.kept.entries c.self.invariant.in_indexes (omega (arith, c.self.inside.added.small, c.self.inside.added.ok)) (option_map (λ o. o.0) c.args.asker) c.args.claim.now c.in_ok-numbers.numbers.items c.in_ok-numbers.ensures.complete)
     ∙ ap (λ hs. holders_of hs (option_map (λ o. o.0) c.args.asker) c.args.claim.now) c.self.view_is

@@ -3,7 +3,7 @@ use Rattle.std.specs.Vec.{with_items}
 use Rattle.std.proofs.lemmas.List.{with_items_is}
 use Rattle.dirty_vector.specs.Marks.{is_marked}
 use Rattle.dirty_vector.specs.Pages.{Pages, is_dirty, Touches}
-use Rattle.dirty_vector.specs.Kept.{pages_of}
+use Rattle.dirty_vector.specs.MarkWords.{pages_of}
 use Rattle.dirty_vector.proofs.Sets.{marked_range}
 use Rattle.dirty_vector.proofs.vector.DirtyVector.mark.Goals as goal
 

@@ -1,7 +1,7 @@
 use Rattle.std.proofs.Common.{arith}
 use Rattle.std.proofs.lemmas.Grind.{common_steps}
 use Rattle.disk_model.specs.FileState.{Writes}
-use Rattle.disk_model.specs.Written.{file_of}
+use Rattle.disk_model.specs.PendingWrites.{file_of}
 use Rattle.disk_model.specs.MemFile.{file_state}
 use Rattle.disk_model.proofs.Sound.{sound-writes}
 use Rattle.disk_model.proofs.Whole.{whole-writes}

@@ -13,17 +13,17 @@ pub returns-clause-before : goal.returns-clause-before
 returns-clause-before g c =
     let p = c.self.inside.parts in
     subst (λ (s : Shown _). g.D.Disk.faithful c.event.new.self.disk → IsSafeAt s.store (g.D.Disk.state_at c.event.new.self.disk) (g.D.Disk.clock s.disk) s.machine) c.self.view_is
-    (λ f. c.crashes_leave_prefixes.ensures.past (store_of p.journal) (g.D.Disk.state_at p.disk) (g.D.Disk.state_at c.event.new.self.disk) (g.D.Disk.clock p.disk) c.event.ensures.goes_on.call.past (g.D.Disk.clock p.disk) p.store.machine (omega arith)
-    (c.crashes_leave_prefixes.ensures.safe (store_of p.journal) p.store.machine p.base (changes_of p.spelled.value) p.journal p.hives.items (g.D.Disk.state_at p.disk) (g.D.Disk.clock p.disk) c.self.invariant.sound.holds.kept refl c.self.invariant.sound.holds.placed (c.self.invariant.on_disk (c.event.ensures.goes_on.faithful f))))
+    (λ f. c.crashes_leave_prefixes.ensures.past (store_of p.journal) (g.D.Disk.state_at p.disk) (g.D.Disk.state_at c.event.new.self.disk) (g.D.Disk.clock p.disk) c.event.ensures.continues.call.past (g.D.Disk.clock p.disk) p.store.machine (omega arith)
+    (c.crashes_leave_prefixes.ensures.safe (store_of p.journal) p.store.machine p.base (changes_of p.decoded.value) p.journal p.hives.items (g.D.Disk.state_at p.disk) (g.D.Disk.clock p.disk) c.self.invariant.sound.holds.kept refl c.self.invariant.sound.holds.placed (c.self.invariant.on_disk (c.event.ensures.continues.faithful f))))
 
 pub returns-clause-after : goal.returns-clause-after
 returns-clause-after g c =
     let p = c.self.inside.parts in
     let n = c.event.new.self in
     subst (λ (s : Shown _). g.D.Disk.faithful n.disk → IsSafeAt s.store (g.D.Disk.state_at n.disk) (g.D.Disk.clock n.disk) n.store.machine) c.self.view_is
-    (λ f. subst (λ (s : Store). IsSafeAt s (g.D.Disk.state_at n.disk) (g.D.Disk.clock n.disk) n.store.machine) c.event.ensures.goes_on.store
-    (c.crashes_leave_prefixes.ensures.safe (store_of n.journal) n.store.machine n.base (changes_of n.spelled.value) n.journal n.hives.items (g.D.Disk.state_at n.disk) (g.D.Disk.clock n.disk) c.event.ensures.goes_on.sound.holds.kept refl c.event.ensures.goes_on.sound.holds.placed
-    (c.event.ensures.goes_on.on_disk f (c.self.invariant.on_disk (c.event.ensures.goes_on.faithful f)))))
+    (λ f. subst (λ (s : Store). IsSafeAt s (g.D.Disk.state_at n.disk) (g.D.Disk.clock n.disk) n.store.machine) c.event.ensures.continues.store
+    (c.crashes_leave_prefixes.ensures.safe (store_of n.journal) n.store.machine n.base (changes_of n.decoded.value) n.journal n.hives.items (g.D.Disk.state_at n.disk) (g.D.Disk.clock n.disk) c.event.ensures.continues.sound.holds.kept refl c.event.ensures.continues.sound.holds.placed
+    (c.event.ensures.continues.on_disk f (c.self.invariant.on_disk (c.event.ensures.continues.faithful f)))))
 
 pub returns-clause-answers : goal.returns-clause-answers
 returns-clause-answers g c =
@@ -32,10 +32,10 @@ returns-clause-answers g c =
     let p = c.self.inside.parts in
     let n = c.event.new.self in
     subst (λ (s : Shown _). EngineAnswers c.args.event c.event.result (engine_view clock failures s) (parts_view clock failures n)) c.self.view_is
-    (answered g.D.Disk.state_at clock failures g.D.Disk.faithful c.args.event c.event.result p n c.event.ensures.goes_on c.event.ensures.comes_on c.event.ensures.idle)
+    (answered g.D.Disk.state_at clock failures g.D.Disk.faithful c.args.event c.event.result p n c.event.ensures.continues c.event.ensures.advances c.event.ensures.idle)
 
 pub returns-clause-quiet : goal.returns-clause-quiet
-returns-clause-quiet g c = subst (λ (s : Shown _). NeedsNoDevice c.args.event c.event.result → c.event.new.self.disk ≡ s.disk) c.self.view_is c.event.ensures.goes_on.quiet
+returns-clause-quiet g c = subst (λ (s : Shown _). NeedsNoDevice c.args.event c.event.result → c.event.new.self.disk ≡ s.disk) c.self.view_is c.event.ensures.continues.quiet
 
 pub returns-clause-step : goal.returns-clause-step
-returns-clause-step g c = subst (λ (s : Shown _). Step s.machine c.args.event c.event.result c.event.new.self.store.machine) c.self.view_is c.event.ensures.goes_on.step
+returns-clause-step g c = subst (λ (s : Shown _). Step s.machine c.args.event c.event.result c.event.new.self.store.machine) c.self.view_is c.event.ensures.continues.step

@@ -9,11 +9,11 @@ use Rattle.engine.proofs.parts.Parts.event.Goals as goal
 pub returns-in-FlusherStep-clause-idle : goal.returns-in-FlusherStep-clause-idle
 returns-in-FlusherStep-clause-idle g c = λ free.
     let s = c.args.self.now in
-    subst (λ (e : Event). IdlesExactly e c.replied-in-FlusherStep.result s.store.machine s.base (changes_of s.spelled.value) (choice_of s.journal) (map view_of s.hives.items)) (sym c.in-FlusherStep.is)
-    (replied_idle c.flusher_step.result c.replied-in-FlusherStep.result c.replied-in-FlusherStep.ensures (c.flusher_step.ensures.idle free))
+    subst (λ (e : Event). IdlesExactly e c.reply_of_step-in-FlusherStep.result s.store.machine s.base (changes_of s.decoded.value) (choice_of s.journal) (map view_of s.hives.items)) (sym c.in-FlusherStep.is)
+    (replied_idle c.flusher_step.result c.reply_of_step-in-FlusherStep.result c.reply_of_step-in-FlusherStep.ensures (c.flusher_step.ensures.idle free))
 
 pub returns-in-JournalStep-clause-idle : goal.returns-in-JournalStep-clause-idle
 returns-in-JournalStep-clause-idle g c = λ free.
     let s = c.args.self.now in
-    subst (λ (e : Event). IdlesExactly e c.replied.result s.store.machine s.base (changes_of s.spelled.value) (choice_of s.journal) (map view_of s.hives.items)) (sym c.in-JournalStep.is)
-    (replied_idle c.journal_step.result c.replied.result c.replied.ensures (c.journal_step.ensures.idle free))
+    subst (λ (e : Event). IdlesExactly e c.reply_of_step.result s.store.machine s.base (changes_of s.decoded.value) (choice_of s.journal) (map view_of s.hives.items)) (sym c.in-JournalStep.is)
+    (replied_idle c.journal_step.result c.reply_of_step.result c.reply_of_step.ensures (c.journal_step.ensures.idle free))

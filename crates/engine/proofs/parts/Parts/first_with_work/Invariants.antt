@@ -6,4 +6,4 @@ use Rattle.engine.proofs.parts.Parts.first_with_work.Given as goal
 
 -- the hives so far have nothing to flush
 abbrev pub invariant-loop-hive : goal.invariant-loop-hive
-invariant-loop-hive g l = AreFlushed l.fn.self.store.machine l.fn.self.base (changes_of l.fn.self.spelled.value) (map view_of l.fn.self.hives.items) l.fn.from l.hive
+invariant-loop-hive g l = AreFlushed l.fn.self.store.machine l.fn.self.base (changes_of l.fn.self.decoded.value) (map view_of l.fn.self.hives.items) l.fn.from l.hive

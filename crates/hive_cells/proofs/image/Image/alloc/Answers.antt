@@ -1,12 +1,12 @@
 use Rattle.std.proofs.Common.{length, refl, inl, inr, arith, ap}
 use Rattle.hive_cells.specs.Bins.{Bins}
-use Rattle.hive_cells.specs.Starts.{IsKept}
+use Rattle.hive_cells.specs.Starts.{HasStartBits}
 use Rattle.hive_cells.proofs.Outcomes.{allocated, no_place}
 use Rattle.hive_cells.proofs.image.Image.alloc.Goals as goal
 
 pub returns-then-len-gt-MOST_BINS_BYTES-clause-allocated : goal.returns-then-len-gt-MOST_BINS_BYTES-clause-allocated
 returns-then-len-gt-MOST_BINS_BYTES-clause-allocated c =
-    let k : IsKept c.args.self.now.bytes c.self.inside.starts.items = rw (← c.self.view_is) c.self.invariant.indexed.cells in (
+    let k : HasStartBits c.args.self.now.bytes c.self.inside.starts.items = rw (← c.self.view_is) c.self.invariant.indexed.cells in (
       refl,
       elim c.then-len-gt-MOST_BINS_BYTES.either [
         | inl long ↦ inl (omega (arith, c.len.ensures, c.self.inside.bytes.ok.0, ap (λ (b : Bins). length b.bytes) c.self.view_is))

@@ -18,5 +18,5 @@ returns-clause-written c =
     rw (with_items_is c.self.inside.bytes c.put_bytes.new.bytes (c.put_bytes.ensures.written.len ∙ c.deref_mut.ensures.len)) (
       (write_all c.self.inside.bytes.items c.args.self.now.bytes c.deref_mut.result.now c.put_bytes.new.bytes c.self.inside.starts.items c.self.inside.free c.self.inside.spare c.self.inside.bytes.cap c.self.inside.starts.cap c.args.offset (c.args.offset + 4 + c.args.at) (length c.args.source.now)
           (ap (λ (b : Bins). b.bytes) c.self.view_is) c.deref_mut.ensures.value c.self.invariant found (omega arith) (omega (arith, c.requires found)) c.put_bytes.ensures.written).1,
-      c.put_bytes.ensures.text,
+      c.put_bytes.ensures.encoding,
     )

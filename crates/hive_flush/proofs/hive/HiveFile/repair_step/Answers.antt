@@ -3,24 +3,24 @@ use Rattle.disk_model.specs.declared.progress.Progress.{Progress}
 use Rattle.disk_model.specs.declared.progress.Progress.TheVariants as progress
 use Rattle.reg_tree.specs.Maps.{TreeMap}
 use Rattle.disk_model.specs.FileState.{FileState}
-use Rattle.hive_flush_model.specs.Holding.{Standing, tree_under}
-use Rattle.hive_flush_model.specs.Plans.{IsReady}
+use Rattle.hive_flush_model.specs.StoredTrees.{TreeDecoder, tree_under}
+use Rattle.hive_flush_model.specs.Plans.{PlanFitsImage}
 use Rattle.dirty_vector.specs.Pages.{clean_pages}
-use Rattle.hive_flush.specs.Planned.{block_again}
+use Rattle.hive_flush.specs.NextBlocks.{block_again}
 use Rattle.hive_writer.specs.declared.writer.HiveWriter.{HiveWriter}
-use Rattle.hive_writer.specs.Writing.{KeepsBlocks, plan_of}
+use Rattle.hive_writer.specs.WriterSteps.{KeepsBlocks, plan_of}
 use Rattle.hive_flush.proofs.Going.{IsNotDone, LeadsBy, by_end, repairs_on, went, done, same_on, ready_same}
 use Rattle.hive_flush.proofs.Repairing.{fewer, repairing}
 use Rattle.hive_flush.proofs.hive.HiveFile.repair_step.Goals as goal
 
 pub unreachable-requires : goal.unreachable-requires
-unreachable-requires g c = c.in-Ok-Idle.ensures.busy (ap (λ (p : Progress). Ok p) c.in-Ok-Idle.field-0-is)
+unreachable-requires g c = c.in-Ok-Idle.ensures.not_idle (ap (λ (p : Progress). Ok p) c.in-Ok-Idle.field-0-is)
 
 pub returns-in-Ok-Done-clause-on : goal.returns-in-Ok-Done-clause-on
 returns-in-Ok-Done-clause-on g c = λ faithful on.
     let f = c.args.self.now in
     let w = c.repair_step.new.self in
-    let settled_is = c.settle.ensures.settled in
+    let settled_is = c.mark_durable.ensures.settled in
     let before : ℕ → FileState = g.D.Disk.state_at c.args.disk.now (g.D.Disk.clock c.args.disk.now) in
     let after : ℕ → FileState = g.D.Disk.state_at c.repair_step.new.disk (g.D.Disk.clock c.repair_step.new.disk) in
     let keeps : KeepsBlocks f.writer w (Ok progress.Done) = subst (λ (p : Progress). KeepsBlocks f.writer w (Ok p)) c.in-Ok-Done.field-0-is c.in-Ok-Done.ensures.keeps in
@@ -30,9 +30,9 @@ returns-in-Ok-Done-clause-on g c = λ faithful on.
     let quiet = c.in-Ok-Done.ensures.done (ap (λ (p : Progress). Ok p) c.in-Ok-Done.field-0-is) in
     let again : HiveWriter = record w { block = block_again w.block } in
     let clean = clean_pages f.pages.bins_size in
-    let fits : (stands : Standing TreeMap) (memory : TreeMap × ℕ) → tree_under stands w.block f.bins.items ≡ Some memory.0 → w.block.applied.0 ≡ memory.1 → IsReady stands memory f.bins.items clean (plan_of again f.bins.items clean)
-    = λ stands memory. ready_same again c.settle.new.self.writer f.bins.items c.settle.new.self.bins.items clean c.settle.new.self.pages memory stands settled_is.writer settled_is.bins settled_is.pages (c.settle.ensures.fits stands memory) in
-    same_on again c.settle.new.self.writer f.bins.items c.settle.new.self.bins.items clean c.settle.new.self.pages f.tree c.settle.new.self.held.value f.tree c.settle.new.self.tree _ _
+    let fits : (stands : TreeDecoder TreeMap) (memory : TreeMap × ℕ) → tree_under stands w.block f.bins.items ≡ Some memory.0 → w.block.applied.0 ≡ memory.1 → PlanFitsImage stands memory f.bins.items clean (plan_of again f.bins.items clean)
+    = λ stands memory. ready_same again c.mark_durable.new.self.writer f.bins.items c.mark_durable.new.self.bins.items clean c.mark_durable.new.self.pages memory stands settled_is.writer settled_is.bins settled_is.pages (c.mark_durable.ensures.fits stands memory) in
+    same_on again c.mark_durable.new.self.writer f.bins.items c.mark_durable.new.self.bins.items clean c.mark_durable.new.self.pages f.tree c.mark_durable.new.self.held.value f.tree c.mark_durable.new.self.tree _ _
     settled_is.writer settled_is.bins settled_is.pages settled_is.held settled_is.tree
     (done f.writer w f.bins.items f.pages clean f.held.value f.tree before after (sym f.sizes) keeps quiet led fits on)
 

@@ -5,31 +5,31 @@ use Rattle.crash_model.specs.StepAnswers.{Says}
 use Rattle.crash_model.specs.Promises.{Ends, HiveSays}
 use Rattle.reg_tree.specs.Maps.{TreeMap}
 use Rattle.disk_model.specs.FileState.{FileState}
-use Rattle.hive_flush_model.specs.Holding.{Standing, tree_under}
-use Rattle.hive_flush_model.specs.Plans.{IsReady}
+use Rattle.hive_flush_model.specs.StoredTrees.{TreeDecoder, tree_under}
+use Rattle.hive_flush_model.specs.Plans.{PlanFitsImage}
 use Rattle.dirty_vector.specs.Pages.{clean_pages}
-use Rattle.hive_flush.specs.Planned.{block_again}
+use Rattle.hive_flush.specs.NextBlocks.{block_again}
 use Rattle.hive_writer.specs.declared.writer.HiveWriter.{HiveWriter}
-use Rattle.hive_writer.specs.Writing.{KeepsBlocks, choice_at, now_after, plan_of}
-use Rattle.hive_flush.specs.HiveStates.{files_of, memory_of, now_of}
+use Rattle.hive_writer.specs.WriterSteps.{KeepsBlocks, choice_at, durable_after, plan_of}
+use Rattle.hive_flush.specs.HiveStates.{file_choice, memory_of, durable_of}
 use Rattle.hive_flush.proofs.Going.{IsNotDone, LeadsBy, by_plan, went, done, same_on, ready_same, files_done}
 use Rattle.hive_flush.proofs.hive.HiveFile.step.Goals as goal
 
-pub settle-requires : goal.settle-requires
-settle-requires g c = record { quiet = c.in-Ok-Done.ensures.done (ap (λ (p : Progress). Ok p) c.in-Ok-Done.field-0-is) }
+pub mark_durable-requires : goal.mark_durable-requires
+mark_durable-requires g c = record { quiet = c.in-Ok-Done.ensures.done (ap (λ (p : Progress). Ok p) c.in-Ok-Done.field-0-is) }
 
 pub unreachable-requires : goal.unreachable-requires
 unreachable-requires g c =
     let f = c.args.self.now in
     let m = memory_of f in
-    subst (λ (p : Progress). Says (HiveSays m) (Ok p) (choice_at f.writer.stage (now_of f) m) (choice_at c.step.new.self.stage (now_after (Ok p) (now_of f) m) m)) c.in-Ok-Idle.field-0-is
-    (c.in-Ok-Idle.ensures.says (now_of f) m)
+    subst (λ (p : Progress). Says (HiveSays m) (Ok p) (choice_at f.writer.stage (durable_of f) m) (choice_at c.step.new.self.stage (durable_after (Ok p) (durable_of f) m) m)) c.in-Ok-Idle.field-0-is
+    (c.in-Ok-Idle.ensures.says (durable_of f) m)
 
 pub returns-in-Ok-Done-clause-on : goal.returns-in-Ok-Done-clause-on
 returns-in-Ok-Done-clause-on g c = λ faithful on.
     let f = c.args.self.now in
     let w = c.step.new.self in
-    let settled_is = c.settle.ensures.settled in
+    let settled_is = c.mark_durable.ensures.settled in
     let before : ℕ → FileState = g.D.Disk.state_at c.args.disk.now (g.D.Disk.clock c.args.disk.now) in
     let after : ℕ → FileState = g.D.Disk.state_at c.step.new.disk (g.D.Disk.clock c.step.new.disk) in
     let keeps : KeepsBlocks f.writer w (Ok progress.Done) = subst (λ (p : Progress). KeepsBlocks f.writer w (Ok p)) c.in-Ok-Done.field-0-is c.in-Ok-Done.ensures.keeps in
@@ -39,9 +39,9 @@ returns-in-Ok-Done-clause-on g c = λ faithful on.
     let quiet = c.in-Ok-Done.ensures.done (ap (λ (p : Progress). Ok p) c.in-Ok-Done.field-0-is) in
     let again : HiveWriter = record w { block = block_again w.block } in
     let clean = clean_pages f.pages.bins_size in
-    let fits : (stands : Standing TreeMap) (memory : TreeMap × ℕ) → tree_under stands w.block f.bins.items ≡ Some memory.0 → w.block.applied.0 ≡ memory.1 → IsReady stands memory f.bins.items clean (plan_of again f.bins.items clean)
-    = λ stands memory. ready_same again c.settle.new.self.writer f.bins.items c.settle.new.self.bins.items clean c.settle.new.self.pages memory stands settled_is.writer settled_is.bins settled_is.pages (c.settle.ensures.fits stands memory) in
-    same_on again c.settle.new.self.writer f.bins.items c.settle.new.self.bins.items clean c.settle.new.self.pages f.tree c.settle.new.self.held.value f.tree c.settle.new.self.tree _ _
+    let fits : (stands : TreeDecoder TreeMap) (memory : TreeMap × ℕ) → tree_under stands w.block f.bins.items ≡ Some memory.0 → w.block.applied.0 ≡ memory.1 → PlanFitsImage stands memory f.bins.items clean (plan_of again f.bins.items clean)
+    = λ stands memory. ready_same again c.mark_durable.new.self.writer f.bins.items c.mark_durable.new.self.bins.items clean c.mark_durable.new.self.pages memory stands settled_is.writer settled_is.bins settled_is.pages (c.mark_durable.ensures.fits stands memory) in
+    same_on again c.mark_durable.new.self.writer f.bins.items c.mark_durable.new.self.bins.items clean c.mark_durable.new.self.pages f.tree c.mark_durable.new.self.held.value f.tree c.mark_durable.new.self.tree _ _
     settled_is.writer settled_is.bins settled_is.pages settled_is.held settled_is.tree
     (done f.writer w f.bins.items f.pages clean f.held.value f.tree before after (sym f.sizes) keeps quiet led fits on)
 
@@ -50,10 +50,10 @@ returns-in-Ok-Done-clause-says g c =
     let f = c.args.self.now in
     let w = c.step.new.self in
     let m = memory_of f in
-    let settled_is = c.settle.ensures.settled in
+    let settled_is = c.mark_durable.ensures.settled in
     let keeps : KeepsBlocks f.writer w (Ok progress.Done) = subst (λ (p : Progress). KeepsBlocks f.writer w (Ok p)) c.in-Ok-Done.field-0-is c.in-Ok-Done.ensures.keeps in
-    let ends : Ends (files_of f) (choice_at w.stage m m) = subst (λ (p : Progress). Says (HiveSays m) (Ok p) (files_of f) (choice_at w.stage (now_after (Ok p) (now_of f) m) m)) c.in-Ok-Done.field-0-is (c.in-Ok-Done.ensures.says (now_of f) m) in
-    (ends.0, ends.1, files_done f.writer w c.settle.new.self.writer c.settle.new.self.held.value f.tree c.settle.new.self.tree keeps settled_is.writer settled_is.held settled_is.tree ∙ ends.2)
+    let ends : Ends (file_choice f) (choice_at w.stage m m) = subst (λ (p : Progress). Says (HiveSays m) (Ok p) (file_choice f) (choice_at w.stage (durable_after (Ok p) (durable_of f) m) m)) c.in-Ok-Done.field-0-is (c.in-Ok-Done.ensures.says (durable_of f) m) in
+    (ends.0, ends.1, files_done f.writer w c.mark_durable.new.self.writer c.mark_durable.new.self.held.value f.tree c.mark_durable.new.self.tree keeps settled_is.writer settled_is.held settled_is.tree ∙ ends.2)
 
 pub returns-in-Ok-More-clause-on : goal.returns-in-Ok-More-clause-on
 returns-in-Ok-More-clause-on g c = λ faithful on.

@@ -1,7 +1,7 @@
 use Rattle.std.proofs.Common.{◌≡◌, inl, inr, ℕ, List, refl, ◌∙◌, sym, ap, subst}
 use Rattle.std.specs.Map.{keys_of}
 use Rattle.hive_tree_model.specs.Lists.{IsIn}
-use Rattle.hive_load_parts.specs.Reading.{marks_of}
+use Rattle.hive_load_parts.specs.CellReads.{marks_of}
 use Rattle.hive_load_parts.proofs.Kept.{in_keys, keys_in}
 use Rattle.hive_load_parts.proofs.descriptors.Descriptors.are_apart.Goals as goal
 

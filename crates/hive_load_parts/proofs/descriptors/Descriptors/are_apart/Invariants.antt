@@ -1,7 +1,7 @@
 use Rattle.std.proofs.Common.{◌≡◌, ◌⊎◌, ℕ, false, IsSome}
 use Rattle.hive_tree_model.specs.Lists.{IsIn}
 use Rattle.hive_load_parts.specs.Descriptors.{descriptor_in}
-use Rattle.hive_load_parts.specs.Reading.{marks_of}
+use Rattle.hive_load_parts.specs.CellReads.{marks_of}
 use Rattle.hive_load_parts.proofs.descriptors.Descriptors.are_apart.Given as goal
 
 abbrev pub invariant-loop-at : goal.invariant-loop-at

@@ -1,12 +1,12 @@
 use Rattle.std.proofs.Common.{◌≡◌, ℕ, ◌*◌, ◌≤◌, List, length, take, drop, ap, ◌∙◌, arith, length-take, length-drop}
-use Rattle.hive_writer.specs.Writing.{plan_of}
+use Rattle.hive_writer.specs.WriterSteps.{plan_of}
 use Rattle.hive_writer.proofs.writer.HiveWriter.write_log.Goals as goal
 
 -- no piece: the log is all there
 pub returns-then-count-eq0-clause-leads : goal.returns-then-count-eq0-clause-leads
-returns-then-count-eq0-clause-leads g c = λ faithful stands.
-    let text = (plan_of c.args.self.now c.args.image.now c.args.pages.now).text in
+returns-then-count-eq0-clause-leads g c = λ faithful decode.
+    let encoding = (plan_of c.args.self.now c.args.image.now c.args.pages.now).encoding in
     let n = 65536 * c.args.index in
-    let size : c.piece-count.result ≡ length (take 65536 (drop n text)) = c.piece-count.ensures.count ∙ ap (λ (t : List ℕ). length (take 65536 (drop n t))) c.write_steps.ensures.text in
-    let all : length text ≤ n = omega (arith, size, c.if-count-eq0.true, length-take 65536 (drop n text), length-drop n text) in
-    c.sync_log.ensures.leads faithful stands c.args.image.now c.args.pages.now all
+    let size : c.chunk-count.result ≡ length (take 65536 (drop n encoding)) = c.chunk-count.ensures.count ∙ ap (λ (t : List ℕ). length (take 65536 (drop n t))) c.write_steps.ensures.encoding in
+    let all : length encoding ≤ n = omega (arith, size, c.if-count-eq0.true, length-take 65536 (drop n encoding), length-drop n encoding) in
+    c.sync_log.ensures.leads faithful decode c.args.image.now c.args.pages.now all

@@ -3,7 +3,7 @@ use Rattle.std.specs.Prelude.{false}
 use Rattle.disk_model.specs.Crash.{LeavesHonest}
 use Rattle.commit_journal.specs.Journals.{store_of}
 use Rattle.engine_invariant.specs.Prefixes.{IsPrimaryOf}
-use Rattle.engine_invariant.proofs.Standing.{reads_left}
+use Rattle.engine_invariant.proofs.StoreReads.{reads_left}
 use Rattle.recovery.specs.Recovered.{seen_in}
 use Rattle.recovery.specs.Shown.{Shown}
 use Rattle.recovery.specs.Shown as shown

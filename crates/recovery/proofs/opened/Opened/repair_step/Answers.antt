@@ -1,8 +1,8 @@
 use Rattle.std.proofs.Common.{refl, subst, sym}
-use Rattle.recovery.specs.Kept.{AreWhole}
+use Rattle.recovery.specs.Invariant.{AreWhole}
 use Rattle.recovery.specs.Shown.{Shown}
 use Rattle.engine_invariant.proofs.HiveLists.{at_slot}
-use Rattle.recovery.proofs.Counting.{fewer_shown, some_left, told}
+use Rattle.recovery.proofs.Counting.{fewer_shown, some_left, as_journal_damage}
 use Rattle.recovery.proofs.Crashes.{after_call, before_call, no_call}
 use Rattle.recovery.proofs.opened.Opened.repair_step.Goals as goal
 
@@ -35,7 +35,7 @@ returns-clause-fewer g c = λ not.
     let hives = c.self.inside.found.hives.items in
     let first = c.in-Some.ensures.some c.in-Some.place refl in
     let at = at_slot hives c.in-Some.place first.0 in
-    fewer_shown _ c.args.self.now c.self.view_is _ (told c.repair.result c.in_default-repair.not-Err c.repair.ensures.fewer at.0 at.1 (first.1 at.0 at.1))
+    fewer_shown _ c.args.self.now c.self.view_is _ (as_journal_damage c.repair.result c.in_default-repair.not-Err c.repair.ensures.fewer at.0 at.1 (first.1 at.0 at.1))
 
 pub returns-in-Err-clause-at_rest : goal.returns-in-Err-clause-at_rest
 returns-in-Err-clause-at_rest g c = λ whole.

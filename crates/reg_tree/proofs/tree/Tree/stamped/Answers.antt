@@ -4,9 +4,9 @@ use Rattle.reg_names.specs.Names.{folded_path}
 use Rattle.reg_tree_parts.specs.Nodes.{row_at, IsNode}
 use Rattle.reg_tree.specs.Maps.{row}
 use Rattle.reg_tree.specs.Operations.{row_edited}
-use Rattle.reg_tree.specs.Spellable.{IsSpellable, IsRooted}
+use Rattle.reg_tree.specs.Encodable.{IsEncodable, IsRooted}
 use Rattle.reg_tree.proofs.Rows.{tree_is}
-use Rattle.reg_tree.proofs.Stamps.{stamped_is, stamped_none, spellable_stamped}
+use Rattle.reg_tree.proofs.Stamps.{stamped_is, stamped_none, encodable_stamped}
 use Rattle.reg_tree.proofs.tree.Tree.stamped.Goals as goal
 
 pub invariant_of-result : goal.invariant_of-result
@@ -16,8 +16,8 @@ invariant_of-result c =
     let node = subst (λ o. IfSome o IsNode) c.in-Some.is c.in_ok-root.ensures.node in
     let rows = subst (λ o. IfSome o (λ root. (q : List (List ℕ)) → row_at root q ≡ row_edited (λ key. key) self path c.args.moment q)) c.in-Some.is c.in_ok-root.ensures.rows in
     let made = stamped_is self path c.args.moment c.in-Some.root node rows in
-    let spellable = spellable_stamped self path c.args.moment (subst IsSpellable c.self.view_is c.self.invariant.spellable) in
-    subst IsRooted (sym c.in_ok-root-in-Some.ensures.ok) (record { node = node; tree = tree_is _ node; spellable = subst IsSpellable (sym made) spellable })
+    let encodable = encodable_stamped self path c.args.moment (subst IsEncodable c.self.view_is c.self.invariant.encodable) in
+    subst IsRooted (sym c.in_ok-root-in-Some.ensures.ok) (record { node = node; tree = tree_is _ node; encodable = subst IsEncodable (sym made) encodable })
 
 pub returns-in_ok-root-in-Some : goal.returns-in_ok-root-in-Some
 returns-in_ok-root-in-Some c =

@@ -6,7 +6,7 @@ pub returns-clause-legal : goal.returns-clause-legal
 returns-clause-legal c =
     let last : drop (length c.args.path.now - 1) c.args.path.now ≡ c.in-Some.name.now ∷ [] =
     last_of c.args.path.now c.in-Some.field-0-1.now c.in-Some.name.now (sym c.names.ensures.names ∙ c.in-Some.ensures.cases.0) in
-    found_is c.args.missing.now _ (rw last c.in_ok-may_go.ensures.legal) c.is_empty.result c.is_empty.ensures c.if-not-is_empty.false
+    found_is c.args.missing.now _ (rw last c.in_ok-check_deletable.ensures.legal) c.is_empty.result c.is_empty.ensures c.if-not-is_empty.false
 
 pub returns-clause-edits : goal.returns-clause-edits
 returns-clause-edits c =

@@ -14,4 +14,4 @@ pub returns-clause-smaller : goal.returns-clause-smaller
 returns-clause-smaller c = rw (← c.self.view_is) (smaller_if c.self.inside.key (entries root_name c.self.inside.subkeys) c.args.index c.at.result c.at.ensures)
 
 pub returns-clause-has : goal.returns-clause-has
-returns-clause-has c = rw (← c.self.view_is) (has_subkeys c.self.inside.key c.self.inside.subkeys.held (entries root_name c.self.inside.subkeys) refl c.self.invariant.nodes c.self.invariant.rises)
+returns-clause-has c = rw (← c.self.view_is) (has_subkeys c.self.inside.key c.self.inside.subkeys.repr (entries root_name c.self.inside.subkeys) refl c.self.invariant.nodes c.self.invariant.rises)

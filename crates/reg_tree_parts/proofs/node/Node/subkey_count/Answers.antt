@@ -15,4 +15,4 @@ pub returns-clause-subkeys : goal.returns-clause-subkeys
 returns-clause-subkeys c = rw (← c.self.view_is) (c.len.ensures ∙ ap length (sym (subkeys_again c.self.inside.key (entries root_name c.self.inside.subkeys) c.self.invariant.nodes c.self.invariant.rises)))
 
 pub returns-clause-has : goal.returns-clause-has
-returns-clause-has c = rw (← c.self.view_is) (has_subkeys c.self.inside.key c.self.inside.subkeys.held (entries root_name c.self.inside.subkeys) refl c.self.invariant.nodes c.self.invariant.rises)
+returns-clause-has c = rw (← c.self.view_is) (has_subkeys c.self.inside.key c.self.inside.subkeys.repr (entries root_name c.self.inside.subkeys) refl c.self.invariant.nodes c.self.invariant.rises)

@@ -1,6 +1,6 @@
 use Rattle.std.proofs.Common.{◌∙◌}
 use Rattle.std.specs.Arc.{arc_value}
-use Rattle.reg_tree_parts.specs.Held.{value_entries}
+use Rattle.reg_tree_parts.specs.ValueEntries.{value_entries}
 use Rattle.reg_tree_parts.proofs.ValueLists.{written_is, with_same}
 use Rattle.reg_tree_parts.proofs.values.Values.with.Goals as goal
 

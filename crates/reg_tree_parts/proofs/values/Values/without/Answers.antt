@@ -1,5 +1,5 @@
 use Rattle.reg_names.specs.Names.{folded}
-use Rattle.reg_tree_parts.specs.Held.{value_entries}
+use Rattle.reg_tree_parts.specs.ValueEntries.{value_entries}
 use Rattle.reg_tree_parts.proofs.ValueLists.{removed_is}
 use Rattle.reg_tree_parts.proofs.values.Values.without.Goals as goal
 

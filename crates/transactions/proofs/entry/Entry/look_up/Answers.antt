@@ -9,11 +9,11 @@ use Rattle.transactions.proofs.Looks.{looked_alike}
 use Rattle.transactions.proofs.entry.Entry.look_up.Goals as goal
 
 -- what the view tells is what the transaction sees
-as_seen : (c : goal.After-look_up) → looked_up c.in-Some.view.trees c.args.hive c.args.path.now c.args.question ≡ looked_up (view c.args.now.now (transaction_of c.see.new.self)) c.args.hive c.args.path.now c.args.question
+as_seen : (c : goal.After-look_up) → looked_up c.in-Some.view.trees c.args.hive c.args.path.now c.args.question ≡ looked_up (view c.args.now.now (transaction_of c.ensure_view.new.self)) c.args.hive c.args.path.now c.args.question
 as_seen c =
-    let e = c.see.new.self in
+    let e = c.ensure_view.new.self in
     let now = c.args.now.now in
-    let seen : HasView now c.args.number e.ops.items (Some c.in-Some.view) = subst (HasView now c.args.number e.ops.items) c.in-Some.is c.in_ok-see-in_default.ensures.seen in
+    let seen : HasView now c.args.number e.ops.items (Some c.in-Some.view) = subst (HasView now c.args.number e.ops.items) c.in-Some.is c.in_ok-ensure_view-in_default.ensures.seen in
     looked_alike c.in-Some.view.trees (applied now e.ops.items e.moment) (seen_at now e.ops.items c.in-Some.view.moment c.in-Some.view.trees e.moment seen.1.made) c.args.hive c.args.path.now c.args.question c.in_default.not-InfoOf
 
 pub returns-in-Some-clause-ok : goal.returns-in-Some-clause-ok

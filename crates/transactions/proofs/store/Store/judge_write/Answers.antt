@@ -1,6 +1,6 @@
 use Rattle.std.proofs.Common.{◌≡◌, ◌+◌, sym, ◌∙◌, ap, subst, refl, List, Some, None, Ok, Err}
 use Rattle.reg_tree.specs.Maps.{TreeMap}
-use Rattle.reg_tree.specs.Texts.{element_text_len}
+use Rattle.reg_tree.specs.Encodings.{element_encoded_len}
 use Rattle.reg_tree.specs.declared.op.Legality.TheVariants.{Legal}
 use Rattle.conflicts.specs.Claims.{claim_of}
 use Rattle.store_model.specs.Transactions.{at}
@@ -54,7 +54,7 @@ returns c =
     let moment = c.args.moment in
     let written = subst (IsWritten (legal c.trees-now.result.now op) (applied_one c.trees-now.result.now op moment, levels_made c.trees-now.result.now op)) c.in-Some.is c.in_ok-trees.ensures.ok in
     let now = c.trees-now.ensures ∙ c.self.invariant.trees ∙ ap (λ (v : StoreView). trees_now v.machine) c.self.view_is in
-    let exact = uncut m (element_text_len (change moment op)) c.saturating_add.result c.in_ok-room.ensures.ok.0 (cut_change moment op c.text_len.result c.saturating_add.result c.text_len.ensures c.saturating_add.ensures) in
+    let exact = uncut m (element_encoded_len (change moment op)) c.saturating_add.result c.in_ok-room.ensures.ok.0 (cut_change moment op c.text_len.result c.saturating_add.result c.text_len.ensures c.saturating_add.ensures) in
     record {
       there = ap (λ (v : StoreView). is_open v.machine c.args.session) (sym c.self.view_is) ∙ c.in_ok-open.ensures.ok;
       named = subst (λ hive. unnamed_refusal m hive ≡ None) c.hive.ensures c.in_ok-check_named.ensures.ok;
@@ -63,6 +63,6 @@ returns c =
       short = c.change_is_short.ensures c.trees-now.result.now moment written.0;
       levels = ap (λ w. w.1) written.1 ∙ ap (λ (t : List TreeMap). levels_made t op) now;
       trees = ap (λ w. w.0) written.1 ∙ ap (λ (t : List TreeMap). applied_one t op moment) now;
-      holders = λ place. c.in_ok-holders.ensures place ∙ ap (λ (v : StoreView). holds_if (claim_of op) (at v.machine.places place)) c.self.view_is;
+      holders = λ slot. c.in_ok-holders.ensures slot ∙ ap (λ (v : StoreView). holds_if (claim_of op) (at v.machine.tx_slots slot)) c.self.view_is;
       room = c.in_ok-room.ensures.ok.1 ∙ ap (λ n. m.room + (17 + n)) exact;
     }

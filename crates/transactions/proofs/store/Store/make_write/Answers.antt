@@ -5,12 +5,12 @@ use Rattle.reg_tree.specs.declared.op.Op.{Op}
 use Rattle.transactions.specs.Histories.{IsShort}
 use Rattle.reg_tree.specs.Judgement.{applied, applied_one, legal}
 use Rattle.conflicts.specs.Claims.{claim_of}
-use Rattle.conflicts.specs.Skeletons.{AreCarriedOut}
+use Rattle.conflicts.specs.TreeOutlines.{AreCarriedOut}
 use Rattle.store_model.specs.Transactions.{at}
 use Rattle.store_model.specs.Machine.{change, trees_now, last_number}
-use Rattle.transactions.specs.Entries.{AreMoved}
+use Rattle.transactions.specs.Entries.{AreRebased}
 use Rattle.transactions.specs.Prepared.{IsJudgedWrite, JudgesWrite}
-use Rattle.transactions.specs.Stores.{IsTied, StoreView, store_of}
+use Rattle.transactions.specs.Stores.{TableMatchesMachine, StoreView, store_of}
 use Rattle.transactions.specs.Tables.{MeetNone, holds_if}
 use Rattle.transactions.proofs.Stored.{below_greatest}
 use Rattle.transactions.proofs.Views.{judged_of_legal}
@@ -34,54 +34,54 @@ returns-clause-made c =
       short = subst IsShort (sym is) judged.short;
       trees = judged.trees;
       holders = judged.holders;
-      moved = subst (λ (v : StoreView). AreMoved c.in-Some.judged.trees (last_number v.machine + 1) v.machine.places c.in_ok-moved.moved.items) c.self.view_is
-          (subst (λ n. AreMoved c.in-Some.judged.trees (n + 1) c.self.inside.table.places c.in_ok-moved.moved.items) c.self.invariant.number
-          (subst (λ ts. AreMoved ts (c.self.inside.table.number + 1) c.self.inside.table.places c.in_ok-moved.moved.items)
-          (ap (λ (x : List Op). applied c.self.inside.table.trees x moment) (c.list.ensures.all ∙ c.in_ok-ops.ensures) ∙ ap (λ (t : List TreeMap). applied_one t op moment) (c.self.invariant.trees ∙ ap (λ (v : StoreView). trees_now v.machine) c.self.view_is) ∙ sym judged.trees) c.in_ok-moved.ensures));
+      rebased = subst (λ (v : StoreView). AreRebased c.in-Some.judged.trees (last_number v.machine + 1) v.machine.tx_slots c.in_ok-rebased.rebased.items) c.self.view_is
+          (subst (λ n. AreRebased c.in-Some.judged.trees (n + 1) c.self.inside.table.tx_slots c.in_ok-rebased.rebased.items) c.self.invariant.number
+          (subst (λ ts. AreRebased ts (c.self.inside.table.number + 1) c.self.inside.table.tx_slots c.in_ok-rebased.rebased.items)
+          (ap (λ (x : List Op). applied c.self.inside.table.trees x moment) (c.list.ensures.all ∙ c.in_ok-ops.ensures) ∙ ap (λ (t : List TreeMap). applied_one t op moment) (c.self.invariant.trees ∙ ap (λ (v : StoreView). trees_now v.machine) c.self.view_is) ∙ sym judged.trees) c.in_ok-rebased.ensures));
       room = judged.room;
     }
 
-judged : (c : goal.After-move_views-arg-2-1) → IsJudgedWrite c.args.self.now.machine c.args.session c.args.moment c.args.op c.in-Some.judged
+judged : (c : goal.After-rebase_views-arg-2-1) → IsJudgedWrite c.args.self.now.machine c.args.session c.args.moment c.args.op c.in-Some.judged
 judged c = subst (λ o. JudgesWrite c.args.self.now.machine c.args.session c.args.moment c.args.op (Ok o)) c.in-Some.is c.in_ok-judged.ensures
 
-pub move_views-requires-clause-carried : goal.move_views-requires-clause-carried
-move_views-requires-clause-carried c =
+pub rebase_views-requires-clause-carried : goal.rebase_views-requires-clause-carried
+rebase_views-requires-clause-carried c =
     let now = c.self.invariant.trees ∙ ap (λ (v : StoreView). trees_now v.machine) c.self.view_is in
     subst (λ ops. AreCarriedOut c.self.inside.table.trees ops c.args.moment) (sym (c.list.ensures.all ∙ c.in_ok-ops.ensures))
     (judged_of_legal c.self.inside.table.trees c.args.op (ap (λ (trees : List TreeMap). legal trees c.args.op) now ∙ (judged c).is_legal), tt)
 
-pub move_views-requires-clause-below : goal.move_views-requires-clause-below
-move_views-requires-clause-below c =
+pub rebase_views-requires-clause-below : goal.rebase_views-requires-clause-below
+rebase_views-requires-clause-below c =
     below_greatest c.args.self.now.machine _ c.self.inside.table.number (c.self.invariant.number ∙ ap (λ (v : StoreView). last_number v.machine) c.self.view_is) (judged c).roomy
 
-pub move_views-requires-clause-holders : goal.move_views-requires-clause-holders
-move_views-requires-clause-holders c = λ place none.
-    subst (λ ops. MeetNone ops (at c.self.inside.table.places place)) (sym (c.list.ensures.all ∙ c.in_ok-ops.ensures))
-    (ap (λ (v : StoreView). holds_if (claim_of c.args.op) (at v.machine.places place)) c.self.view_is ∙ sym ((judged c).holders place) ∙ none, tt)
+pub rebase_views-requires-clause-holders : goal.rebase_views-requires-clause-holders
+rebase_views-requires-clause-holders c = λ slot none.
+    subst (λ ops. MeetNone ops (at c.self.inside.table.tx_slots slot)) (sym (c.list.ensures.all ∙ c.in_ok-ops.ensures))
+    (ap (λ (v : StoreView). holds_if (claim_of c.args.op) (at v.machine.tx_slots slot)) c.self.view_is ∙ sym ((judged c).holders slot) ∙ none, tt)
 
 -- the history has more place, and the same changes
 pub invariant_of-self : goal.invariant_of-self
 invariant_of-self c =
     let s = c.self.inside in
-    subst (λ changes. IsTied s.table (store_of s.opened.value s.before changes s.sessions s.table s.durable s.room s.faulted s.bounds)) (sym c.reserve.ensures.changes) c.self.invariant
+    subst (λ changes. TableMatchesMachine s.table (store_of s.opened.value s.before changes s.sessions s.table s.durable s.room s.faulted s.bounds)) (sym c.reserve.ensures.changes) c.self.invariant
 
 pub invariant_of-self-2 : goal.invariant_of-self-2
 invariant_of-self-2 c =
     let s = c.self.inside in
-    subst (λ changes. IsTied s.table (store_of s.opened.value s.before changes s.sessions s.table s.durable s.room s.faulted s.bounds)) (sym c.reserve.ensures.changes) c.self.invariant
+    subst (λ changes. TableMatchesMachine s.table (store_of s.opened.value s.before changes s.sessions s.table s.durable s.room s.faulted s.bounds)) (sym c.reserve.ensures.changes) c.self.invariant
 
 pub returns-in_err-reserve-clause-machine : goal.returns-in_err-reserve-clause-machine
 returns-in_err-reserve-clause-machine c =
     let s = c.self.inside in
     ap (λ changes. store_of s.opened.value s.before changes s.sessions s.table s.durable s.room s.faulted s.bounds) c.reserve.ensures.changes ∙ ap (λ (v : StoreView). v.machine) c.self.view_is
 
-pub returns-in_err-reserve-clause-at_hand : goal.returns-in_err-reserve-clause-at_hand
-returns-in_err-reserve-clause-at_hand c = ap (λ n. c.self.inside.before + n) c.reserve.ensures.at_hand ∙ ap (λ (v : StoreView). v.at_hand) c.self.view_is
+pub returns-in_err-reserve-clause-retained : goal.returns-in_err-reserve-clause-retained
+returns-in_err-reserve-clause-retained c = ap (λ n. c.self.inside.before + n) c.reserve.ensures.retained ∙ ap (λ (v : StoreView). v.retained) c.self.view_is
 
 pub returns-clause-machine : goal.returns-clause-machine
 returns-clause-machine c =
     let s = c.self.inside in
     ap (λ changes. store_of s.opened.value s.before changes s.sessions s.table s.durable s.room s.faulted s.bounds) c.reserve.ensures.changes ∙ ap (λ (v : StoreView). v.machine) c.self.view_is
 
-pub returns-clause-at_hand : goal.returns-clause-at_hand
-returns-clause-at_hand c = ap (λ n. c.self.inside.before + n) c.reserve.ensures.at_hand ∙ ap (λ (v : StoreView). v.at_hand) c.self.view_is
+pub returns-clause-retained : goal.returns-clause-retained
+returns-clause-retained c = ap (λ n. c.self.inside.before + n) c.reserve.ensures.retained ∙ ap (λ (v : StoreView). v.retained) c.self.view_is

@@ -6,7 +6,7 @@ use Rattle.reg_names.specs.Names.{folded_path}
 use Rattle.reg_tree.specs.Judgement.{applied}
 use Rattle.reg_tree.specs.declared.tree.Info.{Info}
 use Rattle.transactions.specs.Entries.{IsMade}
-use Rattle.transactions.proofs.TimesTold.{other_told, moved_told, same_told}
+use Rattle.transactions.proofs.TimesAsRead.{other_told, moved_told, same_told}
 use Rattle.transactions.proofs.view.View.info_at.Goals as goal
 use Rattle.transactions.proofs.Views.{missing_seen}
 use Rattle.transactions.proofs.view.View.info_at.Goals.{then-made_at-moment-via-then-made_at-moment, then-made_at-moment-via-else-made_at-moment+then-info-made_at}

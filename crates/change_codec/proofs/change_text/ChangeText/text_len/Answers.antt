@@ -1,6 +1,0 @@
-use Rattle.std.proofs.Common.{◌∙◌, ap, length, List, ℕ}
-use Rattle.change_codec.proofs.Lengths.{element_length}
-use Rattle.change_codec.proofs.change_text.ChangeText.text_len.Goals as goal
-
-pub returns : goal.returns
-returns c = ap (λ (l : List ℕ). length l) c.bytes.ensures.text ∙ element_length c.args.self.now

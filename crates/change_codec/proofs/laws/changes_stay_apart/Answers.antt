@@ -1,5 +1,0 @@
-use Rattle.change_codec.proofs.ChangesApart.{apart}
-use Rattle.change_codec.proofs.laws.changes_stay_apart.Goals as goal
-
-pub returns : goal.returns
-returns c = λ a b some more same. apart a b some more same

@@ -1,7 +1,0 @@
-use Rattle.std.proofs.Common.{◌-◌}
-use Rattle.change_codec.specs.Text.{key_name_at}
-use Rattle.change_codec.proofs.Taken.{HasSkipped}
-use Rattle.change_codec.proofs.skipping.skip_names.Given as goal
-
-abbrev pub invariant-loop-skipped : goal.invariant-loop-skipped
-invariant-loop-skipped l = HasSkipped key_name_at l.count l.bytes (l.count - l._skipped) l.rest

@@ -1,0 +1,26 @@
+-- The journal's file as it is read.
+use Rattle.std.specs.Prelude.{◌≡◌, ◌⊎◌, ℕ, ◌+◌, ◌-◌, List, ◌++◌, length, drop}
+use Rattle.refusals.specs.declared.refusal.Refusal.{Refusal}
+use Rattle.refusals.specs.declared.refusal.Refusal.TheVariants.{NoMemory, DiskFault, JournalDamaged}
+use Rattle.disk_model.specs.FileState.{FileState}
+use Rattle.commit_journal.specs.declared.buffer.ReadBuffer.{ReadBuffer}
+
+-- the bytes in memory that aren't taken
+abbrev pub held : ReadBuffer → List ℕ
+held w = drop w.start w.bytes.items
+
+-- the bytes of a file that aren't taken: those in memory, and those behind them
+abbrev pub rest_of : List ℕ → ReadBuffer → List ℕ
+rest_of file w = held w ++ drop w.at file
+
+-- how many these are, by the file's length
+abbrev pub left_of : ReadBuffer → ℕ
+left_of w = length (held w) + (w.end - w.at)
+
+-- what a read of the journal's file gives at a moment
+abbrev pub journal_bytes_at : (ℕ → ℕ → FileState) → ℕ → List ℕ
+journal_bytes_at states clock = (states clock 0).seen
+
+-- The refusal is want of memory; or the device failed; or the file is damaged, in this way.
+abbrev pub FailsBy : Type 0 → Type 0 → Refusal → Type 0
+FailsBy fault damaged why = (why ≡ NoMemory) ⊎ (((why ≡ DiskFault) × fault) ⊎ ((why ≡ JournalDamaged) × damaged))

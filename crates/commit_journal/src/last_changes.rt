@@ -1,0 +1,60 @@
+//! Of each hive the last change that names it.
+ghost use Rattle.std.specs.Prelude.{◌≡◌, ◌+◌, ◌<◌, ◌^◌, ℕ, if◌then◌else◌, IfOk, length, replicate, slice_get};
+ghost use Rattle.std.specs.Option.{option_map};
+ghost use Rattle.commit_journal.specs.LastChangePerHive.{HasCounted, names};
+
+use change_codec::EncodedChange;
+use std::alloc::{AllocError, Global};
+
+/// For each hive the number of the last change counted in that has an operation on it, or 0 where none has.
+#[derive(Drop)]
+pub struct LastChangePerHive {
+    /// The numbers, in the hives' order.
+    pub last: Vec<u64>,
+}
+
+impl LastChangePerHive {
+    /// Of so many hives, none of which a change names.
+    pub fn new(alloc: Global, hives: usize) -> Result<LastChangePerHive, AllocError>
+        ensures { IfOk result (λ last_changes. last_changes.last.items ≡ replicate hives 0) }
+    {
+        let last = vec![in alloc; 0; hives]?;
+        Ok(LastChangePerHive { last })
+    }
+
+    /// Each hive that one of a change's operations is on has this number.
+    pub(crate) fn count_one(&mut self, change: &EncodedChange, number: u64)
+        ensures named { (i : ℕ) → slice_get self.new.last.items i ≡
+            option_map (λ m. if names i change.now.ops then number else m) (slice_get self.old.last.items i) }
+        ensures many { length self.new.last.items ≡ length self.old.last.items }
+    {
+        name(&mut self.last, change, number);
+    }
+
+    /// Counts changes in, the first of which has the number behind this one.
+    pub fn count_in(&mut self, below: u64, changes: &[EncodedChange])
+        requires numbers { below + length changes.now < 2 ^ 64 }
+        ensures { HasCounted self.old.last.items below changes.now self.new.last.items }
+    {
+        let mut number = below;
+        for change in changes {
+            number += 1;
+            name(&mut self.last, change, number);
+        }
+    }
+}
+
+// each hive that one of a change's operations is on has this number
+fn name(last: &mut [u64], change: &EncodedChange, number: u64)
+    ensures named { (i : ℕ) → slice_get last.new i ≡
+        option_map (λ m. if names i change.now.ops then number else m) (slice_get last.old i) }
+    ensures many { length last.new ≡ length last.old }
+{
+    let mut hives = change.hives();
+    while let Some(hive) = hives.next() {
+        let place = usize::from(hive);
+        if place < last.len() {
+            last[place] = number;
+        }
+    }
+}

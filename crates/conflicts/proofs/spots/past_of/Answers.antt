@@ -1,5 +1,0 @@
-use Rattle.std.proofs.Common.{rules}
-use Rattle.conflicts.proofs.spots.past_of.Goals as goal
-
-pub returns-in-Shape : goal.returns-in-Shape
-returns-in-Shape c = search rules

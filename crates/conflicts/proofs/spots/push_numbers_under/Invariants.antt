@@ -1,6 +1,0 @@
-use Rattle.std.proofs.Common.{◌≡◌, ◌++◌, map}
-use Rattle.conflicts.specs.Spots.{numbers_under}
-use Rattle.conflicts.proofs.spots.push_numbers_under.Given as goal
-
-abbrev pub invariant-loop-listed : goal.invariant-loop-listed
-invariant-loop-listed l = l.found.items ++ map (λ p. p.1) l.listed-iterator ≡ l.initial.found.items ++ numbers_under l.hash l.hashes.keys

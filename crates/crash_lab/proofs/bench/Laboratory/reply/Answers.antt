@@ -1,6 +1,0 @@
-use Rattle.std.proofs.Common.{refl}
-use Rattle.crash_lab.proofs.Lines.{answered_as_theirs}
-use Rattle.crash_lab.proofs.bench.Laboratory.reply.Goals as goal
-
-pub returns-in-Some : goal.returns-in-Some
-returns-in-Some c = answered_as_theirs _ _ c.args.line c.in-Some.told c.in-Some.ensures.told.1 refl

@@ -1,7 +1,0 @@
-use Rattle.crash_lab.specs.Benches.{files_of}
-use Rattle.crash_lab.proofs.Shutting.{stays_shut}
-use Rattle.crash_lab.proofs.crashing.open_behind.Goals as goal
-
-pub returns-in-Err-clause-refused : goal.returns-in-Err-clause-refused
-returns-in-Err-clause-refused c =
-    stays_shut c.args.tear (files_of c.args.disk.now) (files_of c.in_ok-left.left) _ c.in-Err.why c.told_of.result c.in_ok-left.ensures c.in-Err.ensures.err c.told_of.ensures.memory c.told_of.ensures.same

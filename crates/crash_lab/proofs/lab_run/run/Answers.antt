@@ -1,0 +1,44 @@
+use Rattle.std.proofs.Common.{◌∙◌, ◌≡◌, ℕ, List, Some, None, ap, sym, subst}
+use Rattle.std.specs.Prelude.{IfSome, IfNone}
+use Rattle.std.specs.Io.KnownBytes.{Appends}
+use Rattle.script_runner.specs.Scripts.{hives_asked}
+use Rattle.script_runner.specs.Plays.{Ends, wrong_text}
+use Rattle.script_runner.specs.declared.end_of_script.EndOfScript.TheVariants.{OutOfMemory}
+use Rattle.script_syntax.specs.declared.status.Status.TheVariants.{Wrong}
+use Rattle.script_runner.proofs.Runs.{if_ok}
+use Rattle.crash_lab.specs.LabStates.{lab_state_of, IsNew}
+use Rattle.crash_lab.specs.Runs.{IsExperiment, IsExperimentOn}
+use Rattle.crash_lab.proofs.LineOutcomes.{begins, begins_wrong, begins_without_memory}
+use Rattle.crash_lab.proofs.lab_run.run.Goals as goal
+
+pub returns-in-Ok-Some : goal.returns-in-Ok-Some
+returns-in-Ok-Some g c =
+    let known = g.R.Read.remaining c.args.reader.now in
+    let rest = g.R.Read.remaining c.next_line.new.reader in
+    let before = g.W.Write.contents c.args.writer.now in
+    let mid = g.W.Write.contents c.write.new.writer in
+    let after = g.W.Write.contents c.go_on.new.writer in
+    let some = subst (λ made. IfSome made (λ laboratory. (hives : ℕ) × (hives_asked c.deref.result.now ≡ Some hives) × IsNew hives (lab_state_of laboratory))) c.in-Ok-Some.field-0-is c.in-Ok-Some.ensures.some in
+    let old = lab_state_of c.in-Ok-Some.laboratory in
+    if_ok (λ status. IsExperimentOn old 2 rest mid after status) (IsExperiment known before after) c.go_on.result
+    (λ status on. begins known rest before mid after c.next_line.new.line.items some.0 old status c.in-Ok.ensures.line (ap hives_asked (sym c.deref.ensures.value) ∙ some.1) some.2 c.in_ok-write-in-Ok-Some.ensures on)
+    c.go_on.ensures
+
+pub returns-in-Ok-None : goal.returns-in-Ok-None
+returns-in-Ok-None g c =
+    let known = g.R.Read.remaining c.args.reader.now in
+    let before = g.W.Write.contents c.args.writer.now in
+    let after = g.W.Write.contents c.wrong-in-Ok-None.new.writer in
+    let none : hives_asked c.deref.result.now ≡ None = subst (λ made. IfNone made (hives_asked c.deref.result.now ≡ None)) c.in-Ok-None.field-0-is c.in-Ok-None.ensures.none in
+    if_ok (λ status. (status ≡ Wrong) × Appends before after (wrong_text 1)) (IsExperiment known before after) c.wrong-in-Ok-None.result
+    (λ status said. begins_wrong known (g.R.Read.remaining c.next_line.new.reader) before after c.next_line.new.line.items status c.in-Ok.ensures.line (ap hives_asked (sym c.deref.ensures.value) ∙ none) said.0 said.1)
+    c.wrong-in-Ok-None.ensures
+
+pub returns : goal.returns
+returns g c =
+    let known = g.R.Read.remaining c.args.reader.now in
+    let before = g.W.Write.contents c.args.writer.now in
+    let after = g.W.Write.contents c.end-in-Err-begin.new.writer in
+    if_ok (λ status. (text : List ℕ) × Ends OutOfMemory text status × Appends before after text) (IsExperiment known before after) c.end-in-Err-begin.result
+    (λ status said. begins_without_memory known before after said.0 status said.1 said.2)
+    c.end-in-Err-begin.ensures

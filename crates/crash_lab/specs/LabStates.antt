@@ -1,0 +1,39 @@
+-- A laboratory between two lines.
+use Rattle.std.specs.Prelude.{◌≡◌, ℕ, length, None}
+use Rattle.disk_model.specs.FileState.{FileState}
+use Rattle.disk_model.specs.MemDisk.{states, earlier}
+use Rattle.disk_model.specs.declared.mem_disk.MemDisk.{MemDisk}
+use Rattle.commit_journal.specs.Store.{Store}
+use Rattle.engine.specs.Lives.{IsSafe}
+use Rattle.script_runner.specs.Interpreters.{engine_of, script_of}
+use Rattle.script_runner.specs.Scripts.{Script, fresh_script}
+use Rattle.crash_lab.specs.declared.lab_state.Laboratory.{Laboratory}
+use Rattle.crash_lab.specs.declared.device.Asked.{Asked}
+
+-- its script; each file of its disk; and what was asked of the disk's device
+pub record LabState : Type 0 where
+  pub script : Script
+  pub files : ℕ → FileState
+  pub asked : Asked
+
+-- the device is to fail in no call
+abbrev pub nothing_asked : Asked
+nothing_asked = record { stop = None; fail = None }
+
+-- each file of a disk, as it is now
+abbrev pub files_of : MemDisk → ℕ → FileState
+files_of disk f = states disk.past disk.files.items (length (earlier disk.past)) f
+
+abbrev pub lab_state_of : Laboratory → LabState
+lab_state_of laboratory = record { script = script_of laboratory.interpreter; files = files_of (engine_of laboratory.interpreter).disk; asked = laboratory.device.asked }
+
+-- Whatever a loss of power leaves of the files, with honest first sectors, recovers one number, not below the durable one and not
+-- above the last, and the trees after the accepted changes up to it.
+abbrev pub CrashesAreSafe : LabState → Type 0
+CrashesAreSafe lab_state = (store : Store) × IsSafe store lab_state.script.machine lab_state.files
+
+-- a laboratory that has made its store, of so many new hives
+pub record IsNew (hives : ℕ) (lab_state : LabState) : Type 0 where
+  pub script_is : lab_state.script ≡ fresh_script hives
+  pub asked_is : lab_state.asked ≡ nothing_asked
+  pub kept : CrashesAreSafe lab_state

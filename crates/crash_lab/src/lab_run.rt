@@ -1,0 +1,122 @@
+//! Runs a script in a laboratory.
+ghost use Rattle.std.specs.Prelude.{◌≡◌, IfOk};
+ghost use Rattle.crash_lab.specs.LabStates.{lab_state_of};
+ghost use Rattle.crash_lab.specs.Runs.{IsExperiment, IsExperimentOn, OutcomeOfLine};
+
+use crate::lab_state::Laboratory;
+use script_runner::{EndOfScript, end, next_line, wrong};
+use script_syntax::{ReplyLine, Status};
+use std::alloc::{AllocError, Global};
+use std::io;
+use std::io::{BufRead, Write};
+
+/// What one turn of a run came to.
+enum LabLineOutcome {
+    /// A line was answered.
+    Replied {
+        /// Whether the reply was a refusal.
+        is_refusal: bool,
+    },
+    /// The run is over.
+    Over {
+        /// How it went from this line on.
+        status: Status,
+    },
+}
+
+/// Runs a script over a store in memory, whose power may go, and writes the replies to its lines, in order, each as soon as its line is
+/// read. No more of the script is held than one line.
+///
+/// The lines are those of [`play`](script_runner::play), and those of a laboratory beside: a single step, a device that is to stop or
+/// fail, a loss of power. Behind a loss of power what is left is opened, and its number and trees are written; where it can't be
+/// opened, why is told, and nothing has changed.
+///
+/// `Err` says that a write failed, which ends the run; the program then ends with the status of a refusal.
+pub fn lab<R: BufRead, W: Write>(
+    alloc: Global,
+    reader: &mut R,
+    writer: &mut W,
+) -> io::Result<Status>
+    ensures { IfOk result (λ status. IsExperiment (R.remaining reader.old)
+        (W.contents writer.old) (W.contents writer.new) status) }
+{
+    let status = run(alloc, reader, writer)?;
+    writer.flush()?;
+    Ok(status)
+}
+
+fn run<R: BufRead, W: Write>(alloc: Global, reader: &mut R, writer: &mut W) -> io::Result<Status>
+    ensures { IfOk result (λ status. IsExperiment (R.remaining reader.old)
+        (W.contents writer.old) (W.contents writer.new) status) }
+{
+    let mut line = Vec::new(alloc);
+    match next_line(reader, &mut line) {
+        Ok(()) => {}
+        Err(EndOfScript::Ended) => return wrong(writer, 1),
+        Err(end_of_script) => return end(writer, end_of_script),
+    }
+    match Laboratory::begin(alloc, &line) {
+        Ok(Some(laboratory)) => {
+            let mut laboratory = laboratory;
+            ReplyLine::Done.write(writer)?;
+            go_on(&mut laboratory, reader, &mut line, writer)
+        }
+        Ok(None) => wrong(writer, 1),
+        Err(AllocError) => end(writer, EndOfScript::OutOfMemory),
+    }
+}
+
+// runs the script from its second line on
+fn go_on<R: BufRead, W: Write>(
+    laboratory: &mut Laboratory,
+    reader: &mut R,
+    line: &mut Vec<u8>,
+    writer: &mut W,
+) -> io::Result<Status>
+    ensures { IfOk result (λ status. IsExperimentOn (lab_state_of laboratory.old) 2
+        (R.remaining reader.old) (W.contents writer.old) (W.contents writer.new) status) }
+{
+    let mut has_refusal = false;
+    for number in 2..u64::MAX {
+        match take_line(laboratory, reader, line, writer, number)? {
+            LabLineOutcome::Replied { is_refusal } => has_refusal |= is_refusal,
+            LabLineOutcome::Over { status } => return Ok(status.after(has_refusal)),
+        }
+    }
+    // a script of so many lines isn't read on
+    let status = end(writer, EndOfScript::Broken)?;
+    Ok(status.after(has_refusal))
+}
+
+// reads the line of this number, answers it, and writes the reply
+fn take_line<R: BufRead, W: Write>(
+    laboratory: &mut Laboratory,
+    reader: &mut R,
+    line: &mut Vec<u8>,
+    writer: &mut W,
+    number: u64,
+) -> io::Result<LabLineOutcome>
+    ensures { IfOk result (λ turn. OutcomeOfLine (lab_state_of laboratory.old) number
+        (R.remaining reader.old) (W.contents writer.old) turn (lab_state_of laboratory.new)
+        (R.remaining reader.new) (W.contents writer.new)) }
+{
+    if let Err(end_of_script) = next_line(reader, line) {
+        let status = end(writer, end_of_script)?;
+        return Ok(LabLineOutcome::Over { status });
+    }
+    match laboratory.reply_to(line) {
+        Ok(Some(reported)) => {
+            reported.write(laboratory.trees(), writer)?;
+            let is_refusal = reported.is_refusal();
+            Ok(LabLineOutcome::Replied { is_refusal })
+        }
+        Ok(None) => {
+            let status = wrong(writer, number)?;
+            Ok(LabLineOutcome::Over { status })
+        }
+        Err(AllocError) => {
+            let status = end(writer, EndOfScript::OutOfMemory)?;
+            Ok(LabLineOutcome::Over { status })
+        }
+    }
+}

@@ -1,0 +1,191 @@
+//! A script in a laboratory, between two lines.
+ghost use Rattle.std.specs.Prelude.{◌≡◌, ◌↔◌, ℕ, true, Some, None, MatchOption, IfOk, IfSome, IfNone, OnErr};
+ghost use Rattle.script_syntax.specs.declared.line.Line.{Line as AnyLine};
+ghost use Rattle.script_runner.specs.Scripts.{hives_asked};
+ghost use Rattle.script_runner.specs.Interpreters.{script_of};
+ghost use Rattle.store_model.specs.Machine.{trees_now};
+ghost use Rattle.crash_lab.specs.LabStates.{lab_state_of, CrashesAreSafe, IsNew};
+ghost use Rattle.crash_lab.specs.Experiments.{Answered, AnswersLine, Crashes, Experiments, IsFlushedWhole, following_line, line_asked, tear_of};
+
+use crate::device::Device;
+use crate::power_loss::{Reopened, open_after_crash};
+use crate::reply::LabReply;
+use disk_model::{MemDisk, Tear};
+use reg_tree::Trees;
+use script_runner::{Interpreter, begin_on};
+use script_syntax::{CrashTear, LabLine, Line, ParseError, ReplyLine, read_line};
+use std::alloc::{AllocError, Global};
+use store_model::Event;
+
+/// A script over a disk in memory, and what was asked of that disk's device.
+pub(crate) struct Laboratory {
+    alloc: Global,
+    interpreter: Interpreter<MemDisk>,
+    device: Device,
+}
+
+impl Drop for Laboratory {
+    // one drop for all that own a laboratory, whose proofs see no more of it than that
+    fn drop(self) {
+        let Laboratory {
+            alloc: _,
+            interpreter: _,
+            device: _,
+        } = self;
+    }
+}
+
+impl Laboratory {
+    /// The laboratory of the script whose first line these bytes are; or nothing where they are no such line. Refused for want of
+    /// memory alone.
+    pub(crate) fn begin(alloc: Global, bytes: &[u8]) -> Result<Option<Laboratory>, AllocError>
+        ensures none { IfOk result (λ made. IfNone made (hives_asked bytes.now ≡ None)) }
+        ensures some { IfOk result (λ made. IfSome made (λ laboratory. (hives : ℕ)
+            × (hives_asked bytes.now ≡ Some hives) × IsNew hives (lab_state_of laboratory))) }
+    {
+        let device = Device::new(alloc)?;
+        match begin_on(alloc, bytes, device.plan()?)? {
+            Some(engine) => {
+                engine.keeps_a_prefix();
+                let interpreter = Interpreter::new(alloc, engine);
+                Ok(Some(Laboratory {
+                    alloc,
+                    interpreter,
+                    device,
+                }))
+            }
+            None => Ok(None),
+        }
+    }
+
+    /// The trees after all accepted changes.
+    pub(crate) fn trees(&self) -> &Trees
+        ensures { result.now ≡ trees_now (lab_state_of self.now).script.machine }
+    {
+        self.interpreter.engine().trees()
+    }
+
+    /// Answers a further line of the script, or nothing where the bytes are no such line. Memory is refused only for reading the
+    /// line, before anything is asked.
+    pub(crate) fn reply_to(&mut self, bytes: &[u8]) -> Result<Option<LabReply>, AllocError>
+        ensures none { IfOk result (λ made. IfNone made (line_asked bytes.now ≡ None)) }
+        ensures some { IfOk result (λ made. IfSome made (λ reported. (asked : AnyLine)
+            × (line_asked bytes.now ≡ Some asked)
+            × Answered (lab_state_of self.old) asked reported (lab_state_of self.new))) }
+    {
+        match read_line(self.alloc, bytes) {
+            Ok(line) => Ok(self.answer(line)),
+            Err(ParseError::NotUnderstood) => Ok(None),
+            Err(ParseError::NoMemory) => Err(AllocError),
+        }
+    }
+
+    // answers a line, or nothing where it is a script's first; what a loss of power would leave then is known
+    fn answer(&mut self, line: Line) -> Option<LabReply>
+        ensures { MatchOption result (following_line (Some line) ≡ None)
+            (λ reported. (following_line (Some line) ≡ Some line)
+            × Answered (lab_state_of self.old) line reported (lab_state_of self.new)) }
+    {
+        let reported = self.reply(line);
+        self.interpreter.engine().keeps_a_prefix();
+        reported
+    }
+
+    // the reply to a line, or nothing where it is a script's first
+    fn reply(&mut self, line: Line) -> Option<LabReply>
+        ensures { MatchOption result (following_line (Some line) ≡ None)
+            (λ reported. (following_line (Some line) ≡ Some line)
+            × AnswersLine (lab_state_of self.old) line reported (lab_state_of self.new)) }
+    {
+        match line {
+            Line::Lab { line } => Some(self.experiment(line)),
+            line => match self.interpreter.answer(self.alloc, line) {
+                Some(reported) => Some(LabReply::OneLine { reported }),
+                None => None,
+            },
+        }
+    }
+
+    // the reply to a line that only a laboratory takes
+    fn experiment(&mut self, line: LabLine) -> LabReply
+        ensures { Experiments (lab_state_of self.old) line result (lab_state_of self.new) }
+    {
+        match line {
+            LabLine::Accept { label } => reported(self.interpreter.accept(label)),
+            LabLine::JournalStep => reported(self.interpreter.ask(Event::JournalStep)),
+            LabLine::FlusherStep { hive } => reported(
+                self.interpreter.ask(Event::FlusherStep { hive }),
+            ),
+            LabLine::TrimStep => reported(self.interpreter.ask(Event::TrimStep)),
+            LabLine::FlushWhole { hive } => reported(self.flush_whole(hive)),
+            LabLine::StopAt { call } => {
+                self.device.stop_at(call);
+                reported(ReplyLine::Done)
+            }
+            LabLine::FailAt { call } => {
+                self.device.fail_at(call);
+                reported(ReplyLine::Done)
+            }
+            LabLine::Crash { tear } => self.crash(tear_of(tear)),
+        }
+    }
+
+    // makes steps of a hive's flush until one is not told as `more`
+    fn flush_whole(&mut self, hive: u8) -> ReplyLine
+        ensures reported { IsFlushedWhole (script_of self.old.interpreter) hive result
+            (script_of self.new.interpreter) }
+        ensures device { self.new.device ≡ self.old.device }
+    {
+        for _made in 0..u64::MAX {
+            let reported = self.interpreter.ask(Event::FlusherStep { hive });
+            if !is_more(&reported) {
+                return reported;
+            }
+        }
+        // no flush has so many steps
+        ReplyLine::StepMore
+    }
+
+    // the power goes, and what is left is opened; where that is refused, nothing has changed
+    fn crash(&mut self, tear: Tear) -> LabReply
+        ensures { Crashes tear (lab_state_of self.old) result (lab_state_of self.new) }
+    {
+        match open_after_crash(self.alloc, self.interpreter.engine().disk(), tear) {
+            Ok(
+                Reopened {
+                    engine,
+                    number,
+                    device,
+                },
+            ) => {
+                self.interpreter.reopen(self.alloc, engine);
+                self.device = device;
+                LabReply::Opened { number }
+            }
+            Err(refusal) => reported(ReplyLine::Refused { refusal }),
+        }
+    }
+}
+
+// whether a step is told to leave more
+fn is_more(reported: &ReplyLine) -> bool
+    ensures { (result ≡ true) ↔ (reported.now ≡ ReplyLine.StepMore) }
+{
+    matches!(reported, ReplyLine::StepMore)
+}
+
+fn reported(reported: ReplyLine) -> LabReply
+    ensures { result ≡ LabReply.OneLine reported }
+{
+    LabReply::OneLine { reported }
+}
+
+fn tear_of(tear: CrashTear) -> Tear
+    ensures { result ≡ tear_of tear }
+{
+    match tear {
+        CrashTear::Old => Tear::Old,
+        CrashTear::New => Tear::New,
+        CrashTear::Torn => Tear::Torn,
+    }
+}

@@ -1,0 +1,60 @@
+//! Sweeps power cuts over the run of a script.
+use crate::sweep_error::SweepError;
+use crate::sweep_steps::begun;
+use crate::table::write_heading;
+use script_runner::{EndOfScript, end, next_line, wrong};
+use script_syntax::Status;
+use std::alloc::Global;
+use std::io;
+use std::io::{BufRead, Write};
+
+/// Runs a script over a store of its own in memory, cuts the power behind each device call with each tear, opens what is left, and
+/// writes a table of the numbers that open; each row as soon as it is found. No more of the script is held than one line.
+///
+/// The lines are those of [`play`](script_runner::play), and the steps those of [`run`](script_runner::run).
+/// The status is clean where each opening gives a number from the last acknowledged change to the last accepted one, with the
+/// trees after that, and no line was refused.
+///
+/// `Err` says that a write failed, which ends the sweep.
+pub fn sweep<R: BufRead, W: Write>(
+    alloc: Global,
+    reader: &mut R,
+    writer: &mut W,
+) -> io::Result<Status> {
+    let status = match swept(alloc, reader, writer) {
+        Ok(status) => status,
+        Err(SweepError::NoMemory) => end(writer, EndOfScript::OutOfMemory)?,
+        Err(SweepError::Unwritten(error)) => return Err(error),
+    };
+    writer.flush()?;
+    Ok(status)
+}
+
+fn swept<R: BufRead, W: Write>(
+    alloc: Global,
+    reader: &mut R,
+    writer: &mut W,
+) -> Result<Status, SweepError> {
+    let mut line = Vec::new(alloc);
+    match next_line(reader, &mut line) {
+        Ok(()) => {}
+        Err(EndOfScript::Ended) => return Ok(wrong(writer, 1)?),
+        Err(end_of_script) => return Ok(end(writer, end_of_script)?),
+    }
+    let Some(mut run) = begun(alloc, &line)? else {
+        return Ok(wrong(writer, 1)?);
+    };
+    write_heading(writer)?;
+    for number in 2..u64::MAX {
+        match next_line(reader, &mut line) {
+            Ok(()) => {}
+            Err(EndOfScript::Ended) => return run.finish(writer),
+            Err(end_of_script) => return Ok(end(writer, end_of_script)?),
+        }
+        if !run.take(&line, number, writer)? {
+            return Ok(wrong(writer, number)?);
+        }
+    }
+    // a script of so many lines isn't read on
+    Ok(end(writer, EndOfScript::Broken)?)
+}

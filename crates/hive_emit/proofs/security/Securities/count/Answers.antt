@@ -1,6 +1,0 @@
-use Rattle.std.proofs.Common.{List, ℕ, subst}
-use Rattle.hive_emit.specs.Securing.{HasAt}
-use Rattle.hive_emit.proofs.security.Securities.count.Goals as goal
-
-pub returns-in-Some-clause-counts : goal.returns-in-Some-clause-counts
-returns-in-Some-clause-counts c = c.count_again.ensures.counts c.args.descriptor.now (subst (λ (d : List ℕ). HasAt c.args.self.now c.in-Some.place d) c.bytes.ensures c.in-Some.ensures.kept)

@@ -1,0 +1,21 @@
+//! What is found in a hive's two files.
+ghost use Rattle.std.specs.Prelude.{◌≡◌, length};
+ghost use Rattle.hive_files.specs.Blocks.{IsPlanned};
+
+use base_block::BaseBlock;
+use dirty_vector::DirtyVector;
+
+/// What two files hold, but for the tree.
+#[derive(Drop)]
+pub struct HiveContents {
+    /// The base block that is in use, as that of a primary file.
+    pub block: BaseBlock,
+    /// The hive bins data that are in use.
+    pub bins: Vec<u8>,
+    /// The pages that a repair has to write: none of a clean primary file.
+    pub pages: DirtyVector,
+    /// Whether the primary file is clean.
+    pub is_clean: bool,
+    pub ghost sizes: { length bins.items ≡ pages.bins_size },
+    pub ghost planned: { IsPlanned block pages },
+}

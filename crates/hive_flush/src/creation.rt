@@ -1,0 +1,96 @@
+//! Making a hive's files: an image in memory first, and then its writing.
+ghost use Rattle.std.specs.Prelude.{◌≡◌, ◌⊎◌, ◌<◌, ℕ, List, Err, IfErr, IfOk, OnOk};
+ghost use Rattle.reg_tree.specs.Maps.{TreeMap, weight};
+ghost use Rattle.refusals.specs.declared.limits.TheConstants.{MOST_WEIGHT};
+ghost use Rattle.refusals.specs.declared.refusal.Refusal.TheVariants.{DiskFault, TooLarge};
+ghost use Rattle.disk_model.specs.Call.{CountsFailure, HasFailed};
+ghost use Rattle.disk_model.specs.StoreFiles.{IsFileOfHive as IsFileOf, primary_file, log_file};
+ghost use Rattle.hive_files.specs.Frames.{TouchesOwnFiles};
+ghost use Rattle.hive_flush.specs.Creation.{AreCreated, IsImageOf};
+ghost use Rattle.hive_flush.specs.Decoders.{IsRefusedFor};
+
+use crate::application::encoded_tree;
+use crate::hive::HiveFile;
+use crate::image::HiveImage;
+use base_block::{BaseBlock, SequenceNumber};
+use disk_model::{Disk, Failed};
+use hive_files::{make, sector};
+use refusals::Refusal;
+use reg_tree::Tree;
+use std::alloc::Global;
+use uuid::Uuid;
+
+// the sequence number of a hive that was never flushed
+const FIRST_NUMBER: u32 = 1;
+
+// the least bins data: one bin of one page of 4,096 bytes
+const LEAST_BINS_BYTES: usize = 4_096;
+
+impl HiveImage {
+    /// The image of a tree for a store.
+    ///
+    /// Refused with `TooLarge` exactly where the tree is over the weight, and else with `NoMemory`.
+    pub fn of(alloc: Global, store: Uuid, tree: &Tree) -> Result<HiveImage, Refusal>
+        ensures image { IfOk result (IsImageOf store tree.now) }
+        ensures refused { IfErr result (IsRefusedFor (weight tree.now)) }
+        ensures heavy { MOST_WEIGHT < weight tree.now → result ≡ Err TooLarge }
+    {
+        let (bins, root) = encoded_tree(alloc, tree, LEAST_BINS_BYTES)?;
+        Ok(HiveImage { store, root, bins })
+    }
+
+    /// Makes the two files of a hive, by its number, whatever they held: a clean primary file of the image's tree at number 0, and
+    /// an empty log. Both are synced. A write takes at most 65,536 bytes.
+    ///
+    /// Takes no memory. Failed where the device failed in a call, which was the last one: nothing is said of the two files then.
+    pub fn write<D: Disk>(&self, disk: &mut D, hive: u8) -> Result<(), Failed>
+        ensures created { OnOk result (D.faithful disk.new → (store : List ℕ) (tree : TreeMap) →
+            IsImageOf store tree self.now → AreCreated store tree
+            (D.state_at disk.new (D.clock disk.new) (primary_file hive))
+            (D.state_at disk.new (D.clock disk.new) (log_file hive))) }
+        ensures stays { TouchesOwnFiles (IsFileOf hive) (D.state_at disk.old) (D.state_at disk.new)
+            (D.clock disk.old) (D.clock disk.new) }
+        ensures failures { CountsFailure result (D.failures disk.old) (D.failures disk.new) }
+        ensures faithful { D.faithful disk.new → D.faithful disk.old }
+    {
+        let size = self.bins.len() as u32;
+        let block = BaseBlock::of_primary(
+            SequenceNumber(FIRST_NUMBER),
+            self.root,
+            size,
+            self.store,
+        );
+        let _ = sector(&block);
+        make(disk, hive, &block, &self.bins)
+    }
+}
+
+impl HiveFile {
+    /// Makes the two files of a hive of a store, by its number, whatever they held: a clean primary file of a tree at number 0,
+    /// and an empty log. Both are synced. A write takes at most 65,536 bytes.
+    ///
+    /// Refused with `TooLarge` exactly where the tree is over the weight, and with `NoMemory`: no file has changed then; and with
+    /// `DiskFault` where the device failed in a call, which was the last one: nothing is said of the two files then.
+    pub fn create<D: Disk>(
+        alloc: Global,
+        disk: &mut D,
+        hive: u8,
+        store: Uuid,
+        tree: &Tree,
+    ) -> Result<(), Refusal>
+        ensures created { OnOk result (D.faithful disk.new → AreCreated store tree.now
+            (D.state_at disk.new (D.clock disk.new) (primary_file hive))
+            (D.state_at disk.new (D.clock disk.new) (log_file hive))) }
+        ensures refused { IfErr result (λ why. (why ≡ DiskFault)
+            ⊎ (IsRefusedFor (weight tree.now) why × (disk.new ≡ disk.old))) }
+        ensures heavy { MOST_WEIGHT < weight tree.now → result ≡ Err TooLarge }
+        ensures failures { HasFailed result (D.failures disk.old) (D.failures disk.new) }
+        ensures stays { TouchesOwnFiles (IsFileOf hive) (D.state_at disk.old) (D.state_at disk.new)
+            (D.clock disk.old) (D.clock disk.new) }
+        ensures faithful { D.faithful disk.new → D.faithful disk.old }
+    {
+        let image = HiveImage::of(alloc, store, tree)?;
+        image.write(disk, hive)?;
+        Ok(())
+    }
+}

@@ -1,0 +1,37 @@
+-- What a hive's two files hold together (regf format, base block and transaction log). Which tree an image stands for is
+-- given from outside: the words and laws here are of any such rule.
+use Rattle.std.specs.Prelude.{◌≡◌, ℕ, ◌+◌, ◌≤◌, true, false, List, length, take, drop, Option, Some}
+use Rattle.base_block.specs.declared.block.BaseBlock.{BaseBlock}
+use Rattle.base_block.specs.Judgements.{IsPrimary}
+use Rattle.dirt_log.specs.WholeLog.{block_of}
+use Rattle.dirt_log.specs.FileContents.{is_clean_file, FilesDecodeTo}
+
+-- A rule for images: the tree, if any, that bins data stand for, given the offset of their root cell, the minor version by
+-- which they are read, and the store that their hive belongs to.
+abbrev pub TreeDecoder : Type 0 → Type 0
+TreeDecoder T = List ℕ → ℕ → ℕ → List ℕ → Option T
+
+-- the tree that bins data stand for under a base block
+abbrev pub tree_under : {T : Type 0} → TreeDecoder T → BaseBlock → List ℕ → Option T
+tree_under decode block bins = decode bins block.root block.minor block.store
+
+-- A primary file and its log hold a tree and a number: the block that is in use names the number, and the bins data that are
+-- in use stand for the tree. The block in use is the primary file's own where it is clean, and then that of a primary file;
+-- else it is the log's, which repairs the bins data. An unclean primary file is repaired only where its first sector is there:
+-- to one that is shorter a write of a page puts zeros, which could make its first sector clean before the repair is done.
+pub record FilesHoldTree {T : Type 0} (decode : TreeDecoder T) (primary log : List ℕ) (held : T × ℕ) : Type 0 where
+  pub block : BaseBlock
+  pub bins : List ℕ
+  pub in_use : FilesDecodeTo primary log block bins
+  pub own : is_clean_file primary ≡ true → IsPrimary block
+  pub sector : is_clean_file primary ≡ false → 512 ≤ length primary
+  pub tree : tree_under decode block bins ≡ Some held.0
+  pub number : block.applied.0 ≡ held.1
+
+-- A primary file that is clean and holds this alone, whatever its log is.
+pub record CleanPrimaryHolds {T : Type 0} (decode : TreeDecoder T) (primary : List ℕ) (held : T × ℕ) : Type 0 where
+  pub clean : is_clean_file primary ≡ true
+  pub own : IsPrimary (block_of primary)
+  pub long : 4096 + (block_of primary).bins_size ≤ length primary
+  pub tree : tree_under decode (block_of primary) (take (block_of primary).bins_size (drop 4096 primary)) ≡ Some held.0
+  pub number : (block_of primary).applied.0 ≡ held.1

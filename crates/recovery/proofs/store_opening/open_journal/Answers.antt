@@ -1,0 +1,24 @@
+use Rattle.std.proofs.Common.{◌≡◌, inr, Bool, true, false, not, refl, sym, ◌∙◌, ap}
+use Rattle.std.specs.Cmp.Lexicographic.{other_text}
+use Rattle.commit_journal.specs.Store.{Store}
+use Rattle.commit_journal.specs.Journals.{choice_of, store_of}
+use Rattle.recovery.proofs.store_opening.open_journal.Goals.{then-ne-via-then-ne, then-ne-via-else-ne+then-hives-owner}
+use Rattle.recovery.proofs.store_opening.open_journal.Goals as goal
+
+unequal : (same : Bool) → true ≡ not same → false ≡ same
+unequal true is = absurd cc
+unequal false is = refl
+
+-- a journal of another store than the one that its header told before isn't there
+pub returns-then-ne-clause-fails : goal.returns-then-ne-clause-fails
+returns-then-ne-clause-fails g c = inr (inr (
+  refl,
+  λ f.
+      let j = c.in_ok-read.read.journal in
+      let e = c.in_ok-read.ensures in
+      let same : store_of j ≡ record { id = c.args.owner.now.id; hives = c.args.owner.now.hives } = c.requires.only (c.open.ensures.faithful f) (store_of j) (choice_of j).now e.store (e.decodes f) in
+      elim c.then-ne.branch [
+        | then-ne-via-then-ne w ↦ absurd (other_text c.id.result c.args.owner.now.id (unequal _ (sym w.if-ne.true ∙ c.ne.ensures)) (c.id.ensures ∙ ap (λ (s : Store). s.id) same))
+        | then-ne-via-else-ne+then-hives-owner w ↦ absurd (w.if-hives-owner.true (w.hives.ensures ∙ ap (λ (s : Store). s.hives) same))
+      ],
+))

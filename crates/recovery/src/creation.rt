@@ -1,0 +1,119 @@
+//! Making a store: a journal without a change, and a hive of each tree.
+ghost use Rattle.std.specs.Prelude.{◌≡◌, ◌⊎◌, ◌<◌, ◌≤◌, ℕ, List, true, false, length, slice_get, Some, Err, IfErr, IfOk, OnOk};
+ghost use Rattle.refusals.specs.declared.limits.TheConstants.{MOST_HIVES};
+ghost use Rattle.refusals.specs.declared.refusal.Refusal.TheVariants.{DiskFault, NoMemory, TooLarge};
+ghost use Rattle.reg_tree.specs.Sequences.{AreWithin};
+ghost use Rattle.disk_model.specs.Call.{CountsFailure};
+ghost use Rattle.disk_model.specs.Crash.{LeavesHonest};
+ghost use Rattle.engine_invariant.specs.Prefixes.{IsPrimaryOf};
+ghost use Rattle.hive_files.specs.Frames.{TouchesOwnFiles};
+ghost use Rattle.recovery.specs.Created.{AreImagesOf, AreWritten, StoreIsCreated, IsOfHives, IsOfStore, IsRefusedFor, SomeIsHeavy, new_store};
+ghost use Rattle.recovery.specs.Recovered.{IsRecovered, seen_in};
+
+use commit_journal::JournalImage;
+use commit_journal::laws::leaves;
+use disk_model::{Disk, Failed};
+use hive_flush::HiveImage;
+use refusals::Refusal;
+use refusals::limits::MOST_WEIGHT;
+use reg_tree::{Op, Tree, Trees};
+use std::alloc::Global;
+use uuid::Uuid;
+
+/// Makes the files of a store under an id, whatever they held: a journal without a change, and of each tree, of which there are at
+/// most 16, the files of a hive at number 0. All of them is synced. All is made in memory before the first call of the device; and
+/// the journal's file comes last, so that a store that is made where none was isn't found before it is whole.
+///
+/// Refused with `TooLarge` exactly where a tree is over the weight, and with `NoMemory`: nothing has changed then; and with
+/// `DiskFault` where the device failed in a call, which was the last one: nothing is said of the store's files then.
+pub fn create<D: Disk>(alloc: Global, disk: &mut D, id: Uuid, trees: &Trees) -> Result<(), Refusal>
+    requires few { length trees.now ≤ MOST_HIVES }
+    ensures made { OnOk result (D.faithful disk.new →
+        StoreIsCreated id trees.now (D.state_at disk.new (D.clock disk.new))) }
+    ensures recovers { OnOk result (D.faithful disk.new → (files : ℕ → List ℕ) →
+        LeavesHonest (IsPrimaryOf (length trees.now))
+        (D.state_at disk.new (D.clock disk.new)) files →
+        IsRecovered files (new_store id trees.now) 0 trees.now) }
+    ensures seen { OnOk result (D.faithful disk.new →
+        IsRecovered (seen_in (D.state_at disk.new (D.clock disk.new)))
+        (new_store id trees.now) 0 trees.now) }
+    ensures shows { OnOk result (D.faithful disk.new →
+        LeavesHonest (IsPrimaryOf (length trees.now))
+        (D.state_at disk.new (D.clock disk.new))
+        (seen_in (D.state_at disk.new (D.clock disk.new)))) }
+    ensures refused { IfErr result (λ why.
+        ((why ≡ DiskFault) × (D.failures disk.old < D.failures disk.new))
+        ⊎ (IsRefusedFor trees.now why × (disk.new ≡ disk.old))) }
+    ensures heavy { SomeIsHeavy trees.now → result ≡ Err TooLarge }
+    ensures stays { TouchesOwnFiles (IsOfStore (length trees.now)) (D.state_at disk.old)
+        (D.state_at disk.new) (D.clock disk.old) (D.clock disk.new) }
+    ensures faithful { D.faithful disk.new → D.faithful disk.old }
+{
+    leaves::<(u64, Op)>();
+    if some_is_heavy(trees) {
+        return Err(Refusal::TooLarge);
+    }
+    let hives = images_of(alloc, id, trees)?;
+    let journal = JournalImage::of(alloc, id, trees.len() as u8)?;
+    write_hives(disk, &hives)?;
+    journal.write(disk)?;
+    Ok(())
+}
+
+// whether a tree is over the weight
+fn some_is_heavy(trees: &Trees) -> bool
+    requires few { length trees.now ≤ MOST_HIVES }
+    ensures heavy { (result ≡ true) → SomeIsHeavy trees.now }
+    ensures light { (result ≡ false) → AreWithin trees.now }
+{
+    for hive in 0..trees.len() as u8 {
+        if tree_at(trees, hive).weight() > MOST_WEIGHT {
+            return true;
+        }
+    }
+    false
+}
+
+// the tree of a hive that is there
+fn tree_at(trees: &Trees, hive: u8) -> &Tree
+    requires there { hive < length trees.now }
+    ensures { slice_get trees.now hive ≡ Some result.now }
+{
+    match trees.tree(hive) {
+        Some(tree) => tree,
+        None => unreachable!(),
+    }
+}
+
+// the images of the hives of a store, in their order
+fn images_of(alloc: Global, id: Uuid, trees: &Trees) -> Result<Vec<HiveImage>, Refusal>
+    requires few { length trees.now ≤ MOST_HIVES }
+    requires light { AreWithin trees.now }
+    ensures many { IfOk result (λ images. length images.items ≡ length trees.now) }
+    ensures images { IfOk result (λ images. AreImagesOf id trees.now images.items) }
+    ensures refused { IfErr result (λ why. why ≡ NoMemory) }
+{
+    let count = trees.len();
+    let mut images = Vec::with_capacity(alloc, count)?;
+    for hive in 0..count as u8 {
+        let image = HiveImage::of(alloc, id, tree_at(trees, hive))?;
+        images.push_reserved(image);
+    }
+    Ok(images)
+}
+
+// makes the files of the hives, each of the image in its place
+fn write_hives<D: Disk>(disk: &mut D, images: &[HiveImage]) -> Result<(), Failed>
+    requires few { length images.now ≤ MOST_HIVES }
+    ensures made { OnOk result (D.faithful disk.new →
+        AreWritten images.now (D.state_at disk.new (D.clock disk.new))) }
+    ensures stays { TouchesOwnFiles (IsOfHives (length images.now)) (D.state_at disk.old)
+        (D.state_at disk.new) (D.clock disk.old) (D.clock disk.new) }
+    ensures failures { CountsFailure result (D.failures disk.old) (D.failures disk.new) }
+    ensures faithful { D.faithful disk.new → D.faithful disk.old }
+{
+    for hive in 0..images.len() as u8 {
+        images[usize::from(hive)].write(disk, hive)?;
+    }
+    Ok(())
+}

@@ -1,0 +1,94 @@
+//! A journal's changes, replayed on what a hive's files hold, each where it is legal.
+ghost use Rattle.std.specs.Prelude.{◌≡◌, ◌⊎◌, map, true, false, Some, None, IfOk, IfErr};
+ghost use Rattle.refusals.specs.Answers.{RefusedFor};
+ghost use Rattle.refusals.specs.declared.refusal.Refusal.TheVariants.{JournalDamaged, NoMemory};
+ghost use Rattle.crash_model.specs.Changes.{on_hive, ops_on, replay};
+ghost use Rattle.change_codec.specs.ModelChanges.{tree_rules, timed, timed_element, timed_elements};
+
+use change_codec::EncodedChange;
+use refusals::Refusal;
+use reg_tree::{Op, Tree};
+use std::alloc::Global;
+
+/// The tree to which the operations on a hive of some changes lead, one after another, each at its change's moment.
+///
+/// Refused with `JournalDamaged` exactly where one isn't legal in its turn, also since it opens a key that is there; and with
+/// `NoMemory`.
+pub(crate) fn replayed(
+    alloc: Global,
+    tree: Tree,
+    hive: u8,
+    changes: &[EncodedChange],
+) -> Result<Tree, Refusal>
+    ensures made { IfOk result (λ made.
+        replay tree_rules (ops_on hive (timed_elements changes.now)) tree ≡ Some made) }
+    ensures fails { IfErr result (RefusedFor JournalDamaged
+        (replay tree_rules (ops_on hive (timed_elements changes.now)) tree ≡ None)) }
+{
+    let mut made = tree;
+    for change in changes {
+        made = after_change(alloc, made, hive, change)?;
+    }
+    Ok(made)
+}
+
+// the tree after the operations on a hive of a change, of which only these are read
+fn after_change(
+    alloc: Global,
+    tree: Tree,
+    hive: u8,
+    change: &EncodedChange,
+) -> Result<Tree, Refusal>
+    ensures made { IfOk result (λ made.
+        replay tree_rules (on_hive hive (timed_element change.now)) tree ≡ Some made) }
+    ensures fails { IfErr result (RefusedFor JournalDamaged
+        (replay tree_rules (on_hive hive (timed_element change.now)) tree ≡ None)) }
+{
+    // that a change is elsewhere is told sooner by its hives alone
+    if !change.is_on(hive) {
+        return Ok(tree);
+    }
+    let ops = change.ops_on(alloc, hive)?;
+    after_ops(alloc, tree, hive, &ops, change.moment())
+}
+
+// the tree after the operations on a hive among some, at one moment
+fn after_ops(alloc: Global, tree: Tree, hive: u8, ops: &[Op], moment: u64) -> Result<Tree, Refusal>
+    ensures made { IfOk result (λ made.
+        replay tree_rules (on_hive hive (map (timed moment) ops.now)) tree ≡ Some made) }
+    ensures fails { IfErr result (RefusedFor JournalDamaged
+        (replay tree_rules (on_hive hive (map (timed moment) ops.now)) tree ≡ None)) }
+{
+    let mut made = tree;
+    for op in ops {
+        if op.hive() == hive {
+            made = after_op(alloc, &made, op, moment)?;
+        }
+    }
+    Ok(made)
+}
+
+// the tree after an operation that is legal there
+fn after_op(alloc: Global, tree: &Tree, op: &Op, moment: u64) -> Result<Tree, Refusal>
+    ensures made { IfOk result (λ made. (tree_rules.legal (moment, op.now) tree.now ≡ true)
+        × (made ≡ tree_rules.apply (moment, op.now) tree.now)) }
+    ensures fails { IfErr result (RefusedFor JournalDamaged
+        (tree_rules.legal (moment, op.now) tree.now ≡ false)) }
+{
+    match tree.write(alloc, op, moment) {
+        Ok(Some(made)) => Ok(made),
+        Ok(None) => Err(Refusal::JournalDamaged),
+        Err(why) => Err(as_journal_damage(why)),
+    }
+}
+
+// why a journal with a change that is refused so is: want of memory stays
+fn as_journal_damage(why: Refusal) -> Refusal
+    ensures memory { why ≡ NoMemory → result ≡ NoMemory }
+    ensures either { (result ≡ NoMemory) ⊎ (result ≡ JournalDamaged) }
+{
+    if why == Refusal::NoMemory {
+        return why;
+    }
+    Refusal::JournalDamaged
+}

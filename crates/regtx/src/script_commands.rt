@@ -1,0 +1,217 @@
+//! What the words `play`, `lab`, `sweep` and `run` do with files: the script, and the folder of the store that `run` works on.
+//!
+//! What is run and told is left to `script_runner`, `crash_lab` and `crash_sweep`. Of the files of a store it is trusted that they are
+//! what they answer, and that the system keeps what it has synced: then what is proved of runs over any disk holds of them.
+use crate::command_error::CommandError;
+use crate::files::{Source, Trouble};
+use crate::hint::Hint;
+use crate::terminal::{TerminalOutput, end, length_of, reading};
+use crash_lab::lab;
+use crash_sweep::sweep;
+use disk_model::Disk;
+use file_disk::{FileDisk, Unknown};
+use progress_line::{Moved, ProgressLine, WatchedDisk, WatchedReader, Work, WorkStage};
+use refusals::Refusal;
+use script_runner::{play, refuse_script, run, run_unread};
+use script_syntax::Status;
+use std::alloc::Global;
+use std::fs::File;
+use std::io::{self, BufReader, BufWriter, Eprint, LineWriter, Read, Write};
+use std::rt::Files;
+use std::time::Clock;
+
+/// What is done with a script over a store in memory.
+#[derive(Clone, Copy, PartialEq, Eq)]
+pub enum InMemory {
+    /// It is played.
+    Play,
+    /// It is run in the laboratory.
+    Lab,
+    /// Power cuts are swept over its run.
+    Sweep,
+}
+
+impl InMemory {
+    // what a line tells of
+    fn work(self) -> Work {
+        match self {
+            InMemory::Play => Work::Play,
+            InMemory::Lab => Work::Lab,
+            InMemory::Sweep => Work::Sweep,
+        }
+    }
+
+    // does it, reading the script's lines and writing what is told; the answer within tells of writes that failed
+    fn carry_out<'b, T: Read + Drop, W: Write>(
+        self,
+        alloc: Global,
+        script: T,
+        writer: &mut W,
+    ) -> Result<io::Result<Status>, CommandError<'b>> {
+        let mut reader = BufReader::new(alloc, script)?;
+        Ok(match self {
+            InMemory::Play => play(alloc, &mut reader, writer),
+            InMemory::Lab => lab(alloc, &mut reader, writer),
+            InMemory::Sweep => sweep(alloc, &mut reader, writer),
+        })
+    }
+}
+
+/// Does this with the script of a path.
+pub fn play_script<'a, R: Files + Print + Eprint + Clock + AllocGlobal>(
+    rt: &R,
+    output: TerminalOutput,
+    how: InMemory,
+    script: &'a str,
+) -> Result<Status, CommandError<'a>> {
+    let alloc = rt.alloc();
+    let played = if how != InMemory::Sweep && is_plain_file(rt, script) {
+        let mut writer = BufWriter::new(alloc, io::writer(rt))?;
+        play_file(rt, output, how, script, &mut writer)?
+    } else {
+        // whoever sends the script may wait for a reply before the next line, and a row of a sweep takes a while: each line leaves
+        // as soon as it is made
+        let mut writer = LineWriter::new(alloc, io::writer(rt))?;
+        play_file(rt, output, how, script, &mut writer)?
+    };
+    Ok(output.status(rt, played))
+}
+
+/// Runs the script of this path over the store in a folder, which no other program has until this ends.
+pub fn run_script<'a, R: Files<File = File> + Print + Eprint + Clock + AllocGlobal>(
+    rt: &R,
+    output: TerminalOutput,
+    folder: &'a str,
+    script: &'a str,
+) -> Result<Status, CommandError<'a>> {
+    let alloc = rt.alloc();
+    let disk = store_in(rt, folder)?;
+    let ran = if is_plain_file(rt, script) {
+        let mut writer = BufWriter::new(alloc, io::writer(rt))?;
+        run_file(rt, output, (folder, disk), script, &mut writer)?
+    } else {
+        let mut writer = LineWriter::new(alloc, io::writer(rt))?;
+        run_file(rt, output, (folder, disk), script, &mut writer)?
+    };
+    Ok(output.status(rt, ran))
+}
+
+// says what the system refused of a store, or else what of it isn't there if a refusal was printed
+fn hint_at<R: Files<File = File> + Eprint + AllocGlobal>(
+    rt: &R,
+    output: TerminalOutput,
+    folder: &str,
+    disk: &FileDisk<&R, Unknown>,
+    ran: &io::Result<Status>,
+) {
+    if let Some(denial) = disk.denial() {
+        output.hint(rt, Hint::of_denial(folder, Some(denial)));
+    } else if !matches!(ran, Ok(Status::Clean)) {
+        output.hint(rt, Hint::of_absence(folder, disk));
+    }
+}
+
+// the files of the store in a folder, as a disk
+fn store_in<'a, 'b, R: Files<File = File> + AllocGlobal>(
+    rt: &'b R,
+    folder: &'a str,
+) -> Result<FileDisk<&'b R, Unknown>, CommandError<'a>> {
+    match FileDisk::open_locked(rt, rt.alloc(), folder) {
+        Ok(disk) => Ok(disk),
+        Err(lock_error) => match Hint::of_lock_error(folder, &lock_error) {
+            Some(hint) => Err(CommandError::CannotOpenStore(hint)),
+            None => Err(CommandError::Refused(Refusal::NoMemory)),
+        },
+    }
+}
+
+// whether reading the script waits for nobody, as that of a plain file
+fn is_plain_file<R: Files>(rt: &R, script: &str) -> bool {
+    length_of(rt, script).is_some()
+}
+
+// does this with the script; the answer within tells of writes that failed
+fn play_file<'a, R: Files + Eprint + Clock + AllocGlobal, W: Write>(
+    rt: &R,
+    output: TerminalOutput,
+    how: InMemory,
+    script: &'a str,
+    writer: &mut W,
+) -> Result<io::Result<Status>, CommandError<'a>> {
+    let file = match File::open(rt, script) {
+        Ok(file) => file,
+        Err(error) => {
+            let told = refuse_script(writer);
+            output.hint(rt, Some(Hint::denied(script, error)));
+            return Ok(told);
+        }
+    };
+    let trouble = Trouble::new(None);
+    let line = output.line(rt, reading(rt, how.work(), script));
+    let source = WatchedReader::new(Source::new(file, &trouble), line.as_ref(), None);
+    let played = how.carry_out(rt.alloc(), source, writer);
+    end(line);
+    hint_unread(rt, output, script, &trouble);
+    played
+}
+
+// says why a script can't be read on, if it can't
+fn hint_unread<R: Eprint + AllocGlobal>(
+    rt: &R,
+    output: TerminalOutput,
+    script: &str,
+    trouble: &Trouble,
+) {
+    if let Some(error) = trouble.get() {
+        output.hint(rt, Some(Hint::denied(script, error)));
+    }
+}
+
+// runs the script over the store in a folder; the answer within tells of writes that failed
+fn run_file<'a, 'b, R: Files<File = File> + Eprint + Clock + AllocGlobal, W: Write>(
+    rt: &'b R,
+    output: TerminalOutput,
+    store: (&'a str, FileDisk<&'b R, Unknown>),
+    script: &'a str,
+    writer: &mut W,
+) -> Result<io::Result<Status>, CommandError<'a>> {
+    let (folder, mut disk) = store;
+    let opening = WorkStage {
+        work: Work::Opening,
+        whole: Some(disk.store_bytes()),
+    };
+    let trouble = Trouble::new(None);
+    let line = output.line(rt, opening);
+    let ran = run_watched(rt, disk, script, &trouble, line.as_ref(), writer);
+    end(line);
+    let (disk, ran) = ran?;
+    hint_at(rt, output, folder, &disk, &ran);
+    hint_unread(rt, output, script, &trouble);
+    Ok(ran)
+}
+
+// the same, telling of it where there is a line for that
+fn run_watched<'a, R: Files + Eprint + Clock + AllocGlobal, D: Disk + Drop, W: Write>(
+    rt: &R,
+    disk: D,
+    script: &'a str,
+    trouble: &Trouble,
+    line: Option<&ProgressLine<'_, R>>,
+    writer: &mut W,
+) -> Result<(D, io::Result<Status>), CommandError<'a>> {
+    let alloc = rt.alloc();
+    let disk = WatchedDisk::new(disk, Moved::Read, line);
+    let (disk, ran) = match File::open(rt, script) {
+        Ok(file) => {
+            let source = Source::new(file, trouble);
+            let source = WatchedReader::new(source, line, Some(reading(rt, Work::Run, script)));
+            let mut reader = BufReader::new(alloc, source)?;
+            run(alloc, disk, &mut reader, writer)
+        }
+        Err(error) => {
+            trouble.set(Some(error));
+            run_unread(alloc, disk, writer)
+        }
+    };
+    Ok((disk.into_disk(), ran))
+}

@@ -1,5 +1,0 @@
-use Rattle.script_runner.proofs.Begun.{begun}
-use Rattle.script_runner.proofs.player.Player.new.Goals as goal
-
-pub returns-clause-script : goal.returns-clause-script
-returns-clause-script g c = begun c.args.engine.machine c.new.result c.new.ensures

@@ -1,0 +1,25 @@
+use Rattle.std.proofs.Common.{◌≡◌, ◌<◌, ◌∙◌, ℕ, List, true, sym, subst, arith}
+use Rattle.std.proofs.lemmas.Bool.{true≢false}
+use Rattle.reg_tree.specs.Maps.{TreeMap}
+use Rattle.commit_journal.specs.Store.{Store}
+use Rattle.recovery.specs.Shown.{store_of}
+use Rattle.script_runner.specs.Running.{HasLived}
+use Rattle.script_runner.proofs.Ran.{found_lives}
+use Rattle.script_runner.proofs.store_opening.repaired.Goals as goal
+
+pub returns-in-Err-clause-left : goal.returns-in-Err-clause-left
+returns-in-Err-clause-left g c =
+    let D = g.D.Disk in
+    let first = c.args.opened in
+    let last = c.repair.new.opened in
+    let inv = c.loop-opened.invariant in
+    let same = c.in-Err.ensures.same in
+    let kept = c.keeps_what_was_found.ensures in
+    let end = D.state_at last.disk (D.clock last.disk) in
+    let failed = D.failures first.disk < D.failures last.disk in
+    let rose : failed = omega (arith, inv.5, c.in-Err.ensures.err.1) in
+    subst (λ d. D.faithful d → HasLived (D.failures first.disk < D.failures d) (store_of first) first.found.number first.found.trees (D.state_at d (D.clock d))) (sym c.into_disk.ensures)
+    (λ f. subst (λ (s : Store). HasLived failed s first.found.number first.found.trees end) (same.2 ∙ inv.3)
+    (subst (λ (n : ℕ). HasLived failed (store_of last) n first.found.trees end) (same.0 ∙ inv.1)
+    (subst (λ (ts : List TreeMap). HasLived failed (store_of last) last.found.number ts end) (same.1 ∙ inv.2)
+    (found_lives failed true (store_of last) last.found.number last.found.trees end kept.many (kept.crash f) (λ e. absurd (true≢false e)) (λ e. rose)))))

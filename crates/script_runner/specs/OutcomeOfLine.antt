@@ -1,0 +1,28 @@
+-- One turn of a script's run.
+use Rattle.std.specs.Prelude.{◌≡◌, ℕ, List, ◌∷◌, Option, Some, IfSome}
+use Rattle.std.specs.Io.KnownBytes.{Appends}
+use Rattle.script_syntax.specs.Replies.{reply_line}
+use Rattle.script_syntax.specs.declared.line.Line.{Line}
+use Rattle.script_syntax.specs.declared.reply.ReplyLine.{ReplyLine}
+use Rattle.script_runner.specs.Scripts.{Script, Answers, line_asked}
+use Rattle.script_runner.specs.Plays.{lines_of, is_refusal, IsPlayedOn, MayReply}
+use Rattle.script_runner.specs.declared.runner.LineOutcome.{LineOutcome}
+use Rattle.script_runner.specs.declared.background_work.FlushPolicy.{FlushPolicy}
+use Rattle.script_runner.specs.declared.background_work.FlushPolicy.TheVariants.{WhenHalfFull}
+use Rattle.script_syntax.specs.declared.status.Status.{Status}
+use Rattle.script_runner.specs.declared.runner.LineOutcome.TheVariants.{Replied, Over}
+
+-- where the bytes are known, the first line was taken of them
+abbrev pub TakesLine : Option (List ℕ) → Option (List ℕ) → List ℕ → Type 0
+TakesLine known rest line = IfSome known (λ bytes. (left : List ℕ) × (rest ≡ Some left) × (lines_of bytes ≡ line ∷ lines_of left))
+
+-- A run over a store that frees its room leaves the script as it is then; of one in memory nothing is asked any more.
+abbrev pub IsPlayedTo : FlushPolicy → Script → ℕ → Option (List ℕ) → Option (List ℕ) → Option (List ℕ) → Status → Script → Type 0
+IsPlayedTo policy old number known before after status new = (end : Script) × IsPlayedOn policy old number known before after status end × (policy ≡ WhenHalfFull → new ≡ end)
+
+-- a line was answered, or the run is over
+abbrev pub OutcomeOfLine : FlushPolicy → Script → ℕ → Option (List ℕ) → Option (List ℕ) → LineOutcome → Script → Option (List ℕ) → Option (List ℕ) → Type 0
+OutcomeOfLine policy old number known before (Over status) new rest after = IsPlayedTo policy old number known before after status new
+OutcomeOfLine policy old number known before (Replied refused) new rest after =
+    (line : List ℕ) × (asked : Line) × (reported : ReplyLine) × TakesLine known rest line × (line_asked line ≡ Some asked) × Answers old asked reported new
+    × Appends before after (reply_line reported) × (refused ≡ is_refusal reported) × MayReply policy reported

@@ -1,0 +1,103 @@
+//! Making a store of trees, and telling whether it is made.
+ghost use Rattle.std.specs.Prelude.{◌≡◌, ◌<◌, ◌≤◌, List, length, replicate, IfOk, IfErr, OnOk, MatchResult, Ok, Err, Result};
+ghost use Rattle.refusals.specs.declared.limits.TheConstants.{MOST_HIVES};
+ghost use Rattle.refusals.specs.declared.refusal.Refusal.{Refusal};
+ghost use Rattle.refusals.specs.declared.refusal.Refusal.TheVariants.{NoMemory};
+ghost use Rattle.reg_tree.specs.Fresh.{fresh_tree};
+ghost use Rattle.reg_tree.specs.Maps.{TreeMap};
+ghost use Rattle.hive_files.specs.Frames.{TouchesOwnFiles};
+ghost use Rattle.recovery.specs.Created.{IsOfStore, IsRefusedFor};
+ghost use Rattle.store_create.specs.Creations.{IsNewStore, IsNotMade, OutcomeIsWritten};
+
+use disk_model::Disk;
+use recovery::create;
+use refusals::Refusal;
+use reg_tree::Trees;
+use script_syntax::{ReplyLine, Status};
+use std::alloc::Global;
+use std::io;
+use std::io::Write;
+use uuid::Uuid;
+
+/// Makes a store of so many empty hives, 1 to 16, under an id, and writes whether it is made: `ok`, or the refusal's line. Answers
+/// the status. Each hive has a root without a name, values and subkeys. Whatever the store's files held is gone.
+///
+/// Refused, in the text, with `NoMemory`: nothing has changed on the disk then; and with `DiskFault` where the device failed:
+/// nothing is said of the store's files then. `Err` says that a write to the writer failed; of the disk the same holds then.
+pub fn make_new<D: Disk, W: Write>(
+    alloc: Global,
+    disk: &mut D,
+    id: Uuid,
+    hives: usize,
+    writer: &mut W,
+) -> io::Result<Status>
+    requires some { 1 ≤ hives }
+    requires few { hives ≤ MOST_HIVES }
+    ensures made { (outcome : Result (List TreeMap) Refusal)
+        × IfOk result (OutcomeIsWritten (W.contents writer.old) (W.contents writer.new) outcome)
+        × MatchResult outcome
+        (λ trees. (trees ≡ replicate hives fresh_tree) × (D.faithful disk.new →
+        IsNewStore id trees (D.state_at disk.new (D.clock disk.new))))
+        (IsNotMade (D.failures disk.old < D.failures disk.new) (disk.new ≡ disk.old)
+        (λ why. why ≡ NoMemory)) }
+    ensures stays { TouchesOwnFiles (IsOfStore hives) (D.state_at disk.old) (D.state_at disk.new)
+        (D.clock disk.old) (D.clock disk.new) }
+    ensures faithful { D.faithful disk.new → D.faithful disk.old }
+{
+    let made = make_fresh(alloc, disk, id, hives);
+    write_outcome(writer, made)
+}
+
+// makes a store of so many empty hives
+fn make_fresh<D: Disk>(alloc: Global, disk: &mut D, id: Uuid, hives: usize) -> Result<(), Refusal>
+    requires some { 1 ≤ hives }
+    requires few { hives ≤ MOST_HIVES }
+    ensures made { OnOk result (D.faithful disk.new →
+        IsNewStore id (replicate hives fresh_tree) (D.state_at disk.new (D.clock disk.new))) }
+    ensures refused { IfErr result (IsNotMade (D.failures disk.old < D.failures disk.new)
+        (disk.new ≡ disk.old) (λ why. why ≡ NoMemory)) }
+    ensures stays { TouchesOwnFiles (IsOfStore hives) (D.state_at disk.old) (D.state_at disk.new)
+        (D.clock disk.old) (D.clock disk.new) }
+    ensures faithful { D.faithful disk.new → D.faithful disk.old }
+{
+    let trees = Trees::new(alloc, hives)?;
+    make_store(alloc, disk, id, &trees)
+}
+
+/// Makes a store of trees. Refused as [`recovery::create`] is.
+pub(crate) fn make_store<D: Disk>(
+    alloc: Global,
+    disk: &mut D,
+    id: Uuid,
+    trees: &Trees,
+) -> Result<(), Refusal>
+    requires few { length trees.now ≤ MOST_HIVES }
+    ensures made { OnOk result (D.faithful disk.new →
+        IsNewStore id trees.now (D.state_at disk.new (D.clock disk.new))) }
+    ensures refused { IfErr result (IsNotMade (D.failures disk.old < D.failures disk.new)
+        (disk.new ≡ disk.old) (IsRefusedFor trees.now)) }
+    ensures stays { TouchesOwnFiles (IsOfStore (length trees.now)) (D.state_at disk.old)
+        (D.state_at disk.new) (D.clock disk.old) (D.clock disk.new) }
+    ensures faithful { D.faithful disk.new → D.faithful disk.old }
+{
+    create(alloc, disk, id, trees)
+}
+
+/// Writes whether a store was made, and answers the status. The line leaves at once. It takes no memory.
+pub(crate) fn write_outcome<W: Write>(
+    writer: &mut W,
+    made: Result<(), Refusal>,
+) -> io::Result<Status>
+    ensures outcome { IfOk result (λ status. MatchResult made
+        (λ _. (trees : List TreeMap) →
+        OutcomeIsWritten (W.contents writer.old) (W.contents writer.new) (Ok trees) status)
+        (λ why. OutcomeIsWritten (W.contents writer.old) (W.contents writer.new) (Err why) status)) }
+{
+    let (reply, status) = match made {
+        Ok(()) => (ReplyLine::Done, Status::Clean),
+        Err(refusal) => (ReplyLine::Refused { refusal }, Status::Refused),
+    };
+    reply.write(writer)?;
+    writer.flush()?;
+    Ok(status)
+}

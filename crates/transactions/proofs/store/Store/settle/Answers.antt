@@ -1,5 +1,0 @@
-use Rattle.std.proofs.Common.{rules}
-use Rattle.transactions.proofs.store.Store.settle.Goals as goal
-
-pub returns-clause-machine : goal.returns-clause-machine
-returns-clause-machine c = search rules
