@@ -7,7 +7,7 @@ ghost use Rattle.commit_journal.specs.Encoding.{body_bytes};
 ghost use Rattle.commit_journal.specs.Handed.{IsShort, FitsIfThere, body_len, IsLongestPrefix};
 ghost use Rattle.commit_journal.specs.declared.layout.TheConstants.{MOST_BODY_BYTES};
 
-use crate::layout::MOST_BODY_BYTES;
+use crate::layout::{HEAD_BYTES, MOST_BODY_BYTES};
 use change_codec::{EncodedChange, put_u32, put_u64};
 use std::alloc::{AllocError, Global};
 
@@ -25,7 +25,7 @@ pub(crate) fn longest_prefix(handed: &[EncodedChange]) -> Prefix
     ensures size { result.size ≡ body_len (take result.count handed.now) }
     ensures some { 0 < length handed.now → 0 < result.count }
 {
-    let mut size = 16;
+    let mut size = HEAD_BYTES;
     for (count, element) in handed.iter().enumerate() {
         let more = element.text_len();
         if more > MOST_BODY_BYTES - size {

@@ -6,6 +6,7 @@ ghost use Rattle.commit_journal.specs.GhostLog.{logged_changes, logged_elements,
 ghost use Rattle.commit_journal.specs.Extent.{ExtentMatches};
 
 use crate::ghost_log::GhostLog;
+use crate::layout::{ELEMENT_ROOM, EMPTY_ROOM, FIRST_GATE, HEAD_BYTES};
 use crate::reader::PartialBody;
 use change_codec::EncodedChange;
 
@@ -36,10 +37,10 @@ impl Extent {
         ensures gate { result.gate ≡ 64 }
     {
         Extent {
-            gate: 64,
+            gate: FIRST_GATE,
             below: 0,
             last: 0,
-            used: 65,
+            used: EMPTY_ROOM,
             ghost_log: GhostLog::Nothing,
         }
     }
@@ -68,7 +69,7 @@ impl Extent {
                 self.below
             },
             last: first - 1 + count,
-            used: self.used + 17 * count + (size - 16),
+            used: self.used + ELEMENT_ROOM * count + (size - HEAD_BYTES),
             ghost_log,
         }
     }
@@ -103,7 +104,7 @@ impl Extent {
                 self.below
             },
             last: partial_body.first - 1 + count,
-            used: self.used + 17 * count + (partial_body.size - 16),
+            used: self.used + ELEMENT_ROOM * count + (partial_body.size - HEAD_BYTES),
             ghost_log,
         }
     }

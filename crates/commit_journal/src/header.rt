@@ -4,6 +4,7 @@ ghost use Rattle.refusals.specs.Answers.{RefusedFor};
 ghost use Rattle.refusals.specs.declared.refusal.Refusal.TheVariants.{JournalDamaged};
 ghost use Rattle.commit_journal.specs.Store.{Store, IsStore, header_bytes};
 
+use crate::layout::{EMPTY_ROOM, HEADER_BYTES, HIVES_AT, ID_AT};
 use byteorder::{ByteOrder, LittleEndian};
 use change_codec::put_u32;
 use refusals::Refusal;
@@ -22,7 +23,7 @@ pub(crate) fn encode(alloc: Global, id: Uuid, hives: u8) -> Result<Vec<u8>, Allo
     ensures { IfOk result (λ header. header.items
         ≡ header_bytes (record { id = id; hives = hives })) }
 {
-    let mut header = Vec::with_capacity(alloc, 65)?;
+    let mut header = Vec::with_capacity(alloc, EMPTY_ROOM as usize)?;
     header.extend_from_slice(MAGIC)?;
     header.extend_from_slice(id.as_bytes())?;
     put_u32(&mut header, u32::from(hives))?;
@@ -40,16 +41,16 @@ pub(crate) fn decode(alloc: Global, bytes: &[u8]) -> Result<(Uuid, u8), Refusal>
         (RefusedFor JournalDamaged ((store : Store) → IsStore store →
         ¬ (take 64 bytes.now ≡ header_bytes store))) }
 {
-    let hives = LittleEndian::read_u32(&bytes[24..]);
+    let hives = LittleEndian::read_u32(&bytes[HIVES_AT..]);
     if hives == 0 || hives > MOST_HIVES as u32 {
         return Err(Refusal::JournalDamaged);
     }
     let hives = hives as u8;
     let mut id = [0; 16];
-    id.copy_from_slice(&bytes[8..24]);
+    id.copy_from_slice(&bytes[ID_AT..HIVES_AT]);
     let id = Uuid::from_bytes(id);
     let header = encode(alloc, id, hives)?;
-    if bytes[..64] != header[..] {
+    if bytes[..HEADER_BYTES] != header[..] {
         return Err(Refusal::JournalDamaged);
     }
     Ok((id, hives))

@@ -22,6 +22,7 @@ ghost use Rattle.commit_journal.specs.declared.reader.NextField.TheVariants as n
 use crate::buffer::ReadBuffer;
 use crate::journal::Journal;
 use crate::last_changes::LastChangePerHive;
+use crate::layout::HEADER_BYTES;
 use crate::reader::Reader;
 use crate::retention::Retention;
 use crate::{device, header};
@@ -54,9 +55,6 @@ pub struct StoreHeader {
     /// Its number of hives.
     pub hives: u8,
 }
-
-/// The bytes of a header.
-const HEADER_BYTES: usize = 64;
 
 impl Journal {
     /// Whose journal the file is: its header alone is read.

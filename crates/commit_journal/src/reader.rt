@@ -12,19 +12,16 @@ ghost use Rattle.commit_journal.specs.Store.{encodings};
 ghost use Rattle.commit_journal.specs.GhostLog.{logged_changes};
 
 use crate::extent::Extent;
-use crate::layout::{MOST_BODY_BYTES, OPEN_GATE};
+use crate::layout::{
+    COUNT_AT, ELEMENT_ROOM, FIRST_NUMBER_AT, HEAD_BYTES, LEAST_ELEMENT_BYTES, LENGTH_BYTES,
+    MOST_BODY_BYTES, OPEN_GATE,
+};
 use crate::retention::Retention;
 use byteorder::{ByteOrder, LittleEndian};
 use change_codec::EncodedChange;
 use refusals::Refusal;
 use refusals::limits::GREATEST_NUMBER;
 use std::alloc::Global;
-
-/// The bytes of a body before its elements.
-const HEAD_BYTES: u64 = 16;
-
-/// The bytes of an element before its operations: none is shorter.
-const LEAST_ELEMENT_BYTES: u64 = 16;
 
 /// No journal has so much room: each byte of it is in memory once it is read.
 const MOST_ROOM: u64 = 1 << 63;
@@ -113,8 +110,8 @@ impl Reader {
     {
         match self.next {
             NextField::Gate => 1,
-            NextField::Head => 16,
-            NextField::Size(_) => 4,
+            NextField::Head => HEAD_BYTES as usize,
+            NextField::Size(_) => LENGTH_BYTES,
             NextField::Encoding(_, len) => len,
             NextField::Done => 0,
         }
@@ -151,7 +148,7 @@ impl Reader {
             }
             NextField::Head => {
                 self.head(bytes, left)?;
-                Ok(16)
+                Ok(HEAD_BYTES as usize)
             }
             NextField::Size(partial_body) => self.size(partial_body, bytes),
             NextField::Encoding(partial_body, len) => self.sized_element(partial_body, len, bytes),
@@ -206,8 +203,8 @@ impl Reader {
             decoded (encodings_for id self.old) file ≡ None)) }
     {
         let size = u64::from(LittleEndian::read_u32(bytes));
-        let first = LittleEndian::read_u64(&bytes[4..]);
-        let count = u64::from(LittleEndian::read_u32(&bytes[12..]));
+        let first = LittleEndian::read_u64(&bytes[FIRST_NUMBER_AT..]);
+        let count = u64::from(LittleEndian::read_u32(&bytes[COUNT_AT..]));
         if size < HEAD_BYTES || size > MOST_BODY_BYTES || size > left {
             return Err(Refusal::JournalDamaged);
         }
@@ -294,7 +291,7 @@ impl Reader {
             return Err(Refusal::JournalDamaged);
         }
         let count = self.retention.last + 1 - partial_body.first;
-        let room = 17 * count + (partial_body.size - HEAD_BYTES);
+        let room = ELEMENT_ROOM * count + (partial_body.size - HEAD_BYTES);
         if self.on_device.used >= MOST_ROOM || room >= MOST_ROOM - self.on_device.used {
             return Err(Refusal::NoMemory);
         }
@@ -468,7 +465,7 @@ impl PartialBody {
         ensures { IfSome result (λ len. IsNext self.now len × ((len ≤ length bytes.now) ×
             (little_number 4 bytes.now ≡ len))) }
     {
-        if self.count == 0 || bytes.len() < 4 {
+        if self.count == 0 || bytes.len() < LENGTH_BYTES {
             return None;
         }
         let len = u64::from(LittleEndian::read_u32(bytes));

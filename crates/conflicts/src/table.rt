@@ -230,7 +230,7 @@ impl ClaimTable {
     pub fn owners_dont_conflict(&self)
         ensures { OwnersDontConflict self.now }
     {
-        let _ = &self.added;
+        let _ = &self.added; // for the prover
     }
 
     /// Drops all claims of a transaction. Takes no memory.

@@ -46,7 +46,7 @@ impl Laboratory {
         let device = Device::new(alloc)?;
         match begin_on(alloc, bytes, device.plan()?)? {
             Some(engine) => {
-                engine.keeps_a_prefix();
+                engine.keeps_a_prefix(); // for the prover
                 let interpreter = Interpreter::new(alloc, engine);
                 Ok(Some(Laboratory {
                     alloc,

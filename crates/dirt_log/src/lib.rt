@@ -7,13 +7,12 @@
 #![tactic(auto)]
 
 mod file_contents;
+pub mod laws;
 mod pages;
 mod prefixes;
 mod reader;
 mod repair;
 mod steps;
 
-pub use file_contents::{clean_primary_decides, log_repairs};
-pub use prefixes::{log_prefix_decides, repair_prefix_decides};
 pub use reader::{DirtLog, read};
 pub use steps::{CHUNK_BYTES, LogSteps, write_steps};

@@ -54,7 +54,7 @@ pub fn write_steps<'a>(image: &'a [u8], vector: &'a DirtyVector, base: &BaseBloc
         LogDecodesTo result (block_as_read base.now) vector.now (pages_from image.now vector.now 0) }
 {
     // a law: it does nothing
-    vector.bitmap_round_trip();
+    vector.bitmap_round_trip(); // for the prover
     let block = BaseBlock {
         file_type: FileType::LOG,
         ..*base

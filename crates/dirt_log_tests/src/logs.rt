@@ -3,7 +3,7 @@ use crate::fixtures::{
     BAD_LOG, Span, block_of, fill_page, filled, joined, marked, numbered, one_chunk, steps_of,
 };
 use base_block::{BaseBlock, SequenceNumber};
-use dirt_log::{CHUNK_BYTES, LogSteps, clean_primary_decides, read};
+use dirt_log::{CHUNK_BYTES, LogSteps, read};
 use refusals::Refusal;
 use std::alloc::{AllocError, Global};
 use std::test::Fail;
@@ -108,7 +108,7 @@ fn short(alloc: Global) -> Result<Vec<u8>, AllocError> {
 
 // the law says nothing when it is run
 fn law() {
-    clean_primary_decides();
+    dirt_log::laws::clean_primary_decides();
 }
 
 #[test]

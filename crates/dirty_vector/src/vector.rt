@@ -195,7 +195,7 @@ impl DirtyVector {
             (bitmap_of (is_dirty self.now) (self.now.bins_size / 4096)) ≡ Ok self.now }
     {
         // the law follows from what every vector keeps
-        let _size = self.bins_size;
+        let _size = self.bins_size; // for the prover
     }
 
     /// The vector of bins data of a size whose bitmap this is. Refused as [`DirtyVector::new`] is.

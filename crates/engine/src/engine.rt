@@ -25,10 +25,6 @@ ghost use Rattle.std.specs.Option.{option_map};
 
 use crate::parts::Parts;
 use disk_model::Disk;
-use engine_invariant::laws::{
-    crashes_leave_prefixes, openings_begin, quiet_ends_recover, receipts_are_durable,
-};
-use hive_flush::laws::reads_are_honest;
 use recovery::{Opened, RecoveredStore};
 use refusals::Refusal;
 use reg_tree::Trees;
@@ -115,7 +111,7 @@ impl<D: Disk> Engine<D> {
             × (engine.hives ≡ map view_of opened.found.hives.items)) }
         ensures refused { IfErr result (λ back. (back.0 ≡ NoMemory) × (back.1 ≡ opened)) }
     {
-        openings_begin();
+        engine_invariant::laws::openings_begin();
         let (disk, found) = opened.into_parts();
         let Ok(store) = begun(alloc, &found) else {
             return Err((Refusal::NoMemory, Opened::from_parts(disk, found)));
@@ -162,7 +158,7 @@ impl<D: Disk> Engine<D> {
         ensures dropped { self.new.prepared ≡ None }
         ensures faithful { D.faithful self.new.disk → D.faithful self.old.disk }
     {
-        crashes_leave_prefixes();
+        engine_invariant::laws::crashes_leave_prefixes();
         self.prepared = None;
         self.parts.event(event)
     }
@@ -208,7 +204,7 @@ impl<D: Disk> Engine<D> {
         ensures after { D.faithful self.new.disk → IsSafeAt self.old.store
             (D.state_at self.new.disk) (D.clock self.new.disk) self.new.machine }
     {
-        crashes_leave_prefixes();
+        engine_invariant::laws::crashes_leave_prefixes();
         let Some(prepared) = self.prepared.take() else {
             unreachable!();
         };
@@ -238,7 +234,7 @@ impl<D: Disk> Engine<D> {
         ensures store { self.new.store ≡ self.old.store }
         ensures faithful { D.faithful self.new.disk → D.faithful self.old.disk }
     {
-        receipts_are_durable();
+        engine_invariant::laws::receipts_are_durable();
         let replies = self.parts.run(alloc, events)?;
         self.prepared = None;
         Ok(replies)
@@ -250,9 +246,9 @@ impl<D: Disk> Engine<D> {
         ensures { D.faithful self.now.disk → IsSafeAt self.now.store
             (D.state_at self.now.disk) (D.clock self.now.disk) self.now.machine }
     {
-        crashes_leave_prefixes();
+        engine_invariant::laws::crashes_leave_prefixes();
         // what the type keeps is known where a field is looked at
-        let _ = self.parts.store.durable();
+        let _ = self.parts.store.durable(); // for the prover
     }
 
     /// A law: as long as the device hasn't failed, or no flush is on its way, what a read gives of the files is of what a crash may
@@ -272,11 +268,11 @@ impl<D: Disk> Engine<D> {
             (seen_in (D.state_at self.now.disk (D.clock self.now.disk)))
             (last_number self.now.machine) (trees_now self.now.machine) }
     {
-        crashes_leave_prefixes();
-        quiet_ends_recover();
-        reads_are_honest();
+        engine_invariant::laws::crashes_leave_prefixes();
+        engine_invariant::laws::quiet_ends_recover();
+        hive_flush::laws::reads_are_honest();
         // what the type keeps is known where a field is looked at
-        let _ = self.parts.store.durable();
+        let _ = self.parts.store.durable(); // for the prover
     }
 
     /// The trees after all accepted changes.

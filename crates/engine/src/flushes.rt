@@ -18,7 +18,6 @@ ghost use Rattle.store_model.specs.declared.event.Event.TheVariants as Event;
 use crate::parts::Parts;
 use change_codec::EncodedChange;
 use disk_model::{Disk, Progress};
-use engine_invariant::laws::hive_steps_keep;
 use hive_flush::HiveFile;
 use refusals::Refusal;
 
@@ -86,7 +85,7 @@ impl<D: Disk> Parts<D> {
             × OnOk result ((memory_of is).1 ≡ self.old.store.machine.durable) }
         ensures refused { IfErr result (λ why. why ≡ NoMemory) }
     {
-        hive_steps_keep();
+        engine_invariant::laws::hive_steps_keep();
         let durable = self.store.durable();
         let before = self.store.before();
         let retained = self.store.retained();
@@ -135,7 +134,7 @@ impl<D: Disk> Parts<D> {
             (flush_of was) (flush_of is) }
         ensures not_idle { ¬ (result ≡ Ok Progress.Idle) }
     {
-        hive_steps_keep();
+        engine_invariant::laws::hive_steps_keep();
         let come = self.hives[place].step(&mut self.disk);
         self.note_fault(come);
         come

@@ -13,9 +13,6 @@ ghost use Rattle.engine_invariant.specs.Runs.{IsBoundary, RunsSafely};
 ghost use Rattle.recovery.specs.Recovered.{IsRecovered, seen_in};
 ghost use Rattle.engine.specs.Lives.{AreLives, EachLifeContinues, FirstOpensAt, IsLife, IsSafe, Life, Life.Opened, Life.NeverOpened, ReadsSafely};
 
-use engine_invariant::laws::safe_runs_go_on;
-use recovery::laws::one_is_recovered;
-
 /// Of all lives of a store, one after another, each that opens does so at a number and the trees after it of the last one before
 /// that opened: not below what was durable there. A life may end anywhere: within an opening, within a repair, within an event or
 /// between two, by a crash or without one.
@@ -27,7 +24,7 @@ pub fn lives_go_on()
         IsStore store → length machine.opened ≡ store.hives → IsSafe store machine state →
         ReadsSafely store.hives state → AreLives store state lives → EachLifeContinues machine lives }
 {
-    one_is_recovered();
+    recovery::laws::one_is_recovered();
 }
 
 /// Of a store that was made of trees, as `recovery::create` tells it, the first life that opens does so at number 0 and at these
@@ -39,7 +36,7 @@ pub fn made_stores_open_as_made()
         AreLives store state lives →
         FirstOpensAt 0 trees lives × EachLifeContinues (opened_machine (bounds_of trees) trees 0 [] 0) lives }
 {
-    one_is_recovered();
+    recovery::laws::one_is_recovered();
 }
 
 /// Each call says of its life what these lives ask.
@@ -69,5 +66,5 @@ pub fn calls_are_lives()
         IsLife store state (Opened number trees machine (states at)))
         old events replies new moment }
 {
-    safe_runs_go_on();
+    engine_invariant::laws::safe_runs_go_on();
 }

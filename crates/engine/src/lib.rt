@@ -9,7 +9,7 @@ mod engine;
 mod flushes;
 pub mod laws;
 mod parts;
-mod running;
+mod run;
 mod steps;
 mod work;
 

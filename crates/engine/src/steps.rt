@@ -19,14 +19,9 @@ ghost use Rattle.engine.specs.Parts.{IsSound, after_mark_durable};
 
 use crate::parts::Parts;
 use disk_model::{Disk, Progress};
-use engine_invariant::laws::{
-    ended_steps_effects, events_keep, journal_steps_keep, pending_may_be_handed,
-    receipts_are_durable,
-};
 use hive_flush::HiveFile;
 use refusals::Refusal;
 use std::alloc::AllocError;
-use store_model::laws::{only_steps_fail, only_steps_make_durable};
 use store_model::{Event, Reply};
 use transactions::Prepared;
 
@@ -60,9 +55,9 @@ impl<D: Disk> Parts<D> {
             self.old.store.machine self.old.base (changes_of self.old.decoded.value)
             (choice_of self.old.journal) (map view_of self.old.hives.items) }
     {
-        events_keep();
-        only_steps_fail();
-        only_steps_make_durable();
+        engine_invariant::laws::events_keep();
+        store_model::laws::only_steps_fail();
+        store_model::laws::only_steps_make_durable();
         self.store.event(event)
     }
 
@@ -91,8 +86,8 @@ impl<D: Disk> Parts<D> {
         ensures sound { IsSound self.new }
         ensures rest { self.new ≡ record self.old { store = self.new.store } }
     {
-        events_keep();
-        only_steps_make_durable();
+        engine_invariant::laws::events_keep();
+        store_model::laws::only_steps_make_durable();
         self.store.finish(prepared)
     }
 
@@ -119,10 +114,10 @@ impl<D: Disk> Parts<D> {
             (choice_of self.old.journal) }
     {
         self.check_not_faulted()?;
-        pending_may_be_handed();
-        journal_steps_keep();
-        ended_steps_effects();
-        receipts_are_durable();
+        engine_invariant::laws::pending_may_be_handed();
+        engine_invariant::laws::journal_steps_keep();
+        engine_invariant::laws::ended_steps_effects();
+        engine_invariant::laws::receipts_are_durable();
         let durable = self.store.durable();
         let used = self.journal.used();
         let pending = self.store.above(durable);
@@ -142,9 +137,9 @@ impl<D: Disk> Parts<D> {
             (choice_of self.old.journal) (map view_of self.old.hives.items) }
     {
         self.check_not_faulted()?;
-        journal_steps_keep();
-        ended_steps_effects();
-        receipts_are_durable();
+        engine_invariant::laws::journal_steps_keep();
+        engine_invariant::laws::ended_steps_effects();
+        engine_invariant::laws::receipts_are_durable();
         if !self.may_trim() {
             return Ok(Progress::Idle);
         }

@@ -100,7 +100,7 @@ impl Image {
         ensures once { at < length self.now.bytes → LiesInOneTile self.now.bytes at }
         ensures shown { (cells : Cells) × Shows self.now.bytes cells }
     {
-        are_bytes(&self.bytes);
+        are_bytes(&self.bytes); // for the prover
     }
 
     /// The bytes of the data.
@@ -234,7 +234,7 @@ impl Image {
             × UsesSpare self.old self.new)
             (λ refusal. (self.new ≡ self.old) × RoomRefused self.old size refusal) }
     {
-        let _ = &self.bytes;
+        let _ = &self.bytes; // for the prover
         match self.find_free(size) {
             Some(at) => Ok(at),
             None => self.add_bin(size),
@@ -257,7 +257,7 @@ fn size_for(len: usize) -> usize
 fn are_bytes(bytes: &[u8])
     ensures { AllByRecursion (λ b. b < 0x100) bytes.now }
 {
-    let _ = bytes;
+    let _ = bytes; // for the prover
 }
 
 // writes bytes from an offset on

@@ -46,7 +46,7 @@ fn value_cost(value: &Value) -> usize
     requires { CanPut value.now }
     ensures { result ≡ value_cost value.now }
 {
-    let _kind = value.kind;
+    let _kind = value.kind; // for the prover
     let name = stored_len(value.name.units()) as usize;
     cell_cost(RECORD_BYTES + name) + data_cost(value.data.bytes().len())
 }

@@ -22,7 +22,7 @@ pub fn new_cell(image: &mut Image, len: usize) -> Result<u32, Refusal>
 {
     match image.alloc(len) {
         Ok(at) => {
-            image.tiles(0);
+            image.tiles(0); // for the prover
             Ok(at)
         }
         Err(why) => Err(why),

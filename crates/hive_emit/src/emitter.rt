@@ -85,7 +85,7 @@ pub fn emit(alloc: Global, tree: &Tree, least_size: u32) -> Result<Emitted, Refu
     securities.count_all(alloc, root)?;
     let mut encoding = Vec::new(alloc);
     let mut image = room(alloc, securities.cost() + keys_cost(root), least_size)?;
-    image.tiles(0);
+    image.tiles(0); // for the prover
     match securities.put(&mut image, &mut encoding) {
         Ok(()) => {}
         Err(why) => return Err(why),
@@ -94,6 +94,6 @@ pub fn emit(alloc: Global, tree: &Tree, least_size: u32) -> Result<Emitted, Refu
         Ok(at) => at,
         Err(why) => return Err(why),
     };
-    image.tiles(0);
+    image.tiles(0); // for the prover
     Ok(Emitted { image, root: at })
 }

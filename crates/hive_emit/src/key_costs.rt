@@ -24,7 +24,7 @@ fn row_cost(key: &Key) -> usize
     requires fits { row_cost key.now < 2 ^ 32 }
     ensures { result ≡ row_cost key.now }
 {
-    let _time = key.time();
+    let _time = key.time(); // for the prover
     let record = cell_cost(record_len(key.name().units()));
     record + class_cost(key.class().len()) + values_cost(key.values())
 }

@@ -200,7 +200,7 @@ fn put_subkeys(
     ensures uses { OnOk result (Uses image.old.bytes image.new.bytes (below_cost node.now)) }
     ensures stops { IfErr result (WriteRefused image.old.bytes (below_cost node.now)) }
 {
-    let _ = node.key();
+    let _ = node.key(); // for the prover
     let mut cell_offsets = Vec::new(alloc);
     for index in 0..node.subkey_count() {
         let Some(subkey) = node.subkey_at(index) else {
@@ -236,12 +236,12 @@ pub(crate) fn put_key(
     ensures stops { IfErr result (WriteRefused image.old.bytes (keys_cost node.now)) }
 {
     let key = node.key();
-    let _time = key.time();
+    let _time = key.time(); // for the prover
     let at = match new_cell(image, record_len(key.name().units())) {
         Ok(at) => at,
         Err(why) => return Err(why),
     };
-    image.tiles(0);
+    image.tiles(0); // for the prover
     let cell_offsets = match put_subkeys(alloc, image, encoding, securities, node, at) {
         Ok(cell_offsets) => cell_offsets,
         Err(why) => return Err(why),
@@ -252,7 +252,7 @@ pub(crate) fn put_key(
     };
     let security = securities.offset(key.descriptor().bytes());
     let its = key_node_fields(node, parent, security, &own);
-    image.tiles(0);
+    image.tiles(0); // for the prover
     match fill_key(image, encoding, node, at, &its) {
         Ok(()) => Ok(at),
         Err(why) => Err(why),

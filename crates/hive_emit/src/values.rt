@@ -26,7 +26,7 @@ fn put_small(image: &mut Image, encoding: &mut Vec<u8>, value: &Value) -> Result
     ensures uses { OnOk result (Uses image.old.bytes image.new.bytes (value_cost value.now)) }
     ensures stops { IfErr result (WriteRefused image.old.bytes (value_cost value.now)) }
 {
-    let _kind = value.kind;
+    let _kind = value.kind; // for the prover
     encoding.clear();
     put_small_value(encoding, value)?;
     match put_cell(image, encoding, encoding.len()) {
@@ -48,7 +48,7 @@ fn put_large(
     ensures uses { OnOk result (Uses image.old.bytes image.new.bytes (value_cost value.now)) }
     ensures stops { IfErr result (WriteRefused image.old.bytes (value_cost value.now)) }
 {
-    let _kind = value.kind;
+    let _kind = value.kind; // for the prover
     let to = match put_data(alloc, image, encoding, value.data.bytes()) {
         Ok(to) => to,
         Err(why) => return Err(why),

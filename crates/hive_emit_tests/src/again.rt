@@ -23,7 +23,7 @@ pub fn loaded_again(alloc: Global, tree: &Tree, least_size: u32) -> Result<Tree,
         IfErr result (λ why. why ≡ NoMemory) }
 {
     hive_load::laws::refusals_exclude_trees();
-    hive_records::one_tree();
+    hive_records::laws::one_tree();
     let emitted = match emit(alloc, tree, least_size) {
         Ok(emitted) => emitted,
         Err(why) => return Err(why),

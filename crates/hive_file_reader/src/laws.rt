@@ -17,5 +17,5 @@ pub fn one_or_none()
         why ≢ NoMemory → (tree : TreeMap) → FileHoldsHive file tree → ⊥ }
 {
     hive_load::laws::refused_bins_exclude_trees();
-    hive_records::one_tree();
+    hive_records::laws::one_tree();
 }

@@ -15,7 +15,7 @@ pub fn mark_changes(pages: &mut DirtyVector, old: &[u8], new: &[u8])
     ensures marks { ChangesAreMarked old.now pages.old new.now pages.new }
 {
     // a law: bins data are whole pages
-    let _ = pages.bins_size();
+    let _ = pages.bins_size(); // for the prover
     pages.grow(new.len());
     mark_differing(pages, old, new);
 }

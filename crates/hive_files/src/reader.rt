@@ -16,7 +16,7 @@ ghost use Rattle.refusals.specs.Answers.{RefusedFor};
 use crate::contents::HiveContents;
 use crate::files::{BINS_AT, SECTOR_BYTES, log_number, primary_number, read_part};
 use base_block::{BaseBlock, FileType};
-use dirt_log::{DirtLog, log_prefix_decides, repair_prefix_decides};
+use dirt_log::DirtLog;
 use dirty_vector::DirtyVector;
 use disk_model::Disk;
 use refusals::{Cause, Refusal};
@@ -228,8 +228,7 @@ fn read_log(alloc: Global, encoding: &[u8]) -> Result<DirtLog<'_>, Refusal>
     ensures refused { IfErr result (RefusedFor not_whole ((file : List ℕ) →
         encoding.now ≡ take 67126272 file → LogIsWhole file → ⊥)) }
 {
-    // a law: it does nothing
-    log_prefix_decides();
+    dirt_log::laws::log_prefix_decides();
     match dirt_log::read(alloc, encoding) {
         Ok(log) => Ok(log),
         Err(why) => Err(why),
@@ -249,8 +248,7 @@ fn repaired(log: DirtLog<'_>, bins: Vec<u8>) -> Result<HiveContents, Refusal>
         bins.items ≡ take log.entry.vector.bins_size (drop 4096 primary) →
         LogCoversPrimary primary file → ⊥)) }
 {
-    // a law: it does nothing
-    repair_prefix_decides();
+    dirt_log::laws::repair_prefix_decides();
     let mut bins = bins;
     match log.apply_to(&mut bins) {
         Ok(()) => {}

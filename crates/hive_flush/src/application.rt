@@ -18,10 +18,8 @@ use base_block::{AppliedNumber, BaseBlock};
 use change_codec::EncodedChange;
 use hive_emit::{Emitted, emit};
 use hive_files::mark_changes;
-use hive_records::one_tree;
 use refusals::Refusal;
 use reg_tree::Tree;
-use reg_tree::laws::{trees_stay, weights_stay};
 use std::alloc::Global;
 
 impl HiveFile {
@@ -60,7 +58,7 @@ impl HiveFile {
         ensures whole { HiveIsRepaired self.new }
         ensures sound { IsBroken self.new → IsBroken self.old }
     {
-        legal_is_light(&self.tree);
+        legal_is_light(&self.tree); // for the prover
         let hive = self.writer.hive;
         let tree = replayed(alloc, self.tree.clone()?, hive, first)?;
         let tree = replayed(alloc, tree, hive, then)?;
@@ -90,7 +88,7 @@ impl HiveFile {
         ensures whole { HiveIsRepaired self.new }
         ensures sound { IsBroken self.new → IsBroken self.old }
     {
-        one_tree();
+        hive_records::laws::one_tree();
         mark_changes(&mut self.pages, &self.bins, &bins);
         let block = BaseBlock {
             last_written: time,
@@ -102,7 +100,7 @@ impl HiveFile {
         self.writer.plan(block);
         self.bins = bins;
         self.tree = tree;
-        plan_fits(&self.writer, &self.bins, &self.pages);
+        plan_fits(&self.writer, &self.bins, &self.pages); // for the prover
     }
 }
 
@@ -122,9 +120,9 @@ pub(crate) fn encoded_tree(
     ensures refused { IfErr result (IsRefusedFor (weight tree.now)) }
     ensures heavy { MOST_WEIGHT < weight tree.now → result ≡ Err TooLarge }
 {
-    let _ = tree.root();
+    let _ = tree.root(); // for the prover
     let Emitted { image, root } = emit(alloc, tree, least_size as u32)?;
-    image.tiles(0);
+    image.tiles(0); // for the prover
     Ok((image.into_bytes(), root))
 }
 
@@ -134,7 +132,7 @@ fn legal_is_light(tree: &Tree)
     ensures { (hive : ℕ) (changes : List Change) → ChangesAreLegalOn hive changes tree.now →
         weight (tree_after_changes hive changes tree.now) ≤ MOST_WEIGHT }
 {
-    weights_stay();
-    trees_stay();
-    let _ = tree.root();
+    reg_tree::laws::weights_stay();
+    reg_tree::laws::trees_stay();
+    let _ = tree.root(); // for the prover
 }

@@ -60,7 +60,7 @@ impl HiveImage {
             size,
             self.store,
         );
-        let _ = sector(&block);
+        let _ = sector(&block); // for the prover
         make(disk, hive, &block, &self.bins)
     }
 }

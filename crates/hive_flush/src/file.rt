@@ -85,7 +85,7 @@ impl HiveFile {
         ensures failures { HasFailed result (D.failures disk.old) (D.failures disk.new) }
         ensures faithful { D.faithful disk.new → D.faithful disk.old }
     {
-        plan_fits(&self.writer, &self.bins, &self.pages);
+        plan_fits(&self.writer, &self.bins, &self.pages); // for the prover
         match self.writer.step::<D, Tree>(disk, &self.bins, &self.pages) {
             Ok(Progress::Done) => {
                 self.mark_durable();
@@ -202,6 +202,6 @@ impl HiveFile {
             block.last_written,
             block.applied.0,
         ));
-        plan_fits(&self.writer, &self.bins, &self.pages);
+        plan_fits(&self.writer, &self.bins, &self.pages); // for the prover
     }
 }

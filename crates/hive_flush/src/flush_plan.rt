@@ -16,9 +16,7 @@ use base_block::{AppliedNumber, BaseBlock, FileType, SequenceNumber};
 use dirt_log::write_steps;
 use dirty_vector::DirtyVector;
 use hive_files::sector;
-use hive_flush_model::laws::plans;
 use hive_writer::HiveWriter;
-use hive_writer::laws::step_bounds;
 use reg_tree::Tree;
 
 /// The block with which a flush ends that follows one which ended with this: for a root and bins data of a size, at the moment
@@ -56,21 +54,21 @@ pub(crate) fn plan_fits(writer: &HiveWriter, image: &[u8], pages: &DirtyVector)
         writer.now.block.applied.0 ≡ memory.1 →
         PlanFitsImage stands memory image.now pages.now (plan_of writer.now image.now pages.now) }
 {
-    plans::<Tree>();
-    step_bounds();
+    hive_flush_model::laws::plans::<Tree>();
+    hive_writer::laws::step_bounds();
     let number = bounded(writer.base.secondary);
     let raised = BaseBlock {
         primary: number.next(),
         ..writer.base
     };
-    let _ = sector(&raised);
-    let _ = sector(&writer.block);
+    let _ = sector(&raised); // for the prover
+    let _ = sector(&writer.block); // for the prover
     let log = BaseBlock {
         file_type: FileType::LOG,
         ..writer.block
     };
-    let _ = sector(&log);
-    let _ = write_steps(image, pages, &writer.block);
+    let _ = sector(&log); // for the prover
+    let _ = write_steps(image, pages, &writer.block); // for the prover
 }
 
 /// A law: what a repair by a whole log writes fits the bins data that it repairs, and the primary file is behind them.
@@ -86,14 +84,14 @@ pub(crate) fn repair_fits(block: &BaseBlock)
         × IsBehind (repaired (drop 4096 primary) (pages_in log) (page_bytes_in log))
         (pages_in log) primary }
 {
-    plans::<Tree>();
+    hive_flush_model::laws::plans::<Tree>();
     let number = bounded(block.secondary);
     let raised = BaseBlock {
         primary: number.next(),
         ..*block
     };
-    let _ = sector(&raised);
-    let _ = sector(block);
+    let _ = sector(&raised); // for the prover
+    let _ = sector(block); // for the prover
 }
 
 // a law: a sequence number has 32 bits

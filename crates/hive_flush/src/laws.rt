@@ -9,7 +9,6 @@ ghost use Rattle.hive_flush.specs.Decoders.{HiveFilesHold};
 ghost use Rattle.hive_flush.specs.HiveStates.{IsBroken, FilesMatchHive, file_choice, memory_of, store_of};
 ghost use Rattle.hive_flush.specs.declared.hive.HiveFile.{HiveFile};
 
-use hive_flush_model::laws::crash_leaves_choice;
 use reg_tree::Tree;
 
 /// A law: where the two files are as a hive's stage says, whatever a crash may leave of both, with an honest first sector of
@@ -19,7 +18,7 @@ pub fn files_hold()
         HiveOn (HiveFilesHold (store_of file)) (file_choice file)
         (λ c. Leaves primary c × IsHonest primary c) (Leaves log) }
 {
-    crash_leaves_choice::<Tree>();
+    hive_flush_model::laws::crash_leaves_choice::<Tree>();
 }
 
 /// A law: where the two files are as a hive's stage says, what a read gives of the primary file has an honest first sector, as long
@@ -36,7 +35,7 @@ pub fn at_most_one_tree()
     ensures { (store primary log : List ℕ) (x y : TreeMap × ℕ) →
         HiveFilesHold store primary log x → HiveFilesHold store primary log y → x ≡ y }
 {
-    hive_records::one_tree();
+    hive_records::laws::one_tree();
 }
 
 /// A law: what is on its way to a hive's files, if anything, is what is in memory, and its number isn't below that of what stands.

@@ -17,7 +17,6 @@ use crate::hive::HiveFile;
 use base_block::BaseBlock;
 use disk_model::Disk;
 use hive_files::{HiveContents, find};
-use hive_load::laws::refused_bins_exclude_trees;
 use hive_load::load_bins;
 use hive_writer::HiveWriter;
 use refusals::{Cause, Refusal};
@@ -148,15 +147,15 @@ fn of_contents(
         pages,
         is_clean,
     } = found;
-    refused_bins_exclude_trees();
+    hive_load::laws::refused_bins_exclude_trees();
     let (tree, bins) = match load_bins(alloc, bins, block.root, block.minor) {
         Ok(loaded) => loaded,
         Err(why) => return Err(hive_refusal(why, hive)),
     };
     let held = Snapshot::of(&tree);
     let writer = writer_for(block, hive, is_clean);
-    plan_fits(&writer, &bins, &pages);
-    repair_fits(&block);
+    plan_fits(&writer, &bins, &pages); // for the prover
+    repair_fits(&block); // for the prover
     Ok(HiveFile {
         held,
         tree,

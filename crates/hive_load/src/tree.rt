@@ -84,7 +84,7 @@ pub fn load(
     ensures looks { (cells : List ℕ) → AreAllCells image.now.bytes cells →
         looks.new ≤ looks.old + 2 * length cells + 2 }
 {
-    image.tiles(0);
+    image.tiles(0); // for the prover
     let mut seen = flags_for(alloc, image.len())?;
     let split = minor >= SPLITTING_MINOR;
     let node = match load_root(alloc, image, &mut seen, looks, split, root) {

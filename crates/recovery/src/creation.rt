@@ -11,7 +11,6 @@ ghost use Rattle.recovery.specs.Created.{AreImagesOf, AreWritten, StoreIsCreated
 ghost use Rattle.recovery.specs.Recovered.{IsRecovered, seen_in};
 
 use commit_journal::JournalImage;
-use commit_journal::laws::leaves;
 use disk_model::{Disk, Failed};
 use hive_flush::HiveImage;
 use refusals::Refusal;
@@ -49,7 +48,7 @@ pub fn create<D: Disk>(alloc: Global, disk: &mut D, id: Uuid, trees: &Trees) -> 
         (D.state_at disk.new) (D.clock disk.old) (D.clock disk.new) }
     ensures faithful { D.faithful disk.new → D.faithful disk.old }
 {
-    leaves::<(u64, Op)>();
+    commit_journal::laws::leaves::<(u64, Op)>();
     if some_is_heavy(trees) {
         return Err(Refusal::TooLarge);
     }

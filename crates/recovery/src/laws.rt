@@ -12,16 +12,13 @@ ghost use Rattle.recovery.specs.Beginnings.{AllCameToNothing, MayBegin, after_cr
 ghost use Rattle.recovery.specs.Recovered.{IsRecovered, NothingRecovered, seen_in};
 ghost use Rattle.recovery.specs.Refused.{AreAlike, IsWrong};
 
-use commit_journal::laws::one_store;
-use hive_flush::laws::at_most_one_tree;
-
 /// A law: files recover at most one number and one list of trees, and are those of one store at most.
 pub fn one_is_recovered()
     ensures { (files : ℕ → List ℕ) (a b : Store) (n m : ℕ) (ts us : List TreeMap) →
         IsRecovered files a n ts → IsRecovered files b m us → (a ≡ b) × (n ≡ m) × (ts ≡ us) }
 {
-    one_store();
-    at_most_one_tree();
+    commit_journal::laws::one_store();
+    hive_flush::laws::at_most_one_tree();
 }
 
 /// A law: files with which something is wrong, as a refusal of an opening tells it, recover nothing.
@@ -35,8 +32,8 @@ pub fn refused_files_recover_nothing()
         AreAlike files others hive → IsWrong files (HiveDamaged hive cause) →
         IsWrong others (HiveDamaged hive cause) }
 {
-    one_store();
-    at_most_one_tree();
+    commit_journal::laws::one_store();
+    hive_flush::laws::at_most_one_tree();
 }
 
 /// Laws of openings, one after another, that came to nothing: each ended in a crash at any moment of it, or was refused. They began

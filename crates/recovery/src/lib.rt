@@ -13,7 +13,7 @@ mod found;
 pub mod laws;
 mod numbers;
 mod opened;
-mod reading;
+mod reader;
 mod recovery_result;
 mod repair_steps;
 mod replay_changes;

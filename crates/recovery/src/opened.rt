@@ -17,8 +17,6 @@ ghost use Rattle.recovery.specs.Shown.{StoreIsRepaired, store_of};
 use crate::found::RecoveredStore;
 use crate::store_opening::find;
 use disk_model::{Disk, Progress};
-use engine_invariant::laws::{crashes_leave_prefixes, openings_begin};
-use hive_flush::laws::reads_are_honest;
 use refusals::Refusal;
 use reg_tree::Trees;
 use std::alloc::Global;
@@ -187,8 +185,8 @@ impl<D: Disk> Opened<D> {
             (D.failures self.new.disk) }
         ensures faithful { D.faithful self.new.disk → D.faithful self.old.disk }
     {
-        openings_begin();
-        crashes_leave_prefixes();
+        engine_invariant::laws::openings_begin();
+        engine_invariant::laws::crashes_leave_prefixes();
         if self.failed {
             return Err(Refusal::Faulted);
         }
@@ -216,11 +214,11 @@ impl<D: Disk> Opened<D> {
             (D.state_at self.now.disk (D.clock self.now.disk))
             (seen_in (D.state_at self.now.disk (D.clock self.now.disk))) }
     {
-        openings_begin();
-        crashes_leave_prefixes();
-        reads_are_honest();
+        engine_invariant::laws::openings_begin();
+        engine_invariant::laws::crashes_leave_prefixes();
+        hive_flush::laws::reads_are_honest();
         // what the type keeps is known where a field is looked at
-        let _ = self.found.journal.hives();
+        let _ = self.found.journal.hives(); // for the prover
     }
 
     /// The disk.

@@ -124,6 +124,6 @@ fn tree_after(
 {
     let skipped = (hive.number().saturating_sub(below) as usize).min(elements.len());
     let tree = replayed(alloc, hive.tree().clone()?, place, &elements[skipped..])?;
-    let _ = tree.root();
+    let _ = tree.root(); // for the prover
     Ok(tree)
 }

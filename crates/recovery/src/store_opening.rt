@@ -19,7 +19,7 @@ ghost use Rattle.recovery.specs.Repairs.{most_repairs, repairs_left};
 
 use crate::found::RecoveredStore;
 use crate::numbers::numbers_of;
-use crate::reading::open_hives;
+use crate::reader::open_hives;
 use crate::recovery_result::recovered;
 use commit_journal::{Journal, OpenedJournal, StoreHeader};
 use disk_model::Disk;

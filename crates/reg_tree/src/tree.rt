@@ -75,7 +75,7 @@ impl Tree {
         requires { IsEncodable (finite.from_sorted root) }
         ensures { IfOk result (λ tree. tree ≡ finite.from_sorted root) }
     {
-        let _ = root.key();
+        let _ = root.key(); // for the prover
         let root = Arc::new(alloc, root)?;
         Ok(Tree { root })
     }
@@ -150,7 +150,7 @@ impl Tree {
         let Some(node) = self.node(path.names()) else {
             return Err(Refusal::NotFound);
         };
-        let _ = node.key();
+        let _ = node.key(); // for the prover
         match node.subkey(index) {
             Some(name) => Ok(name),
             None => Err(Refusal::NotFound),
@@ -191,7 +191,7 @@ impl Tree {
         ensures there { is_there self.now (folded_path path.now) ≡ (result.1 == length path.now) }
     {
         let (node, depth) = self.root.nearest(path);
-        let _ = node.key();
+        let _ = node.key(); // for the prover
         (node, depth)
     }
 

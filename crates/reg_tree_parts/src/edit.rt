@@ -61,7 +61,7 @@ impl Node {
         ensures refused { IfErr result
             (IsRefused (W.Refuses edit.now moment) self.now path.now) }
     {
-        let _ = self.key();
+        let _ = self.key(); // for the prover
         let Some((child, rest)) = self.step(path) else {
             return match edit.edit(alloc, self, path, moment) {
                 Ok(Some(new)) => Ok(Some((new, path.len()))),

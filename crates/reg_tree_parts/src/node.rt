@@ -105,7 +105,7 @@ impl Node {
         ensures smaller { IfSome result (λ subkey. length subkey.now < length self.now) }
         ensures has { HasSubkeys self.now (subkeys_of self.now) }
     {
-        let _ = &self.weight;
+        let _ = &self.weight; // for the prover
         self.subkeys.at(index)
     }
 
@@ -173,7 +173,7 @@ impl Node {
         ensures named { IfOk result (λ made. root_name made ≡ root_name self.now) }
         ensures node { IfOk result IsNode }
     {
-        let _ = &self.weight;
+        let _ = &self.weight; // for the prover
         let subkeys = self.subkeys.share()?;
         Ok(Node::from_parts(key, subkeys))
     }
@@ -323,7 +323,7 @@ impl MapEntry for Node {
         ensures over { IfOk result (λ made. made.value ≡ new.value) }
         ensures named { IfOk result (λ made. root_name made.value ≡ root_name self.now) }
     {
-        let _ = alloc;
+        let _ = alloc; // for the prover
         Ok(new)
     }
 }

@@ -89,7 +89,7 @@ fn repaired<D: Disk>(opened: Opened<D>) -> Result<Opened<D>, (Refusal, D)>
     let mut opened = opened;
     while !opened.is_whole() {
         if let Err(why) = repair(&mut opened) {
-            opened.keeps_what_was_found();
+            opened.keeps_what_was_found(); // for the prover
             return Err((why, opened.into_disk()));
         }
     }
@@ -132,7 +132,7 @@ fn begun<D: Disk>(alloc: Global, opened: Opened<D>) -> Result<Engine<D>, (Refusa
     match Engine::new(alloc, opened) {
         Ok(engine) => Ok(engine),
         Err((why, opened)) => {
-            opened.keeps_what_was_found();
+            opened.keeps_what_was_found(); // for the prover
             Err((why, opened.into_disk()))
         }
     }
@@ -153,8 +153,8 @@ fn in_session_0<D: Disk>(engine: Engine<D>) -> Result<Engine<D>, (Refusal, D)>
     match ask(&mut engine, Event::StartSession { session: 0 }) {
         Reply::Done => Ok(engine),
         _ => {
-            engine.keeps_a_prefix();
-            engine.reads_a_prefix();
+            engine.keeps_a_prefix(); // for the prover
+            engine.reads_a_prefix(); // for the prover
             Err((Refusal::NoMemory, engine.into_disk()))
         }
     }

@@ -110,8 +110,8 @@ fn begin_run<D: Disk, W: Write>(
         Ok((engine, number)) => match writeln!(writer, "opened {number}") {
             Ok(()) => Ok(Interpreter::new(alloc, engine)),
             Err(error) => {
-                engine.keeps_a_prefix();
-                engine.reads_a_prefix();
+                engine.keeps_a_prefix(); // for the prover
+                engine.reads_a_prefix(); // for the prover
                 Err((engine.into_disk(), Err(error)))
             }
         },
@@ -145,8 +145,8 @@ fn end_run<D: Disk, W: Write>(
     let has_failed = interpreter.has_failed();
     let mut engine = interpreter.into_engine();
     let ended = run_until_idle(&mut engine);
-    engine.keeps_a_prefix();
-    engine.reads_a_prefix();
+    engine.keeps_a_prefix(); // for the prover
+    engine.reads_a_prefix(); // for the prover
     let played = write_flush_reply(writer, reported, played);
     (
         engine.into_disk(),

@@ -12,7 +12,6 @@ ghost use Rattle.script_runner.specs.Scripts.{hives_asked};
 use crate::engine_call::ask;
 use disk_model::{Disk, MemDisk, Plan};
 use engine::Engine;
-use recovery::laws::one_is_recovered;
 use recovery::{Opened, create, open};
 use refusals::Refusal;
 use refusals::limits::MOST_JOURNAL_BYTES;
@@ -85,7 +84,7 @@ fn new_store(alloc: Global, hives: u8, plan: Arc<Plan>) -> Result<Engine<MemDisk
     requires few { hives ≤ MOST_HIVES }
     ensures { IfOk result (λ engine. engine.machine ≡ fresh_machine (bounds_for hives)) }
 {
-    one_is_recovered();
+    recovery::laws::one_is_recovered();
     let trees = Trees::new(alloc, usize::from(hives))?;
     let disk = disk_with(alloc, &trees, plan)?;
     let opened = opened_on(alloc, disk)?;

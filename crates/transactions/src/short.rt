@@ -15,15 +15,15 @@ pub(crate) fn change_is_short(op: &Op)
     ensures { (trees : List TreeMap) (moment : ℕ) → legal trees op.now ≡ Ok Legal →
         IsShort (change moment op.now) }
 {
-    let _ = op.path().names();
+    let _ = op.path().names(); // for the prover
     match op {
         Op::CreateKey { .. } => {}
         Op::DeleteKey { .. } => {}
         Op::SetValue { name, .. } => {
-            let _ = name.name();
+            let _ = name.name(); // for the prover
         }
         Op::DeleteValue { name, .. } => {
-            let _ = name.name();
+            let _ = name.name(); // for the prover
         }
     }
 }

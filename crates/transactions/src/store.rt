@@ -222,7 +222,7 @@ impl Store {
         ensures number { result ≡ last_number self.now.machine }
         ensures retained { self.now.retained ≤ result }
     {
-        let _ = self.history.len();
+        let _ = self.history.len(); // for the prover
         self.table.number()
     }
 
@@ -459,7 +459,7 @@ impl Store {
             return Ok(None);
         };
         let room = self.room_with(CHANGE_BYTES.saturating_add(op.text_len()))?;
-        change_is_short(op);
+        change_is_short(op); // for the prover
         let holders = self.table.holders(op)?;
         Ok(Some(JudgedWrite {
             trees,

@@ -562,7 +562,7 @@ impl TxTable {
         if !self.may_rebase_others(slot, change.len()) {
             return Ok(Vec::new(self.alloc));
         }
-        self.claims.owners_dont_conflict();
+        self.claims.owners_dont_conflict(); // for the prover
         let mut owners = Vec::new(self.alloc);
         owners.push(ClaimOwner(slot as u64))?;
         self.rebase_views(change, moment, &Holders { owners })

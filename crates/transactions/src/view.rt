@@ -84,7 +84,7 @@ impl View {
     ) -> Result<View, AllocError>
         ensures { IfOk result (IsFresh now.now ops.now moment number) }
     {
-        know_trees(now);
+        know_trees(now); // for the prover
         if let Some(trees) = carry_out(alloc, now, ops, moment)? {
             return Ok(View {
                 trees,
@@ -311,7 +311,7 @@ fn know_trees(trees: &Trees)
     ensures { AreTrees trees.now }
 {
     for hive in 0..trees.len() {
-        know_tree(trees, hive as u8);
+        know_tree(trees, hive as u8); // for the prover
     }
 }
 
@@ -320,6 +320,6 @@ fn know_tree(trees: &Trees, hive: u8)
     ensures { (tree : TreeMap) → slice_get trees.now hive ≡ Some tree → IsTree tree }
 {
     if let Some(tree) = trees.tree(hive) {
-        let _ = tree.root();
+        let _ = tree.root(); // for the prover
     }
 }

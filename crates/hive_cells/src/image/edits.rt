@@ -62,7 +62,7 @@ impl Image {
         ensures joined { JoinsBehind self.old.bytes self.new.bytes at }
         ensures spare { self.new.spare ≡ self.old.spare }
     {
-        let _ = &self.bytes;
+        let _ = &self.bytes; // for the prover
         let next = at + self.size_at(at);
         if self.is_free(next) {
             self.join(at, next);
@@ -76,7 +76,7 @@ impl Image {
         ensures joined { JoinsBefore self.old.bytes self.new.bytes at result }
         ensures spare { self.new.spare ≡ self.old.spare }
     {
-        let _ = &self.bytes;
+        let _ = &self.bytes; // for the prover
         match self.free_before(at) {
             Some(from) => {
                 self.join(from, at);
@@ -93,7 +93,7 @@ impl Image {
         ensures freed { Frees self.old.bytes self.new.bytes at result }
         ensures spare { self.new.spare ≡ self.old.spare }
     {
-        let _ = &self.bytes;
+        let _ = &self.bytes; // for the prover
         self.turn(at, false);
         self.join_behind(at);
         self.join_before(at)
@@ -125,7 +125,7 @@ impl Image {
         ensures taken { Takes self.old.bytes self.new.bytes at size }
         ensures spare { self.new.spare ≡ self.old.spare }
     {
-        let _ = &self.bytes;
+        let _ = &self.bytes; // for the prover
         self.fit(at, size);
         self.turn(at, true);
     }

@@ -38,7 +38,7 @@ impl Tree {
         ensures levels { IfOk result (λ made. IfSome made (λ it. it.1 ≡ levels_of self.now op.now)) }
         ensures named { OnOk result (NamesAreValid op.now) }
     {
-        op.names_are_valid();
+        op.names_are_valid(); // for the prover
         match self.root.edited(alloc, op.way(), op, moment) {
             Ok(Some((made, missing))) => {
                 let levels = op.counted(missing);
@@ -61,7 +61,7 @@ impl Tree {
         ensures refused { IfErr result (λ refusal.
             (judged self.now op.now ≡ Err refusal) ⊎ (refusal ≡ Refusal.NoMemory)) }
     {
-        let _ = &self.root;
+        let _ = &self.root; // for the prover
         match self.root_after(alloc, op, moment)? {
             None => Ok(None),
             Some((root, levels)) => {

@@ -89,11 +89,11 @@ impl Op {
     {
         match self {
             Op::CreateKey { path, .. } | Op::DeleteKey { path, .. } => {
-                let _ = path.names();
+                let _ = path.names(); // for the prover
             }
             Op::SetValue { path, name, .. } | Op::DeleteValue { path, name, .. } => {
-                let _ = path.names();
-                let _ = name.name();
+                let _ = path.names(); // for the prover
+                let _ = name.name(); // for the prover
             }
         }
     }

@@ -67,7 +67,7 @@ impl Tree {
         let Some(node) = self.node(path.names()) else {
             return Err(Refusal::NotFound);
         };
-        let _ = node.key();
+        let _ = node.key(); // for the prover
         if data.bytes().len() > MOST_VALUE_BYTES {
             return Err(Refusal::TooLarge);
         }

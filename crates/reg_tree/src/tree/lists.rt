@@ -82,7 +82,7 @@ impl Tree {
             return Err(Refusal::NotFound);
         };
         // the row of the key, whose clause says that the key is there
-        let _ = node.key();
+        let _ = node.key(); // for the prover
         Ok(copy_names(alloc, node)?)
     }
 

@@ -66,7 +66,7 @@ impl Tree {
         ensures { IfOk result (λ made.
             made ≡ stamped_at self.now (folded_path names.now) moment) }
     {
-        let _ = &self.root;
+        let _ = &self.root; // for the prover
         match self.root_stamped(alloc, names, moment)? {
             Some(root) => {
                 let root = Arc::new(alloc, root)?;

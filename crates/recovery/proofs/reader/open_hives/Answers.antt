@@ -8,7 +8,7 @@ use Rattle.recovery.specs.Repairs.{most_repairs, repairs_left}
 use Rattle.recovery.proofs.Counting.{one_more_left}
 use Rattle.disk_model.proofs.Unwritten.{seen_same}
 use Rattle.recovery.proofs.Hives.{none_yet, one_more, refused}
-use Rattle.recovery.proofs.reading.open_hives.Goals as goal
+use Rattle.recovery.proofs.reader.open_hives.Goals as goal
 
 pub returns-in_err-hive-clause-fails : goal.returns-in_err-hive-clause-fails
 returns-in_err-hive-clause-fails g c =

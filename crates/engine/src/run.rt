@@ -9,7 +9,6 @@ ghost use Rattle.engine.specs.Parts.{IsSound};
 
 use crate::parts::Parts;
 use disk_model::Disk;
-use engine_invariant::laws::{crashes_leave_prefixes, safe_runs_go_on};
 use std::alloc::{AllocError, Global};
 use store_model::{Event, Reply};
 
@@ -36,8 +35,8 @@ impl<D: Disk> Parts<D> {
         ensures store { store_of self.new.journal ≡ store_of self.old.journal }
         ensures faithful { D.faithful self.new.disk → D.faithful self.old.disk }
     {
-        crashes_leave_prefixes();
-        safe_runs_go_on();
+        engine_invariant::laws::crashes_leave_prefixes();
+        engine_invariant::laws::safe_runs_go_on();
         let mut replies = Vec::with_capacity(alloc, events.len())?;
         for event in events {
             let reply = self.event(event);

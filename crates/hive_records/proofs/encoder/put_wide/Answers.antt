@@ -1,5 +1,5 @@
 use Rattle.hive_records.proofs.Puts.{wide_on, wide_end}
-use Rattle.hive_records.proofs.writing.put_wide.Goals as goal
+use Rattle.hive_records.proofs.encoder.put_wide.Goals as goal
 
 pub loop-unit-preserved : goal.loop-unit-preserved
 loop-unit-preserved c = rw c.in_ok-put_u16.ensures (wide_on c.loop-unit.bytes.items c.args.name.now _ c.loop-unit.unit-index c.loop-unit-test.true c.loop-unit.invariant)

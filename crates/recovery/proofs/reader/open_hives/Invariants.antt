@@ -5,7 +5,7 @@ use Rattle.disk_model.specs.ReadOnly.{OnlySyncs}
 use Rattle.recovery.specs.Reading.{AreOpened}
 use Rattle.recovery.specs.Recovered.{seen_in}
 use Rattle.recovery.specs.Repairs.{most_repairs, repairs_left}
-use Rattle.recovery.proofs.reading.open_hives.Given as goal
+use Rattle.recovery.proofs.reader.open_hives.Given as goal
 
 abbrev pub invariant-loop-place : goal.invariant-loop-place
 invariant-loop-place g l = record {

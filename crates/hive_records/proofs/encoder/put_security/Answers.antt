@@ -1,5 +1,5 @@
 use Rattle.std.proofs.Common.{append_assoc}
-use Rattle.hive_records.proofs.writing.put_security.Goals as goal
+use Rattle.hive_records.proofs.encoder.put_security.Goals as goal
 
 pub returns : goal.returns
 returns c =

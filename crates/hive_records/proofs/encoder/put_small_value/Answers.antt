@@ -2,7 +2,7 @@ use Rattle.std.proofs.Common.{◌≡◌, ◌+◌, ◌++◌, ℕ, List, length, s
 use Rattle.std.specs.Prelude.{OnOk}
 use Rattle.hive_records.specs.ValueEncodings.{value_record}
 use Rattle.hive_records.proofs.Puts.{small_field}
-use Rattle.hive_records.proofs.writing.put_small_value.Goals as goal
+use Rattle.hive_records.proofs.encoder.put_small_value.Goals as goal
 
 pub returns : goal.returns
 returns c =
