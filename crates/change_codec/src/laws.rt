@@ -65,7 +65,7 @@ pub fn examples()
 
 /// A law: the law of one prefix tells changes apart. Changes that have an operation, as all have, and that are one to
 /// it are one change, with its moment, its hives and its operations.
-pub fn changes_stay_apart()
+pub fn timed_element_is_injective()
     ensures { (a b : Element) → 0 < length a.ops → 0 < length b.ops →
         timed_element a ≡ timed_element b → a ≡ b }
 {}

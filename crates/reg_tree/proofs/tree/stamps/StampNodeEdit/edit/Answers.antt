@@ -1,6 +1,6 @@
 use Rattle.std.proofs.Common.{Some, ◌∙◌, ap}
 use Rattle.reg_tree.proofs.Stamps.{written_again}
-use Rattle.reg_tree.proofs.tree.stamps.StampEdit.edit.Goals as goal
+use Rattle.reg_tree.proofs.tree.stamps.StampNodeEdit.edit.Goals as goal
 
 pub returns-clause-made : goal.returns-clause-made
 returns-clause-made c =

@@ -2,7 +2,7 @@ use Rattle.std.proofs.Common.{◌≡◌, Ok, subst}
 use Rattle.reg_tree_parts.specs.ValueEdits.{values_with, values_without}
 use Rattle.reg_tree.specs.Edits.{judged_found, judged_value, IsRewritten}
 use Rattle.reg_tree.specs.declared.op.Legality.TheVariants.{Legal}
-use Rattle.reg_tree.proofs.tree.edits.OpEdit.edit.Goals as goal
+use Rattle.reg_tree.proofs.tree.edits.OpNodeEdit.edit.Goals as goal
 
 pub returns-in_ok-new-in-SetValue-clause-made : goal.returns-in_ok-new-in-SetValue-clause-made
 returns-in_ok-new-in-SetValue-clause-made c =
