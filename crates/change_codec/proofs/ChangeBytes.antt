@@ -14,14 +14,14 @@ use Rattle.change_codec.proofs.Elements.{element_law}
 use Rattle.change_codec.proofs.Numbers.{let_through}
 use Rattle.change_codec.proofs.Taken.{then_none}
 
--- bytes that are the text of a change that fits stand for that change
+-- bytes that are the encoding of a change that fits decode to that change
 pub stands_for : (e : Element) (bytes : List ℕ) → Fits 256 e → bytes ≡ element_bytes e → (EncodesOneChange bytes) × (change_in bytes ≡ e)
 stands_for e bytes fits is =
     let read : element_at 256 bytes ≡ Some (e, []) = ap (element_at 256) (is ∙ sym (append-nil (element_bytes e))) ∙ (element_law 256 (omega arith)).again e [] fits in
     let same : change_in bytes ≡ e = ap change_or_none read in
     (read ∙ ap (λ (x : Element). Some (x, [])) (sym same), same)
 
--- and such bytes are its text
+-- and these bytes are its encoding
 pub is_encoding : (bytes : List ℕ) → EncodesOneChange bytes → (bytes ≡ element_bytes (change_in bytes)) × Fits 256 (change_in bytes)
 is_encoding bytes is =
     let b = (element_law 256 (omega arith)).back bytes (change_in bytes) [] is in
@@ -31,7 +31,7 @@ ops_within : (few many : ℕ) (ops : List Op) → AllByRecursion (OpFits many) o
 ops_within few many [] fit there = tt
 ops_within few many (op ∷ ops) fit there = (record { hive = there.0; path = fit.0.path; tail = fit.0.tail }, ops_within few many ops fit.1 there.1)
 
--- a change fits so many hives where its operations are on these
+-- a change fits a number of hives if its operations are on hives below it
 pub fits_within : (few many : ℕ) (e : Element) → Fits many e → AllByRecursion (λ op. hive_of op < few) e.ops → Fits few e
 fits_within few many e fits there = record { some = fits.some; ops = ops_within few many e.ops fits.ops there; moment = fits.moment; size = fits.size }
 
@@ -39,7 +39,7 @@ each_more : (few many : ℕ) → few ≤ many → (ops : List Op) → AllByRecur
 each_more few many le [] fit = tt
 each_more few many le (op ∷ ops) fit = (omega (arith, le, fit.0.hive), each_more few many le ops fit.1)
 
--- the text of a change that bytes begin with
+-- the encoding of a change that bytes begin with
 pub cut : (hives : ℕ) → hives ≤ 256 → (bytes : List ℕ) (e : Element) (rest : List ℕ) → element_at hives bytes ≡ Some (e, rest) → (n : ℕ) → n + length rest ≡ length bytes → (EncodesOneChange (take n bytes)) × (change_in (take n bytes) ≡ e)
 cut hives le bytes e rest got n is =
     let b = (element_law hives le).back bytes e rest got in
@@ -55,7 +55,7 @@ no_longer hives le bytes e rest got =
 pub one_reading : {A : Type 0} (o : Option (A × List ℕ)) (x y : A × List ℕ) → o ≡ Some x → o ≡ Some y → x ≡ y
 one_reading o x y first second = same_Some x y (sym first ∙ second)
 
--- what one reader, and another behind it, read
+-- what one reader, and another after it, read
 pub split : {A B : Type 0} (r : Reader A) (f : A → Reader B) (bytes : List ℕ) (y : B × List ℕ) → then_by r f bytes ≡ Some y → (a : A) × (rest : List ℕ) × (r bytes ≡ Some (a, rest)) × (f a rest ≡ Some y)
 split r f bytes y e = option_and_then_some (λ got. f got.0 got.1) (r bytes) y e (λ got first second. (got.0, got.1, first, second))
 
@@ -67,7 +67,7 @@ both_split {A = A} {B = B} r s bytes y e =
     let p = subst (λ (z : (A × B) × List ℕ). (r bytes ≡ Some (z.0.0, rest)) × (s rest ≡ Some (z.0.1, z.1))) same (first, second) in
     (rest, p.0, p.1)
 
--- the fields of a change's text: its length, its moment, how many operations it has, and these
+-- the fields of an encoded change: its length, its moment, how many operations it has, and these
 pub record Fields (bytes : List ℕ) : Type 0 where
   pub len : ℕ
   pub moment : ℕ

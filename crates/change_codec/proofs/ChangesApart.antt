@@ -1,4 +1,4 @@
--- Changes are told apart by what the law sees of them.
+-- Changes differ if what the model sees of them differs.
 use Rattle.std.proofs.Common.{◌≡◌, ℕ, ◌<◌, List, [], ◌∷◌, length, map, ap, refl, arith}
 use Rattle.reg_tree.specs.declared.op.Op.{Op}
 use Rattle.reg_tree.specs.declared.element.Element.{Element}

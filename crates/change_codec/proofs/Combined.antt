@@ -1,4 +1,4 @@
--- What is read by readers one behind another.
+-- What is read by readers one after another.
 use Rattle.std.proofs.Common.{◌≡◌, ℕ, zero, suc, ◌^◌, ◌<◌, ◌≤◌, Bool, true, false, List, [], ◌∷◌, ◌++◌, length, take, drop, refl, sym, ap, subst, ◌∙◌, arith, append_assoc, length-append, length-take, take-append-drop, Option, Some, None}
 use Rattle.std.specs.Prelude.{if◌then◌else◌, nat_le, ⊤}
 use Rattle.std.specs.Option.{option_and_then}
@@ -17,7 +17,7 @@ weaken law to from = record {
   back = λ bytes a rest e. let b = law.back bytes a rest e in (b.0, to a b.1);
 }
 
--- A value leads to the reader behind it, and is known of what that reads.
+-- A value leads to the reader after it, and is known from what that reads.
 pub then_law : {A B : Type 0} (r : Reader A) (f : A → Reader B) (ta : A → List ℕ) (tb : B → List ℕ) (Fa : A → Type 0) (Fb : B → Type 0) (key : B → A) → IsEncoding r ta Fa
     → ((a : A) → IsEncoding (f a) tb (λ b. (key b ≡ a) × Fb b)) → IsEncoding (then_by r f) (λ b. ta (key b) ++ tb b) (λ b. Fa (key b) × Fb b)
 then_law {A = A} {B = B} r f ta tb Fa Fb key one two = record {

@@ -1,4 +1,4 @@
--- How long the texts are.
+-- How long the encodings are.
 use Rattle.std.proofs.Common.{◌≡◌, ℕ, ◌+◌, ◌≤◌, List, [], ◌∷◌, ◌++◌, length, refl, sym, ap, ◌∙◌, arith, length-append}
 use Rattle.std.specs.List.{flat_map, sum_by}
 use Rattle.std.proofs.lemmas.List.Concat.{length-flat_map}
@@ -45,7 +45,7 @@ op_length (DeleteKey hive path) = omega (arith, of_op (DeleteKey hive path))
 op_length (SetValue hive path name kind bytes) = omega (arith, of_op (SetValue hive path name kind bytes), length-append (string 2 name) (little_bytes 4 kind ++ string 4 bytes), length-append (little_bytes 4 kind) (string 4 bytes), of_string 2 name, of_number 4 kind, of_string 4 bytes)
 op_length (DeleteValue hive path name) = omega (arith, of_op (DeleteValue hive path name), of_string 2 name)
 
--- whatever stands for the length
+-- whatever number is in the field of the length
 pub fields_length : (n moment : ℕ) (ops : List Op) → length (little_bytes 4 n ++ (little_bytes 8 moment ++ counted 4 op_bytes ops)) ≡ 16 + ops_encoded_len ops
 fields_length n moment ops =
     omega (arith, length-append (little_bytes 4 n) (little_bytes 8 moment ++ counted 4 op_bytes ops), length-append (little_bytes 8 moment) (counted 4 op_bytes ops), of_number 4 n, of_number 8 moment, of_counted 4 op_bytes op_encoded_len op_length ops)

@@ -1,4 +1,4 @@
--- A number of so many bytes is its bytes, the lowest first.
+-- A number of `n` bytes is its bytes, the lowest first.
 use Rattle.std.proofs.Common.{◌/◌, ◌%◌, ◌≡◌, ℕ, zero, suc, ◌+◌, ◌*◌, ◌^◌, ◌<◌, Bool, true, false, List, [], ◌∷◌, ◌++◌, refl, sym, ap, ◌∙◌, arith, Option, Some, None}
 use Rattle.std.specs.Prelude.{if◌then◌else◌, nat_lt, option_map}
 use Rattle.std.specs.Int.{byte_at, bytes_low_first}

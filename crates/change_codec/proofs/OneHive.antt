@@ -15,14 +15,14 @@ use Rattle.change_codec.proofs.Taken.{behind, behind_none, goes_on, stops, ends}
 abbrev pub on : ℕ → List Op → List Op
 on hive ops = filter (λ op. hive_of op == hive) ops
 
--- one that is on another hive leaves those before, and one that is on the hive is put behind them
+-- one that is on another hive leaves those before, and one that is on the hive is appended to them
 pub of_other : (hive : ℕ) (op : Op) (before : List Op) → (hive_of op ≡ hive → ⊥) → before ≡ before ++ on hive (op ∷ [])
 of_other hive op before other = sym (append-nil before) ∙ ap (λ (b : Bool). before ++ (if b then op ∷ [] else [])) (sym (ne_eqb (hive_of op) hive other))
 
 pub of_hive : (hive : ℕ) (op : Op) (before after : List Op) → hive_of op ≡ hive → after ≡ before ++ op ∷ [] → after ≡ before ++ on hive (op ∷ [])
 of_hive hive op before after here put = put ∙ ap (λ (b : Bool). before ++ (if b then op ∷ [] else [])) (sym (eq-eqb (hive_of op) hive here))
 
--- of so many operations that bytes begin with some were read, and those on the hive were made; so many are left
+-- of `count` operations that bytes begin with some were read, and those on the hive were made; `left` of them are left
 pub record HasMade (hive count : ℕ) (bytes : List ℕ) (left : ℕ) (rest : List ℕ) (made : List Op) : Type 0 where
   pub front : List Op
   pub so_far : repeat count (op_at 256) bytes ≡ behind front (repeat left (op_at 256) rest)

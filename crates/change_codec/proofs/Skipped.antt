@@ -1,4 +1,4 @@
--- What is known of a change by the bytes behind it.
+-- What is known of a change by the bytes after it.
 use Rattle.std.proofs.Common.{◌≡◌, ℕ, ◌+◌, ◌≤◌, Bool, List, length, ap, ◌∙◌, Option, Some, None}
 use Rattle.std.specs.Prelude.{if◌then◌else◌, ◌==◌, nat_le}
 use Rattle.std.specs.Option.{option_and_then}
@@ -7,7 +7,7 @@ use Rattle.reg_tree.specs.declared.op.Op.{Op}
 use Rattle.change_codec.specs.Encoding.{fields_at, made, whole, element_at}
 
 module _ (hives : ℕ) (bytes : List ℕ) where
-  -- where the fields are read, and the length is that of the bytes
+  -- the fields are read, and the length is that of the bytes
   pub whole_read : (len moment : ℕ) (ops : List Op) (rest : List ℕ) → fields_at hives bytes ≡ Some ((len, (moment, ops)), rest) → 1 ≤ length ops → length bytes ≡ len + length rest
       → element_at hives bytes ≡ Some (made (len, (moment, ops)), rest)
   unfolding element_at

@@ -38,7 +38,7 @@ module _ {A : Type 0} (r : Reader A) where
   pub ends : (front : List A) (left : ℕ) (rest : List ℕ) → left ≡ 0 → behind front (repeat left r rest) ≡ Some (front, rest)
   ends front left rest is = ap (λ (n : ℕ). behind front (repeat n r rest)) is ∙ ap (λ (l : List A). Some (l, rest)) (append-nil front)
 
--- of so many values that bytes begin with some were read, and so many are left
+-- of this many values that bytes begin with some were read, and this many are left
 abbrev pub HasSkipped : {A : Type 0} → Reader A → ℕ → List ℕ → ℕ → List ℕ → Type 0
 HasSkipped {A = A} r count bytes left rest = (front : List A) × (repeat count r bytes ≡ behind front (repeat left r rest)) × (left + length front ≡ count)
 
@@ -57,7 +57,7 @@ module _ {A : Type 0} (r : Reader A) where
   pub skips_all : (count left : ℕ) (bytes rest : List ℕ) → HasSkipped r count bytes left rest → left ≡ 0 → SkipsMany (repeat count r bytes) count rest
   skips_all count left bytes rest (front, so_far, many) is = (front, so_far ∙ ends r front left rest is, omega (arith, is, many))
 
--- one reader, and behind it another: what is then read, and where nothing is
+-- one reader, and after it another: what is then read, and when nothing is
 module _ {A B : Type 0} (r : Reader A) (f : A → Reader B) where
   pub then_some : (bytes : List ℕ) (a : A) (rest : List ℕ) → r bytes ≡ Some (a, rest) → then_by r f bytes ≡ f a rest
   then_some bytes a rest got = ap (λ (o : Option (A × List ℕ)). option_and_then (λ one. f one.0 one.1) o) got
@@ -65,11 +65,11 @@ module _ {A B : Type 0} (r : Reader A) (f : A → Reader B) where
   pub then_none : (bytes : List ℕ) → r bytes ≡ None → then_by r f bytes ≡ None
   then_none bytes none = ap (λ (o : Option (A × List ℕ)). option_and_then (λ one. f one.0 one.1) o) none
 
--- two values that are read one behind the other
+-- two values that are read one after the other
 pub both_some : {A B : Type 0} (r : Reader A) (s : Reader B) (bytes : List ℕ) (a : A) (rest : List ℕ) (b : B) (more : List ℕ) → r bytes ≡ Some (a, rest) → s rest ≡ Some (b, more) → both r s bytes ≡ Some ((a, b), more)
 both_some r s bytes a rest b more one two = then_some r (λ x. then_by s (λ y. give (x, y))) bytes a rest one ∙ then_some s (λ y. give (a, y)) rest b more two
 
--- a number's bytes, where there are enough
+-- a number's bytes, if there are enough
 pub number_whole : (n : ℕ) (bytes : List ℕ) → n ≤ length bytes → ((k : ℕ) → k < length bytes → get_or bytes k 0 < 256) → number_at n bytes ≡ Some (little_number n bytes, drop n bytes)
 number_whole zero bytes enough small = refl
 number_whole (suc n) [] enough small = absurd (omega arith)
@@ -81,7 +81,7 @@ pub all_push : {X : Type 0} (P : X → Type 0) (xs : List X) (x : X) → AllByRe
 all_push P [] x all here = (here, tt)
 all_push P (y ∷ xs) x all here = (all.0, all_push P xs x all.1 here)
 
--- what holds of each element so far, and of the next
+-- what is so of each element so far, and of the next
 pub all_more : {X : Type 0} (P : X → Type 0) (xs : List X) (i : ℕ) (x : X) → i < length xs → x ≡ get_or xs i x → AllByRecursion P (take i xs) → P x → AllByRecursion P (take (i + 1) xs)
 all_more {X = X} P xs i x lt is all here =
     subst (λ (l : List X). AllByRecursion P l) (ap (λ (y : X). take i xs ++ y ∷ []) is ∙ sym (take_more xs i x lt)) (all_push P (take i xs) x all here)

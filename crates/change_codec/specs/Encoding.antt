@@ -1,4 +1,4 @@
--- The text of an operation and of an accepted change, and what reads them.
+-- The encoding of an operation and of an accepted change, and what reads it.
 use Rattle.std.specs.Prelude.{◌≡◌, ℕ, ◌+◌, ◌^◌, ◌<◌, ◌≤◌, List, [], ◌++◌, length, true, ◌==◌, ◌&&◌, nat_lt, nat_le, if◌then◌else◌, Option, Some, None, ⊤}
 use Rattle.std.specs.Option.{option_and_then}
 use Rattle.std.specs.List.{flat_map, AllByRecursion}
@@ -12,13 +12,13 @@ use Rattle.reg_tree.specs.Operations.{hive_of, spelled_path}
 use Rattle.reg_tree.specs.Encodings.{element_encoded_len}
 use Rattle.change_codec.specs.Readers.{Reader, give, refuse, then_by, both, checked, repeat, number_at, string_at, counted_at}
 
--- ---- texts
+-- ---- encodings
 
--- a length of so many bytes, and the bytes
+-- a length of this many bytes, and the bytes
 abbrev pub string : ℕ → List ℕ → List ℕ
 string w bytes = little_bytes w (length bytes) ++ bytes
 
--- a count of so many bytes, and the texts
+-- a count of this many bytes, and the encodings
 abbrev pub counted : {A : Type 0} → ℕ → (A → List ℕ) → List A → List ℕ
 counted w encoding xs = little_bytes w (length xs) ++ flat_map encoding xs
 
@@ -53,7 +53,7 @@ op_bytes op = head_bytes (head_of op) ++ tail_bytes op
 abbrev pub element_bytes : Element → List ℕ
 element_bytes e = little_bytes 4 (element_encoded_len e) ++ (little_bytes 8 e.moment ++ counted 4 op_bytes e.ops)
 
--- ---- what has a text
+-- ---- what has an encoding
 
 abbrev pub TailFits : Op → Type 0
 TailFits (CreateKey hive path) = ⊤
@@ -61,20 +61,20 @@ TailFits (DeleteKey hive path) = ⊤
 TailFits (SetValue hive path name kind bytes) = (is_value_name name ≡ true) × ((kind < 256 ^ 4) × (length bytes < 256 ^ 4))
 TailFits (DeleteValue hive path name) = is_value_name name ≡ true
 
--- an operation on one of so many hives
+-- an operation on a hive below `hives`
 pub record OpFits (hives : ℕ) (op : Op) : Type 0 where
   pub hive : hive_of op < hives
   pub path : is_path (spelled_path op) ≡ true
   pub tail : TailFits op
 
--- an accepted change on so many hives
+-- an accepted change whose hives are below `hives`
 pub record Fits (hives : ℕ) (e : Element) : Type 0 where
   pub some : 1 ≤ length e.ops
   pub ops : AllByRecursion (OpFits hives) e.ops
   pub moment : e.moment < 256 ^ 8
   pub size : element_encoded_len e < 256 ^ 4
 
--- what an operation in memory has of this by its types and its length
+-- what the types and the length of an operation in memory ensure of this
 pub record HasEncoding (op : Op) : Type 0 where
   pub hive : hive_of op < 256
   pub path : is_path (spelled_path op) ≡ true
@@ -98,7 +98,7 @@ path_at = then_by name_count_at (λ count. repeat count key_name_at)
 abbrev pub value_name_at : Reader (List ℕ)
 value_name_at = checked is_value_name (string_at 2)
 
--- a hive that is one of so many
+-- a hive below this number
 abbrev pub hive_at : ℕ → Reader ℕ
 hive_at hives = checked (λ hive. nat_lt hive hives) (number_at 1)
 
@@ -122,7 +122,7 @@ by_kind kind hive path =
     else if kind == 4 then then_by value_name_at (λ name. give (DeleteValue hive path name))
     else refuse
 
--- an operation on one of so many hives
+-- an operation on a hive below this number
 abbrev pub op_at : ℕ → Reader Op
 op_at hives = then_by (head_at hives) (λ head. by_kind head.0 head.1.0 head.1.1)
 
@@ -133,10 +133,10 @@ fields_at hives = both (number_at 4) (both (number_at 8) (counted_at 4 (op_at hi
 abbrev pub made : ℕ × (ℕ × List Op) → Element
 made fields = record { moment = fields.1.0; ops = fields.1.1 }
 
--- there is an operation, and the length is that of the bytes that were read
+-- there is an operation, and the length is the number of bytes that were read
 abbrev pub whole : List ℕ → (ℕ × (ℕ × List Op)) × List ℕ → Option (Element × List ℕ)
 whole bytes got = if nat_le 1 (length got.0.1.1) && (length bytes == (got.0.0 + length got.1)) then Some (made got.0, got.1) else None
 
--- the accepted change on so many hives that bytes begin with, and the bytes behind it
+-- the accepted change that bytes begin with, its hives below this number, and the bytes after it
 unfoldable pub element_at : ℕ → Reader Element
 element_at hives bytes = option_and_then (whole bytes) (fields_at hives bytes)

@@ -1,4 +1,4 @@
--- The project's changes, as the law of one prefix takes them.
+-- The project's changes, as the crash model takes them.
 use Rattle.std.specs.Prelude.{ℕ, List, map, Bool, true, false, Result, Ok, Err}
 use Rattle.refusals.specs.declared.refusal.Refusal.{Refusal}
 use Rattle.reg_tree.specs.Maps.{TreeMap}
@@ -18,24 +18,24 @@ TimedOp = ℕ × Op
 abbrev pub timed : ℕ → Op → ℕ × TimedOp
 timed moment op = (hive_of op, (moment, op))
 
--- a change as the law sees it: its operations, each at the change's moment and beside its hive
+-- a change as the model sees it: its operations, each at the change's moment and beside its hive
 abbrev pub timed_element : Element → law.Element TimedOp
 timed_element e = map (timed e.moment) e.ops
 
 abbrev pub timed_elements : List Element → List (law.Element TimedOp)
 timed_elements = map timed_element
 
--- where an operation may be carried out and leaves its tree within the weight
+-- whether an operation may be carried out and leaves its tree within the weight
 abbrev pub is_legal : Result Legality Refusal → Bool
 is_legal (Ok Legal) = true
 is_legal (Ok Opened) = false
 is_legal (Err refusal) = false
 
--- The project's trees and operations as the law takes them: what an operation makes of its hive's tree, and where it is legal
--- there. More is not asked of a tree.
+-- The project's trees and operations as the model takes them: what an operation makes of its hive's tree, and whether
+-- it is legal there. More is not asked of a tree.
 unfoldable pub tree_rules : law.Rules TreeMap TimedOp
 tree_rules = record { apply = λ o t. changed t o.1 o.0; legal = λ o t. is_legal (legal_in t o.1); allows = λ i n t. true }
 
--- the same of a store whose calls name so many hives, of which each tree is allowed
+-- the same of a store whose calls name this many hives, and each tree of it is allowed
 abbrev pub rules : ℕ → law.Rules TreeMap TimedOp
 rules named = tree_rules

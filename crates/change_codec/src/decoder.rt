@@ -14,9 +14,9 @@ use reg_names::{Name, Path, ValueName};
 use reg_tree::{Data, Element, Op, Ops};
 use std::alloc::Global;
 
-/// The change on one of so many hives that bytes begin with, and the bytes behind it.
+/// The change that bytes begin with, its hives all below `hives`, and the bytes after it.
 ///
-/// Refused with `JournalDamaged` exactly where the bytes begin with no text of such a change, and with `NoMemory`.
+/// Refused with `JournalDamaged` exactly if the bytes begin with no encoding of such a change, and with `NoMemory`.
 pub fn read(alloc: Global, hives: u8, bytes: &[u8]) -> Result<(Element, &[u8]), Refusal>
     ensures { MatchResult result (λ got. element_at hives bytes.now ≡ Some (got.0, got.1.now))
         (RefusedFor JournalDamaged (element_at hives bytes.now ≡ None)) }
@@ -24,7 +24,7 @@ pub fn read(alloc: Global, hives: u8, bytes: &[u8]) -> Result<(Element, &[u8]), 
     take_change(alloc, u16::from(hives), bytes)
 }
 
-/// The same, on one of so many hives as a byte can tell apart, or fewer.
+/// The same, for up to 256 hives, as many as a byte can number.
 #[tactic(auto, unfolding(crate::specs::Encoding::element_at))]
 pub(crate) fn take_change(
     alloc: Global,
@@ -47,10 +47,10 @@ pub(crate) fn take_change(
     }
 }
 
-/// The fields of a change's text as they stand there.
+/// The fields of a change's encoding as they are there.
 #[derive(Drop)]
 struct Fields {
-    /// The bytes of the text, these included.
+    /// The bytes of the encoding, these included.
     len: u32,
     moment: u64,
     ops: Vec<Op>,
@@ -71,7 +71,7 @@ fn take_fields(alloc: Global, hives: u16, bytes: &[u8]) -> Result<(Fields, &[u8]
     Ok((Fields { len, moment, ops }, rest))
 }
 
-/// So many operations, one after another, and the bytes behind them.
+/// This many operations, one after another, and the bytes after them.
 fn take_ops(
     alloc: Global,
     hives: u16,
@@ -95,7 +95,7 @@ fn take_ops(
     Ok((ops, rest))
 }
 
-/// An operation on one of so many hives, and the bytes behind it.
+/// An operation on a hive below `hives`, and the bytes after it.
 pub(crate) fn take_op(alloc: Global, hives: u16, bytes: &[u8]) -> Result<(Op, &[u8]), Refusal>
     ensures { MatchResult result (λ got. op_at hives bytes.now ≡ Some (got.0, got.1.now))
         (RefusedFor JournalDamaged (op_at hives bytes.now ≡ None)) }
@@ -112,7 +112,7 @@ pub(crate) fn take_op(alloc: Global, hives: u16, bytes: &[u8]) -> Result<(Op, &[
     }
 }
 
-/// A hive that is one of so many.
+/// A hive below `hives`.
 fn take_hive(hives: u16, bytes: &[u8]) -> Result<(u8, &[u8]), Refusal>
     ensures { MatchResult result (λ got. hive_at hives bytes.now ≡ Some (got.0, got.1.now))
         (RefusedFor JournalDamaged (hive_at hives bytes.now ≡ None)) }
@@ -125,7 +125,7 @@ fn take_hive(hives: u16, bytes: &[u8]) -> Result<(u8, &[u8]), Refusal>
     }
 }
 
-/// The fields of a value that is written, behind its key.
+/// The fields of a value that is written, after its key.
 fn take_set_value(alloc: Global, hive: u8, path: Path, bytes: &[u8]) -> Result<(Op, &[u8]), Refusal>
     ensures { MatchResult result (λ got. by_kind 3 hive path bytes.now ≡ Some (got.0, got.1.now))
         (RefusedFor JournalDamaged (by_kind 3 hive path bytes.now ≡ None)) }
@@ -145,7 +145,7 @@ fn take_set_value(alloc: Global, hive: u8, path: Path, bytes: &[u8]) -> Result<(
     Ok((op, rest))
 }
 
-/// The name of a value that is deleted, behind its key.
+/// The name of a value that is deleted, after its key.
 fn take_delete_value(
     alloc: Global,
     hive: u8,
@@ -195,7 +195,7 @@ fn take_name_count(bytes: &[u8]) -> Result<(u16, &[u8]), Refusal>
     }
 }
 
-/// So many key names, one after another, and the bytes behind them.
+/// This many key names, one after another, and the bytes after them.
 fn take_names(alloc: Global, count: u16, bytes: &[u8]) -> Result<(Vec<Name>, &[u8]), Refusal>
     ensures names { MatchResult result (λ got.
         repeat count key_name_at bytes.now ≡ Some (got.0.items, got.1.now))

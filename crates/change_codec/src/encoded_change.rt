@@ -1,4 +1,4 @@
-//! An accepted change as it is kept until it is applied: by its text.
+//! An accepted change as it is kept until it is applied: by its encoding.
 ghost use Rattle.std.specs.Prelude.{◌≡◌, ◌==◌, ◌+◌, ◌<◌, ◌≤◌, ◌^◌, ℕ, length, take, filter, Some, None, IfOk, MatchResult};
 ghost use Rattle.std.specs.List.{AllByRecursion, list_any};
 ghost use Rattle.refusals.specs.Answers.{RefusedFor};
@@ -21,23 +21,23 @@ use reg_tree::{Element, Op};
 use std::alloc::{AllocError, Global};
 use std::marker::Model;
 
-/// The longest text that stands where the change does. With it that takes 40 bytes, and no memory besides.
+/// The longest encoding that is kept inline. With it the change takes 40 bytes, and no memory besides.
 const INLINE_CAPACITY: usize = 38;
 
 const _: () = prove!(INLINE_CAPACITY == 38);
 
-/// Hives that a byte can tell apart.
+/// Hives that a byte can number.
 pub(crate) const ALL_HIVES: u16 = 256;
 
 const _: () = prove!(ALL_HIVES == 256);
 
-/// An accepted change, kept as its text. One of up to 38 bytes takes no memory besides.
+/// An accepted change, kept as its encoding. One of up to 38 bytes takes no memory besides.
 pub struct EncodedChange {
     repr: Repr,
 }
 
 impl Drop for EncodedChange {
-    // one drop for all that own a change's text, whose proofs see no more of it than that
+    // one drop for all that own an encoded change, whose proofs see no more of it than that
     fn drop(self) {
         let EncodedChange { repr: _ } = self;
     }
@@ -45,7 +45,7 @@ impl Drop for EncodedChange {
 
 #[derive(Drop)]
 enum Repr {
-    /// So many of the bytes that stand here.
+    /// How many bytes are kept inline, and the bytes.
     Inline(u8, [u8; INLINE_CAPACITY]),
     Heap(Vec<u8>),
 }
@@ -63,7 +63,7 @@ impl Model for EncodedChange {
 }
 
 impl EncodedChange {
-    /// The text of a change. Its caller sees that the text's length fits the field that has it.
+    /// The encoding of a change. The caller ensures that its length fits the 32-bit field for it.
     pub fn of(alloc: Global, element: &Element) -> Result<EncodedChange, AllocError>
         requires { element_encoded_len element.now < 2 ^ 32 }
         ensures { IfOk result (λ encoding. encoding ≡ element.now) }
@@ -76,7 +76,7 @@ impl EncodedChange {
         )
     }
 
-    /// The text of the change that these operations make at a moment: so many bytes.
+    /// The encoding of the change that these operations make at a moment: `len` bytes, which the caller counted.
     pub fn of_ops(
         alloc: Global,
         moment: u64,
@@ -93,9 +93,9 @@ impl EncodedChange {
         Ok(EncodedChange::kept(bytes))
     }
 
-    /// The change on one of so many hives that bytes begin with, and the bytes behind it.
+    /// The change that bytes begin with, its hives all below `hives`, and the bytes after it.
     ///
-    /// Refused with `JournalDamaged` exactly where the bytes begin with no text of such a change, and with `NoMemory`.
+    /// Refused with `JournalDamaged` exactly if the bytes begin with no encoding of such a change, and with `NoMemory`.
     #[inline(always)]
     pub fn take(alloc: Global, hives: u8, bytes: &[u8]) -> Result<(EncodedChange, &[u8]), Refusal>
         ensures { MatchResult result (λ got. element_at hives bytes.now ≡ Some (got.0, got.1.now))
@@ -108,7 +108,7 @@ impl EncodedChange {
         Ok((EncodedChange::copied(alloc, bytes, len)?, rest))
     }
 
-    // the change whose text so many of the first of these bytes are
+    // the change whose encoding the first `len` of these bytes are
     #[inline(always)]
     fn copied(alloc: Global, bytes: &[u8], len: usize) -> Result<EncodedChange, AllocError>
         requires there { len ≤ length bytes.now }
@@ -129,7 +129,8 @@ impl EncodedChange {
         })
     }
 
-    // the same, of a few bytes that others are behind: as many are copied whatever the text's length is, which takes the fewest steps
+    // the same, of a few bytes with others after them: 38 are copied whatever the encoding's length is, which takes the
+    // fewest steps
     #[inline(always)]
     fn front(bytes: &[u8], len: usize) -> EncodedChange
         requires few { len ≤ INLINE_CAPACITY }
@@ -144,7 +145,7 @@ impl EncodedChange {
         }
     }
 
-    // that whose text these bytes are, which aren't copied where they are more than a few
+    // the change whose encoding these bytes are; they aren't copied if they are more than a few
     fn kept(bytes: Vec<u8>) -> EncodedChange
         requires { EncodesOneChange bytes.items }
         ensures { result ≡ change_in bytes.items }
@@ -170,7 +171,8 @@ impl EncodedChange {
         }
     }
 
-    /// Its text, which is that of a change on so many hives wherever each operation is on one of these.
+    /// Its encoding. It is the encoding of a change that fits a number of hives, if each operation's hive is below that
+    /// number.
     pub fn bytes(&self) -> &[u8]
         ensures encoding { result.now ≡ element_bytes self.now }
         ensures fits { (hives : ℕ) →
@@ -179,7 +181,7 @@ impl EncodedChange {
         self.repr.bytes()
     }
 
-    /// How many bytes its text has.
+    /// How many bytes its encoding has.
     pub fn text_len(&self) -> u64
         ensures { result ≡ element_encoded_len self.now }
     {

@@ -11,10 +11,11 @@ use reg_names::{Name, Path, ValueName};
 use reg_tree::{Data, Element, Op};
 use std::alloc::AllocError;
 
-/// Puts the text of a change behind some bytes. Its caller sees that the text's length fits the field that has it.
+/// Appends the encoding of a change to some bytes. The caller ensures that its length fits the 32-bit field for it.
 ///
-/// A change in memory has of what fits all but the number of hives, by its types: so where each operation is on one of
-/// so many hives, the change fits these. It is refused only for want of memory, and has then put a part there.
+/// By its types a change in memory meets each condition of `Fits` but the number of hives. So if each operation's hive
+/// is below a number of hives, the change fits that number. Refused only if there is no memory; a part of the encoding
+/// may then be appended.
 pub fn write(element: &Element, bytes: &mut Vec<u8>) -> Result<(), AllocError>
     requires { element_encoded_len element.now < 2 ^ 32 }
     ensures encoding { OnOk result (bytes.new.items ≡ bytes.old.items ++ element_bytes element.now) }
@@ -25,7 +26,7 @@ pub fn write(element: &Element, bytes: &mut Vec<u8>) -> Result<(), AllocError>
     write_change(element.moment, element.ops.list(), len, bytes)
 }
 
-/// Puts the text of the change that these operations make at a moment behind some bytes: so many.
+/// Appends the encoding of the change that these operations make at a moment: `len` bytes.
 pub(crate) fn write_change(
     moment: u64,
     ops: &[Op],
@@ -46,7 +47,7 @@ pub(crate) fn write_change(
     write_ops(ops, bytes)
 }
 
-/// Puts the texts of operations behind some bytes.
+/// Appends the encodings of operations.
 fn write_ops(ops: &[Op], bytes: &mut Vec<u8>) -> Result<(), AllocError>
     requires { ops_encoded_len ops.now < 2 ^ 32 }
     ensures encoding { OnOk result (bytes.new.items ≡ bytes.old.items ++ flat_map op_bytes ops.now) }
@@ -148,7 +149,7 @@ fn write_key_name(name: &Name, bytes: &mut Vec<u8>) -> Result<(), AllocError>
     write_units(units, bytes)
 }
 
-/// Units that are bytes, as such.
+/// Units that are bytes, one byte each.
 fn write_units(units: &[u16], bytes: &mut Vec<u8>) -> Result<(), AllocError>
     requires { All (λ unit. unit < 256) units.now }
     ensures { OnOk result (bytes.new.items ≡ bytes.old.items ++ units.now) }

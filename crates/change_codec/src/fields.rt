@@ -9,7 +9,7 @@ use byteorder::{ByteOrder, LittleEndian};
 use refusals::Refusal;
 use std::alloc::AllocError;
 
-/// Puts a number of one byte behind some bytes.
+/// Appends a number of one byte.
 pub fn put_u8(bytes: &mut Vec<u8>, number: u8) -> Result<(), AllocError>
     ensures { OnOk result (bytes.new.items ≡ bytes.old.items ++ little_bytes 1 number) }
 {
@@ -17,7 +17,7 @@ pub fn put_u8(bytes: &mut Vec<u8>, number: u8) -> Result<(), AllocError>
     Ok(())
 }
 
-/// Puts a number of two bytes behind some bytes.
+/// Appends a number of two bytes.
 pub fn put_u16(bytes: &mut Vec<u8>, number: u16) -> Result<(), AllocError>
     ensures { OnOk result (bytes.new.items ≡ bytes.old.items ++ little_bytes 2 number) }
 {
@@ -26,7 +26,7 @@ pub fn put_u16(bytes: &mut Vec<u8>, number: u16) -> Result<(), AllocError>
     bytes.extend_from_slice(&field)
 }
 
-/// Puts a number of four bytes behind some bytes.
+/// Appends a number of four bytes.
 pub fn put_u32(bytes: &mut Vec<u8>, number: u32) -> Result<(), AllocError>
     ensures { OnOk result (bytes.new.items ≡ bytes.old.items ++ little_bytes 4 number) }
 {
@@ -35,7 +35,7 @@ pub fn put_u32(bytes: &mut Vec<u8>, number: u32) -> Result<(), AllocError>
     bytes.extend_from_slice(&field)
 }
 
-/// Puts a number of eight bytes behind some bytes.
+/// Appends a number of eight bytes.
 pub fn put_u64(bytes: &mut Vec<u8>, number: u64) -> Result<(), AllocError>
     ensures { OnOk result (bytes.new.items ≡ bytes.old.items ++ little_bytes 8 number) }
 {
@@ -44,7 +44,7 @@ pub fn put_u64(bytes: &mut Vec<u8>, number: u64) -> Result<(), AllocError>
     bytes.extend_from_slice(&field)
 }
 
-/// The first `n` bytes, and those behind them; nothing exactly where there are fewer, as each below.
+/// The first `n` bytes, and those after them; nothing exactly if there are fewer, as for each below.
 pub(crate) fn first_bytes(bytes: &[u8], n: usize) -> Option<(&[u8], &[u8])>
     ensures { MatchOption result (bytes_at n bytes.now ≡ None) (λ got.
         bytes_at n bytes.now ≡ Some (got.0.now, got.1.now)) }
@@ -56,7 +56,7 @@ pub(crate) fn first_bytes(bytes: &[u8], n: usize) -> Option<(&[u8], &[u8])>
     }
 }
 
-/// The number in the first byte, and the bytes behind it.
+/// The number in the first byte, and the bytes after it.
 pub(crate) fn first_u8(bytes: &[u8]) -> Option<(u8, &[u8])>
     ensures { MatchOption result (number_at 1 bytes.now ≡ None) (λ got.
         number_at 1 bytes.now ≡ Some (got.0, got.1.now)) }
@@ -67,7 +67,7 @@ pub(crate) fn first_u8(bytes: &[u8]) -> Option<(u8, &[u8])>
     Some((bytes[0], &bytes[1..]))
 }
 
-/// The number in the first two bytes, and the bytes behind them.
+/// The number in the first two bytes, and the bytes after them.
 pub(crate) fn first_u16(bytes: &[u8]) -> Option<(u16, &[u8])>
     ensures { MatchOption result (number_at 2 bytes.now ≡ None) (λ got.
         number_at 2 bytes.now ≡ Some (got.0, got.1.now)) }
@@ -78,7 +78,7 @@ pub(crate) fn first_u16(bytes: &[u8]) -> Option<(u16, &[u8])>
     Some((LittleEndian::read_u16(bytes), &bytes[2..]))
 }
 
-/// The number in the first four bytes, and the bytes behind them.
+/// The number in the first four bytes, and the bytes after them.
 pub(crate) fn first_u32(bytes: &[u8]) -> Option<(u32, &[u8])>
     ensures { MatchOption result (number_at 4 bytes.now ≡ None) (λ got.
         number_at 4 bytes.now ≡ Some (got.0, got.1.now)) }
@@ -89,7 +89,7 @@ pub(crate) fn first_u32(bytes: &[u8]) -> Option<(u32, &[u8])>
     Some((LittleEndian::read_u32(bytes), &bytes[4..]))
 }
 
-/// The number in the first eight bytes, and the bytes behind them.
+/// The number in the first eight bytes, and the bytes after them.
 pub(crate) fn first_u64(bytes: &[u8]) -> Option<(u64, &[u8])>
     ensures { MatchOption result (number_at 8 bytes.now ≡ None) (λ got.
         number_at 8 bytes.now ≡ Some (got.0, got.1.now)) }
@@ -100,7 +100,7 @@ pub(crate) fn first_u64(bytes: &[u8]) -> Option<(u64, &[u8])>
     Some((LittleEndian::read_u64(bytes), &bytes[8..]))
 }
 
-/// The first `n` bytes, and those behind them. Refused with `JournalDamaged` where there are fewer, as each below is.
+/// The first `n` bytes, and those after them. Refused with `JournalDamaged` if there are fewer, as each below is.
 pub(crate) fn take_bytes(bytes: &[u8], n: usize) -> Result<(&[u8], &[u8]), Refusal>
     ensures { MatchResult result (λ got. bytes_at n bytes.now ≡ Some (got.0.now, got.1.now))
         (RefusedFor JournalDamaged (bytes_at n bytes.now ≡ None)) }
@@ -111,7 +111,7 @@ pub(crate) fn take_bytes(bytes: &[u8], n: usize) -> Result<(&[u8], &[u8]), Refus
     }
 }
 
-/// The number in the first byte, and the bytes behind it.
+/// The number in the first byte, and the bytes after it.
 pub(crate) fn take_u8(bytes: &[u8]) -> Result<(u8, &[u8]), Refusal>
     ensures { MatchResult result (λ got. number_at 1 bytes.now ≡ Some (got.0, got.1.now))
         (RefusedFor JournalDamaged (number_at 1 bytes.now ≡ None)) }
@@ -122,7 +122,7 @@ pub(crate) fn take_u8(bytes: &[u8]) -> Result<(u8, &[u8]), Refusal>
     }
 }
 
-/// The number in the first two bytes, and the bytes behind them.
+/// The number in the first two bytes, and the bytes after them.
 pub(crate) fn take_u16(bytes: &[u8]) -> Result<(u16, &[u8]), Refusal>
     ensures { MatchResult result (λ got. number_at 2 bytes.now ≡ Some (got.0, got.1.now))
         (RefusedFor JournalDamaged (number_at 2 bytes.now ≡ None)) }
@@ -133,7 +133,7 @@ pub(crate) fn take_u16(bytes: &[u8]) -> Result<(u16, &[u8]), Refusal>
     }
 }
 
-/// The number in the first four bytes, and the bytes behind them.
+/// The number in the first four bytes, and the bytes after them.
 pub(crate) fn take_u32(bytes: &[u8]) -> Result<(u32, &[u8]), Refusal>
     ensures { MatchResult result (λ got. number_at 4 bytes.now ≡ Some (got.0, got.1.now))
         (RefusedFor JournalDamaged (number_at 4 bytes.now ≡ None)) }
@@ -144,7 +144,7 @@ pub(crate) fn take_u32(bytes: &[u8]) -> Result<(u32, &[u8]), Refusal>
     }
 }
 
-/// The number in the first eight bytes, and the bytes behind them.
+/// The number in the first eight bytes, and the bytes after them.
 pub(crate) fn take_u64(bytes: &[u8]) -> Result<(u64, &[u8]), Refusal>
     ensures { MatchResult result (λ got. number_at 8 bytes.now ≡ Some (got.0, got.1.now))
         (RefusedFor JournalDamaged (number_at 8 bytes.now ≡ None)) }

@@ -1,4 +1,4 @@
-//! The hives that a change's operations are on, told from its text; where the operations stand there, and its moment.
+//! The hives of a change's operations, read from its encoding; where in it the operations begin, and its moment.
 ghost use Rattle.std.specs.Prelude.{◌≡◌, ◌==◌, ◌∷◌, [], ℕ, List, Some, None, MatchOption};
 ghost use Rattle.std.specs.List.{list_any};
 ghost use Rattle.reg_tree.specs.declared.op.Op.{Op};
@@ -17,7 +17,7 @@ use std::marker::Model;
 pub struct Hives<'a> {
     /// How many operations are left.
     left: u32,
-    /// Their texts; of the last one's nothing is skipped.
+    /// The encodings of these; of the last one nothing is skipped.
     bytes: &'a [u8],
 }
 
@@ -33,7 +33,7 @@ impl<'a> Model for Hives<'a> {
 }
 
 impl<'a> Hives<'a> {
-    /// Those of a change's operations, by its text.
+    /// The hives of a change's operations, from its encoding.
     pub(crate) fn of(encoding: &'a [u8]) -> Hives<'a>
         requires { EncodesOneChange encoding.now }
         ensures { result ≡ hives_of (change_in encoding.now) }
@@ -64,7 +64,7 @@ impl<'a> Hives<'a> {
     }
 }
 
-/// How many operations the change has that bytes are the text of, and the bytes that begin with them.
+/// How many operations an encoded change has, and the bytes that begin with them.
 pub(crate) fn ops_in(encoding: &[u8]) -> (u32, &[u8])
     requires { EncodesOneChange encoding.now }
     ensures { HasOps (repeat result.0 (op_at 256) result.1.now) (change_in encoding.now).ops }
@@ -95,7 +95,7 @@ pub(crate) fn hive_in(bytes: &[u8]) -> u8
     hive
 }
 
-/// The moment of the change that bytes are the text of.
+/// The moment of an encoded change.
 pub(crate) fn moment_in(encoding: &[u8]) -> u64
     requires { EncodesOneChange encoding.now }
     ensures { result ≡ (change_in encoding.now).moment }

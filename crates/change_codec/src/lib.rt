@@ -1,12 +1,13 @@
-//! The text of accepted changes in a journal.
+//! The encoding of accepted changes in a journal.
 //!
-//! A change is a moment and operations; its text is one list of bytes, whose layout `specs/Encoding` gives. The law of the
-//! text has two sides: what is written of a change that fits is read again as that change, whatever follows it, and
-//! what is read is the text of a change that fits. So a change has one text and a text is one change's, no text is the
-//! beginning of another, and a journal may be written from left to right and read so after a crash.
+//! A change is a moment and operations; its encoding is one list of bytes, whose layout `specs/Encoding` gives. The law
+//! of the encoding has two sides. What is written of a change that fits decodes to that change again, whatever follows
+//! it. What is read is the encoding of a change that fits. So a change has one encoding and an encoding is one
+//! change's. No encoding is the beginning of another. A journal may be written from left to right and read in the same
+//! order after a crash.
 //!
 //! [`write`] and [`read`] do what the definitions say, for every change and for all bytes. Nothing is read of a device
-//! here, and a reader sees all of the bytes at once: reading in pieces is the journal's.
+//! here, and a reader sees all of the bytes at once: the journal reads in chunks.
 #![tactic(auto)]
 
 mod decoder;

@@ -1,4 +1,4 @@
-//! A change's operations on one hive, made of its text: those on others are skipped.
+//! A change's operations on one hive, decoded from its encoding: those on others are skipped.
 ghost use Rattle.std.specs.Prelude.{◌≡◌, ◌==◌, List, None, IfOk, filter};
 ghost use Rattle.reg_tree.specs.declared.op.Op.{Op};
 ghost use Rattle.reg_tree.specs.Operations.{hive_of};
@@ -14,7 +14,7 @@ use refusals::Refusal;
 use reg_tree::Op;
 use std::alloc::{AllocError, Global};
 
-/// Those on a hive, of so many operations that bytes begin with.
+/// The operations on a hive, of the `count` operations that bytes begin with.
 pub(crate) fn take_ops_on(
     alloc: Global,
     hive: u8,
@@ -33,7 +33,7 @@ pub(crate) fn take_ops_on(
     Ok(made)
 }
 
-/// The bytes behind the operation that bytes begin with, which is put behind others where it is on a hive.
+/// The bytes after the operation that bytes begin with. The operation is appended to others if it is on a hive.
 fn take_if_on<'a>(
     alloc: Global,
     hive: u8,

@@ -1,4 +1,4 @@
-//! What stands behind a change that bytes begin with, found without memory: each function here does what the reader of
+//! What comes after a change that bytes begin with, found without memory: each function here does what the reader of
 //! `specs/Encoding` says that its clause names, and makes no value of it.
 ghost use Rattle.std.specs.Prelude.{◌≡◌, List, ℕ, MatchOption, Some, None};
 ghost use Rattle.reg_names.specs.Names.{is_key_name, is_name_unit, is_key_unit, is_value_name};
@@ -10,7 +10,8 @@ ghost use Rattle.change_codec.specs.Encoding.{key_name_at, path_at, value_name_a
 use crate::fields::{first_bytes, first_u8, first_u16, first_u32, first_u64};
 use refusals::limits::{MOST_KEY_NAME_UNITS, MOST_PATH_NAMES, MOST_VALUE_NAME_UNITS};
 
-/// The bytes behind the change on one of so many hives that bytes begin with; nothing exactly where they begin with none.
+/// The bytes after the change that bytes begin with, its hives all below `hives`; nothing exactly if they begin with
+/// none.
 #[tactic(auto, unfolding(crate::specs::Encoding::element_at))]
 pub(crate) fn skip_change(hives: u16, bytes: &[u8]) -> Option<&[u8]>
     ensures { MatchOption result (element_at hives bytes.now ≡ None)
@@ -24,7 +25,7 @@ pub(crate) fn skip_change(hives: u16, bytes: &[u8]) -> Option<&[u8]>
     }
 }
 
-/// The length that bytes begin with, how many operations are behind it, and the bytes behind these.
+/// The length that bytes begin with, how many operations come after it, and the bytes after these.
 fn skip_fields(hives: u16, bytes: &[u8]) -> Option<(u32, u32, &[u8])>
     ensures { MatchOption result (fields_at hives bytes.now ≡ None)
         (λ got. SkipsFields (fields_at hives bytes.now) got.0 got.1 got.2.now) }
@@ -36,7 +37,7 @@ fn skip_fields(hives: u16, bytes: &[u8]) -> Option<(u32, u32, &[u8])>
     Some((len, count, rest))
 }
 
-/// The bytes behind so many operations.
+/// The bytes after `count` operations.
 fn skip_ops(hives: u16, count: u32, bytes: &[u8]) -> Option<&[u8]>
     ensures { MatchOption result (repeat count (op_at hives) bytes.now ≡ None)
         (λ rest. SkipsMany (repeat count (op_at hives) bytes.now) count rest.now) }
@@ -48,7 +49,7 @@ fn skip_ops(hives: u16, count: u32, bytes: &[u8]) -> Option<&[u8]>
     Some(rest)
 }
 
-/// The hive of the operation that bytes begin with, and the bytes behind it.
+/// The hive of the operation that bytes begin with, and the bytes after it.
 pub(crate) fn skip_op(hives: u16, bytes: &[u8]) -> Option<(u8, &[u8])>
     ensures { MatchOption result (op_at hives bytes.now ≡ None)
         (λ got. SkipsOp (op_at hives bytes.now) got.0 got.1.now) }
@@ -60,7 +61,7 @@ pub(crate) fn skip_op(hives: u16, bytes: &[u8]) -> Option<(u8, &[u8])>
     Some((hive, rest))
 }
 
-/// The bytes behind what follows the head of an operation of a kind.
+/// The bytes after the fields that follow the head of an operation of a kind.
 fn skip_tail(kind: u8, bytes: &[u8]) -> Option<&[u8]>
     ensures { MatchOption result
         ((hive : ℕ) (path : List (List ℕ)) → by_kind kind hive path bytes.now ≡ None)
@@ -76,7 +77,7 @@ fn skip_tail(kind: u8, bytes: &[u8]) -> Option<&[u8]>
     }
 }
 
-/// A hive that is one of so many, and the bytes behind it.
+/// A hive below `hives`, and the bytes after it.
 pub(crate) fn first_hive(hives: u16, bytes: &[u8]) -> Option<(u8, &[u8])>
     ensures { MatchOption result (hive_at hives bytes.now ≡ None)
         (λ got. hive_at hives bytes.now ≡ Some (got.0, got.1.now)) }
@@ -89,7 +90,7 @@ pub(crate) fn first_hive(hives: u16, bytes: &[u8]) -> Option<(u8, &[u8])>
     }
 }
 
-/// The bytes behind a value's name, its type and its data.
+/// The bytes after a value's name, its type and its data.
 fn skip_set_fields(bytes: &[u8]) -> Option<&[u8]>
     ensures { MatchOption result (set_fields_at bytes.now ≡ None)
         (λ rest. Skips (set_fields_at bytes.now) rest.now) }
@@ -100,7 +101,7 @@ fn skip_set_fields(bytes: &[u8]) -> Option<&[u8]>
     Some(rest)
 }
 
-/// The data of a value, and the bytes behind them.
+/// The data of a value, and the bytes after them.
 fn first_data(bytes: &[u8]) -> Option<(&[u8], &[u8])>
     ensures { MatchOption result (string_at 4 bytes.now ≡ None)
         (λ got. string_at 4 bytes.now ≡ Some (got.0.now, got.1.now)) }
@@ -109,7 +110,7 @@ fn first_data(bytes: &[u8]) -> Option<(&[u8], &[u8])>
     first_bytes(rest, len as usize)
 }
 
-/// The name of a value, and the bytes behind it.
+/// The name of a value, and the bytes after it.
 fn first_value_name(bytes: &[u8]) -> Option<(&[u8], &[u8])>
     ensures { MatchOption result (value_name_at bytes.now ≡ None)
         (λ got. value_name_at bytes.now ≡ Some (got.0.now, got.1.now)) }
@@ -123,7 +124,7 @@ fn first_value_name(bytes: &[u8]) -> Option<(&[u8], &[u8])>
     }
 }
 
-/// The bytes behind a path.
+/// The bytes after a path.
 fn skip_path(bytes: &[u8]) -> Option<&[u8]>
     ensures { MatchOption result (path_at bytes.now ≡ None) (λ rest. Skips (path_at bytes.now) rest.now) }
 {
@@ -134,7 +135,7 @@ fn skip_path(bytes: &[u8]) -> Option<&[u8]>
     skip_names(count, rest)
 }
 
-/// The bytes behind so many key names.
+/// The bytes after `count` key names.
 fn skip_names(count: u16, bytes: &[u8]) -> Option<&[u8]>
     ensures { MatchOption result (repeat count key_name_at bytes.now ≡ None)
         (λ rest. SkipsMany (repeat count key_name_at bytes.now) count rest.now) }
@@ -146,7 +147,7 @@ fn skip_names(count: u16, bytes: &[u8]) -> Option<&[u8]>
     Some(rest)
 }
 
-/// The name of a key, and the bytes behind it.
+/// The name of a key, and the bytes after it.
 fn first_key_name(bytes: &[u8]) -> Option<(&[u8], &[u8])>
     ensures { MatchOption result (key_name_at bytes.now ≡ None)
         (λ got. key_name_at bytes.now ≡ Some (got.0.now, got.1.now)) }

@@ -1,4 +1,4 @@
--- Claims of which no transaction's conflicts with another's.
+-- Tables in which no claim of one transaction conflicts with another's.
 use Rattle.std.proofs.Common.{◌≡◌, inl, inr, ℕ, Bool, true, false, not, ◌||◌, ◌&&◌, cond, List, [], ◌∷◌, ◌++◌, map, Option, Some, refl, sym, ◌∙◌, ap, subst}
 use Rattle.std.specs.Prelude.{◌==◌, ◌≢◌, filter, Contains}
 use Rattle.std.specs.List.{list_any}
@@ -35,7 +35,7 @@ all_fail p (one ∷ held) h = ap (λ b. b || list_any p held) (h one (here one h
 
 -- Holders
 
--- there are none where no claim stands against the one asked for
+-- there are none if no claim blocks the one asked for
 pub no_holders : (held : List HeldClaim) (asker : Option ℕ) (claim : Claim) → list_any (blocks asker claim) held ≡ false → holders_of held asker claim ≡ []
 no_holders held asker claim f = ap (λ hs. each_once (map (λ (h : HeldClaim). h.owner) hs)) (left held f)
   where
@@ -47,7 +47,7 @@ no_holders held asker claim f = ap (λ hs. each_once (map (λ (h : HeldClaim). h
         by_case rest true f = never (sym f)
         by_case rest false f = rest f
 
--- and some where one does
+-- and some if one does
 pub some_holders : (held : List HeldClaim) (asker : Option ℕ) (claim : Claim) → list_any (blocks asker claim) held ≡ true → holders_of held asker claim ≢ []
 some_holders held asker claim t none = never (sym (nothing held none) ∙ t)
   where
@@ -68,18 +68,18 @@ some_holders held asker claim t none = never (sym (nothing held none) ∙ t)
 
 -- The claims of a table
 
--- what a transaction has conflicts with no other's
+-- a claim that a transaction has conflicts with no other's
 pub own_apart : (held : List HeldClaim) → OwnersDontConflict held → (one : HeldClaim) → list_any (same_held_claim one) held ≡ true → list_any (blocks (Some one.owner) one.claim) held ≡ false
 own_apart held apart one t = all_fail (blocks (Some one.owner) one.claim) held (λ other c. apart one other (same_has one held t) c)
 
--- one that is there is not added again, and one that isn't is
+-- a claim that is there is not added again, and one that isn't is
 pub there_already : (held : List HeldClaim) (one : HeldClaim) → list_any (same_held_claim one) held ≡ true → held ≡ with_claim held one
 there_already held one t = sym (ap (λ b. cond b held (held ++ one ∷ [])) t)
 
 pub not_there : (held : List HeldClaim) (one : HeldClaim) → list_any (same_held_claim one) held ≡ false → held ++ one ∷ [] ≡ with_claim held one
 not_there held one f = sym (ap (λ b. cond b held (held ++ one ∷ [])) f)
 
--- of two claims each stands against the other or neither does
+-- of two claims each blocks the other or neither does
 against_back : (a b : HeldClaim) → blocks (Some a.owner) a.claim b ≡ blocks (Some b.owner) b.claim a
 against_back a b =
     ap (λ x. not x && meets a.claim b.claim) (same_either_way a.owner b.owner)

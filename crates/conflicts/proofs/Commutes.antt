@@ -1,5 +1,5 @@
--- Two operations whose claims do not conflict may be carried out in either order, each at its own moment: but for which of them writes a key last,
--- they make the same of a tree.
+-- Two operations whose claims do not conflict may be carried out in either order, each at its own moment. But for which
+-- of them writes a key last, they make the same of a tree.
 use Rattle.std.proofs.Common.{◌≡◌, inl, inr, ℕ, ◌+◌, ◌<◌, ◌≤◌, Bool, true, false, ◌&&◌, cond, List, [], ◌∷◌, ◌++◌, length, take, drop, Some, None, IsSome, is_some, Ok, refl, sym, ◌∙◌, ap, subst, arith, append-nil, append_assoc}
 use Rattle.std.specs.Prelude.{nat_lt, ⊤}
 use Rattle.std.specs.Ordering.{eq_by_cmp}
@@ -101,7 +101,7 @@ module _ (tree : TreeMap) (is : IsTree tree) (m : ℕ) (a : Op) (legal : judged 
     | inr ge ↦ ge
   ]
 
-  -- and as long, where nothing is made past its end
+  -- and as long, if nothing is made past its end
   pub as_long : (depth < length path → (rest : List (List ℕ)) → makes (its tree a (take (depth + 1) path ++ rest)) ≡ true → ⊥) → depth_there (tree_after tree a m) path ≡ depth
   as_long unmade = depth_by (tree_after tree a m) after_is path depth (depth_within tree path) home_stays
       (λ lt rest. row_done tree a m (take (depth + 1) path ++ rest) ∙ gone_stays m (its tree a (take (depth + 1) path ++ rest)) (row tree (take (depth + 1) path ++ rest)) (past_end tree is path lt rest) (fits tree is a legal (take (depth + 1) path ++ rest)) (unmade lt rest))
@@ -119,7 +119,7 @@ module _ (tree : TreeMap) (is : IsTree tree) (m : ℕ) (a : Op) (legal : judged 
 
 -- Two operations on one tree
 
--- where one creation makes as many levels after another as before it, so does the other
+-- if one creation makes as many levels after another as before it, so does the other
 module _ (tree : TreeMap) (is : IsTree tree) (m : ℕ) (h : ℕ) (p : List (List ℕ)) (k : ℕ) (s : List (List ℕ)) (after_a : IsTree (tree_after tree (CreateKey h p) m))
     (alike : depth_there (tree_after tree (CreateKey h p) m) (folded_path s) ≡ depth_there tree (folded_path s)) where
   -- what both would make is there
@@ -176,7 +176,7 @@ same_deed tree is m a legal after_a (DeleteValue k s name) e apart alike q = ref
 
 module _ (tree : TreeMap) (is : IsTree tree) (m n : ℕ) (a b : Op) (e : hive_of a ≡ hive_of b) (apart : NoConflict a b) (legal_a : judged tree a ≡ Ok Legal) (legal_b : judged tree b ≡ Ok Legal)
     (after_a : IsTree (tree_after tree a m)) (after_b : IsTree (tree_after tree b n)) (alike : StaysAsLong b tree (tree_after tree a m)) where
-  -- the first after the second, where the second after the first is as long as on the tree
+  -- the first after the second, if the second after the first is as long as on the tree
   as_long_back : StaysAsLong a tree (tree_after tree b n)
   as_long_back = by_case a b e apart legal_b after_a after_b alike
     where

@@ -16,8 +16,8 @@ use Rattle.reg_tree.specs.declared.op.Op.TheVariants.{CreateKey, DeleteKey, SetV
 use Rattle.reg_tree.proofs.TreesAfter.{row-tree_after}
 use Rattle.conflicts.proofs.Tests.{never}
 
--- a creation writes the last key that is there, or makes one of this name with this descriptor; a deletion of a key removes that, or writes its
--- parent; whatever changes values edits their key
+-- a creation writes the last key that is there, or makes one of this name with this descriptor; a deletion of a key
+-- removes that, or writes its parent; whatever changes values edits their key
 pub data Deed : Type 0 where
   Makes : Bool → Bool → List ℕ → List ℕ → Deed
   Removes : Bool → Bool → Deed
@@ -140,8 +140,8 @@ gone_stays m (Edits false v) None none f keeps = refl
 
 -- Two deeds
 
--- What a row comes to in two orders, by what it was, and was after the operations of one: both are the same where these left it. Else it has their
--- moment, unless what came between is the last to write it; and that doesn't make it.
+-- What a row becomes in two orders, by what it was, and what it was after the operations of one. Both are the same if
+-- these left it. Else it has their moment, unless what came between is the last to write it; and that doesn't make it.
 abbrev pub Orders : ℕ → Bool → Option Row → Option Row → Option Row → Option Row → Type 0
 Orders m new was seen left right =
     ((right ≡ left) × (seen ≡ was))
@@ -239,7 +239,7 @@ there_written (Makes h i k s) o f w = f.0 w
 there_written (Removes d u) o f w = f.1 w
 there_written (Edits e v) o f w = f w
 
--- a row that was written at a moment is so still, where a deed leaves it or removes it
+-- a row that was written at a moment is so still, if a deed leaves it or removes it
 written_still : (m : ℕ) (o key : Option Row) → o ≡ option_map (touched m) key → option_map (touched m) o ≡ o
 written_still m o key e = ap (option_map (touched m)) e ∙ twice m key ∙ sym e
 
@@ -253,7 +253,7 @@ stays_written m n (Removes false false) o key e none off = written_still m o key
 stays_written m n (Edits true v) o key e none off = never (sym off)
 stays_written m n (Edits false v) o key e none off = written_still m o key e
 
--- and where it writes it at this moment
+-- and if it writes it at this moment
 edited_still : (m : ℕ) (v : ValueMap → ValueMap) (o : Option Row) → option_map (touched m) (option_map (λ key. touched m (edited v key)) o) ≡ option_map (λ key. touched m (edited v key)) o
 edited_still m v None = refl
 edited_still m v (Some key) = refl

@@ -1,5 +1,5 @@
--- A change past operations whose claims do not conflict with its own: the two may be carried out in either order, and of a key that both write the
--- later one's moment is the time.
+-- A change after operations whose claims do not conflict with its own: the two may be carried out in either order, and
+-- the time of a key that both write is the later one's moment.
 use Rattle.std.proofs.Common.{◌≡◌, ◌⊎◌, inl, inr, ℕ, zero, suc, ◌-◌, ◌≤◌, Bool, true, false, ◌&&◌, cond, List, [], ◌∷◌, length, map, Option, Some, None, IsSome, is_some, Ok, refl, sym, ◌∙◌, ap, subst, arith}
 use Rattle.std.specs.Prelude.{slice_get, slice_set, nat_lt, ⊤}
 use Rattle.std.specs.List.{AllByRecursion}
@@ -215,10 +215,10 @@ alike_after (DeleteKey hive spelled) trees are a ops m legal carried apart other
 alike_after (SetValue hive spelled name kind bytes) trees are a ops m legal carried apart others alike = (tt, tt)
 alike_after (DeleteValue hive spelled name) trees are a ops m legal carried apart others alike = (tt, tt)
 
--- A change past operations
+-- A change after operations
 
--- rows in two orders past one operation more: what it makes of them with the change, what the others make then, and what they make of both
--- (`IsTold`)
+-- rows in two orders with one operation more before the change: what it makes of them with the change, what the others
+-- make then, and what they make of both (`IsTold`)
 past_more : (m : ℕ) (new : Bool) (was made seen left between x y right : Option Row) → Orders m new was made x y → Orders m new made seen left between → IsTold m m x y between right → Orders m new was seen left right
 past_more m new was made seen left between x y right one rest told = elim one [
   | inl s ↦ elim rest [
@@ -282,7 +282,7 @@ told_same m was o p told = same_tree o p told.0 (λ q. elim (told.1 q) [
 ])
 
 module _ (the_law : LawOfClaims) where
-  -- what a change's hive has, past operations and before them; and the change may be carried out past them
+  -- what a change's hive has, after operations and before them; and the change may be carried out after them
   past : (trees : List TreeMap) → AreTrees trees → (ops : List Op) (b : Op) (m n : ℕ) → AreCarriedOut trees ops m → judged_in trees b ≡ Ok Legal → AllByRecursion (λ a. NoConflict a b) ops → MakesAlike b (applied trees ops m) trees →
       (judged_in (applied trees ops m) b ≡ Ok Legal)
       × AreOrders m (makes_in (slice_get trees (hive_of b)) b) (slice_get trees (hive_of b)) (slice_get (applied trees ops m) (hive_of b)) (slice_get (applied_one (applied trees ops m) b n) (hive_of b)) (slice_get (applied (applied_one trees b n) ops m) (hive_of b))
@@ -330,7 +330,7 @@ module _ (the_law : LawOfClaims) where
     was : Found trees change
     was = found trees change beside.legal
 
-    -- what the change does to a row past the operations
+    -- what the change does to a row after the operations
     abbrev y : List (List ℕ) → Deed
     y q = its on.tree change q
 
@@ -366,14 +366,15 @@ module _ (the_law : LawOfClaims) where
         hives_stay after_ops change n hive ne
         ∙ told_same m (slice_get trees hive) (slice_get after_ops hive) (slice_get change_first hive) (subst (λ o. AreTold m m (slice_get trees hive) o (slice_get after_ops hive) (slice_get change_first hive)) kept (told m m trees (applied_one trees change n) ops hive (ap (option_map untimed) (sym kept))))
 
-    -- so all hives are the same, where each row of the change's is
+    -- so all hives are the same, if each row of the change's is
     all_same : ((q : List (List ℕ)) → done n (y q) (row on.tree q) ≡ at_path (slice_get change_first its_hive) q) → change_last ≡ change_first
     all_same rows = same_lists change_last change_first (λ hive. elim (cases_eq hive its_hive) [
       | inl e ↦ subst (λ k. slice_get change_last k ≡ slice_get change_first k) (sym e) (same_tree (slice_get change_last its_hive) (slice_get change_first its_hive) known.1.0 (λ q. left_row q ∙ rows q))
       | inr ne ↦ elsewhere hive ne
     ])
 
-    -- The times, where the change has a moment of its own: the key that it writes has that of the operations, where they wrote it
+    -- The times, if the change has a moment of its own: the key that it writes has the operations' moment, if they
+    -- wrote it
 
     abbrev touched_path : List (List ℕ)
     touched_path = touched_path_of change (levels_made after_ops change)
@@ -388,7 +389,7 @@ module _ (the_law : LawOfClaims) where
     time_here : (q : List (List ℕ)) → time_in after_ops its_hive q ≡ option_map (λ (key : Row). key.time) (row on.tree q)
     time_here q = ap (λ o. option_and_then (λ tree. time_at tree q) o) on.at
 
-    -- where they didn't write it, nothing else is to be done
+    -- if they didn't write it, nothing else is to be done
     pub unwritten : (time_in after_ops its_hive touched_path ≡ Some m → ⊥) → change_last ≡ change_first
     unwritten other = all_same (λ q. elim (orders q) [
       | inl s ↦ sym s.0
@@ -402,7 +403,7 @@ module _ (the_law : LawOfClaims) where
         time_of o None e there = never (sym (ap is_some e) ∙ there)
         time_of o (Some key) e there = ap (option_map (λ (key : Row). key.time)) e
 
-    -- where they did, and it had another time before, it has theirs
+    -- if they did, and it had another time before, it has theirs
     pub written : time_in after_ops its_hive touched_path ≡ Some m → (time_in trees its_hive touched_path ≡ Some m → ⊥) → stamped change_last its_hive touched_path m ≡ change_first
     written mine other = same_lists (stamped change_last its_hive touched_path m) change_first (λ hive. elim (cases_eq hive its_hive) [
       | inl e ↦ subst (λ k. slice_get (stamped change_last its_hive touched_path m) k ≡ slice_get change_first k) (sym e)

@@ -1,4 +1,4 @@
--- What goes on from a text lies between two spots.
+-- What extends an encoding is between two index keys.
 use Rattle.std.proofs.Common.{◌≡◌, ◌⊎◌, inl, inr, ℕ, zero, suc, ◌<◌, ◌≤◌, Bool, true, false, not, ◌&&◌, eqb, List, [], ◌∷◌, ◌++◌, map, length, take, drop, ◌-◌, min, append-nil, append_assoc, refl, sym, ◌∙◌, ap, subst, arith}
 use Rattle.std.specs.Prelude.{filter, Contains}
 use Rattle.std.specs.Ordering.{nat_cmp, ordering_then, is_gt, is_le, is_lt, is_eq, eq_by_cmp}
@@ -25,7 +25,7 @@ nat_less m n lt = sym (nat_cmp_is m n Less lt)
 nat_greater : (m n : ℕ) → n < m → nat_cmp m n ≡ Greater
 nat_greater m n lt = sym (nat_cmp_is m n Greater lt)
 
--- past one front, texts compare as their rests do
+-- after one front, encodings compare as their rests do
 same_front : (t x y : List ℕ) → slice_cmp nat_cmp (t ++ x) (t ++ y) ≡ slice_cmp nat_cmp x y
 same_front [] x y = refl
 same_front (a ∷ t) x y = ap (λ o. ordering_then o (slice_cmp nat_cmp (t ++ x) (t ++ y))) (tied_itself nat_cmp_total a) ∙ same_front t x y
@@ -35,7 +35,7 @@ zero_or_more : (u : ℕ) → (u ≡ 0) ⊎ (0 < u)
 zero_or_more zero = inl refl
 zero_or_more (suc u) = inr (omega arith)
 
--- the first spot of a range is not above the last
+-- the first index key of a range is not above the last
 pub forward : (from to : IndexKey) (t : List ℕ) (past : ℕ) → from.0.items ≡ t ++ 0 ∷ [] → to.0.items ≡ t ++ past ∷ [] → 0 < past → is_gt (index_key_order from to) ≡ false
 forward from to t past e f lt =
     ap (λ x. is_gt (ordering_then (slice_cmp nat_cmp x to.0.items) (nat_cmp from.1 to.1))) e ∙ ap (λ x. is_gt (ordering_then (slice_cmp nat_cmp (t ++ 0 ∷ []) x) (nat_cmp from.1 to.1))) f
@@ -43,7 +43,7 @@ forward from to t past e f lt =
     ∙ ap (λ o. is_gt (ordering_then (ordering_then o Equal) (nat_cmp from.1 to.1))) (nat_less 0 past lt)
 
 module _ (from to : IndexKey) (t : List ℕ) (past : ℕ) (first : from.0.items ≡ t ++ 0 ∷ []) (least : from.1 ≡ 0) (last : to.0.items ≡ t ++ past ∷ []) where
-  -- what goes on from the text is not below the first
+  -- what extends the encoding is not below the first
   not_below : (index_key : IndexKey) (u : ℕ) (rest : List ℕ) → index_key.0.items ≡ t ++ u ∷ rest → is_le (index_key_order from index_key) ≡ true
   not_below index_key u rest e =
       ap (λ x. is_le (ordering_then (slice_cmp nat_cmp x index_key.0.items) (nat_cmp from.1 index_key.1))) first ∙ ap (λ x. is_le (ordering_then (slice_cmp nat_cmp (t ++ 0 ∷ []) x) (nat_cmp from.1 index_key.1))) e
@@ -78,7 +78,7 @@ module _ (from to : IndexKey) (t : List ℕ) (past : ℕ) (first : from.0.items 
       map_has (λ (s : IndexKey). s.1) (filter (λ s. range_contains index_key_order (Included from) (Included to) s) index_keys) index_key
       (filter_has (λ s. range_contains index_key_order (Included from) (Included to) s) index_keys index_key c (both (is_le (index_key_order from index_key)) (not (is_lt (index_key_order to index_key))) (not_below index_key g.0 g.1 g.3) (not_above index_key g.0 g.1 g.2 g.3)))
 
--- The spots of one text
+-- The index keys of one encoding
 
 same_text : (t : List ℕ) → slice_cmp nat_cmp t t ≡ Equal
 same_text [] = refl
@@ -90,7 +90,7 @@ module _ (from to : IndexKey) (least : from.1 ≡ 0) (same : to.0.items ≡ from
       ap (λ t. is_gt (ordering_then (slice_cmp nat_cmp from.0.items t) (nat_cmp from.1 to.1))) same ∙ ap (λ o. is_gt (ordering_then o (nat_cmp from.1 to.1))) (same_text from.0.items)
       ∙ ap (λ n. is_gt (nat_cmp n to.1)) least ∙ ap (λ n. is_gt (nat_cmp 0 n)) most
 
-  -- lie between its first and its last
+  -- are between its first and its last
   pub at_text : (index_key : IndexKey) → index_key.0.items ≡ from.0.items → index_key.1 < 18446744073709551616 → range_contains index_key_order (Included from) (Included to) index_key ≡ true
   at_text index_key at lt = both (is_le (index_key_order from index_key)) (not (is_lt (index_key_order to index_key))) not_below not_above
     where
@@ -112,7 +112,7 @@ module _ (from to : IndexKey) (least : from.1 ≡ 0) (same : to.0.items ≡ from
             | inr ge ↦ let last : index_key.1 ≡ 18446744073709551615 = omega (arith, lt, ge) in ap (λ m. not (is_lt (nat_cmp 18446744073709551615 m))) last
           ]
 
--- the text of a name, written unit by unit
+-- the encoding of a name, written unit by unit
 pub name_written : (before after text : List ℕ) (name : List ℕ) (n : ℕ) → length name ≤ n → text ≡ before ++ map (λ u. min (fold_unit u) 65534) (take n name) → after ≡ text ++ 92 ∷ [] → after ≡ before ++ name_text (folded name)
 name_written before after text name n le e f =
     f ∙ ap (λ x. x ++ 92 ∷ []) (e ∙ ap (λ xs. before ++ map (λ u. min (fold_unit u) 65534) xs) (take_all_of n name le) ∙ ap (λ xs. before ++ xs) (fused name)) ∙ append_assoc before (map (λ u. min u 65534) (folded name)) (92 ∷ [])
@@ -127,7 +127,7 @@ name_written before after text name n le e f =
     fused [] = refl
     fused (x ∷ xs) = ap (λ ys. min (fold_unit x) 65534 ∷ ys) (fused xs)
 
--- numbers are equal exactly where they tie
+-- numbers are equal exactly if they tie
 pub ties : (x y : ℕ) → eqb x y ≡ eq_by_cmp nat_cmp x y
 ties x y = agree {P = x ≡ y} _ _ (eqb-true x y) (λ e. subst (λ z. eq_by_cmp nat_cmp x z ≡ true) e (ap is_eq (tied_itself nat_cmp_total x))) (λ t. nat_cmp-IsAntisymmetric x y (equal_of (nat_cmp x y) t)) (eq-eqb x y)
 
@@ -158,18 +158,18 @@ module _ (owner number : ℕ) where
       both_true true b e f = f
       both_true false b e f = e
 
-  -- where none is found there, none is listed
+  -- if none is found there, none is listed
   pub none_listed : (keys found : List (ℕ × ℕ)) → found ≡ filter (range_contains pair_order (Included (from_pair owner)) (Included (to_pair owner))) keys → found ≡ [] → number < 18446744073709551616 → Contains keys (owner, number) → ⊥
   none_listed keys found e none lt has = none_empty (owner, number) (subst (λ xs. Contains xs (owner, number)) (sym e ∙ none) (found_between keys lt has))
 
   pub under_has : (keys : List (ℕ × ℕ)) → number < 18446744073709551616 → Contains keys (owner, number) → Contains (numbers_under owner keys) number
   under_has keys lt has = map_has (λ (p : ℕ × ℕ). p.1) (filter (range_contains pair_order (Included (from_pair owner)) (Included (to_pair owner))) keys) (owner, number) (found_between keys lt has)
 
--- a text that is fed after another one is fed behind it
+-- an encoding that is fed to a hasher after another one is fed as one with it
 pub fed_on : (state : _) (before more : List ℕ) → hasher_after (hasher_after state before) more ≡ hasher_after state (before ++ more)
 fed_on state before more = sym (fold-append _ state before more)
 
--- and so what was written behind a text that was fed
+-- and so is what was written after an encoding that was fed
 pub fed_rest : (state : _) (before more after : List ℕ) (n : ℕ) → n ≡ length before → after ≡ before ++ more → hasher_after (hasher_after state before) (take (length after - n) (drop n after)) ≡ hasher_after state after
 fed_rest state before more after n at is =
     ap (hasher_after (hasher_after state before)) (take_rest after n ∙ ap (λ k. drop k after) at ∙ ap (drop (length before)) is ∙ drop-append_seam before more)

@@ -170,7 +170,7 @@ not_tied Less p f = refl
 not_tied Equal p f = f
 not_tied Greater p f = refl
 
--- where a number was looked up, its claim is there
+-- if a number was looked up, its claim is there
 lookup_has : (kept : List Numbered) (n : ℕ) (k : Kept) → lookup (is_at (nat_cmp n)) kept ≡ Some k → Contains kept (n, k)
 lookup_has [] n k e = cc
 lookup_has (x ∷ kept) n k e = by_case (lookup_has kept n k) (nat_cmp n x.0) refl e
@@ -232,7 +232,7 @@ others_same (x ∷ kept) n owner k e own = by_case (others_same kept n owner k) 
         sym (ap (λ b. cond (not b) (x.1.entry ∷ without_owner (claims_of kept) owner) (without_owner (claims_of kept) owner)) owned)
     by_case rest false e = ap (λ hs. cond (not (x.1.entry.owner == owner)) (x.1.entry ∷ hs) hs) (rest e own)
 
--- where the owner has none, dropping them changes nothing
+-- if the owner has none, dropping them changes nothing
 pub none_left : (kept : List Numbered) (owner : ℕ) → ((n : ℕ) (k : Kept) → Contains kept (n, k) → k.entry.owner ≢ owner) → without_owner (claims_of kept) owner ≡ claims_of kept
 none_left [] owner h = refl
 none_left (x ∷ kept) owner h =
@@ -256,7 +256,7 @@ module _ (next : ℕ) (index : Index) (owned others : List (ℕ × ℕ)) (kept n
       first_apart Equal q f = never (sym f)
       first_apart Greater q f = refl
 
-  -- after a claim of the owner was taken out, with its spot
+  -- after a claim of the owner was taken out, with its index key
   pub filed_without : (fewer : Index) (one : Kept) → TakesOwn kept new owner n one → IsStrictlySortedBy nat_cmp (map (λ (e : Numbered). e.0) new) → KeepsOthers index fewer one.index_key.1 → AreInIndexes next fewer others new
   filed_without fewer one takes rises less = record {
     rises = rises;
@@ -271,7 +271,7 @@ module _ (next : ℕ) (index : Index) (owned others : List (ℕ × ℕ)) (kept n
     index_keys_known = λ m h c. are.index_keys_known m h (left_over kept are.rises n m h (subst (λ xs. Contains xs (m, h)) takes.is c)).0;
   }
 
-  -- and where there was none
+  -- and if there was none
   pub filed_still : LeavesOthers kept new owner n → AreInIndexes next index others new
   filed_still leaves = subst (λ xs. AreInIndexes next index others xs) (sym leaves.same) (record {
     rises = are.rises;
@@ -287,7 +287,7 @@ module _ (next : ℕ) (index : Index) (owned others : List (ℕ × ℕ)) (kept n
     index_keys_known = are.index_keys_known;
   })
 
--- the owner has no claim where no number is listed under it
+-- the owner has no claim if no number is listed under it
 pub none_owned : (next : ℕ) (index : Index) (owned : List (ℕ × ℕ)) (kept : List Numbered) (owner : ℕ) → AreInIndexes next index owned kept → next < 18446744073709551616 → ((number : ℕ) → number < 18446744073709551616 → Contains owned (owner, number) → ⊥)
     → without_owner (claims_of kept) owner ≡ claims_of kept
 none_owned next index owned kept owner are small none = none_left kept owner (λ n k c e.

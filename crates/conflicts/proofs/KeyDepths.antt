@@ -64,7 +64,7 @@ module _ (tree : TreeMap) (is : IsTree tree) where
   pub past_home : (path : List (List ℕ)) → length (drop (depth_there tree path) path) ≤ length (missing tree path)
   past_home path = omega (arith, length-drop (depth_there tree path) path)
 
-  -- where a beginning is there, no more levels are missing than names lead from it
+  -- if a beginning is there, no more levels are missing than names lead from it
   pub few_missing : (q r : List (List ℕ)) → IsSome (row tree q) → length (missing tree (q ++ r)) ≤ length r
   few_missing q r there = elim (cases_lt (depth_there tree (q ++ r)) (length q)) [
     | inl past ↦ absurd (false≢true (sym (ap is_some (gone_past q r past)) ∙ there))

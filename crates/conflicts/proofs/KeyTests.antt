@@ -1,4 +1,4 @@
--- The tests of names and paths of trees are those of the law of claims.
+-- The tests of names and paths of trees are the tests of the law of claims.
 use Rattle.std.proofs.Common.{◌≡◌, ℕ, Bool, true, false, List, ◌++◌, refl, sym, subst}
 use Rattle.std.specs.Ordering.{eq_by_cmp}
 use Rattle.reg_tree_parts.specs.Orders.{name_order, path_order}

@@ -1,4 +1,4 @@
--- An operation may be carried out exactly where the law of claims calls it legal, and a value's data are not too large.
+-- An operation may be carried out exactly if the law of claims calls it legal, and a value's data are not too large.
 use Rattle.std.proofs.Common.{◌≡◌, ℕ, zero, suc, ◌≤◌, Bool, true, false, not, ◌⊎◌, inl, inr, cond, List, [], ◌∷◌, ◌++◌, length, take, drop, map, filter, Option, Some, None, IsSome, is_some, is_none, Result, Ok, Err, refl, sym, ◌∙◌, ap, subst, arith}
 use Rattle.std.specs.Prelude.{slice_get, nat_lt, bit_and, ◌==◌}
 use Rattle.std.specs.Ordering.{eq_by_cmp}
@@ -71,7 +71,7 @@ set_given (Some key) a h f = ap (λ t. cond {A = Result Legality Refusal} t (Err
 
 -- Subkeys
 
--- where a key has a subkey, one stands one below it
+-- if a key has a subkey, one is one below it
 some_below : (p : List (List ℕ)) (es : Entries) → (length (names_below p es) ≡ 0 → ⊥) → (n : List ℕ) × (IsSome (find path_order (p ++ n ∷ []) es))
 some_below p [] some = absurd (some refl)
 some_below p ((q, r) ∷ es) some = by_case (some_below p es) (told (one_below p q)) some
@@ -86,7 +86,7 @@ some_below p ((q, r) ∷ es) some = by_case (some_below p es) (told (one_below p
         stays true o h = refl
         stays false o h = h
 
--- a key below which nothing stands has no subkeys
+-- a key below which there is nothing has no subkeys
 no_subkeys : (tree : TreeMap) (p : List (List ℕ)) → ((n : List ℕ) (r : List (List ℕ)) → is_some (row tree (p ++ n ∷ r)) ≡ false) → length (subkeys tree p) ≡ 0
 no_subkeys tree p none = by_case (length (subkeys tree p)) refl
   where

@@ -1,4 +1,4 @@
--- What an index lists after a spot was put into it or taken out.
+-- What an index lists after an index key was put into it or taken out.
 use Rattle.std.proofs.Common.{◌≡◌, ℕ, List, sym, ◌∙◌, subst}
 use Rattle.std.specs.Prelude.{Contains, ◌≢◌}
 use Rattle.std.specs.Ordering.{nat_cmp}
@@ -27,7 +27,7 @@ module _ (old new : Index) (index_key : IndexKey) where
       hashed = subst (λ xs. Contains xs (text_hash (index_key_text claim), n)) (sym hashes) (insert_keeps pair_order old.hashes.keys hashed (text_hash (index_key_text claim), n) was.hashed);
     }
 
-    -- and so is a claim of its text
+    -- and so is a claim of its encoding
     pub listed_now : (claim : Claim) → index_key.0.items ≡ index_key_text claim → IsListed new index_key.1 claim
     listed_now claim text =
         let brought = index_key_brought old.index_keys.keys index_key in
@@ -63,7 +63,7 @@ module _ (old new : Index) (index_key : IndexKey) where
     hashed = subst (λ xs. Contains xs (text_hash (index_key_text claim), n)) (sym hashes) (pair_stays (insert_key pair_order old.hashes.keys hashed) (text_hash (index_key_text claim)) n ne (insert_keeps pair_order old.hashes.keys hashed (text_hash (index_key_text claim), n) was.hashed));
   }
 
--- where nothing changed, all is listed
+-- if nothing changed, all is listed
 pub all_listed : (old new : Index) (number : ℕ) → new.index_keys.keys ≡ old.index_keys.keys → new.hashes.keys ≡ old.hashes.keys → KeepsOthers old new number
 all_listed old new number index_keys hashes n claim ne was = record {
   index_key = was.index_key;

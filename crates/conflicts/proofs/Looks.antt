@@ -1,5 +1,5 @@
--- Claims that are looked up by rising numbers, among which are all that stand against one, are those of the table as far
--- as these are concerned.
+-- Claims that are looked up by rising numbers, all claims that block one among them. They answer for that one as the
+-- table does.
 use Rattle.std.proofs.Common.{◌≡◌, ◌⊎◌, inl, inr, ℕ, zero, suc, ◌+◌, ◌<◌, ◌≤◌, Bool, true, false, not, ◌||◌, Bor, cond, List, [], ◌∷◌, ◌++◌, map, length, take, get_or, Option, Some, None, refl, sym, ◌∙◌, ap, subst, arith, append-nil}
 use Rattle.std.specs.Prelude.{filter, Contains}
 use Rattle.std.specs.Option.{option_map, option_copied}
@@ -30,7 +30,7 @@ use Rattle.conflicts.proofs.IndexKeyRanges.{at_text}
 use Rattle.conflicts.proofs.Members.{held_is, parts, here, later, first_or_later, none_empty, filter_has}
 use Rattle.conflicts.proofs.Once.{holders-more}
 
--- the claim of a number, where there is one
+-- the claim of a number, if there is one
 abbrev pub look : List Numbered → ℕ → Option HeldClaim
 look kept n = option_map (λ (k : Kept). k.entry) (lookup (is_at (nat_cmp n)) kept)
 
@@ -66,7 +66,7 @@ above_has n (y ∷ xs) a x c = elim (first_or_later y xs x c) [
   | inr d ↦ above_has n xs a.1 x d
 ]
 
--- a number below all is not found, and one above the first is found behind it
+-- a number below all is not found, and one above the first is found after it
 not_found : (kept : List Numbered) (n : ℕ) → Above n (map (λ (e : Numbered). e.0) kept) → lookup (is_at (nat_cmp n)) kept ≡ None
 not_found [] n a = refl
 not_found (e ∷ kept) n a = ap (λ o. cond (is_eq o) (Some e.1) (lookup (is_at (nat_cmp n)) kept)) a.0 ∙ not_found kept n a.1
@@ -170,7 +170,7 @@ pub lent_entry : (o : Option (Bor Kept)) → option_map (λ k. k.now.entry) o �
 lent_entry None = refl
 lent_entry (Some k) = refl
 
--- the numbers near a claim are those of all claims that may stand against it
+-- the numbers near a claim are those of all claims that may block it
 pub covered : (next : ℕ) (index : Index) (owned : List (ℕ × ℕ)) (kept : List Numbered) → AreInIndexes next index owned kept → next < 18446744073709551616 → (asker : Option ℕ) (claim : Claim) (numbers : List ℕ)
     → ((number : ℕ) (held : Claim) → number < 18446744073709551616 → IsListed index number held → meets claim held ≡ true → Contains numbers number)
     → (n : ℕ) (k : Kept) → Contains kept (n, k) → blocks asker claim k.entry ≡ true → Contains numbers n
@@ -185,7 +185,7 @@ none_passes : (p : HeldClaim → Bool) (held : List HeldClaim) → ((one : HeldC
 none_passes p [] h = refl
 none_passes p (one ∷ held) h = ap (λ b. b || list_any p held) (h one (here one held)) ∙ none_passes p held (λ other c. h other (later one held other c))
 
--- that of a number does
+-- the claim of a number does
 pub found_one : (p : HeldClaim → Bool) (kept : List Numbered) (n : ℕ) → is_some_that p (look kept n) ≡ true → list_any p (claims_of kept) ≡ true
 found_one p [] n t = never t
 found_one p (x ∷ kept) n t = by_case (found_one p kept n) (is_eq (nat_cmp n x.0)) t
@@ -198,7 +198,7 @@ found_one p (x ∷ kept) n t = by_case (found_one p kept n) (is_eq (nat_cmp n x.
     by_case rest true t = ap (λ b. b || list_any p (claims_of kept)) t
     by_case rest false t = or_true (p x.1.entry) (list_any p (claims_of kept)) (rest t)
 
--- those of no number do
+-- the claims of no number do
 found_none : (p : HeldClaim → Bool) (kept all : List Numbered) → ((n : ℕ) (k : Kept) → Contains kept (n, k) → Contains all (n, k)) → Rises (map (λ (e : Numbered). e.0) all)
     → ((n : ℕ) (k : Kept) → Contains all (n, k) → p k.entry ≡ true → is_some_that p (look all n) ≡ false) → list_any p (claims_of kept) ≡ false
 found_none p [] all within rises none = refl
@@ -213,7 +213,7 @@ found_none p (x ∷ kept) all within rises none =
     by_case false e = e
     by_case true e = ap (is_some_that p) (sym (ap (option_map (λ (k : Kept). k.entry)) (has_lookup all rises x.0 x.1 there))) ∙ none x.0 x.1 there e
 
--- nor do those of the numbers so far
+-- nor do the claims of the numbers so far
 pub none_yet : (p : HeldClaim → Bool) (kept : List Numbered) (numbers : List ℕ) (i : ℕ) → i < length numbers → ((n : ℕ) → Contains (take i numbers) n → is_some_that p (look kept n) ≡ false) → is_some_that p (look kept (get_or numbers i 0)) ≡ false
     → (n : ℕ) → Contains (take (i + 1) numbers) n → is_some_that p (look kept n) ≡ false
 none_yet p kept numbers i lt was now n c = by_case (take i numbers) was (subst (λ xs. Contains xs n) (take_more numbers i 0 lt) c)
@@ -225,14 +225,14 @@ none_yet p kept numbers i lt was now n c = by_case (take i numbers) was (subst (
       | inr d ↦ by_case xs (λ m h. was m (later x xs m h)) d
     ]
 
--- so none conflicts, where those of the numbers near don't
+-- so none conflicts, if the claims of the numbers near don't
 pub none_met : (next : ℕ) (index : Index) (owned : List (ℕ × ℕ)) (kept : List Numbered) → AreInIndexes next index owned kept → next < 18446744073709551616 → (asker : Option ℕ) (claim : Claim) (numbers : List ℕ)
     → ((number : ℕ) (held : Claim) → number < 18446744073709551616 → IsListed index number held → meets claim held ≡ true → Contains numbers number)
     → ((n : ℕ) → Contains numbers n → is_some_that (blocks asker claim) (look kept n) ≡ false) → list_any (blocks asker claim) (claims_of kept) ≡ false
 none_met next index owned kept are small asker claim numbers complete none =
     found_none (blocks asker claim) kept kept (λ n k c. c) are.rises (λ n k c t. none n (covered next index owned kept are small asker claim numbers complete n k c t))
 
--- and none is the one asked for, where those of the spots at its text aren't
+-- and none is the one asked for, if the claims of the index keys with its encoding aren't
 pub none_same : (next : ℕ) (index : Index) (owned : List (ℕ × ℕ)) (kept : List Numbered) → AreInIndexes next index owned kept → next < 18446744073709551616 → (one : HeldClaim) (from to : IndexKey) → from.0.items ≡ index_key_text one.claim → from.1 ≡ 0 → to.0.items ≡ from.0.items → to.1 ≡ 18446744073709551615
     → ((index_key : IndexKey) → Contains (filter (λ s. range_contains index_key_order (Included from) (Included to) s) index.index_keys.keys) index_key → is_some_that (same_held_claim one) (look kept index_key.1) ≡ false) → list_any (same_held_claim one) (claims_of kept) ≡ false
 none_same next index owned kept are small one from to at least same most none =
@@ -244,7 +244,7 @@ none_same next index owned kept are small one from to at least same most none =
     subst (λ m. is_some_that (same_held_claim one) (look kept m) ≡ false) in_indexes.listed.numbered
     (none in_indexes.listed.index_key (filter_has (λ s. range_contains index_key_order (Included from) (Included to) s) index.index_keys.keys in_indexes.listed.index_key in_indexes.listed.listed (at_text from to least same most in_indexes.listed.index_key text (omega (arith, below, small, numbered))))))
 
--- the spots that are still to be gone through
+-- the index keys that are still to be looked at
 pub none_before : (p : HeldClaim → Bool) (kept : List Numbered) (index_keys rest : List IndexKey) (first : IndexKey) → ((index_key : IndexKey) → Contains index_keys index_key → Contains (first ∷ rest) index_key ⊎ (is_some_that p (look kept index_key.1) ≡ false)) → is_some_that p (look kept first.1) ≡ false
     → (index_key : IndexKey) → Contains index_keys index_key → Contains rest index_key ⊎ (is_some_that p (look kept index_key.1) ≡ false)
 none_before p kept index_keys rest first was now index_key c = elim (was index_key c) [

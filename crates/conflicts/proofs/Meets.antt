@@ -9,7 +9,7 @@ use Rattle.std.proofs.lemmas.Bool.{eqb-true, eq-eqb}
 use Rattle.conflicts.specs.Claims.{is_shape, reaches, meets}
 use Rattle.conflicts.proofs.KeyTests.{agree}
 
--- a test that says whether the path goes on is the test of keys of one hive
+-- a test that says whether the path extends the other is the test of keys of one hive
 pub begins_is : (k l : Key) (b : Bool) → k.hive ≡ l.hive → (IsTrue b ↔ names.Begins k.path l.path) → b ≡ begins_key k l
 begins_is k l b e h = by_case b (begins_key k l) refl h
   where
@@ -122,14 +122,14 @@ conflict_meets c d (inr (inr p)) = right_true (reaches c d) (reaches d c) (shape
 pub meets_is : (c d : Claim) (b : Bool) → b ≡ meets c d → IsTrue b ↔ Conflict c d
 meets_is c d b e = (λ t. meets_conflict c d (sym e ∙ t), λ h. e ∙ conflict_meets c d h)
 
--- the two ways to find that claims conflict
+-- the two tests that find that claims conflict
 pub found_at_once : (c d : Claim) (b : Bool) → b ≡ reaches c d → b ≡ true → b ≡ meets c d
 found_at_once c d b e h = h ∙ sym (left_true (reaches c d) (reaches d c) (sym e ∙ h))
 
 pub found_other_way : (c d : Claim) (b r : Bool) → r ≡ reaches c d → r ≡ false → b ≡ reaches d c → b ≡ meets c d
 found_other_way c d b r e h f = f ∙ sym (ap (λ x. x || reaches d c) (sym e ∙ h))
 
--- keys are the same where each begins the other
+-- keys are the same if each begins the other
 pub same_key_is : (k l : Key) → (begins_key k l && begins_key l k) ≡ same_key k l
 same_key_is k l = by_case (begins_key k l && begins_key l k) (same_key k l) refl refl
   where

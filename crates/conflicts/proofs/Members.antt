@@ -1,4 +1,4 @@
--- Who is among the holders, and which claims are in a table.
+-- Which transactions are among the holders, and which claims are in a table.
 use Rattle.std.proofs.Common.{◌≡◌, ◌⊎◌, inl, inr, ◌↔◌, ℕ, zero, suc, ◌<◌, Bool, true, false, not, ◌||◌, ◌&&◌, cond, List, [], ◌∷◌, ◌++◌, map, length, Option, Some, None, refl, sym, ◌∙◌, ap, subst, arith}
 use Rattle.std.specs.Prelude.{◌==◌, ◌≢◌, filter, Contains, nat_eq}
 use Rattle.std.specs.List.{list_any, AllByRecursion, IsDistinct}

@@ -22,7 +22,7 @@ any-map p f (x ∷ xs) = ap (λ b. p (f x) || b) (any-map p f xs)
 abbrev others : ℕ → List ℕ → List ℕ
 others a xs = filter (λ y. not (y == a)) xs
 
--- one number more, past one that is left out
+-- one number more, after one that is left out
 same_number : (a : ℕ) (xs : List ℕ) → others a (with_number xs a) ≡ others a xs
 same_number a xs = by_case (list_any (λ y. y == a) xs)
   where
@@ -86,7 +86,7 @@ module _ {A : Type 0} (number : A → ℕ) where
   listed_same xs x b e t =
       ap (λ t. cond t (map number xs) (map number xs ++ number x ∷ [])) (sym t ∙ e ∙ sym (any-map (λ y. y == number x) number xs))
 
-  -- so where it is listed it need not be asked whether it is to be
+  -- so if it is listed it need not be asked whether it is to be
   pub listed_already : (xs : List A) (x : A) (b : Bool) → b ≡ list_any (λ y. number y == number x) xs → b ≡ true → (asked : Bool) → map number xs ≡ cond asked (with_number (map number xs) (number x)) (map number xs)
   listed_already xs x b e t true = listed_same xs x b e t
   listed_already xs x b e t false = refl

@@ -1,4 +1,4 @@
--- One operation past another, and past a list.
+-- One operation after another, and after a list.
 use Rattle.std.proofs.Common.{◌≡◌, inl, ℕ, List, [], ◌∷◌, refl, ◌∙◌, ap, sym, subst, Bool, true, false}
 use Rattle.std.specs.List.{AllByRecursion}
 use mathlib.Core.Path.{fun_ext}
@@ -81,7 +81,7 @@ orders a b s apart =
     (λ m r. other_key a b x apart (made_value_is a x w m) (removed_value_is b x w r))
     (λ m r. other_key a b x apart (removed_value_is a x w r) (made_value_is b x w m)))))
 
--- a list stays legal past one operation
+-- a list stays legal after one operation
 pub past_ops : (a : Op) (os : List Op) (s : Skeleton) → AllByRecursion (λ o. DontConflict a o) os → LegalInOrder os s → LegalInOrder os (apply a s)
 past_ops a [] s apart l = tt
 past_ops a (o ∷ os) s apart l = (past_one a o s apart.0 l.0, subst (λ t. LegalInOrder os t) (orders a o s apart.0) (past_ops a os (apply o s) apart.1 l.1))

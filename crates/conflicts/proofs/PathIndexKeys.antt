@@ -1,4 +1,4 @@
--- Texts of paths, and the spots of the keys on the way along one.
+-- Encodings of paths, and the index keys of the keys on the way along one.
 use Rattle.std.proofs.Common.{◌≡◌, ◌⊎◌, inl, inr, true, ℕ, suc, ◌+◌, ◌<◌, List, [], ◌∷◌, ◌++◌, map, min, length, take, get_or, refl, sym, ◌∙◌, ap, subst, arith, append-nil, append_assoc}
 use Rattle.std.specs.Prelude.{Contains}
 use Rattle.std.proofs.lemmas.Bool.{cases_lt}
@@ -26,7 +26,7 @@ pub behind : {X : Type 0} (xs ys : List X) (x : X) → Contains ys x → Contain
 behind [] ys x c = c
 behind (z ∷ xs) ys x c = later z (xs ++ ys) x (behind xs ys x c)
 
--- Texts
+-- Encodings
 
 pub path_text-append : (p q : List (List ℕ)) → path_text (p ++ q) ≡ path_text p ++ path_text q
 path_text-append [] q = refl
@@ -52,7 +52,7 @@ module _ (names : List (List ℕ)) (i : ℕ) (name : List ℕ) (lt : i < length 
             behind old (numbers_under hash keys) number (under_has hash number keys small (subst (λ h. Contains keys (h, number)) here_is has))
       ])
 
--- The spots that may matter to a claim
+-- The index keys that may matter to a claim
 
 clipped : (n : List ℕ) (rest : List ℕ) → (u : ℕ) × (r : List ℕ) × (u < 65535) × (name_text n ++ rest ≡ u ∷ r)
 clipped [] rest = (92, rest, omega arith, refl)
@@ -66,7 +66,8 @@ at_front : (p q : List (List ℕ)) → take (length p) (p ++ q) ≡ p
 at_front [] q = refl
 at_front (n ∷ p) q = ap (λ xs. n ∷ xs) (at_front p q)
 
--- a spot whose claim conflicts with one lies at a key on the way to its key, at its key or, for a Shape, below
+-- an index key whose claim conflicts with one: its key is on the way to the claim's key, or is that, or for a Shape is
+-- below
 module _ (path : List (List ℕ)) (claim held : Claim) (spelled : claim.key.path ≡ folded_path path) (index_key : IndexKey) (at : index_key.0.items ≡ index_key_text held) where
   abbrev pub OnTheWay : Type 0
   OnTheWay = (j : ℕ) × (j < length path) × (index_key_text held ≡ (claim.key.hive ∷ [] ++ path_text (folded_path (take j path))) ++ 0 ∷ [])

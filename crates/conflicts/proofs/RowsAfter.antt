@@ -105,7 +105,7 @@ module _ (name : List ℕ) where
       by_case true = refl
       by_case false = refl
 
--- so of the rows of a tree, where the key is there
+-- so of the rows of a tree, if the key is there
 module _ (tree : TreeMap) (p : List (List ℕ)) (key : Row) (there : row tree p ≡ Some key) (name : List ℕ) (m : ℕ) (q : List (List ℕ)) (w : List ℕ) where
   pub set_rows : (kind : ℕ) (bytes : List ℕ) → has_value (row_edited (λ k. record k { values = values_with k.values name kind bytes }) tree p m q) w ≡ cond (cond (eq_by_cmp path_order q p) (eq_by_cmp name_order w (folded name)) false) true (has_value (row tree q) w)
   set_rows kind bytes = by_case (eq_by_cmp path_order q p) refl

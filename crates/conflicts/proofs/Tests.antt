@@ -83,7 +83,7 @@ stays_away was made true h out = refl
 stays_away was true false h out = absurd (out refl)
 stays_away was false false h out = h
 
--- two changes in either order, where neither removes what the other makes
+-- two changes in either order, if neither removes what the other makes
 pub either_order : (was ma ra mb rb : Bool) → (ma ≡ true → rb ≡ true → ⊥) → (mb ≡ true → ra ≡ true → ⊥) → after (after was mb rb) ma ra ≡ after (after was ma ra) mb rb
 either_order was ma true mb true f g = refl
 either_order was ma true true false f g = absurd (g refl refl)

@@ -1,5 +1,5 @@
--- Which times rows have after operations on trees that are the same but for times, by what they had before: a row is written in both, at the moment
--- of each, or is in both what it was.
+-- Which times rows have after operations on trees that are the same but for times, by what they had before: a row is
+-- written in both, at the moment of each, or is in both what it was.
 use Rattle.std.proofs.Common.{◌≡◌, ◌⊎◌, inl, inr, ℕ, ◌-◌, true, false, List, [], ◌∷◌, length, take, Option, Some, None, Result, Ok, Err, refl, sym, ◌∙◌, ap, subst}
 use Rattle.std.specs.Prelude.{slice_get}
 use Rattle.std.specs.Option.{option_map, option_and_then}

@@ -14,7 +14,7 @@ use Rattle.reg_tree.specs.declared.op.Op.TheVariants.{CreateKey, DeleteKey, SetV
 use Rattle.reg_tree.proofs.Paths.{eq_is, split_below}
 use Rattle.conflicts.proofs.Effects.{its, writes}
 
--- what is told of all hives is told of the operation's own
+-- what is read of all hives is read of the operation's own
 pub levels_here : (trees : List TreeMap) (op : Op) (tree : TreeMap) → slice_get trees (hive_of op) ≡ Some tree → levels_made trees op ≡ levels_of tree op
 levels_here trees (CreateKey hive path) tree at = ap (option_map (λ t. length (missing t (folded_path path)))) at
 levels_here trees (DeleteKey hive path) tree at = refl

@@ -1,5 +1,5 @@
--- What a table keeps of its indexes: each claim's number is below the next one, the claim is listed by its key, and its number
--- is listed under its owner.
+-- What a table keeps of its indexes: each claim's number is below the next one, the claim is listed by its key, and its
+-- number is listed under its owner.
 use Rattle.std.specs.Prelude.{◌≡◌, ℕ, ◌<◌, ◌≢◌, List, map, Contains, Some}
 use Rattle.std.specs.Map.{lookup, remove_entry}
 use Rattle.std.specs.BTreeMap.{is_at}
@@ -23,25 +23,25 @@ pub record IsInIndexes (next : ℕ) (index : Index) (owned : List (ℕ × ℕ)) 
   pub listed : IsListed index number one.claim
   pub owner : Contains owned (one.owner, number)
 
--- all numbers rise, and each claim is filed and knows the number of its spot
+-- all numbers rise, and each claim is in the indexes and has the number of its index key
 pub record AreInIndexes (next : ℕ) (index : Index) (owned : List (ℕ × ℕ)) (kept : List Numbered) : Type 0 where
   pub rises : IsStrictlySortedBy nat_cmp (map (λ e. e.0) kept)
   pub in_indexes : (number : ℕ) (one : Kept) → Contains kept (number, one) → IsInIndexes next index owned number one.entry
   pub index_keys_known : (number : ℕ) (one : Kept) → Contains kept (number, one) → one.index_key.1 ≡ number
 
--- the claims are filed, and no transaction's conflicts with another's
+-- the claims are in the indexes, and no transaction's conflicts with another's
 pub record TableIsConsistent (next : ℕ) (index : Index) (owned : List (ℕ × ℕ)) (kept : List Numbered) : Type 0 where
   pub in_indexes : AreInIndexes next index owned kept
   pub apart : OwnersDontConflict (claims_of kept)
 
--- one claim, which was the owner's and had this number, is taken out
+-- takes out one claim, which was the owner's and had this number
 pub record TakesOwn (old new : List Numbered) (owner number : ℕ) (one : Kept) : Type 0 where
   pub was : lookup (is_at (nat_cmp number)) old ≡ Some one
   pub own : one.entry.owner ≡ owner
   pub is : new ≡ remove_entry (is_at (nat_cmp number)) old
   pub rises : IsStrictlySortedBy nat_cmp (map (λ e. e.0) new)
 
--- all claims stay, and that of the number, if there is one, is not the owner's
+-- all claims stay, and the claim of the number, if there is one, is not the owner's
 pub record LeavesOthers (old new : List Numbered) (owner number : ℕ) : Type 0 where
   pub same : new ≡ old
   pub others : (one : Kept) → lookup (is_at (nat_cmp number)) old ≡ Some one → one.entry.owner ≢ owner

@@ -4,7 +4,7 @@ use Rattle.std.specs.List.{AllByRecursion}
 use Rattle.conflicts.specs.Skeleton.{Op, Skeleton, apply, applied}
 use Rattle.conflicts.specs.Legal.{Legal, LegalInOrder, DontConflict, NoneConflict}
 
--- the skeleton of the trees of now, and the operations of each transaction; none where it is not active
+-- the skeleton of the trees of now, and the operations of each transaction; none if it is not active
 pub record ClaimState : Type 0 where
   pub now : Skeleton
   pub held : ℕ → List Op
@@ -14,7 +14,7 @@ pub record ClaimsAreSound (m : ClaimState) : Type 0 where
   pub legal : (i : ℕ) → LegalInOrder (m.held i) m.now
   pub apart : (i j : ℕ) → (i ≡ j → ⊥) → NoneConflict (m.held i) (m.held j)
 
--- no claim of the operations conflicts with that of the first
+-- no claim of the operations conflicts with the first one's
 abbrev pub NoneMeets : Op → List Op → Type 0
 NoneMeets o os = AllByRecursion (λ p. DontConflict o p) os
 
@@ -28,7 +28,7 @@ pub record Write (o : Op) (old new : ClaimState) : Type 0 where
   pub now : new.now ≡ apply o old.now
   pub held : (i : ℕ) → (NoneMeets o (old.held i) × (new.held i ≡ old.held i)) ⊎ (new.held i ≡ [])
 
--- a transacted write that is accepted: legal on its view, and no other's claim meets its own
+-- a transacted write that is accepted: legal on its view, and no other's claim conflicts with its own
 pub record TxWrite (i : ℕ) (o : Op) (old new : ClaimState) : Type 0 where
   pub legal : Legal (applied (old.held i) old.now) o
   pub apart : (j : ℕ) → (j ≡ i → ⊥) → NoneMeets o (old.held j)
@@ -54,7 +54,7 @@ pub data ClaimStep (old new : ClaimState) : Type 0 where
   Commits : (i : ℕ) → Commit i old new → ClaimStep old new
   Drop : Drops old new → ClaimStep old new
 
--- each machine of the list is one change away from that before it
+-- each machine of the list is one change away from the one before it
 abbrev pub Runs : ClaimState → List ClaimState → Type 0
 Runs m [] = Unit {0}
 Runs m (n ∷ ns) = ClaimStep m n × Runs n ns

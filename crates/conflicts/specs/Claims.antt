@@ -28,7 +28,7 @@ abbrev pub is_shape : law.ClaimKind → Bool
 is_shape law.Shape = true
 is_shape law.Hold = false
 
--- whether the other's key is its own, or lies below it and it is a Shape
+-- whether the other's key is its own, or is below it and it is a Shape
 abbrev pub reaches : law.Claim → law.Claim → Bool
 reaches c d = begins_key c.key d.key && (is_shape c.kind || begins_key d.key c.key)
 

@@ -1,4 +1,4 @@
--- The claims that a table has, and who holds those that conflict with one more.
+-- The claims that a table has, and the transactions that hold those that conflict with one more.
 use Rattle.std.specs.Prelude.{◌≡◌, ℕ, Bool, true, false, not, ◌&&◌, ◌==◌, if◌then◌else◌, List, [], ◌∷◌, ◌++◌, map, filter, Option, Some, None, Contains, ◌≢◌}
 use Rattle.std.specs.List.{list_any}
 use Rattle.conflicts.specs.Skeleton.{Claim, Conflict}
@@ -22,11 +22,11 @@ is_some_that test (Some one) = test one
 abbrev pub holds_claim : List HeldClaim → HeldClaim → Bool
 holds_claim held one = list_any (same_held_claim one) held
 
--- the claims with one more: at the end, where it is not among them
+-- the claims with one more: at the end, if it is not among them
 abbrev pub with_claim : List HeldClaim → HeldClaim → List HeldClaim
 with_claim held one = if holds_claim held one then held else held ++ one ∷ []
 
--- the claims of all others than one transaction
+-- the claims of all transactions but one
 abbrev pub without_owner : List HeldClaim → ℕ → List HeldClaim
 without_owner held owner = filter (λ h. not (h.owner == owner)) held
 
@@ -35,25 +35,25 @@ abbrev pub asks : Option ℕ → ℕ → Bool
 asks None owner = false
 asks (Some asker) owner = asker == owner
 
--- whether a claim is another's than the asker's and conflicts with the claim asked for
+-- whether a claim's owner is not the asker, and the claim conflicts with the one asked for
 abbrev pub blocks : Option ℕ → Claim → HeldClaim → Bool
 blocks asker claim held = not (asks asker held.owner) && meets claim held.claim
 
--- each number once, where it first stands
+-- each number once, at its first index
 abbrev pub each_once : List ℕ → List ℕ
 each_once [] = []
 each_once (x ∷ xs) = x ∷ filter (λ y. not (y == x)) (each_once xs)
 
--- who holds a claim that conflicts with the one asked for: each transaction once, in the order of its first such
--- claim; the asker is left out
+-- the transactions that hold a claim which conflicts with the one asked for: each once, in the order of its first
+-- conflicting claim; the asker is left out
 abbrev pub holders_of : List HeldClaim → Option ℕ → Claim → List ℕ
 holders_of held asker claim = each_once (map (λ h. h.owner) (filter (blocks asker claim) held))
 
--- the numbers with one more: at the end, where it is not among them
+-- the numbers with one more: at the end, if it is not among them
 abbrev pub with_number : List ℕ → ℕ → List ℕ
 with_number xs x = if list_any (λ y. y == x) xs then xs else xs ++ x ∷ []
 
--- the numbers with the owner of a claim, where there is one and it stands against the claim asked for
+-- the numbers with the owner of a claim, if there is one and it blocks the claim asked for
 abbrev pub with_holder : List ℕ → Option HeldClaim → Option ℕ → Claim → List ℕ
 with_holder xs None asker claim = xs
 with_holder xs (Some one) asker claim = if blocks asker claim one then with_number xs one.owner else xs
@@ -66,7 +66,7 @@ IsHolder held asker claim owner = (one : Claim) × Contains held (record { owner
 abbrev pub OwnersDontConflict : List HeldClaim → Type 0
 OwnersDontConflict held = (one other : HeldClaim) → Contains held one → Contains held other → blocks (Some one.owner) one.claim other ≡ false
 
--- a transaction asks for a claim: it holds it then exactly where no other holds one that conflicts with it
+-- a transaction asks for a claim: it then holds the claim exactly if no other holds one that conflicts with it
 abbrev pub IsClaimResult : List HeldClaim → HeldClaim → Bool → List HeldClaim → Type 0
 IsClaimResult old one true new = (holders_of old (Some one.owner) one.claim ≡ []) × (new ≡ with_claim old one)
 IsClaimResult old one false new = (holders_of old (Some one.owner) one.claim ≢ []) × (new ≡ old)

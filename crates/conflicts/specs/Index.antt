@@ -1,4 +1,4 @@
--- Where an index lists a claim's number: under the text of its spot, and under that text's hash.
+-- How an index lists a claim's number: under the encoding in its index key, and under that encoding's hash.
 use Rattle.std.specs.Prelude.{◌≡◌, ℕ, ◌≢◌, Contains}
 use Rattle.conflicts.specs.Skeleton.{Claim}
 use Rattle.conflicts.specs.IndexKeys.{IndexKey, index_key_text, text_hash}

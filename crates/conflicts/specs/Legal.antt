@@ -7,16 +7,16 @@ use Rattle.conflicts.specs.Skeleton.{Key, ProperlyBegins, Conflict, claim, Op, C
 abbrev pub Near : Skeleton → Key → Type 0
 Near s k = (q r : List (List ℕ)) × (k.path ≡ q ++ r) × (length r ≤ 32) × (s.there (record { hive = k.hive; path = q }) ≡ true)
 
--- an operation is legal, weights left out. A creation is of a key that is missing and near; a deletion is of a
--- key that is there, is not the root, is not protected and has no key below it; a value is written in a key that
--- is there, and deleted where it is there.
+-- an operation is legal, weights left out. A creation is of a key that is missing and near. A deletion is of a key that
+-- is there, is not the root, is not protected and has no key below it. A value is written in a key that is there, and
+-- deleted if the value is there.
 abbrev pub Legal : Skeleton → Op → Type 0
 Legal s (CreateKey k) = (s.there k ≡ false) × Near s k
 Legal s (DeleteKey k) = (k.path ≡ [] → ⊥) × (s.there k ≡ true) × (s.protected k ≡ false) × ((l : Key) → ProperlyBegins k l → s.there l ≡ false)
 Legal s (SetValue k v) = s.there k ≡ true
 Legal s (DeleteValue k v) = (s.there k ≡ true) × (s.value k v ≡ true)
 
--- each is legal where those before it lead
+-- each is legal on the skeleton after those before it
 abbrev pub LegalInOrder : List Op → Skeleton → Type 0
 LegalInOrder [] s = Unit {0}
 LegalInOrder (o ∷ os) s = Legal s o × LegalInOrder os (apply o s)

@@ -55,7 +55,7 @@ pub record Claim : Type 0 where
   pub kind : ClaimKind
   pub key : Key
 
--- two claims conflict where their keys are the same, or one is a Shape and the other's key is below its key
+-- two claims conflict if their keys are the same, or one is a Shape and the other's key is below its key
 abbrev pub Conflict : Claim → Claim → Type 0
 Conflict c d = Same c.key d.key ⊎ (((c.kind ≡ Shape) × ProperlyBegins c.key d.key) ⊎ ((d.kind ≡ Shape) × ProperlyBegins d.key c.key))
 
@@ -73,8 +73,8 @@ claim (DeleteKey k) = record { kind = Shape; key = k }
 claim (SetValue k v) = record { kind = Hold; key = k }
 claim (DeleteValue k v) = record { kind = Hold; key = k }
 
--- what of the trees decides whether an operation is legal: which keys are there, which of them are protected
--- from deletion, and which values they have
+-- what of the trees decides whether an operation is legal: which keys are there, which of them are protected from
+-- deletion, and which values they have
 pub record Skeleton : Type 0 where
   pub there : Key → Bool
   pub protected : Key → Bool

@@ -45,7 +45,7 @@ skeleton trees = record {
   value = λ key name. has_value (row_of trees key) name;
 }
 
--- an operation, without what a value holds
+-- an operation, without a value's data
 abbrev pub outline : Op → law.Op
 outline (CreateKey hive path) = law.CreateKey (key_at hive path)
 outline (DeleteKey hive path) = law.DeleteKey (key_at hive path)
@@ -83,8 +83,9 @@ MakesAlike (DeleteKey hive path) trees others = ⊤
 MakesAlike (SetValue hive path name kind bytes) trees others = ⊤
 MakesAlike (DeleteValue hive path name) trees others = ⊤
 
--- A change beside operations that are carried out one after another on trees which have their roots and parents: none of their claims conflicts with its
--- own, it may be carried out before them, and it makes as many keys after them as before them.
+-- A change beside operations that are carried out one after another on trees which have their roots and parents. None
+-- of their claims conflicts with its own. It may be carried out before them, and it makes as many keys after them as
+-- before them.
 pub record IsBeside (trees : List TreeMap) (ops : List Op) (change : Op) (moment : ℕ) : Type 0 where
   pub are : AreTrees trees
   pub apart : OpsDontConflict ops (change ∷ [])

@@ -10,7 +10,7 @@ use std::marker::Model;
 /// How a key is claimed.
 #[derive(Clone, Copy)]
 pub enum ClaimKind {
-    /// The key is made or deleted: no other may touch what lies at or below it.
+    /// The key is made or deleted: no other transaction may touch what is at or below it.
     Shape,
     /// A value of the key is changed.
     Hold,
@@ -50,8 +50,8 @@ pub fn claims(op: &Op) -> Claim<'_>
     }
 }
 
-/// Whether two claims conflict: their keys are the same, or one is a Shape and the other's key lies below its key.
-/// Takes no memory.
+/// Whether two claims conflict: their keys are the same, or one is a Shape and the other's key is below its key. Takes
+/// no memory.
 pub fn conflict(one: &Claim, other: &Claim) -> bool
     ensures exactly { IsTrue result ↔ Conflict one.now other.now }
     ensures test { result ≡ meets one.now other.now }
@@ -59,21 +59,21 @@ pub fn conflict(one: &Claim, other: &Claim) -> bool
     reaches(one, other) || reaches(other, one)
 }
 
-// whether the other's key is its own, or lies below it and it is a Shape
+// whether the other's key is its own, or is below it and it is a Shape
 fn reaches(one: &Claim, other: &Claim) -> bool
     ensures { result ≡ reaches one.now other.now }
 {
     (is_shape(one) || is_as_deep(one, other)) && begins(one, other)
 }
 
-// whether as many names lead to the keys of both; told without comparing names
+// whether as many names lead to the keys of both; it answers without comparing names
 fn is_as_deep(one: &Claim, other: &Claim) -> bool
     ensures { result ≡ (length one.now.key.path == length other.now.key.path) }
 {
     one.path.names().len() == other.path.names().len()
 }
 
-// whether the other's key is its own or lies below it
+// whether the other's key is its own or is below it
 fn begins(one: &Claim, other: &Claim) -> bool
     ensures { result ≡ begins_key one.now.key other.now.key }
 {

@@ -1,9 +1,9 @@
-//! Where claims lie: an index in which the claims near a key are found without going through all.
+//! An index of claims, which finds the claims near a key without going through all.
 //!
-//! A claim's spot is the text of its key, with a unit behind it that ends the path, and the claim's number. Spots
-//! are kept in order, so those at a key are one range, and those at or below it are one. The keys above a key are
-//! looked up by hashes of their texts: one walk along the path gives all of these, and hashes compare in one step.
-//! Texts that begin alike don't.
+//! A claim's index key is the encoding of its key, then a unit that ends the path, and the claim's number. Index keys
+//! are kept in order. So those at a key are one range, and those at or below it are one. The keys above a key are
+//! looked up by the hashes of their encodings. One walk along the path gives all of these hashes, and hashes compare in
+//! one step. Encodings that begin alike don't.
 ghost use Rattle.std.specs.Prelude.{◌≡◌, ◌++◌, ◌∷◌, ◌^◌, [], map, min, IfOk, OnOk, OnErr, Contains, true, false, ◌<◌, ℕ, length, take};
 ghost use Rattle.std.specs.List.Sorted.{IsStrictlySortedBy};
 ghost use Rattle.reg_names.specs.Names.{folded, folded_path};
@@ -22,27 +22,27 @@ use std::alloc::{AllocError, Global};
 use std::collections::BTreeSet;
 use std::hash::{DefaultHasher, Hasher};
 
-/// The text of a claim's key, with the unit behind it that ends the path, and the claim's number.
+/// The encoding of a claim's key, then the unit that ends the path, and the claim's number.
 pub(crate) type IndexKey = (Vec<u16>, u64);
 
-// ends the path of a spot; no name has it
+// ends the path in an index key; no name has it
 const PATH_END: u16 = 0;
 
 // ends a name
 const NAME_END: u16 = 0x5c;
 
-// above each unit of a text
+// above each unit of an encoding
 const PAST: u16 = u16::MAX;
 
 /// The claims by their keys.
 ///
-/// Keys of the same hash are found together. Whoever asks compares what it finds, so a collision costs time and changes no
-/// answer. SipHash keeps many claims from being given one hash on purpose.
+/// Keys of the same hash are found together. The caller compares what it finds, so a collision costs time and changes
+/// no answer. SipHash keeps many claims from being given one hash on purpose.
 #[derive(Drop)]
 pub(crate) struct Index {
-    // the spots
+    // the index keys
     pub(crate) index_keys: BTreeSet<IndexKey>,
-    // the hash of each spot's text, and its number
+    // the hash of each index key's encoding, and its number
     hashes: BTreeSet<(u64, u64)>,
 }
 
@@ -58,7 +58,7 @@ impl Index {
         }
     }
 
-    /// Lists a spot. Refused for want of memory alone, and what is listed under other numbers then still is.
+    /// Adds an index key. Refused only if there is no memory; the index keys of other numbers then stay.
     pub(crate) fn put(&mut self, index_key: IndexKey) -> Result<(), AllocError>
         ensures index_keys { OnOk result (self.new.index_keys.keys
             ≡ insert_key index_key_order self.old.index_keys.keys index_key) }
@@ -77,7 +77,7 @@ impl Index {
         }
     }
 
-    /// Lists a spot no more. Takes no memory.
+    /// Removes an index key. Takes no memory.
     pub(crate) fn take(&mut self, index_key: &IndexKey)
         ensures index_keys { self.new.index_keys.keys
             ≡ remove_key (is_at (index_key_order index_key.now)) self.old.index_keys.keys }
@@ -89,7 +89,7 @@ impl Index {
     }
 }
 
-// feeds a text to a hasher
+// feeds units to a hasher
 fn hash_units(hasher: &mut DefaultHasher, text: &[u16])
     ensures { hasher.new ≡ hasher_after hasher.old text.now }
 {
@@ -98,7 +98,7 @@ fn hash_units(hasher: &mut DefaultHasher, text: &[u16])
     }
 }
 
-// the hash of a text
+// the hash of an encoding
 fn hash_of(text: &[u16]) -> u64
     ensures { result ≡ text_hash text.now }
 {
@@ -107,7 +107,7 @@ fn hash_of(text: &[u16]) -> u64
     hasher.finish()
 }
 
-// the hash of the text that a hasher was fed, with the unit behind it that ends the path
+// the hash of the encoding that was fed to a hasher, with the unit after it that ends the path
 fn hash_at_end(mut hasher: DefaultHasher) -> u64
     ensures { result ≡ sip.finish (hasher_after hasher (0 ∷ [])) }
 {
@@ -132,7 +132,7 @@ fn push_numbers_under(
     Ok(())
 }
 
-// adds a name to a text
+// appends a name to an encoding
 fn write_name(text: &mut Vec<u16>, name: &Name) -> Result<(), AllocError>
     ensures { OnOk result (text.new.items ≡ text.old.items ++ name_text (folded name.now)) }
 {
@@ -143,14 +143,14 @@ fn write_name(text: &mut Vec<u16>, name: &Name) -> Result<(), AllocError>
     Ok(())
 }
 
-/// A copy of a text.
+/// A copy of an encoding.
 pub(crate) fn copy(alloc: Global, text: &[u16]) -> Result<Vec<u16>, AllocError>
     ensures { IfOk result (λ made. made.items ≡ text.now) }
 {
     text.to_vec(alloc)
 }
 
-// a text with one unit more
+// an encoding with one unit more
 fn with_unit(alloc: Global, text: &[u16], unit: u16) -> Result<Vec<u16>, AllocError>
     ensures { IfOk result (λ made. made.items ≡ text.now ++ unit ∷ []) }
 {
@@ -160,7 +160,7 @@ fn with_unit(alloc: Global, text: &[u16], unit: u16) -> Result<Vec<u16>, AllocEr
     Ok(made)
 }
 
-// the numbers of the spots whose text goes on from this one with a unit below a bound
+// the numbers of the index keys whose encoding extends this one with a unit below a bound
 fn gather(
     alloc: Global,
     index_keys: &BTreeSet<IndexKey>,
@@ -177,7 +177,7 @@ fn gather(
     Ok(found)
 }
 
-// the numbers of the spots from one to another
+// the numbers of the index keys from one to another
 fn numbers_between(
     alloc: Global,
     index_keys: &BTreeSet<IndexKey>,
@@ -194,7 +194,7 @@ fn numbers_between(
     Ok(found)
 }
 
-/// The spot of a claim with this number.
+/// The index key of a claim with this number.
 pub(crate) fn index_key_of(
     alloc: Global,
     claim: &Claim,
@@ -211,7 +211,7 @@ pub(crate) fn index_key_of(
     Ok((text, number))
 }
 
-// how many units the text of a claim's spot has
+// how many units the encoding in a claim's index key has
 fn units_of(names: &[Name]) -> usize {
     let mut units: usize = 2;
     for name in names {
@@ -220,7 +220,7 @@ fn units_of(names: &[Name]) -> usize {
     units
 }
 
-// adds a path to a text
+// appends a path to an encoding
 fn write_path(text: &mut Vec<u16>, names: &[Name]) -> Result<(), AllocError>
     ensures { OnOk result (text.new.items ≡ text.old.items ++ path_text (folded_path names.now)) }
 {
@@ -230,8 +230,9 @@ fn write_path(text: &mut Vec<u16>, names: &[Name]) -> Result<(), AllocError>
     Ok(())
 }
 
-/// The numbers of all claims that may conflict with this one: those of each key on the way to its key, of its key, and
-/// for a Shape of all keys below it. Each number once, rising. Where there are no claims it takes no memory.
+/// The numbers of all claims that may conflict with this one: the claims of each key on the way to its key, of its key,
+/// and for a Shape of all keys below it. Each number is there once, in rising order. If there are no claims, it takes
+/// no memory.
 pub(crate) fn numbers_near(
     alloc: Global,
     index: &Index,
@@ -254,7 +255,7 @@ pub(crate) fn numbers_near(
     Ok(found)
 }
 
-// the numbers of the claims of each key on the way along a path, which is added to the text
+// the numbers of the claims of each key on the way along a path, which is appended to the encoding
 fn numbers_along(
     alloc: Global,
     hashes: &BTreeSet<(u64, u64)>,
@@ -281,7 +282,7 @@ fn numbers_along(
     Ok(found)
 }
 
-// the bound below which texts go on from that of the claim's key
+// the bound below which encodings extend the encoding of the claim's key
 fn past_of(claim: &Claim) -> u16
     ensures { result ≡ past_of claim.now.kind }
 {

@@ -1,7 +1,7 @@
-//! Laws of claims, which follow from the definitions alone: why the operations of a transaction stay legal while
-//! others change the trees.
+//! Laws of claims, which follow from the definitions alone: why the operations of a transaction stay legal while others
+//! change the trees.
 //!
-//! They have no code of their own: each is the contract of a function that does nothing, for whoever keeps
+//! They have no code of their own: each is the contract of a function that does nothing, for crates that keep
 //! transactions.
 ghost use Rattle.std.specs.Prelude.{◌≡◌, ◌⊎◌, ◌↔◌, ◌++◌, ◌∷◌, [], ℕ, List, Option, Some, Contains, ◌≢◌, nat_eq};
 ghost use Rattle.std.specs.List.{IsDistinct};
@@ -22,8 +22,8 @@ ghost use Rattle.conflicts.specs.Holders.{HeldClaim, with_claim, without_owner, 
 
 use crate::skeleton_laws;
 
-/// Operations that may be carried out one after another may be so after any others none of whose claims conflicts
-/// with theirs, at whatever moments. The others need not be legal.
+/// Take operations that may be carried out one after another. They may also be so after any others, if no claim of the
+/// others conflicts with theirs, at whatever moments. The others need not be legal.
 pub fn stay_legal()
     ensures { (trees : List TreeMap) (first ops : List Op) (m n k : ℕ) → AreTrees trees →
         OpsDontConflict first ops →
@@ -45,15 +45,16 @@ pub fn but_for_weight()
         (legal trees op ≡ Ok Legal) ⊎ (legal trees op ≡ Err TooLarge) }
 {}
 
-/// A change may be carried out before operations or after them, where none of their claims conflicts with its own and it
-/// makes as many keys after them as before them.
+/// A change may be carried out before operations or after them, under two conditions: none of their claims conflicts
+/// with its own, and it makes as many keys after them as before them.
 ///
-/// - `exact`: all at one moment, what the two orders make is the same.
-/// - `unwritten`, `written`: the change at a moment of its own, it is the same but for the time of one key, which is the last
-///   one that was on the change's way: where the operations wrote that key, it has their moment if they come last. They didn't
-///   where it hasn't their moment after them; they did where it has, and had another time before them.
-/// - `but_for_times`: at whatever moments, it is the same but for times; so it is of trees that are those after the
-///   operations but for times.
+/// - `exact`: if all are at one moment, the two orders make the same.
+/// - `unwritten`, `written`: if the change has a moment of its own, the two orders make the same but for the time of
+///   one key. It is the last existing key on the change's way. If the operations wrote that key, it has their moment if
+///   they come last. They didn't write it if it doesn't have their moment after them. They did if it has that moment,
+///   and had another time before them.
+/// - `but_for_times`: at whatever moments, the two orders make the same but for times. This is also so on trees that
+///   differ in times alone from those after the operations.
 pub fn either_order()
     ensures exact { (trees : List TreeMap) (ops : List Op) (change : Op) (m : ℕ) →
         IsBeside trees ops change m →
@@ -83,7 +84,7 @@ pub fn either_order()
 /// Trees and operations are to the law of claims what their outlines are.
 ///
 /// - `follows`: an operation that may be carried out does to the skeleton of the trees what its outline does.
-/// - `judged`: it may be carried out exactly where its outline is legal and its data are not too large.
+/// - `judged`: it may be carried out exactly if its outline is legal and its data are not too large.
 pub fn outlines()
     ensures follows { (trees : List TreeMap) (op : Op) (m : ℕ) → AreTrees trees →
         judged_in trees op ≡ Ok Legal →
@@ -92,8 +93,8 @@ pub fn outlines()
         (judged_in trees op ≡ Ok Legal) ↔ (law.Legal (skeleton trees) (outline op) × FitsData op) }
 {}
 
-/// The holders of a claim are exactly the transactions that hold a claim which conflicts with it, the asker left
-/// out; and each is listed once.
+/// The holders of a claim are exactly the transactions that hold a conflicting claim, except the asker. Each is listed
+/// once.
 pub fn holders_are_exact()
     ensures who { (held : List HeldClaim) (asker : Option ℕ) (claim : Claim) (owner : ℕ) →
         Contains (holders_of held asker claim) owner ↔ IsHolder held asker claim owner }
@@ -101,8 +102,8 @@ pub fn holders_are_exact()
         IsDistinct nat_eq (holders_of held asker claim) }
 {}
 
-/// Which claims a table has: after one more was added those before and this one, and after those of a transaction
-/// were dropped the claims of all others.
+/// Which claims a table has. After one more is added it has those before and this one. After those of a transaction are
+/// dropped it has the claims of all others.
 pub fn claims_kept()
     ensures added { (held : List HeldClaim) (one other : HeldClaim) →
         Contains (with_claim held one) other ↔ (Contains held other ⊎ (one ≡ other)) }

@@ -1,9 +1,8 @@
-//! Claims of transactions, and where they conflict.
+//! Claims of transactions, and when they conflict.
 //!
-//! Each operation claims its key: by Shape where it makes or deletes the key, by Hold where it changes a value.
-//! Two claims conflict where their keys are the same, or where one is a Shape and the other's key lies below its
-//! key; keys are compared by hive and by folded names. The table of claims says who holds a claim that conflicts
-//! with one more.
+//! Each operation claims its key: by Shape if it makes or deletes the key, by Hold if it changes a value. Two claims
+//! conflict if their keys are the same, or if one is a Shape and the other's key is below its key. Keys are compared by
+//! hive and by folded names. The table of claims says which transactions hold a claim that conflicts with one more.
 #![tactic(auto)]
 
 mod claim;

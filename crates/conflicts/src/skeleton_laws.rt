@@ -1,20 +1,20 @@
-//! The law of claims: operations whose claims do not conflict stay legal past one another.
+//! The law of claims: operations stay legal after others if their claims don't conflict.
 //!
-//! A transaction's writes are judged on its private view and applied to the trees that everybody sees only at
-//! its commit; by then others have changed these trees. What keeps the writes legal is their claims: each
-//! operation claims its key, by Shape where it makes or deletes the key and by Hold where it changes a value,
-//! and no two transactions that are active hold claims that conflict. The law says that this is enough.
+//! A transaction's writes are judged on its private view. They are applied to the trees that everybody sees only at its
+//! commit; by then others have changed these trees. What keeps the writes legal is their claims. Each operation claims
+//! its key, by Shape if it makes or deletes the key and by Hold if it changes a value. No two active transactions hold
+//! claims that conflict. The law says that this is enough.
 //!
 //! There is no code here. Each law is the contract of a function with an empty body; `specs/` has the words:
 //!
-//! - `Skeleton`: keys, claims and their conflicts, operations, and the *skeleton* of the trees, which is what
-//!   decides whether an operation is legal: the keys that are there, those of them that are protected, and the
-//!   values that they have;
+//! - `Skeleton`: keys, claims and their conflicts, operations, and the *skeleton* of the trees. The skeleton decides
+//!   whether an operation is legal: the keys that are there, the protected ones among them, and the values that they
+//!   have;
 //! - `Legal`: which operations are legal on a skeleton, and which lists of them in order;
 //! - `Closed`, `Levels`: what every skeleton of trees keeps, and how many levels of a path are missing;
 //! - `ClaimState`: the trees of now, what active transactions hold, and the steps that change them.
 //!
-//! Weights are left out: whether a tree is too heavy at a commit can't be told before it.
+//! Weights are left out: whether a tree is too heavy at a commit can't be known before it.
 ghost use Rattle.std.specs.Prelude.{[], ◌≡◌, List, true, ◌≤◌, ◌↔◌, ℕ};
 ghost use Rattle.std.specs.List.{AllByRecursion};
 ghost use Rattle.conflicts.specs.Skeleton.{Op, Skeleton, apply, applied, Key, root_key, Same, Begins, same_key, begins_key};
@@ -31,17 +31,17 @@ pub fn either_order()
         ≡ apply b (apply a s) }
 {}
 
-/// Operations that are legal one after another stay so after any others none of whose claims conflicts with
+/// Operations that are legal one after another stay so after any others, if no claim of the others conflicts with
 /// theirs.
 pub fn stays_legal()
     ensures { (element ops : List Op) (s : Skeleton) → NoneConflict element ops → LegalInOrder ops s →
         LegalInOrder ops (applied element s) }
 {}
 
-/// At any time the operations of each active transaction are legal one after another on the trees of now, and
-/// no two active transactions hold claims that conflict. So a commit meets no operation that is not legal.
+/// At any time the operations of each active transaction are legal one after another on the trees of now. No two active
+/// transactions hold claims that conflict. So each operation of a commit is legal.
 ///
-/// - `begins`: it is so while no transaction holds operations.
+/// - `begins`: it is so while no transaction has operations.
 /// - `step`, `always`: each step keeps it, and so does any list of steps.
 pub fn at_any_time()
     ensures begins { (s : Skeleton) → ClaimsAreSound (record { now = s; held = λ i. [] }) }
@@ -65,8 +65,8 @@ pub fn root_stays()
         s.there (root_key hive) ≡ true → (applied os s).there (root_key hive) ≡ true }
 {}
 
-/// Where the root is there and the skeleton is that of trees, a key is near exactly where at most 32 levels of
-/// its path are missing.
+/// Let the root be there, and the skeleton be one of trees. Then a key is near exactly if at most 32 levels of its path
+/// are missing.
 pub fn levels_missing()
     ensures { (s : Skeleton) (k : Key) → Closed s → s.there (root_key k.hive) ≡ true → Near s k
         ↔ (missing_levels s k ≤ 32) }

@@ -66,7 +66,7 @@ impl Entry {
         self.owner.0 == owner.0 && same_claim(claim, &self.claim())
     }
 
-    // whether it is another's than the asker's, and conflicts
+    // whether its owner is not the asker, and it conflicts
     fn blocks(&self, asker: Option<ClaimOwner>, claim: &Claim) -> bool
         ensures { result ≡ blocks (option_map (λ o. o.0) asker) claim.now self.now }
     {
@@ -88,7 +88,7 @@ impl Entry {
     }
 }
 
-// a claim, and its spot
+// a claim, and its index key
 #[derive(Drop)]
 struct Kept {
     entry: Entry,
@@ -96,10 +96,10 @@ struct Kept {
 }
 
 /// The claims of all active transactions, each claim of a transaction once, in the order in which they were first
-/// added. No transaction's conflicts with another's.
+/// added. No transaction's claim conflicts with another's.
 ///
 /// Claims are numbered as they are added. A claim that may conflict with another is found by its key, and a
-/// transaction's claims by the transaction, so that no call goes through the claims of all.
+/// transaction's claims by the transaction. So no call goes through all claims.
 pub struct ClaimTable {
     // the claims by their numbers
     kept: BTreeMap<u64, Kept>,
@@ -152,9 +152,9 @@ impl ClaimTable {
         }
     }
 
-    /// Holds a claim for a transaction, and tells whether it does: not where another transaction holds a claim that conflicts
-    /// with it. It is added at the end, unless the transaction has it already. Refused for want of memory alone, and the
-    /// table is then unchanged.
+    /// Adds a claim of a transaction, unless another transaction holds a claim that conflicts with it; answers whether
+    /// the transaction then holds it. The claim is added at the end, unless the transaction has it already. Refused
+    /// only if there is no memory; the table is then unchanged.
     pub fn claim(&mut self, owner: ClaimOwner, claim: &Claim) -> Result<bool, AllocError>
         ensures ok { IfOk result (λ held.
             IsClaimResult self.old (record { owner = owner.0; claim = claim.now }) held self.new) }
@@ -226,7 +226,7 @@ impl ClaimTable {
         Ok(false)
     }
 
-    /// No transaction's claim conflicts with another's. It does nothing: what it ensures is so of every table.
+    /// No transaction's claim conflicts with another's. The call does nothing: what it ensures is so of every table.
     pub fn owners_dont_conflict(&self)
         ensures { OwnersDontConflict self.now }
     {
@@ -248,8 +248,8 @@ impl ClaimTable {
         }
     }
 
-    /// The transactions that hold a claim which conflicts with this one: each once, in the order of its first such
-    /// claim. Claims of the asker are left out. Takes memory for the list.
+    /// The transactions that hold a claim which conflicts with this one: each once, in the order of its first
+    /// conflicting claim. Claims of the asker are left out. Takes memory for the list.
     pub fn holders(
         &self,
         asker: Option<ClaimOwner>,
@@ -283,7 +283,7 @@ fn first_of(owned: &BTreeSet<(u64, u64)>, owner: ClaimOwner) -> Option<(u64, u64
     }
 }
 
-// takes the claim of a number out, where it is the owner's
+// takes out the claim of a number, if it is the owner's
 fn take_own(kept: &mut BTreeMap<u64, Kept>, owner: ClaimOwner, number: u64) -> Option<Kept>
     ensures some { IfSome result (λ one. TakesOwn kept.old.entries kept.new.entries owner.0 number
         one) }
@@ -307,7 +307,7 @@ fn is_kept(kept: Option<&Kept>, owner: ClaimOwner, claim: &Claim) -> bool
     }
 }
 
-// whether it is another's than this owner's, and conflicts with the claim
+// whether its owner is not this one, and it conflicts with the claim
 fn meets(kept: Option<&Kept>, owner: ClaimOwner, claim: &Claim) -> bool
     ensures { result ≡ is_some_that (blocks (Some owner.0) claim.now)
         (option_map (λ k. k.now.entry) kept.entry) }
@@ -318,7 +318,7 @@ fn meets(kept: Option<&Kept>, owner: ClaimOwner, claim: &Claim) -> bool
     }
 }
 
-// lists the owner of a claim, where there is one, it stands against the one asked for and its owner is not in the list
+// lists the owner of a claim, if there is a claim, it blocks the one asked for, and its owner is not in the list
 fn list_holder(
     found: &mut Vec<ClaimOwner>,
     kept: Option<&Kept>,
@@ -335,8 +335,8 @@ fn list_holder(
     }
 }
 
-// lists the owner of a claim, where the claim stands against the one asked for and its owner is not in the list;
-// of a listed owner no more claims are compared
+// lists the owner of a claim, if the claim blocks the one asked for and its owner is not in the list; of a listed owner
+// no more claims are compared
 fn list_once(
     found: &mut Vec<ClaimOwner>,
     entry: &Entry,

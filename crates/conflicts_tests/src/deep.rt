@@ -10,7 +10,7 @@ use std::test::Fail;
 // as many levels as a path may have
 const DEEPEST: u64 = 512;
 
-// a path of so many levels, all of one name
+// a path of this many levels, all of one name
 fn nested(alloc: Global, levels: u64) -> Result<Path, Refusal> {
     let mut units = Vec::new(alloc);
     for level in 0..levels {
@@ -82,8 +82,8 @@ fn the_claim_of_a_made_key_is_in_the_way_of_all_below_it(rt: HostRuntime) -> Res
     Ok(())
 }
 
-// These two names, as keys of the root of hive 0, have one SipHash-1-3: a search found them, and Python's `hash` agrees
-// where PYTHONHASHSEED is 0.
+// These two names, as keys of the root of hive 0, have one SipHash-1-3. A search found them, and Python's `hash` agrees
+// if PYTHONHASHSEED is 0.
 #[test]
 fn keys_of_one_hash_are_told_apart(rt: HostRuntime) -> Result<(), Fail> {
     let alloc = rt.alloc();

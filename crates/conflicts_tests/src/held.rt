@@ -1,4 +1,4 @@
-//! Who holds claims.
+//! Which transactions hold claims.
 use crate::operations::Step;
 use conflicts::{ClaimOwner, ClaimTable, claims};
 use refusals::Refusal;

@@ -1,4 +1,5 @@
-//! Tests of claims: which conflict, and who holds them. Expected answers are worked by hand from the stated rules.
+//! Tests of claims: which conflict, and which transactions hold them. Expected answers are worked by hand from the
+//! stated rules.
 #![tactic(auto)]
 
 #[cfg(test)]

@@ -1,4 +1,4 @@
-//! Operations said by texts, and whether the claims of two conflict.
+//! Operations given as strings, and whether the claims of two conflict.
 use conflicts::{claims, conflict};
 use refusals::Refusal;
 use reg_names::{Name, Path};
@@ -15,7 +15,7 @@ pub enum Step {
     Unset(u8, &'static str),
 }
 
-/// The path that a text spells.
+/// The path of a text.
 pub fn path(alloc: Global, text: &str) -> Result<Path, Refusal> {
     let mut units = Vec::new(alloc);
     for byte in text.as_bytes() {

@@ -1,4 +1,4 @@
--- Pieces that are added to others.
+-- Children that are added to others.
 use Rattle.std.proofs.Common.{◌≡◌, ℕ, List, [], ◌∷◌, ◌++◌, map, take, drop, Result, Ok, Err, OnOk, sym, ◌∙◌, ap, subst, append_assoc, append-nil}
 use Rattle.std.specs.declared.sync.Arc.{Arc}
 use Rattle.std.specs.declared.alloc.Global.{Global}
@@ -18,11 +18,11 @@ module _ {A P : Type 0} (kind : ChildKind A P) where
   appended : (xs ys : List (Arc P Global)) → children_entries kind.list (xs ++ ys) ≡ children_entries kind.list xs ++ children_entries kind.list ys
   appended xs ys = ap (entries_in kind.list) (map-append arc_value xs ys) ∙ entries_in-append kind.list (map arc_value xs) (map arc_value ys)
 
-  -- one piece is added
+  -- one child is added
   pub child_added : (es : List (List ℕ × A)) (child : Arc P Global) (old new : List (Arc P Global)) → new ≡ old ++ (child ∷ []) → kind.list (arc_value child) ≡ es → IsChild kind (arc_value child) → IsMore kind es old new
   child_added es child old new pushed holds is = (child ∷ [], (pushed, (append-nil (kind.list (arc_value child)) ∙ holds, (is, tt))))
 
-  -- pieces of some entries and then of others are pieces of all
+  -- children of some entries and then of others are children of all
   pub added_join : (es fs gs : List (List ℕ × A)) (old mid new : List (Arc P Global)) → es ++ fs ≡ gs → IsMore kind es old mid → IsMore kind fs mid new → IsMore kind gs old new
   added_join es fs gs old mid new all m n = (
     m.0 ++ n.0,
@@ -35,14 +35,14 @@ module _ {A P : Type 0} (kind : ChildKind A P) where
     ),
   )
 
-  -- pieces that are added to nothing
+  -- children that are added to nothing
   pub all_children : (es : List (List ℕ × A)) (old new : List (Arc P Global)) → old ≡ [] → IsMore kind es old new → AreChildren kind new
   all_children es old new none m = subst (AreChildren kind) (sym (m.1.0 ∙ ap (λ o. o ++ m.0) none)) m.1.1.1
 
   pub all_entries : (es : List (List ℕ × A)) (old new : List (Arc P Global)) → old ≡ [] → IsMore kind es old new → children_entries kind.list new ≡ es
   all_entries es old new none m = ap (children_entries kind.list) (m.1.0 ∙ ap (λ o. o ++ m.0) none) ∙ m.1.1.0
 
-  -- the halves of pieces
+  -- the halves of children
   module _ (children front back : List (Arc P Global)) (h : ℕ) (f : front ≡ take h children) (b : back ≡ drop h children) where
     halves : map arc_value front ++ map arc_value back ≡ map arc_value children
     halves = ap (λ ps. map arc_value ps ++ map arc_value back) f ∙ ap (λ ps. map arc_value (take h children) ++ map arc_value ps) b ∙ map-halves arc_value h children

@@ -1,4 +1,4 @@
--- The entry at an index, over pieces.
+-- The entry at an index, over children.
 use Rattle.std.proofs.Common.{◌≡◌, ℕ, zero, suc, ◌+◌, ◌<◌, ◌≤◌, List, [], ◌∷◌, ◌++◌, map, take, drop, get_or, length, slice_get, Option, None, sum_by, refl, sym, ◌∙◌, ap, subst, arith}
 use Rattle.std.specs.declared.sync.Arc.{Arc}
 use Rattle.std.specs.declared.alloc.Global.{Global}
@@ -27,12 +27,12 @@ past_end [] i past = refl
 past_end (x ∷ xs) zero past = absurd (omega arith)
 past_end (x ∷ xs) (suc i) past = past_end xs i (omega arith)
 
--- an item is the same, whatever stands for none
+-- an item is the same, whatever is the default
 pub nth_within : {P : Type 0} (count : P → ℕ) (children : List (Arc P Global)) (i j : ℕ) (child : Arc P Global) → i < length children → child ≡ get_or children i child → j < count (arc_value child) → (d : Arc P Global) → j < count (arc_value (get_or children i d))
 nth_within count children i j child below is less d = subst (λ p. j < count (arc_value p)) (is ∙ get_or_default children i child d below) less
 
 module _ {A P : Type 0} (kind : ChildKind A P) (children : List (Arc P Global)) (are : AreChildren kind children) where
-  -- in the piece that has it
+  -- in the child that has it
   module _ (index i j : ℕ) (child_index : IsNth kind.count children index i j) (child : Arc P Global) (is : child ≡ get_or children i child) where
     split : map arc_value children ≡ map arc_value (take i children) ++ (arc_value child ∷ map arc_value (drop (i + 1) children))
     split = map-around arc_value children i child child_index.in_range is
@@ -53,7 +53,7 @@ module _ {A P : Type 0} (kind : ChildKind A P) (children : List (Arc P Global)) 
         ∙ get-past (entries_in kind.list (map arc_value (take i children))) _ index j (sym child_index.before ∙ ap (λ n. n + j) (counts kind (map arc_value (take i children)) (all_front kind (map arc_value (take i children)) _ are_split)))
         ∙ get-front (kind.list (arc_value child)) _ j (subst (λ n. j < n) nth_is.count within)
 
-    -- what is told of a thing of the piece is told of the whole
+    -- the answer about a thing of the child is the answer about the whole
     pub nth_answer : (p : P) (answer : Option A) → p ≡ arc_value child → answer ≡ slice_get (map (λ e. e.1) (kind.list p)) j → answer ≡ slice_get (map (λ e. e.1) (children_entries kind.list children)) index
     nth_answer p answer at told =
         told ∙ ap (λ q. slice_get (map (λ e. e.1) (kind.list q)) j) at ∙ slice_get-map (λ (e : List ℕ × A). e.1) (kind.list (arc_value child)) j

@@ -17,7 +17,7 @@ same_values (x ∷ xs) (y ∷ ys) all = ap (λ v. v ∷ map arc_value ys) all.0 
 pub added_values : {T : Type 0} (old new more : List (Arc T Global)) → AppendsClones (λ c d. arc_value d ≡ arc_value c) old new more → map arc_value new ≡ map arc_value old ++ map arc_value more
 added_values old new more added = ap (map arc_value) added.1 ∙ map-append arc_value old added.0 ∙ ap (λ vs. map arc_value old ++ vs) (same_values more added.0 added.2)
 
--- those before a place, more, and those behind the place
+-- those before an index, more, and those after the index
 pub spliced : {T : Type 0} (items front mid new more : List (Arc T Global)) (i : ℕ) → map arc_value front ≡ map arc_value (take i items) → mid ≡ front ++ more → map arc_value new ≡ map arc_value mid ++ map arc_value (take (length items - (i + 1)) (drop (i + 1) items)) → map arc_value new ≡ map arc_value (take i items) ++ (map arc_value more ++ map arc_value (drop (i + 1) items))
 spliced items front mid new more i first second third =
     third ∙ ap (λ xs. map arc_value mid ++ map arc_value xs) (whole (drop (i + 1) items) (length items - (i + 1)) (omega (arith, length-drop (i + 1) items)))

@@ -1,4 +1,4 @@
--- Entries are pieces by themselves, and what an edit makes of one.
+-- Entries are children by themselves, and what an edit makes of one.
 use Rattle.std.proofs.Common.{◌≡◌, ℕ, cond, not, true, false, List, [], ◌∷◌, ◌++◌, Some, None, refl, sym, ◌∙◌, ap, arith, append_assoc, append-nil}
 use Rattle.std.proofs.lemmas.List.Sums.{sum_by-cons}
 use Rattle.std.specs.declared.sync.Arc.{Arc}
@@ -14,7 +14,7 @@ use Rattle.persistent_map.specs.Children.{AreChildren, IsChild, entry_kind, IsMo
 use Rattle.persistent_map.specs.Writes.{merged, written}
 
 module _ {A : Type 0} (key : A → List ℕ) where
-  -- the entries of things are those of the pieces that they are
+  -- the entries of things are those of the children that they are
   pub singles : (items : List (Arc A Global)) → children_entries (entry_list key) items ≡ keyed_all key items
   singles [] = refl
   singles (x ∷ items) = ap (λ es. (key (arc_value x), arc_value x) ∷ es) (singles items)
@@ -42,7 +42,7 @@ module _ {A : Type 0} (key : A → List ℕ) where
     pub added : (es : List (List ℕ × A)) (old new more : List (Arc A Global)) → new ≡ old ++ more → keyed_all key more ≡ es → IsMore (entry_kind key entry_weight) es old new
     added es old new more is all = (more, (is, (singles more ∙ all, entries_are more)))
 
-  -- what is written where there is one thing
+  -- what is written if there is one thing
   one_written : (over : A → A → A) (new old : A) (o : Ordering) → name_order (key new) (key old) ≡ o → written key over new (entry_list key old) ≡ ordered over new old o
   one_written over new old o is = ap (ordered over new old) is
 
@@ -64,7 +64,7 @@ module _ {A : Type 0} (key : A → List ℕ) where
     pub put_over : name_order (key new) (key old) ≡ Equal → arc_value x ≡ over old new → key (arc_value x) ≡ key old → IsMore (entry_kind key entry_weight) (written key over new (entry_list key old)) before mid
     put_over equal is same = added entry_weight _ before mid (x ∷ []) first ((λ i. (same i, is i) ∷ []) ∙ sym (one_written over new old Equal equal))
 
-  -- what is left of a thing where a name is removed
+  -- what is left of a thing if a name is removed
   pub one_stays : (entry_weight : A → ℕ) (k : List ℕ) (x thing : Arc A Global) (before after : List (Arc A Global)) → eq_by_cmp name_order k (key (arc_value thing)) ≡ false → arc_value x ≡ arc_value thing → after ≡ before ++ (x ∷ []) → IsMore (entry_kind key entry_weight) (where_key name_order (λ n. not (eq_by_cmp name_order k n)) (entry_list key (arc_value thing))) before after
   one_stays entry_weight k x thing before after apart is pushed =
       added entry_weight _ before after (x ∷ []) pushed (ap (λ v. (key v, v) ∷ []) is ∙ sym (ap (λ b. cond (not b) ((key (arc_value thing), arc_value thing) ∷ []) []) apart))

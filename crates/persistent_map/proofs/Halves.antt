@@ -31,7 +31,7 @@ map-past f [] (suc i) le = refl
 map-past f (y ∷ xs) zero le = absurd (omega arith)
 map-past f (y ∷ xs) (suc i) le = map-past f xs i (omega arith)
 
--- an item of a list, whatever stands for none
+-- an item of a list, whatever is the default
 pub item_at : {A : Type 0} (xs : List A) (i : ℕ) → i < length xs → (x : A) × ((d : A) → get_or xs i d ≡ x)
 item_at [] i lt = absurd (omega arith)
 item_at (y ∷ xs) zero lt = (y, λ d. refl)

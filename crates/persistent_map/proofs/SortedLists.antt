@@ -28,13 +28,13 @@ module _ {K : Type 0} {R : K → K → Ordering} (total : IsTotalOrder R) where
   turned_greater x y h = total.antisymm y x ∙ ap ordering_reverse h
 
 module _ {A K X : Type 0} {R : K → K → Ordering} (total : IsTotalOrder R) (f : A → K × X) where
-  -- what is below all is below the one at each place
+  -- what is below all is below the one at each index
   below_at : (x : K) (items : List A) (j : ℕ) (d : A) → T (below_all R x (map f items)) → j < length items → R x (f (get_or items j d)).0 ≡ Less
   below_at x [] j d h lt = absurd (omega arith)
   below_at x (a ∷ items) zero d h lt = less_of _ (front_of _ _ h)
   below_at x (a ∷ items) (suc j) d h lt = below_at x items j d (back_of _ _ h) (omega arith)
 
-  -- the key at an earlier place is below the key at a later one
+  -- the key at an earlier index is below the key at a later one
   pub keys_rise : (items : List A) (i j : ℕ) (d : A) → T (is_sorted R (map f items)) → i < j → j < length items → R (f (get_or items i d)).0 (f (get_or items j d)).0 ≡ Less
   keys_rise [] i j d h lt in_range = absurd (omega arith)
   keys_rise (a ∷ items) i zero d h lt in_range = absurd (omega arith)

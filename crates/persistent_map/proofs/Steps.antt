@@ -1,4 +1,4 @@
--- One step down a map: the piece in which a name belongs decides what is found and what an edit leaves.
+-- One step down a map: the child in which a name belongs decides what is found and what an edit leaves.
 use Rattle.std.proofs.Common.{◌≡◌, ℕ, suc, ◌+◌, true, false, not, T, Option, List, [], ◌∷◌, ◌++◌, map, take, drop, get_or, length, refl, sym, ◌∙◌, ap, subst, arith, inl, inr, append_assoc}
 use Rattle.std.proofs.lemmas.Bool.{cases_lt}
 use Rattle.std.specs.Ordering.{is_lt, eq_by_cmp}
@@ -105,7 +105,7 @@ module _ {A P : Type 0} (kind : ChildKind A P) where
         back_sorted : T (is_sorted name_order (entries_in kind.list (map arc_value (drop (i + 1) children))))
         back_sorted = sorted_back name_order (kind.list (arc_value child)) _ (sorted_back name_order (entries_in kind.list (map arc_value (take i children))) _ sorted_split)
 
-    -- the piece decides what is found
+    -- the child decides what is found
     find_step : find name_order name (children_entries kind.list children) ≡ find name_order name (kind.list (arc_value child))
     find_step = ap (find name_order name) entries_split ∙ find_within name_order names_total name _ _ _ less above
 
@@ -118,33 +118,33 @@ module _ {A P : Type 0} (kind : ChildKind A P) where
           ap (entries_in kind.list) spliced ∙ entries_in-append kind.list (map arc_value (take i children)) (new ++ map arc_value (drop (i + 1) children))
           ∙ ap (λ es. entries_in kind.list (map arc_value (take i children)) ++ es) (entries_in-append kind.list new (map arc_value (drop (i + 1) children)))
 
-      -- what is put into the piece is put into the whole
+      -- what is put into the child is put into the whole
       put_step : (v : A) → entries_in kind.list new ≡ put name_order name v (kind.list (arc_value child)) → entries_in kind.list made ≡ put name_order name v (children_entries kind.list children)
       put_step v is_put =
           made_entries ∙ ap (λ es. entries_in kind.list (map arc_value (take i children)) ++ (es ++ entries_in kind.list (map arc_value (drop (i + 1) children)))) is_put
           ∙ sym (ap (put name_order name v) entries_split ∙ put_within name_order names_total name _ _ _ less above v)
 
-      -- what is written in the piece is written in the whole
+      -- what is written in the child is written in the whole
       written_step : (key : A → List ℕ) (over : A → A → A) (new_thing : A) → key new_thing ≡ name → entries_in kind.list new ≡ written key over new_thing (kind.list (arc_value child)) → entries_in kind.list made ≡ written key over new_thing (children_entries kind.list children)
       written_step key over new_thing is is_written =
           let as_named : (es : List (List ℕ × A)) → written key over new_thing es ≡ put name_order name (merged over (find name_order name es) new_thing) es = λ es. ap (λ k. put name_order k (merged over (find name_order k es) new_thing) es) is in
           put_step (merged over (find name_order name (children_entries kind.list children)) new_thing) (is_written ∙ as_named (kind.list (arc_value child)) ∙ ap (λ f. put name_order name (merged over f new_thing) (kind.list (arc_value child))) (sym find_step))
           ∙ sym (as_named (children_entries kind.list children))
 
-      -- what is taken out of the piece is taken out of the whole
+      -- what is taken out of the child is taken out of the whole
       where_step : entries_in kind.list new ≡ where_key name_order (λ x. not (eq_by_cmp name_order name x)) (kind.list (arc_value child)) → entries_in kind.list made ≡ where_key name_order (λ x. not (eq_by_cmp name_order name x)) (children_entries kind.list children)
       where_step is_taken =
           made_entries ∙ ap (λ es. entries_in kind.list (map arc_value (take i children)) ++ (es ++ entries_in kind.list (map arc_value (drop (i + 1) children)))) is_taken
           ∙ sym (ap (where_key name_order (λ x. not (eq_by_cmp name_order name x))) entries_split ∙ where_within name_order names_total name _ _ _ less above)
 
-      -- so an edit of the piece is one of the whole
+      -- so an edit of the child is one of the whole
       pub edited_step : (key : A → List ℕ) (over : A → A → A) (edit : MapEdit A) → edit_name key edit ≡ name → entries_in kind.list new ≡ edited key over edit (kind.list (arc_value child)) → entries_in kind.list made ≡ edited key over edit (children_entries kind.list children)
       edited_step key over (Put thing) is is_edited = written_step key over (arc_value thing) is is_edited
       edited_step key over (Remove named) is is_edited =
           let without : List ℕ → List (List ℕ × A) → List (List ℕ × A) = λ k es. where_key name_order (λ x. not (eq_by_cmp name_order k x)) es in
           where_step (is_edited ∙ ap (λ k. without k (kind.list (arc_value child))) is) ∙ ap (λ k. without k (children_entries kind.list children)) (sym is)
 
-      -- and the pieces stay pieces
+      -- and the children stay children
       pub are_step : EachIsChild kind new → EachIsChild kind made
       unfolding front back
       are_step fits = subst (EachIsChild kind) (sym spliced) (all_join front (new ++ back) (all_front front (arc_value child ∷ back) are_split) (all_join new back fits (all_back front (arc_value child ∷ back) are_split).1))

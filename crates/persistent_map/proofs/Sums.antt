@@ -1,4 +1,4 @@
--- A group has the entries of its pieces, and is a piece itself.
+-- A node has the entries of its children, and is a child itself.
 use Rattle.std.proofs.Common.{◌≡◌, ℕ, zero, suc, ◌+◌, ◌<◌, List, [], ◌∷◌, length, map, take, min, sum_by, get_or, refl, sym, ◌∙◌, ap, subst, arith, add-one, length-append}
 use Rattle.std.proofs.lemmas.List.Sums.{sum_by-append, sum_by-cons}
 use Rattle.reg_names.specs.Names.{folded}
@@ -10,7 +10,7 @@ use Rattle.persistent_map.specs.Listings.{entries_in, children_entries}
 use Rattle.persistent_map.specs.Children.{ChildKind, StartsAt, total_weight, IsChild, EachIsChild, AreChildren, node_kind}
 use Rattle.persistent_map.proofs.Steps.{starts_more}
 
--- one piece more adds what it has
+-- one child more adds what it has
 sum_after : {P : Type 0} (of : P → ℕ) (children : List (Arc P Global)) (i : ℕ) (child : Arc P Global) → i < length children → child ≡ get_or children i child → sum_by of (map arc_value (take (suc i) children)) ≡ sum_by of (map arc_value (take i children)) + of (arc_value child)
 sum_after of [] i child below is = absurd (omega arith)
 sum_after of (first ∷ children) zero child below is = omega (arith, sum_by-cons of (arc_value first) [], ap (λ (p : Arc _ Global). of (arc_value p)) is)
@@ -21,12 +21,12 @@ pub sum_next : {P : Type 0} (of : P → ℕ) (children : List (Arc P Global)) (i
 sum_next of children i child below is = rw add-one (sum_after of children i child below is)
 
 module _ {A P : Type 0} (kind : ChildKind A P) where
-  -- the counts of pieces are the number of their entries
+  -- the counts of children are the number of their entries
   pub counts : (children : List P) → EachIsChild kind children → sum_by kind.count children ≡ length (entries_in kind.list children)
   counts [] are = refl
   counts (child ∷ children) are = omega (arith, sum_by-cons kind.count child children, are.0.count, counts children are.1, length-append (kind.list child) (entries_in kind.list children))
 
-  -- and their weights, as far as 64 bits hold them, the weight of their entries
+  -- and their weights, up to the greatest number of 64 bits, the weight of their entries
   weights : (children : List P) → EachIsChild kind children → min (sum_by kind.weight children) 18446744073709551615 ≡ min (total_weight kind.entry_weight (entries_in kind.list children)) 18446744073709551615
   weights [] are = refl
   weights (child ∷ children) are =
@@ -38,7 +38,7 @@ module _ {A P : Type 0} (kind : ChildKind A P) where
   begins (p ∷ children) child are some is =
       starts_more (kind.first (arc_value child)) (kind.list (arc_value p)) _ (subst (λ k. StartsAt k (kind.list (arc_value p))) (ap (λ q. kind.first (arc_value q)) (sym is)) are.0.first)
 
-  -- a group of pieces with their totals is a piece
+  -- a node of children with their totals is a child
   pub node_is : (children : List (Arc P Global)) (map_node : MapNode P) (child : Arc P Global) → AreChildren kind children → 0 < length children → map_node.children.items ≡ children → child ≡ get_or children 0 child → folded map_node.first ≡ kind.first (arc_value child)
       → map_node.count ≡ sum_by kind.count (map arc_value children) → map_node.weight ≡ min (sum_by kind.weight (map arc_value children)) 18446744073709551615 → IsChild (node_kind kind) map_node
   node_is children map_node child are some same is first count weight =

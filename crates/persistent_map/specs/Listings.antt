@@ -20,24 +20,24 @@ keyed_all key items = map (keyed key) items
 abbrev pub entry_list : {A : Type 0} → (A → List ℕ) → A → List (List ℕ × A)
 entry_list key thing = (key thing, thing) ∷ []
 
--- the entries of pieces, one after the other
+-- the entries of children, one after the other
 abbrev pub entries_in : {E P : Type 0} → (P → List E) → List P → List E
 entries_in list [] = []
 entries_in list (child ∷ children) = list child ++ entries_in list children
 
--- the entries of shared pieces
+-- the entries of shared children
 abbrev pub children_entries : {E P : Type 0} → (P → List E) → List (Arc P Global) → List E
 children_entries list children = entries_in list (map arc_value children)
 
--- the entries of a group of pieces
+-- the entries of a node of children
 abbrev pub node_entries : {E P : Type 0} → (P → List E) → MapNode P → List E
 node_entries list map_node = children_entries list map_node.children.items
 
--- the entries of what the group of a whole map holds
+-- the entries of a child of the top node of a map of five levels
 abbrev pub level_4_entries : {A : Type 0} → (A → List ℕ) → MapNode (MapNode (MapNode (MapNode A))) → List (List ℕ × A)
 level_4_entries key = node_entries (node_entries (node_entries (node_entries (entry_list key))))
 
--- the entries of what a map holds
+-- the entries of a map's representation
 abbrev pub repr_entries : {A : Type 0} → (A → List ℕ) → Repr A → List (List ℕ × A)
 repr_entries key Empty = []
 repr_entries key (Leaf leaf) = node_entries (entry_list key) (arc_value leaf)

@@ -1,4 +1,4 @@
-//! Pieces: an entry, or a group of pieces.
+//! Children: an entry, or a node of children.
 ghost use Rattle.std.specs.Prelude.{◌≡◌, T, map, ◌<◌, length, slice_get, IfOk, IfSome, OnOk};
 ghost use Rattle.std.specs.Arc.{arc_value};
 ghost use Rattle.std.specs.Option.{option_copied};
@@ -17,7 +17,7 @@ use std::alloc::{AllocError, Global};
 use std::cmp::Ordering;
 use std::sync::Arc;
 
-/// A piece of a map: it lists entries in the order of their folded names, and never changes.
+/// A child of a node: it lists entries in the order of their folded names, and never changes.
 pub trait Child<E: MapEntry>: Drop {
     /// What it lists, and what is kept beside that.
     ghost kind: { ChildKind E Self };
@@ -30,7 +30,7 @@ pub trait Child<E: MapEntry>: Drop {
     fn count(&self) -> usize
         ensures { result ≡ kind.count self.now };
 
-    /// What its entries weigh together, or the greatest number of 64 bits where it is more.
+    /// What its entries weigh together, or the greatest number of 64 bits if it is more.
     fn entry_weight(&self) -> u64
         ensures { result ≡ kind.weight self.now };
 
@@ -48,7 +48,7 @@ pub trait Child<E: MapEntry>: Drop {
         ensures { option_copied result
             ≡ slice_get (map (λ e. e.1) (kind.list self.now)) index };
 
-    /// Adds the pieces of the entries after an edit.
+    /// Adds the children of the entries after an edit.
     fn edit(
         this: &Arc<Self>,
         alloc: Global,
@@ -111,7 +111,7 @@ impl<E: MapEntry> Child<E> for E {
     }
 }
 
-// adds an entry and a new one in their order, or what the new one makes of it where it has the same name
+// adds an entry and a new one in their order, or what the new one makes of it if it has the same name
 fn put<E: MapEntry>(
     alloc: Global,
     old: &Arc<E>,
@@ -177,7 +177,7 @@ impl<E: MapEntry, P: Child<E>> Child<E> for MapNode<P> {
     }
 }
 
-/// The pieces after an edit of their entries.
+/// The children after an edit of their entries.
 pub(crate) fn edit_in<E: MapEntry, P: Child<E>>(
     alloc: Global,
     children: &[Arc<P>],
@@ -190,7 +190,8 @@ pub(crate) fn edit_in<E: MapEntry, P: Child<E>>(
         ≡ edited E.key E.over edit.entry (children_entries P.kind.list children.now)) }
     ensures children { IfOk result (λ made. AreChildren P.kind made.items) }
 {
-    // each piece is looked at before one is sought and pointers to them are taken, which would wait for the memory of one after the other
+    // reads each child before one is sought and pointers to them are taken, which would wait for the memory of one
+    // after the other
     let _ = totals_of(children)?;
     let at = child_index(children, edit.name());
     let mut made = Vec::with_capacity(alloc, children.len().saturating_add(1))?;

@@ -12,9 +12,9 @@ use std::sync::Arc;
 /// What is asked of entries.
 #[derive(Drop)]
 pub enum MapEdit<'a, E> {
-    /// That this one stands in the place of its name.
+    /// This entry is put under its name.
     Put(Arc<E>),
-    /// That none has this name.
+    /// The entry of this name, if there is one, is removed.
     Remove(&'a Name),
 }
 
@@ -29,7 +29,7 @@ impl<'a, E: MapEntry> MapEdit<'a, E> {
         }
     }
 
-    /// The entries where there was none.
+    /// The entries that the edit makes if there was none.
     pub(crate) fn of_nothing(self, alloc: Global) -> Result<Vec<Arc<E>>, AllocError>
         ensures { IfOk result (λ made. keyed_all E.key made.items
             ≡ edited E.key E.over self.entry []) }

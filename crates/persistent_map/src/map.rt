@@ -1,4 +1,4 @@
-//! The map: a group of entries, or five levels of groups.
+//! The map: a node of entries, or five levels of nodes.
 ghost use Rattle.std.specs.Prelude.{◌≡◌, T, not, ◌<◌, [], min, length, IfOk, IfSome, map, slice_get};
 ghost use Rattle.std.specs.Option.{option_copied};
 ghost use Rattle.std.specs.FinMap.Entries.{find, is_sorted, where_key};
@@ -76,7 +76,7 @@ impl<E: MapEntry> SharedMap<E> {
         }
     }
 
-    /// The weight of the entries together, or the greatest number of 64 bits where it is more.
+    /// The weight of the entries together, or the greatest number of 64 bits if it is more.
     pub fn weight(&self) -> u64
         requires { FitsMap E.key E.entry_weight self.now }
         ensures { result ≡ min (total_weight E.entry_weight (entries E.key self.now)) u64.MAX }
@@ -124,7 +124,7 @@ impl<E: MapEntry> SharedMap<E> {
         Ok(made)
     }
 
-    /// The map with this entry in the place of its name.
+    /// The map with this entry under its name.
     pub fn with(&self, alloc: Global, new: Arc<E>) -> Result<SharedMap<E>, AllocError>
         requires fits { FitsMap E.key E.entry_weight self.now }
         requires sorted { T (is_sorted name_order (entries E.key self.now)) }
@@ -180,7 +180,7 @@ fn of_entries<E: MapEntry>(alloc: Global, items: Vec<Arc<E>>) -> Result<SharedMa
     Ok(made)
 }
 
-// a map of these groups of entries
+// a map of these nodes of entries
 fn of_leaf_nodes<E: MapEntry>(
     alloc: Global,
     nodes: Vec<Arc<MapNode<E>>>,
@@ -197,7 +197,7 @@ fn of_leaf_nodes<E: MapEntry>(
     Ok(made)
 }
 
-// a map of these groups of groups of groups of groups
+// a map of these nodes of level 4
 fn of_level_4<E: MapEntry>(
     alloc: Global,
     level_4: Vec<Arc<MapNode<MapNode<MapNode<MapNode<E>>>>>>,

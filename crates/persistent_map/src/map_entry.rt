@@ -18,11 +18,11 @@ pub trait MapEntry: Drop {
     fn name(&self) -> &Name
         ensures { folded result.now ≡ key self.now };
 
-    /// The weight, or the greatest number of 64 bits where it is more.
+    /// The weight, or the greatest number of 64 bits if it is more.
     fn weight(&self) -> u64
         ensures { result ≡ min (entry_weight self.now) u64.MAX };
 
-    /// What stands in its place once another of its name is put there.
+    /// What replaces it once another of its name is put there.
     fn replaced_by(&self, alloc: Global, new: Arc<Self>) -> Result<Arc<Self>, AllocError>
         requires { key new.value ≡ key self.now }
         ensures over { IfOk result (λ made. made.value ≡ over self.now new.value) }

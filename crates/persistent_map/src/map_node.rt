@@ -1,4 +1,4 @@
-//! Groups: a few pieces of a map, with what is kept of them together.
+//! Nodes: a few children, with what is kept of them together.
 ghost use Rattle.std.specs.Prelude.{◌≡◌, ◌<◌, [], ◌∷◌, ◌++◌, length, min, map, IfOk, OnOk, MatchOption, ◌≤◌, sum_by};
 ghost use Rattle.std.specs.Arc.{arc_value};
 ghost use Rattle.reg_names.specs.Names.{folded};
@@ -11,10 +11,10 @@ use reg_names::Name;
 use std::alloc::{AllocError, Global};
 use std::sync::Arc;
 
-/// Some pieces in order, each shared as one thing: another group has it by one more pointer. Beside them stand how many
-/// entries of what weight they have, and the name of the first entry.
+/// Some children in order, each shared as one thing: another node has it by one more pointer. Beside them the node
+/// keeps how many entries they have, what these weigh, and the name of the first entry.
 ///
-/// What is read of the groups beside a change stands first, next to the pointer's own counts.
+/// The fields that are read of nodes beside a change come first, next to the pointer's own counts.
 #[derive(Drop)]
 pub struct MapNode<P> {
     pub(crate) count: usize,
@@ -23,10 +23,10 @@ pub struct MapNode<P> {
     pub(crate) children: Vec<Arc<P>>,
 }
 
-/// The most pieces of a group that is no map's whole.
+/// The most children of a node that is not the top of a map.
 pub(crate) const MAX_CHILDREN: usize = 16;
 
-/// Adds one thing. What `push` hands back where it is refused ends here, in one place for all that add.
+/// Adds one thing. What `push` hands back if it is refused is dropped here, in one place for all that add.
 pub(crate) fn add<T: Drop>(made: &mut Vec<Arc<T>>, item: Arc<T>) -> Result<(), AllocError>
     ensures { OnOk result (made.new.items ≡ made.old.items ++ (item ∷ [])) }
 {
@@ -52,7 +52,7 @@ fn copied<T: Drop>(alloc: Global, items: &[Arc<T>]) -> Result<Vec<Arc<T>>, Alloc
     Ok(made)
 }
 
-/// The place of the piece in which this name belongs.
+/// The index of the child in which this name belongs.
 pub(crate) fn child_index<E: MapEntry, P: Child<E>>(children: &[Arc<P>], name: &Name) -> usize
     requires { 0 < length children.now }
     ensures { IsChildIndex P.kind.first children.now (folded name.now) result }
@@ -70,7 +70,7 @@ pub(crate) fn child_index<E: MapEntry, P: Child<E>>(children: &[Arc<P>], name: &
     low
 }
 
-/// The piece that has the entry at this index, and the entry's index in it.
+/// The index of the child that has the entry at this index, and the entry's index in it.
 pub(crate) fn nth<E: MapEntry, P: Child<E>>(
     children: &[Arc<P>],
     index: usize,
@@ -89,7 +89,7 @@ pub(crate) fn nth<E: MapEntry, P: Child<E>>(
     None
 }
 
-/// The groups of these pieces.
+/// The nodes of these children.
 pub(crate) fn nodes_of<E: MapEntry, P: Child<E>>(
     alloc: Global,
     children: Vec<Arc<P>>,
@@ -104,7 +104,8 @@ pub(crate) fn nodes_of<E: MapEntry, P: Child<E>>(
     Ok(made)
 }
 
-/// Adds the group of these pieces; the groups of their halves where they are too many for one, and none where there are none.
+/// Adds the node of these children; the nodes of their halves if they are too many for one, and none if there are no
+/// children.
 pub(crate) fn add_node<E: MapEntry, P: Child<E>>(
     alloc: Global,
     children: Vec<Arc<P>>,
@@ -120,7 +121,7 @@ pub(crate) fn add_node<E: MapEntry, P: Child<E>>(
     add(made, node_of(alloc, children)?)
 }
 
-// adds the groups of these pieces
+// adds the nodes of these children
 fn add_nodes<E: MapEntry, P: Child<E>>(
     alloc: Global,
     children: &[Arc<P>],
@@ -142,7 +143,7 @@ fn add_nodes<E: MapEntry, P: Child<E>>(
     Ok(())
 }
 
-/// The group of these pieces. Refused also where 64 bits don't hold the count.
+/// The node of these children. Refused also if the count exceeds 64 bits.
 pub(crate) fn node_of<E: MapEntry, P: Child<E>>(
     alloc: Global,
     children: Vec<Arc<P>>,
@@ -167,14 +168,14 @@ pub(crate) fn node_of<E: MapEntry, P: Child<E>>(
     Ok(made)
 }
 
-/// How many entries pieces have together, and what they weigh.
+/// How many entries children have together, and what they weigh.
 #[derive(Clone, Copy)]
 pub(crate) struct Totals {
     count: usize,
     weight: u64,
 }
 
-/// The totals of these pieces. Refused where 64 bits don't hold the count.
+/// The totals of these children. Refused if the count exceeds 64 bits.
 pub(crate) fn totals_of<E: MapEntry, P: Child<E>>(children: &[Arc<P>]) -> Result<Totals, AllocError>
     ensures count { IfOk result (λ all.
         all.count ≡ sum_by P.kind.count (map arc_value children.now)) }

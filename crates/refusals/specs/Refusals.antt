@@ -1,5 +1,5 @@
--- The text that the program prints for a refusal: `E`, its number, a blank and its name. That of a damaged
--- hive goes on with the hive's number and the cause.
+-- The text that the program prints for a refusal: `E`, its number, a blank and its name. The text for a damaged hive
+-- goes on with the hive's number and the cause.
 use Rattle.std.specs.Prelude.{ℕ, List, ◌++◌, codes}
 use Rattle.std.specs.Fmt.{decimal}
 use Rattle.refusals.specs.declared.refusal.Cause.{Cause}

@@ -15,7 +15,7 @@ pub const MOST_NEW_LEVELS: usize = 32;
 /// Hives that a store is made with.
 pub const MOST_HIVES: usize = 16;
 
-/// Trees that a store has room for: those of its hives, and one more.
+/// Trees that a store has room for: its hives' trees, and one more.
 pub const MOST_TREES: usize = 17;
 
 /// Bytes of data in one value.
@@ -24,7 +24,7 @@ pub const MOST_VALUE_BYTES: usize = 1_048_576;
 /// The weight of one tree.
 pub const MOST_WEIGHT: u64 = 16_777_216;
 
-/// Bytes of one accepted change as journal text.
+/// Bytes of one encoded change.
 pub const MOST_ELEMENT_BYTES: u64 = 4_194_304;
 
 /// Bytes of journal room.
@@ -39,14 +39,14 @@ pub const GREATEST_NUMBER: u64 = 9_223_372_036_854_775_807;
 /// Sessions open at once.
 pub const MOST_SESSIONS: usize = 32;
 
-/// Transactions held at once, ended and unclosed ones included.
+/// Transactions kept at once, ended and unclosed ones included.
 pub const MOST_TRANSACTIONS: usize = 1_024;
 
 /// Bytes of hive bins data.
 pub const MOST_BINS_BYTES: usize = 67_108_864;
 
-// The numbers once more. Contracts and definitions name the constants above and say no number of their own, so that
-// these lines alone refuse a limit that is one off.
+// The numbers once more. Contracts and definitions name the constants above and say no number of their own. So these
+// lines alone refuse a limit that is one off.
 const _: () = prove!(MOST_PATH_NAMES == 512);
 
 const _: () = prove!(MOST_KEY_NAME_UNITS == 255);

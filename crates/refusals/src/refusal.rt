@@ -6,10 +6,10 @@ ghost use Rattle.refusals.specs.declared.refusal.Refusal.TheVariants.{HiveDamage
 use std::alloc::{AllocError, AllocFailed};
 use std::fmt;
 
-/// What is wrong with the bytes of a hive. Where several causes stand in the bytes, any one is told.
+/// What is wrong with the bytes of a hive. If the bytes have several causes, any one is reported.
 #[derive(Clone, Copy, Debug, PartialEq, Eq)]
 pub enum Cause {
-    /// The file ends before what it says that it holds.
+    /// The file is shorter than it says.
     Truncated,
     /// The base block's signature or bins size is wrong.
     BadBase,
@@ -23,7 +23,7 @@ pub enum Cause {
     BadRecord,
     /// A subkeys list is wrong.
     BadList,
-    /// A name is wrong, or stands twice below one key.
+    /// A name is wrong, or is there twice below one key.
     BadName,
     /// A cell is reached twice.
     Shared,
@@ -52,7 +52,7 @@ pub enum Refusal {
     TooDeep,
     /// A limit on value data, an accepted change, a tree's weight or depth, or an image.
     TooLarge,
-    /// A claim meets a claim of another active transaction.
+    /// A claim conflicts with a claim of another active transaction.
     Conflict,
     /// The transaction has committed or was rolled back.
     NotActive,
@@ -171,7 +171,7 @@ impl<T: Drop> From<AllocFailed<T>> for Refusal {
     }
 }
 
-/// Damage told by a part that doesn't know which hive it is in: that of hive 0.
+/// Damage reported by a part that doesn't know which hive it is in: it names hive 0.
 impl From<Cause> for Refusal {
     ghost from_gives = { λ cause refusal. refusal ≡ HiveDamaged 0 cause };
 

@@ -36,11 +36,11 @@ is_name_unit u = nat_le 32 u && nat_le u 126
 abbrev pub is_key_unit : ℕ → Bool
 is_key_unit u = is_name_unit u && not (u == 92)
 
--- a key name of a call: 1 to 255 such units
+-- a key name of a call: 1 to 255 of these units
 abbrev pub is_key_name : List ℕ → Bool
 is_key_name name = nat_le 1 (length name) && nat_le (length name) MOST_KEY_NAME_UNITS && list_all is_key_unit name
 
--- a value name of a call: 0 to 16,383 such units; the empty one is the default value's
+-- a value name of a call: 0 to 16,383 units of a name; the empty one is the default value's
 abbrev pub is_value_name : List ℕ → Bool
 is_value_name name = nat_le (length name) MOST_VALUE_NAME_UNITS && list_all is_name_unit name
 
@@ -52,18 +52,18 @@ is_path path = nat_le (length path) MOST_PATH_NAMES && list_all is_key_name path
 abbrev pub Begins : List (List ℕ) → List (List ℕ) → Type 0
 Begins p q = (rest : List (List ℕ)) × (q ≡ p ++ rest)
 
--- the names that a path's text spells: its parts between backslashes, which the empty text, the root's, has
--- none of. Joined by one backslash each they give the text back.
+-- the names in a path's text: its parts between backslashes; the empty text, which is the root's, has none. Joined by
+-- one backslash each they give the text back.
 unfoldable pub path_names : List ℕ → List (List ℕ)
 path_names [] = []
 path_names (u ∷ us) = slice_split (λ v. v == 92) (u ∷ us)
 
--- what making a name answers, by whether the units may be such a name
+-- what making a name answers, by whether the units may be a name
 abbrev pub name_if : Bool → List ℕ → Result (List ℕ) Refusal
 name_if may units = if may then Ok units else Err BadName
 
--- what reading a path's text answers: its names, where each is a key name and they are at most 512; a path
--- of key names that are more is too deep, any other is a bad name
+-- what reading a path's text answers: its names, if each is a key name and they are at most 512; a path of more key
+-- names is too deep, any other is a bad name
 abbrev pub path_if : Bool → Bool → List (List ℕ) → Result (List (List ℕ)) Refusal
 path_if named shallow names = if named then (if shallow then Ok names else Err TooDeep) else Err BadName
 

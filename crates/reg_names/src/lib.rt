@@ -1,11 +1,11 @@
 //! Names and paths of registry keys and values.
 //!
-//! A name is a list of UTF-16 units. Two names are equal, and are ordered, by their *folded* units: the
-//! letters `a` to `z` count as `A` to `Z`, and every other unit counts as itself. A name keeps the
-//! spelling that it was made with. A path is a list of key names; the empty path is the root of a hive.
+//! A name is a list of UTF-16 units. Two names are equal, and are ordered, by their *folded* units: the letters `a` to
+//! `z` count as `A` to `Z`, and every other unit counts as itself. A name keeps the spelling that it was made with. A
+//! path is a list of key names; the empty path is the root of a hive.
 //!
-//! What is promised: names and paths that a call hands in are refused by exactly the stated rules, a
-//! comparison looks at folded units alone and takes no memory.
+//! What is promised: names and paths that a call hands in are refused by exactly the stated rules. A comparison looks
+//! at folded units alone and takes no memory.
 #![tactic(auto)]
 
 mod name;

@@ -26,8 +26,8 @@ pub fn folded_unit(unit: u16) -> u16
 
 /// The name of a key or a value, with its spelling. Names compare by their folded units.
 ///
-/// A name from a hive file may have any units; the calls of the project make and name only those of
-/// [`Name::key`] and [`Name::value`]. A name of up to 11 units takes no memory; the clones of a longer one share its units.
+/// A name from a hive file may have any units. The calls of the project make and name only names of [`Name::key`] and
+/// [`Name::value`]. A name of up to 11 units takes no memory; the clones of a longer one share its units.
 #[derive(Drop)]
 pub struct Name {
     units: Units,
@@ -42,7 +42,7 @@ impl Model for Name {
 impl Name {
     /// A key name: 1 to 255 units from 0x20 to 0x7e, none of them the backslash.
     ///
-    /// Refused with `BadName` exactly where the units are no such name.
+    /// Refused with `BadName` exactly if the units are not such a name.
     pub fn key(alloc: Global, units: &[u16]) -> Result<Name, Refusal>
         ensures { IsOrNoMemory result (name_if (is_key_name units.now) units.now) }
     {
@@ -55,7 +55,7 @@ impl Name {
 
     /// A value name: at most 16,383 units from 0x20 to 0x7e. The empty one is the default value's.
     ///
-    /// Refused with `BadName` exactly where the units are no such name.
+    /// Refused with `BadName` exactly if the units are not such a name.
     pub fn value(alloc: Global, units: &[u16]) -> Result<ValueName, Refusal>
         ensures { IsOrNoMemory result (name_if (is_value_name units.now) units.now) }
     {
@@ -67,7 +67,7 @@ impl Name {
         }
     }
 
-    /// The key name that bytes spell, each of which is a unit. Refused as by [`Name::key`].
+    /// The key name of these bytes, each of which is a unit. Refused as by [`Name::key`].
     pub fn key_in_bytes(alloc: Global, bytes: &[u8]) -> Result<Name, Refusal>
         ensures { IsOrNoMemory result (name_if (is_key_name bytes.now) bytes.now) }
     {
@@ -79,7 +79,7 @@ impl Name {
         }
     }
 
-    /// The value name that bytes spell, each of which is a unit. Refused as by [`Name::value`].
+    /// The value name of these bytes, each of which is a unit. Refused as by [`Name::value`].
     pub fn value_in_bytes(alloc: Global, bytes: &[u8]) -> Result<ValueName, Refusal>
         ensures { IsOrNoMemory result (name_if (is_value_name bytes.now) bytes.now) }
     {
@@ -92,7 +92,7 @@ impl Name {
         }
     }
 
-    /// A name as a hive file holds it, of any units. It is refused for want of memory alone.
+    /// A name as a hive file stores it, of any units. Refused only if there is no memory.
     pub fn stored(alloc: Global, units: &[u16]) -> Result<Name, AllocError>
         ensures { IfOk result (λ name. name ≡ units.now) }
     {

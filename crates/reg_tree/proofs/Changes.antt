@@ -29,7 +29,7 @@ edited_is tree p key new edit moment there is q = by_case (eq_by_cmp path_order 
     by_case true e = ap Some is ∙ sym (ap (option_map (λ k. touched moment (edit k))) (ap (row tree) (eq_is q p e) ∙ there))
     by_case false e = refl
 
--- a key one below another stands among its subkeys
+-- a key one below another is among its subkeys
 counted : (d : List (List ℕ)) (m : List ℕ) (es : Entries) → IsSome (find path_order (d ++ m ∷ []) es) → length (names_below d es) ≡ 0 → ⊥
 counted d m [] there none = false≢true there
 counted d m ((q, r) ∷ es) there none = by_case (counted d m es) (eq_by_cmp path_order (d ++ m ∷ []) q) refl there (one_below d q) refl none
@@ -40,7 +40,7 @@ counted d m ((q, r) ∷ es) there none = by_case (counted d m es) (eq_by_cmp pat
     by_case rest true e there false o none = false≢true (sym o ∙ ap (one_below d) (sym (eq_is (d ++ m ∷ []) q e)) ∙ one_below-append d m)
     by_case rest false e there false o none = rest there none
 
--- below a key without subkeys nothing stands
+-- below a key without subkeys there is nothing
 pub nothing_below : (tree : TreeMap) → IsTree tree → (d : List (List ℕ)) → length (subkeys tree d) ≡ 0 → (m : List ℕ) (r : List (List ℕ)) → row tree (d ++ m ∷ r) ≡ None
 nothing_below tree is d none m r = by_case (row tree (d ++ m ∷ r)) refl
   where

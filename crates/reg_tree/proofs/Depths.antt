@@ -19,7 +19,7 @@ passing-map : {A B : Type 0} (p : B → Bool) (h : A → B) (xs : List A) → le
 passing-map p h [] = refl
 passing-map p h (x ∷ xs) = elim (p (h x)) as (λ b. length (cond b (h x ∷ filter p (map h xs)) (filter p (map h xs))) ≡ length (cond b (x ∷ filter (λ y. p (h y)) xs) (filter (λ y. p (h y)) xs))) [ true ↦ ap suc (passing-map p h xs) | false ↦ passing-map p h xs ]
 
--- where all beginnings up to a depth pass and none past it does, so many do not
+-- if all beginnings up to a depth pass and none past it does, this many do not
 levels : (f : List (List ℕ) → Bool) (p : List (List ℕ)) (d : ℕ) → d ≤ length p → ((k : ℕ) → 1 ≤ k → k ≤ d → f (take k p) ≡ true) → ((k : ℕ) → d < k → k ≤ length p → f (take k p) ≡ false)
     → length (filter (λ q. not (f q)) (beginnings p)) ≡ length p - d
 levels f [] d within up past = omega arith
@@ -39,7 +39,7 @@ beginning_there tree is p [] there = subst (λ q. IsSome (row tree q)) (append-n
 beginning_there tree is p (n ∷ rest) there = is.parents p n (beginning_there tree is (p ++ n ∷ []) rest (subst (λ q. IsSome (row tree q)) (sym (append_assoc p (n ∷ []) rest)) there))
 
 module _ (tree : TreeMap) (is : IsTree tree) (path : List (List ℕ)) (d : ℕ) (within : d ≤ length path) (touched_path : IsSome (row tree (take d path))) (gone : d < length path → (rest : List (List ℕ)) → row tree (take (d + 1) path ++ rest) ≡ None) where
-  -- a longer front goes on from a shorter one
+  -- a longer front extends a shorter one
   longer : (j k : ℕ) → j ≤ k → take k path ≡ take j path ++ drop j (take k path)
   longer j k le = sym (take-append-drop j (take k path)) ∙ ap (λ xs. xs ++ drop j (take k path)) (take_take path j k le)
     where
@@ -58,11 +58,11 @@ module _ (tree : TreeMap) (is : IsTree tree) (path : List (List ℕ)) (d : ℕ) 
   gone_past : (k : ℕ) → d < k → k ≤ length path → is_there tree (take k path) ≡ false
   gone_past k lt le = ap is_some (ap (row tree) (longer (d + 1) k (omega arith)) ∙ gone (omega arith) (drop (d + 1) (take k path)))
 
-  -- so many levels are missing
+  -- this many levels are missing
   pub levels_missing : length (missing tree path) ≡ length path - d
   levels_missing = levels (is_there tree) path d within (λ k low high. there_up_to k high) gone_past
 
-  -- the key is there exactly where all names lead to keys
+  -- the key is there exactly if all names lead to keys
   pub there_is : is_there tree path ≡ eqb d (length path)
   there_is = elim (cases_lt d (length path)) [
     | inl lt ↦ ap (is_there tree) (sym (all_of path)) ∙ gone_past (length path) lt (omega arith) ∙ grind (arith, nat_tests)

@@ -1,4 +1,4 @@
--- A node without subkeys, with the row of a new hive's root, stands for the tree of a new hive.
+-- A node without subkeys, with the row of a new hive's root, models the tree of a new hive.
 use Rattle.std.proofs.Common.{◌≡◌, ℕ, List, [], ◌∷◌, Some, None, is_some, refl, sym, ◌∙◌, ap, subst, arith}
 use Rattle.std.specs.FinMap as finite
 use Rattle.std.specs.FinMap.{get-insert, get-empty, same_map}

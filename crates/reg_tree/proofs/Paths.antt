@@ -1,4 +1,4 @@
--- Paths that are equal, and paths that go on from others.
+-- Paths that are equal, and paths that extend others.
 use Rattle.std.proofs.Common.{◌≡◌, ℕ, ◌+◌, Bool, true, false, ◌&&◌, ◌⊎◌, inl, inr, List, [], ◌∷◌, ◌++◌, length, refl, sym, ◌∙◌, ap, append-nil, zero-add, suc-add, arith}
 use Rattle.std.specs.Prelude.{nat_lt, slice_index_or}
 use Rattle.std.proofs.lemmas.Bool.Decides.{nat_tests}
@@ -17,7 +17,7 @@ use Rattle.reg_tree_parts.proofs.Finds.{equal_of}
 pub same_name : (m n : List ℕ) → eq_by_cmp name_order m n ≡ true → m ≡ n
 same_name m n e = names_apart m n (equal_of (name_order m n) e)
 
--- whether names tie does not hang on their order
+-- whether names tie does not depend on their order
 pub swapped_name : (m n : List ℕ) → eq_by_cmp name_order m n ≡ eq_by_cmp name_order n m
 swapped_name m n = (eq_by_cmp_equiv names_total).symm m n
 
@@ -35,12 +35,12 @@ eq_is p q e = paths_apart p q (equal_of (path_order p q) e)
 pub name_self : (n : List ℕ) → eq_by_cmp name_order n n ≡ true
 name_self n = ap is_eq (tied_itself names_total n)
 
--- a path goes on from its beginning
+-- a path extends its beginning
 pub begins-append : (p r : List (List ℕ)) → begins_path p (p ++ r) ≡ true
 begins-append [] r = refl
 begins-append (n ∷ p) r = ap (λ b. b && begins_path p (p ++ r)) (name_self n) ∙ begins-append p r
 
--- and what goes on from a path is it with more behind
+-- and what extends a path is it with more after it
 pub split_begins : (p q : List (List ℕ)) → begins_path p q ≡ true → (r : List (List ℕ)) × (q ≡ p ++ r)
 split_begins [] q e = (q, refl)
 split_begins (n ∷ p) [] e = absurd (false≢true e)
@@ -54,7 +54,7 @@ pub longer_apart : (p : List (List ℕ)) (n : List ℕ) (r : List (List ℕ)) �
 longer_apart [] n r = refl
 longer_apart (a ∷ p) n r = ap (λ o. is_eq (ordering_then o (path_order (p ++ n ∷ r) p))) (tied_itself names_total a) ∙ longer_apart p n r
 
--- what does not go on from a path is another one
+-- what does not extend a path is another one
 pub unbegun_apart : (p q : List (List ℕ)) → begins_path p q ≡ false → eq_by_cmp path_order q p ≡ false
 unbegun_apart p q off = elim (told (eq_by_cmp path_order q p)) [
   | inl same ↦
@@ -63,7 +63,7 @@ unbegun_apart p q off = elim (told (eq_by_cmp path_order q p)) [
   | inr apart ↦ apart
 ]
 
--- what goes on from a longer path goes on from its beginning
+-- what extends a longer path extends its beginning
 pub begins_shorter : (p r q : List (List ℕ)) → begins_path p q ≡ false → begins_path (p ++ r) q ≡ false
 begins_shorter [] r q off = absurd (false≢true (sym off))
 begins_shorter (n ∷ p) r [] off = refl
@@ -127,7 +127,7 @@ same_parent (a ∷ p) (b ∷ q) n x e =
     let tail : p ++ n ∷ [] ≡ q ++ x ∷ [] = cc in
     λ i. head i ∷ same_parent p q n x tail i
 
--- a path that a longer one begins, past a front, goes on from that front
+-- a path that a longer one begins, after a front, extends that front
 pub longer_begins : (p s q : List (List ℕ)) → begins_path q (p ++ s) ≡ true → nat_lt (length p) (length q) ≡ true → begins_path p q ≡ true
 longer_begins [] s q on lt = refl
 longer_begins (a ∷ p) s [] on lt = absurd (grind (arith, nat_tests))
@@ -136,12 +136,12 @@ longer_begins (a ∷ p) s (b ∷ q) on lt =
     ap (λ x. eq_by_cmp name_order b x && begins_path p q) (same_name a b parts.0) ∙ ap (λ t. t && begins_path p q) (name_self b)
     ∙ longer_begins p s q parts.1 (grind (arith, nat_tests))
 
--- past one front, a path begins another as its rest does
+-- after one front, a path begins another as its rest does
 pub begins_past : (p x y : List (List ℕ)) → begins_path (p ++ x) (p ++ y) ≡ begins_path x y
 begins_past [] x y = refl
 begins_past (a ∷ p) x y = ap (λ b. b && begins_path (p ++ x) (p ++ y)) (name_self a) ∙ begins_past p x y
 
--- what stands behind a front
+-- what is after a front
 pub behind : {A : Type 0} (xs ys : List A) (i : ℕ) (d : A) → slice_index_or (xs ++ ys) (length xs + i) d ≡ slice_index_or ys i d
 behind [] ys i d = ap (λ n. slice_index_or ys n d) (zero-add i)
 behind (x ∷ xs) ys i d = ap (λ n. slice_index_or (x ∷ xs ++ ys) n d) (suc-add (length xs) i) ∙ behind xs ys i d

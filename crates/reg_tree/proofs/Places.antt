@@ -1,4 +1,4 @@
--- An operation on the trees of all hives, by the place of its hive among them.
+-- An operation on the trees of all hives, by the index of its hive among them.
 use Rattle.std.proofs.Common.{◌≡◌, ℕ, suc, ◌+◌, ◌<◌, ◌≤◌, Bool, true, false, ◌||◌, List, ◌∷◌, length, get_or, set, drop, Option, Some, None, Result, Ok, Err, refl, sym, ◌∙◌, ap, subst, arith}
 use Rattle.std.specs.Prelude.{slice_get}
 use Rattle.std.specs.Result.{is_err}
@@ -19,18 +19,18 @@ use Rattle.refusals.specs.declared.refusal.Refusal.{Refusal}
 use Rattle.refusals.specs.declared.refusal.Refusal.TheVariants.{NotFound}
 use Rattle.reg_tree.specs.declared.op.Legality.TheVariants.{Legal}
 
--- with another tree in a place there are as many
+-- with another tree at an index there are as many
 pub still_few : (hives : List TreeMap) (place : ℕ) (tree : TreeMap) → (1 ≤ length hives) × (length hives ≤ MOST_TREES) → (1 ≤ length (set hives place tree)) × (length (set hives place tree) ≤ MOST_TREES)
 still_few hives place tree few = subst (λ n. (1 ≤ n) × (n ≤ MOST_TREES)) (sym (length-set hives place tree)) few
 
--- an operation's hive has this place among so many trees
+-- an operation's hive has this index among this many trees
 pub record IsPlaced (trees hives : List TreeMap) (op : Op) (place count : ℕ) : Type 0 where
   pub view : hives ≡ trees
   pub is : place ≡ hive_of op
   pub counted : count ≡ length hives
 
 module _ (trees hives : List TreeMap) (op : Op) (place count : ℕ) (placed : IsPlaced trees hives op place count) where
-  -- where the hive is there, by the tree that is made of its own
+  -- if the hive is there, by the tree that is made of its own
   module _ (tree made : TreeMap) (moment : ℕ) (within : place < count) (read : tree ≡ get_or hives place tree) (makes : made ≡ changed tree op moment) where
     there : slice_get trees (hive_of op) ≡ Some tree
     there = subst (λ n. slice_get trees n ≡ Some tree) placed.is (subst (λ ts. slice_get ts place ≡ Some tree) placed.view (slice_get_read hives count place tree placed.counted within read))
@@ -42,7 +42,7 @@ module _ (trees hives : List TreeMap) (op : Op) (place count : ℕ) (placed : Is
     weighs_is over b weighs tested =
         ap (λ o. outweighs_if o op moment) there ∙ ap (λ left. is_err (legal_after op (Ok Legal) (weight left))) (sym makes) ∙ sym weighs ∙ tested
 
-  -- where it isn't
+  -- if it isn't
   module _ (moment : ℕ) (past : count ≤ place) where
     gone : slice_get trees (hive_of op) ≡ None
     gone = subst (λ n. slice_get trees n ≡ None) placed.is (subst (λ ts. slice_get ts place ≡ None) placed.view (slice_get_past hives place (subst (λ n. n ≤ place) placed.counted past)))

@@ -1,4 +1,4 @@
--- What a tree says of the entries that it stands for.
+-- What a tree says of the entries that it models.
 use Rattle.std.proofs.Common.{◌≡◌, ℕ, List, [], ◌∷◌, ◌++◌, IsSome, is_some, sym, ◌∙◌, ap, subst}
 use Rattle.std.specs.FinMap as finite
 use Rattle.std.specs.FinMap.{entries-from_sorted, get-from_sorted}

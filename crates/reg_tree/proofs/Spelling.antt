@@ -1,4 +1,4 @@
--- An operation keeps a tree one that a hive file can spell.
+-- An operation keeps a tree one that a hive file can encode.
 use Rattle.std.proofs.Common.{◌≡◌, ◌≢◌, ℕ, zero, suc, ◌+◌, ◌-◌, ◌*◌, ◌<◌, ◌≤◌, ◌^◌, Bool, true, false, not, ◌&&◌, cond, List, [], ◌∷◌, length, take, Option, Some, None, refl, sym, ◌∙◌, ap, subst, arith}
 use Rattle.std.specs.Prelude.{nat_lt, nat_le, ◌==◌, slice_index_or}
 use Rattle.std.specs.List.{list_all, AllByRecursion}
@@ -145,7 +145,7 @@ module _ (path : List (List ℕ)) where
       all : (q : List ℕ) (value : Value) → finite.get (values_without key.values name) q ≡ Some value → IsEncodableValue q value
       all q value e = by_case q value (eq_by_cmp name_order q (folded name)) (sym (get-remove names_total key.values (folded name) q) ∙ e)
 
--- a new row, by the name that a path spells
+-- a new row, by a name of a path
 new_too : (path : List (List ℕ)) (name descriptor : List ℕ) (moment : ℕ) → length path ≤ MOST_PATH_NAMES → is_key_name name ≡ true → IsEncodableAt path (new_row name descriptor moment)
 new_too path name descriptor moment shallow may =
     let is = key_name name may in

@@ -1,4 +1,4 @@
--- What stands where after a node was replaced on a path.
+-- Which rows are at which paths after a node was replaced on a path.
 use Rattle.std.proofs.Common.{◌≡◌, ℕ, Bool, true, false, ◌&&◌, ◌⊎◌, inl, inr, cond, List, [], ◌∷◌, ◌++◌, length, Option, Some, None, refl, sym, ◌∙◌, ap, subst, append-nil, arith, ◌-◌}
 use Rattle.std.specs.Prelude.{nat_lt, slice_index_or}
 use Rattle.std.proofs.lemmas.Bool.Decides.{nat_tests}
@@ -18,9 +18,9 @@ use Rattle.reg_tree.proofs.Paths.{same_name, swapped_name, longer_begins, begins
 abbrev Rows : Type 0
 Rows = List (List ℕ) → Option Row
 
--- where nodes were replaced at a path: what stands from there on is as in the new node, all else as before
+-- nodes were replaced at a path: from there on the rows are as in the new node, all else as before
 module _ (after before : Rows) (new node : Entries) (p : List (List ℕ)) (within : (r : List (List ℕ)) → after (p ++ r) ≡ row_at new r) (others : (q : List (List ℕ)) → begins_path p q ≡ false → after q ≡ before q) (was : (r : List (List ℕ)) → before (p ++ r) ≡ row_at node r) where
-  -- where the new node has another row and the same subkeys
+  -- if the new node has another row and the same subkeys
   pub edited : (key : Row) → row_at new [] ≡ Some key → ((n : List ℕ) (r : List (List ℕ)) → row_at new (n ∷ r) ≡ row_at node (n ∷ r)) → (q : List (List ℕ)) → after q ≡ cond (eq_by_cmp path_order q p) (Some key) (before q)
   edited key here below q = elim (told (begins_path p q)) [
     | inl on ↦ at (split_begins p q on).0 (split_begins p q on).1
@@ -35,7 +35,7 @@ module _ (after before : Rows) (new node : Entries) (p : List (List ℕ)) (withi
           ap after is ∙ within (n ∷ r) ∙ below n r ∙ sym (was (n ∷ r)) ∙ ap before (sym is)
           ∙ sym (ap (λ b. cond b (Some key) (before q)) (ap (λ x. eq_by_cmp path_order x p) is ∙ longer_apart p n r))
 
-  -- where the new node lacks a subkey under which nothing stood
+  -- if the new node lacks a subkey under which there was nothing
   module _ (key : Row) (moment : ℕ) (n : List ℕ) (there : before p ≡ Some key) (here : row_at new [] ≡ Some (touched moment key)) (gone : (r : List (List ℕ)) → row_at new (n ∷ r) ≡ None)
       (kept : (m : List ℕ) (r : List (List ℕ)) → eq_by_cmp name_order m n ≡ false → row_at new (m ∷ r) ≡ row_at node (m ∷ r)) (empty : (m : List ℕ) (r : List (List ℕ)) → before (p ++ n ∷ m ∷ r) ≡ None) where
     -- the row that a deletion leaves, by whether the path is the deleted one's and whether it is its parent's
@@ -101,14 +101,14 @@ branch_row-is name (next ∷ further) bytes time (m ∷ r) =
     both true b e c = ap (λ t. cond (t && c) (Some (new_row (slice_index_or (next ∷ further) (length r) []) bytes time)) None) e
     both false b e c = ap (λ t. cond (t && c) (Some (new_row (slice_index_or (next ∷ further) (length r) []) bytes time)) None) e
 
--- where a branch was put below a node
+-- a branch was put below a node
 module _ (after before : Rows) (new node branch : Entries) (front further : List (List ℕ)) (name bytes : List ℕ) (moment : ℕ) (key : Row)
     (within : (r : List (List ℕ)) → after (folded_path front ++ r) ≡ row_at new r) (others : (q : List (List ℕ)) → begins_path (folded_path front) q ≡ false → after q ≡ before q)
     (was : (r : List (List ℕ)) → before (folded_path front ++ r) ≡ row_at node r) (there : before (folded_path front) ≡ Some key)
     (here : row_at new [] ≡ Some (touched moment key)) (below : (r : List (List ℕ)) → row_at new (folded name ∷ r) ≡ row_at branch r) (kept : (m : List ℕ) (r : List (List ℕ)) → eq_by_cmp name_order m (folded name) ≡ false → row_at new (m ∷ r) ≡ row_at node (m ∷ r))
     (rows : (r : List (List ℕ)) → row_at branch r ≡ branch_row name further bytes moment r) (empty : (r : List (List ℕ)) → before (folded_path front ++ folded name ∷ r) ≡ None) where
-  -- the row that a creation leaves, by whether the path is that of the last key that was there, and whether it is a
-  -- new key's
+  -- the row that a creation leaves, by whether the path is that of the last key that was there, and whether it is a new
+  -- key's
   made : Bool → Bool → List (List ℕ) → Option Row
   made touched_path fresh q = cond touched_path (option_map (touched moment) (before q)) (cond fresh (Some (new_row (slice_index_or (front ++ name ∷ further) (length q - 1) []) bytes moment)) (before q))
 

@@ -37,11 +37,11 @@ module _ (tree : TreeMap) (path : List (List ℕ)) (moment : ℕ) where
   pub row-stamped : (q : List (List ℕ)) → row (stamped_at tree path moment) q ≡ row_edited (λ key. key) tree path moment q
   row-stamped q = row-tree_of _ _ q (stamped_listed q)
 
-  -- so entries with those rows stand for it
+  -- so entries with those rows model it
   pub stamped_is : (made : Entries) → IsNode made → ((q : List (List ℕ)) → row_at made q ≡ row_edited (λ key. key) tree path moment q) → finite.from_sorted {R = path_order} made ≡ stamped_at tree path moment
   stamped_is made node rows = same_map paths_total paths_apart _ _ (λ q. row_is made node q ∙ rows q ∙ sym (row-stamped q))
 
-  -- where no key is there the tree stays
+  -- if no key is there the tree stays
   pub stamped_none : row tree path ≡ None → stamped_at tree path moment ≡ tree
   stamped_none none = same_map paths_total paths_apart _ _ (λ q. row-stamped q ∙ by_case q (eq_by_cmp path_order q path) refl)
     where
@@ -55,11 +55,11 @@ module _ (tree : TreeMap) (path : List (List ℕ)) (moment : ℕ) where
   pub stamped_stays : IsTree tree → IsTree (stamped_at tree path moment)
   stamped_stays is = tree_of_rows _ (row_edited (λ key. key) tree path moment) row-stamped (edited_rooted tree is (λ key. key) (λ key. refl) path moment)
 
-  -- that a hive file can spell, where it could before
+  -- that a hive file can encode, if it could before
   pub encodable_stamped : IsEncodable tree → IsEncodable (stamped_at tree path moment)
   encodable_stamped all = record { rows = λ q key e. edited_too tree all (λ key. key) (λ q key spelled. spelled) path moment q key (sym (row-stamped q) ∙ e) }
 
--- where no name is missing the key is written again
+-- if no name is missing the key is written again
 pub written_again : (moment : ℕ) (key : Entries) (left : List (List ℕ)) (new : Entries) (b : Bool) → b ≡ (length left == 0) → b ≡ true → IsRewritten key (λ row. row) moment new → stamps moment key left (Some new)
 written_again moment key [] new b is none told = told
 written_again moment key (name ∷ left) new b is none told = absurd (true≢false (sym none ∙ is ∙ some))
@@ -67,7 +67,7 @@ written_again moment key (name ∷ left) new b is none told = absurd (true≢fal
     some : (length (name ∷ left) == 0) ≡ false
     some = grind (arith, nat_tests)
 
--- what the walk leads to, by what is told of it: the rows where the key is there, and else that it isn't
+-- what the walk leads to, by its answer: the rows if the key is there, and else that it isn't
 module _ (root : Entries) (rooted : IsRooted root) (way : List (List ℕ)) (moment : ℕ) where
   pub stamped_rows : (made : Entries) (missing : ℕ) → IsEdited (stamps moment) root way (Some (made, missing))
       → (q : List (List ℕ)) → row_at made q ≡ row_edited (λ key. key) (finite.from_sorted {R = path_order} root) (folded_path way) moment q

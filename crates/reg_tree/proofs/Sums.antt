@@ -11,7 +11,7 @@ use Rattle.reg_tree_parts.proofs.SortedLists.{front_of, back_of, less_of}
 use Rattle.reg_tree_parts.proofs.Finds.{equal_of}
 use Rattle.reg_tree.proofs.Paths.{told}
 
--- the measure of what is there, and nothing where there is none
+-- the measure of what is there, and nothing if there is none
 abbrev pub of_option : {X : Type 0} → (X → ℕ) → Option X → ℕ
 of_option f None = 0
 of_option f (Some x) = f x
@@ -36,7 +36,7 @@ module _ {K X : Type 0} {R : K → K → Ordering} (total : IsTotalOrder R) (f :
   none_below k (e ∷ es) h =
       ap (λ o. cond (is_eq o) (Some e.1) (find R k es)) (less_of (R k e.0) (front_of (is_lt (R k e.0)) (below_all R k es) h)) ∙ none_below k es (back_of (is_lt (R k e.0)) (below_all R k es) h)
 
-  -- the whole is what stands at a key and the others
+  -- the whole is what is at a key and the others
   parted : IsAntisymmetric R → (k : K) (es : List (K × X)) → T (is_sorted R es) → total_of es ≡ of_option f (find R k es) + total_of (others_of k es)
   unfolding total_of others_of
   parted same k [] h = refl

@@ -1,5 +1,5 @@
 -- Moments set times alone: trees that operations make at two moments are the same but for the times of their rows, and
--- nothing but the times is told of them apart.
+-- no answer but the times differs.
 use Rattle.std.proofs.Common.{◌≡◌, ℕ, ◌+◌, Bool, true, false, not, ◌&&◌, ◌||◌, cond, T, List, [], ◌∷◌, map, filter, length, take, Option, Some, None, is_some, Result, Ok, Err, refl, sym, ◌∙◌, ap, subst}
 use Rattle.std.specs.Prelude.{nat_lt, is_none, slice_get, slice_set, slice_index_or, ◌-◌}
 use Rattle.std.specs.Option.{option_map, option_and_then}
@@ -76,7 +76,7 @@ weight-timeless [] = refl
 weight-timeless (e ∷ es) =
     sum_by-cons (λ e. row_weight e.1) (timeless_entry e) (map timeless_entry es) ∙ ap (λ w. row_weight e.1 + w) (weight-timeless es) ∙ sym (sum_by-cons (λ e. row_weight e.1) e es)
 
--- What a row without its time still tells
+-- What a row without its time still says
 
 is_some-timeless : (o : Option Row) → is_some (option_map timeless o) ≡ is_some o
 is_some-timeless None = refl
@@ -154,7 +154,7 @@ module _ (a b : TreeMap) (same : untimed a ≡ untimed b) where
   judged_same (SetValue hive path name kind bytes) = judged_there_same (λ key. cond (nat_lt MOST_VALUE_BYTES (length bytes)) (Err TooLarge) (Ok Legal)) (λ key. refl) (folded_path path)
   judged_same (DeleteValue hive path name) = judged_there_same (λ key. cond (is_none (finite.get key.values (folded name))) (Err NotFound) (Ok Legal)) (λ key. refl) (folded_path path)
 
-  -- what is told of a row, and not of its time, is told alike
+  -- what is read of a row, and not of its time, is read alike
   pub mapped_same : {A : Type 0} (f : Row → A) → ((key : Row) → f (timeless key) ≡ f key) → (q : List (List ℕ)) → option_map f (row a q) ≡ option_map f (row b q)
   mapped_same f blind q = sym (option_map-timeless f blind (row a q)) ∙ ap (option_map f) (rows q) ∙ option_map-timeless f blind (row b q)
 
@@ -207,7 +207,7 @@ weight_any_moment tree op m n = weight_same (changed tree op m) (changed tree op
 
 -- Trees of all hives
 
--- what is told alike of trees that are the same but for times is told alike of a hive
+-- what is read alike of trees that are the same but for times is read alike of a hive
 of_hives : {A : Type 0} (tell : Option TreeMap → A) → ((a b : TreeMap) → untimed a ≡ untimed b → tell (Some a) ≡ tell (Some b)) → (o p : Option TreeMap) → option_map untimed o ≡ option_map untimed p → tell o ≡ tell p
 of_hives tell alike None None e = refl
 of_hives tell alike None (Some b) e = cc
@@ -232,7 +232,7 @@ pub applied_same : (xs ys : List TreeMap) → SameButTimes xs ys → (ops : List
 applied_same xs ys same [] m n = same
 applied_same xs ys same (op ∷ ops) m n = applied_same (applied_one xs op m) (applied_one ys op n) (applied_one_same xs ys same op m n) ops m n
 
--- What is told of them
+-- What is read of them
 module _ (xs ys : List TreeMap) (same : SameButTimes xs ys) where
   told_alike : {A : Type 0} (tell : Option TreeMap → A) → ((a b : TreeMap) → untimed a ≡ untimed b → tell (Some a) ≡ tell (Some b)) → (hive : ℕ) → tell (slice_get xs hive) ≡ tell (slice_get ys hive)
   told_alike tell alike hive = of_hives tell alike (slice_get xs hive) (slice_get ys hive) (hive_same xs ys same hive)

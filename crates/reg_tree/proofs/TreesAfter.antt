@@ -38,13 +38,13 @@ step q p false e None es target c is rest = rest
 step q p true e (Some key) es target c is rest = ap (λ b. cond b (Some key) (find path_order q es)) e ∙ sym (is refl)
 step q p false e (Some key) es target c is rest = ap (λ b. cond b (Some key) (find path_order q es)) e ∙ rest
 
--- what is found among rows listed at paths is the row at the path, where the path is listed
+-- what is found among rows listed at paths is the row at the path, if the path is listed
 found_listed : (rows : List (List ℕ) → Option Row) (q : List (List ℕ)) (paths : List (List (List ℕ))) → find path_order q (filter_map (λ path. option_map (λ key. (path, key)) (rows path)) paths) ≡ cond (list_any (eq_by_cmp path_order q) paths) (rows q) None
 found_listed rows q [] = refl
 found_listed rows q (p ∷ paths) =
     step q p (eq_by_cmp path_order q p) refl (rows p) _ (rows q) (list_any (eq_by_cmp path_order q) paths) (λ e. ap rows (eq_is q p e)) (found_listed rows q paths)
 
--- a tree of rows has them all, where each row's path is listed
+-- a tree of rows has them all, if each row's path is listed
 pub row-tree_of : (rows : List (List ℕ) → Option Row) (paths : List (List (List ℕ))) (q : List (List ℕ)) → (IsSome (rows q) → list_any (eq_by_cmp path_order q) paths ≡ true) → row (tree_of rows paths) q ≡ rows q
 row-tree_of rows paths q listed =
     get-from_entries paths_total _ q ∙ found_listed rows q paths ∙ by_case (rows q) refl
@@ -123,6 +123,6 @@ module _ (tree : TreeMap) where
   row-tree_after (SetValue hive spelled name kind bytes) moment q = row-tree_of _ _ q (edited_listed (λ key. record key { values = values_with key.values name kind bytes }) (folded_path spelled) moment q)
   row-tree_after (DeleteValue hive spelled name) moment q = row-tree_of _ _ q (edited_listed (λ key. record key { values = values_without key.values name }) (folded_path spelled) moment q)
 
-  -- so entries with those rows stand for it
+  -- so entries with those rows model it
   pub made_is : (made : Entries) → IsNode made → (op : Op) (moment : ℕ) → ((q : List (List ℕ)) → row_at made q ≡ row_after tree op moment q) → finite.from_sorted {R = path_order} made ≡ tree_after tree op moment
   made_is made node op moment rows = same_map paths_total paths_apart _ _ (λ q. row_is made node q ∙ rows q ∙ sym (row-tree_after op moment q))

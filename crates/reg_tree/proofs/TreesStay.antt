@@ -35,7 +35,7 @@ pub record Rooted (rows : List (List ℕ) → Option Row) : Type 0 where
   pub parents : (path : List (List ℕ)) (name : List ℕ) → IsSome (rows (path ++ name ∷ [])) → IsSome (rows path)
   pub named : (path : List (List ℕ)) (name : List ℕ) (key : Row) → rows (path ++ name ∷ []) ≡ Some key → folded key.name ≡ name
 
--- a tree that has such rows is one
+-- a tree that has rows of this kind is one
 pub tree_of_rows : (tree : TreeMap) (rows : List (List ℕ) → Option Row) → ((q : List (List ℕ)) → row tree q ≡ rows q) → Rooted rows → IsTree tree
 tree_of_rows tree rows are rooted = record {
   root = subst IsSome (sym (are [])) rooted.root;
@@ -43,7 +43,7 @@ tree_of_rows tree rows are rooted = record {
   named = λ path name key there. rooted.named path name key (sym (are (path ++ name ∷ [])) ∙ there);
 }
 
--- what is mapped is there where what it comes from is, and the other way round
+-- what is mapped is there if what it comes from is, and the other way round
 map_there : {A B : Type 0} (f : A → B) (o : Option A) → IsSome o → IsSome (option_map f o)
 map_there f None there = there
 map_there f (Some x) there = refl
@@ -132,7 +132,7 @@ module _ (tree : TreeMap) (is : IsTree tree) where
               let same : k + 1 ≡ suc k = omega arith in
               absurd (false≢true (sym (ap is_some (ap (λ n. row tree (take n path)) same ∙ e)) ∙ near))
 
-  -- so the home of a creation is there
+  -- so the key that a creation touches is there
   pub home_there : (path : List (List ℕ)) → IsSome (row tree (take (depth_there tree path) path))
   home_there path =
       let found = last_there path (length path) (omega arith) (λ lt. absurd (omega arith)) in
@@ -146,7 +146,7 @@ module _ (tree : TreeMap) (is : IsTree tree) where
       let more = split_begins (path ++ name ∷ []) whole on in
       (more.0, more.1 ∙ append_assoc path (name ∷ []) more.0)
 
-  -- the name at that place, as it is spelled
+  -- the name at that index, as it is spelled
   spelled_there : (spelled : List (List ℕ)) (path : List (List ℕ)) (name : List ℕ) (r : List (List ℕ)) → folded_path spelled ≡ path ++ name ∷ r → folded (slice_index_or spelled (length path) []) ≡ name
   spelled_there [] [] name r e = cc
   spelled_there [] (x ∷ path) name r e = cc

@@ -40,7 +40,7 @@ pub parent_is : (path parent : List (List ℕ)) (last : List ℕ) → path ≡ p
 parent_is path parent last is =
     rw is (ap (λ n. take n (parent ++ last ∷ [])) (omega (arith, length-append parent (last ∷ []))) ∙ take-append_seam parent (last ∷ []))
 
--- where no name is missing an operation is judged by what is found
+-- if no name is missing an operation is judged by what is found
 pub found_is : (left : List (List ℕ)) (judgement : Result Legality Refusal) → judgement ≡ Ok Legal → (b : Bool) → b ≡ (length left == 0) → b ≡ true → judged_found left judgement ≡ Ok Legal
 found_is [] judgement legal b is none = legal
 found_is (name ∷ left) judgement legal b is none = absurd (true≢false (sym none ∙ is ∙ some))
@@ -56,7 +56,7 @@ none_left (name ∷ left) judgement legal = absurd (err_is_no_ok legal)
     err_is_no_ok : {why : Refusal} → Err why ≡ Ok Legal → ⊥
     err_is_no_ok e = cc
 
--- nothing is missing where all is taken
+-- nothing is missing if all is taken
 all_taken : (d : ℕ) (path : List (List ℕ)) → drop d path ≡ [] → take d path ≡ path
 all_taken d path none = sym (append-nil (take d path)) ∙ ap (λ l. take d path ++ l) (sym none) ∙ take-append-drop d path
 
@@ -75,14 +75,14 @@ create_is n d le (name ∷ left) len =
     differ e = grind (arith, nat_tests)
 
 module _ (root : Entries) (rooted : IsRooted root) (way : List (List ℕ)) (d : ℕ) (bottom : Entries) (near : IsNearest root way d bottom) where
-  -- where no name is missing, the nearest key is that of the way
+  -- if no name is missing, the nearest key is that of the way
   pub whole_way : drop d way ≡ [] → (rest : List (List ℕ)) → row (finite.from_sorted {R = path_order} root) (folded_path way ++ rest) ≡ row_at bottom rest
   whole_way none rest = row_is root rooted.node (folded_path way ++ rest) ∙ ap (λ p. row_at root (folded_path p ++ rest)) (sym (all_taken d way none)) ∙ near.there rest
 
   names_of_way : drop d way ≡ [] → (rest : List (List ℕ)) → names_below (folded_path way ++ rest) root ≡ names_below rest bottom
   names_of_way none rest = ap (λ p. names_below (folded_path p ++ rest) root) (sym (all_taken d way none)) ∙ near.names rest
 
-  -- where one is, nothing is there
+  -- if one is, nothing is there
   pub part_of_way : (name : List ℕ) (more : List (List ℕ)) → drop d way ≡ name ∷ more → (rest : List (List ℕ)) → row (finite.from_sorted {R = path_order} root) (folded_path way ++ rest) ≡ None
   part_of_way name more is rest =
       let lt : d < length way = omega (arith, length-drop d way, ap length is) in
@@ -103,7 +103,7 @@ module _ (root : Entries) (rooted : IsRooted root) (way : List (List ℕ)) (d : 
       → judged_there (row (finite.from_sorted {R = path_order} root) (folded_path way)) judge ≡ judged_found left (judged_there (row_at bottom []) judge)
   found_here left is judge = ap (λ p. judged_there (row (finite.from_sorted {R = path_order} root) p) judge) (sym (append-nil (folded_path way))) ∙ found_there left is [] judge
 
-  -- where nothing is missing an edit stands at the way
+  -- if nothing is missing an edit is at the way
   module _ (none : drop d way ≡ []) (new made : Entries) (replaced : IsReplaced root (folded_path (take d way)) new made) where
     here_is : folded_path (take d way) ≡ folded_path way
     here_is = ap folded_path (all_taken d way none)
@@ -178,7 +178,7 @@ alone_of (Some key) below e = by_flags (bit_and key.flags 8 == 0) below e
         has_some : Err HasSubkeys ≡ Ok Legal → ⊥
         has_some e = cc
 
--- what stands where after an edit at the end of the walk
+-- which rows are at which paths after an edit at the end of the walk
 pub rows_are : (root : Entries) → IsRooted root → (op : Op) (moment d : ℕ) (bottom : Entries) → IsNearest root (walk_of op) d bottom → (new made : Entries)
     → judged_at op bottom (drop d (walk_of op)) ≡ Ok Legal → EditsKey op moment bottom (drop d (walk_of op)) new → IsReplaced root (folded_path (take d (walk_of op))) new made
     → (q : List (List ℕ)) → row_at made q ≡ row_after (finite.from_sorted {R = path_order} root) op moment q
@@ -231,13 +231,13 @@ counted_is root rooted (DeleteKey hive path) d bottom near = refl
 counted_is root rooted (SetValue hive path name kind bytes) d bottom near = refl
 counted_is root rooted (DeleteValue hive path name) d bottom near = refl
 
--- what is told of an edit, of the tree's own root and the operation's way
+-- what an edit answers, of the tree's own root and the operation's way
 pub told_of : (Makes : Entries → List (List ℕ) → Option Entries → Type 0) (lent root : Entries) (names way : List (List ℕ)) → lent ≡ root → names ≡ way
     → {result made : Option (Entries × ℕ)} → result ≡ made → IsEdited Makes lent names result → IsEdited Makes root way made
 told_of Makes lent root names way same_root same_way {result} {made} same is =
     subst (λ r. IsEdited Makes r way made) same_root (subst (λ w. IsEdited Makes lent w made) same_way (subst (IsEdited Makes lent names) same is))
 
--- what a write in one walk leads to, by what is told of it
+-- what a write in one walk leads to, by its answer
 module _ (root : Entries) (rooted : IsRooted root) (op : Op) (moment : ℕ) where
   pub written_is : (made : Entries) (missing : ℕ) → IsEdited (makes op moment) root (walk_of op) (Some (made, missing)) → judged (finite.from_sorted {R = path_order} root) op ≡ Ok Legal
   written_is made missing is = judged_is root rooted op is.depth is.nearest is.near ∙ is.edits.1.0.0

@@ -27,7 +27,7 @@ legal_by_weight tree op moment may =
     ap (λ j. legal_after op j (weight (changed tree op 0))) may ∙ by_weight op (weight (changed tree op 0))
     ∙ ap (λ total. cond (is_err (legal_after op (Ok Legal) total)) (Err TooLarge) (Ok Legal)) (weight_any_moment tree op 0 moment)
 
--- so it is told by the weight of the tree that was made
+-- so the weight of the tree that was made decides it
 pub told_by_weight : (tree made : TreeMap) (op : Op) (moment : ℕ) (over b : Bool) → judged tree op ≡ Ok Legal → made ≡ changed tree op moment → over ≡ is_err (legal_after op (Ok Legal) (weight made)) → over ≡ b → legal_in tree op ≡ cond b (Err TooLarge) (Ok Legal)
 told_by_weight tree made op moment over b may is weighs tested =
     legal_by_weight tree op moment may ∙ ap (λ left. cond (is_err (legal_after op (Ok Legal) (weight left))) (Err TooLarge) (Ok Legal)) (sym is)

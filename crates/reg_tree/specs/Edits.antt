@@ -17,19 +17,19 @@ use Rattle.reg_tree.specs.declared.op.Op.TheVariants.{CreateKey, DeleteKey, SetV
 use Rattle.reg_tree.specs.declared.op.Legality.{Legality}
 use Rattle.reg_tree.specs.declared.op.Legality.TheVariants.{Legal, Opened}
 
--- the names that an operation walks along: those of its path, and for the deletion of a key those of its parent's path
+-- the names that an operation walks along: those of its path, or for the deletion of a key those of its parent's path
 abbrev pub walk_of : Op → List (List ℕ)
 walk_of (CreateKey hive path) = path
 walk_of (DeleteKey hive path) = take (length path - 1) path
 walk_of (SetValue hive path name kind bytes) = path
 walk_of (DeleteValue hive path name) = path
 
--- a creation, by the names that are missing: none, and the key is opened; over 32, and they are too many
+-- a creation, by the names that are missing: if none are, the key is opened; more than 32 are too many
 abbrev pub judged_missing : List (List ℕ) → Result Legality Refusal
 judged_missing [] = Ok Opened
 judged_missing (name ∷ more) = if nat_lt MOST_NEW_LEVELS (length (name ∷ more)) then Err TooDeep else Ok Legal
 
--- any other operation finds nothing where a name is missing
+-- any other operation finds nothing if a name is missing
 abbrev pub judged_found : List (List ℕ) → Result Legality Refusal → Result Legality Refusal
 judged_found [] judgement = judgement
 judged_found (name ∷ more) judgement = Err NotFound
@@ -54,7 +54,7 @@ judged_at (DeleteKey hive path) key missing = judged_found missing (judged_last 
 judged_at (SetValue hive path name kind bytes) key missing = judged_found missing (judged_data bytes)
 judged_at (DeleteValue hive path name) key missing = judged_found missing (judged_value key name)
 
--- new keys stand below a key, one of each of these names below the other, and it is written
+-- new keys are below a key, one of each of these names below the other, and the key is written
 pub record IsBranched (key : Entries) (names : List (List ℕ)) (moment : ℕ) (new : Entries) : Type 0 where
   pub name : List ℕ
   pub further : List (List ℕ)
@@ -92,7 +92,7 @@ EditsKey (DeleteKey hive path) moment key missing new = LacksSubkey key (drop (l
 EditsKey (SetValue hive path name kind bytes) moment key missing new = IsRewritten key (λ row. record row { values = values_with row.values name kind bytes }) moment new
 EditsKey (DeleteValue hive path name) moment key missing new = IsRewritten key (λ row. record row { values = values_without row.values name }) moment new
 
--- what is made of the nearest key, or nothing where that is opened
+-- what is made of the nearest key, or nothing if that is opened
 abbrev pub makes : Op → ℕ → Entries → List (List ℕ) → Option Entries → Type 0
 makes op moment key missing None = judged_at op key missing ≡ Ok Opened
 makes op moment key missing (Some new) = (judged_at op key missing ≡ Ok Legal) × EditsKey op moment key missing new
@@ -100,7 +100,7 @@ makes op moment key missing (Some new) = (judged_at op key missing ≡ Ok Legal)
 abbrev pub refuses : Op → ℕ → Entries → List (List ℕ) → Refusal → Type 0
 refuses op moment key missing why = (judged_at op key missing ≡ Err why) ⊎ (why ≡ NoMemory)
 
--- what is told of how many names were missing: a creation made so many keys
+-- what is counted if this many names were missing: the keys that a creation made
 abbrev pub counted : Op → ℕ → Option ℕ
 counted (CreateKey hive path) missing = Some missing
 counted (DeleteKey hive path) missing = None

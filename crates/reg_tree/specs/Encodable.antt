@@ -1,4 +1,4 @@
--- What a tree may hold: what a hive file can spell.
+-- What a tree may have: what a hive file can encode.
 use Rattle.std.specs.Prelude.{◌≡◌, ◌≢◌, ℕ, ◌*◌, ◌<◌, ◌≤◌, ◌^◌, nat_lt, true, if◌then◌else◌, List, length, Some, bit_and}
 use Rattle.std.specs.List.{list_all, AllByRecursion}
 use Rattle.std.specs.FinMap as finite
@@ -11,7 +11,7 @@ use Rattle.reg_tree.specs.Maps.{TreeMap, row, IsTree}
 use Rattle.reg_tree.specs.declared.op.Op.{Op}
 use Rattle.reg_tree.specs.declared.op.Op.TheVariants.{CreateKey, DeleteKey, SetValue, DeleteValue}
 
--- how many bytes a name takes in a hive file: one for each unit where all are below 0x100, else two
+-- how many bytes a name takes in a hive file: one for each unit if all are below 0x100, else two
 abbrev pub stored_len : List ℕ → ℕ
 stored_len name = if list_all (λ u. nat_lt u 0x100) name then length name else 2 * length name
 
@@ -20,13 +20,13 @@ pub record IsEncodableName (name : List ℕ) : Type 0 where
   pub units : AllByRecursion (λ u. u < 2 ^ 16) name
   pub short : stored_len name ≤ 65535
 
--- a value stands under the fold of its name
+-- a value is under the fold of its name
 pub record IsEncodableValue (name : List ℕ) (value : Value) : Type 0 where
   pub filed : folded value.name ≡ name
   pub spelled : IsEncodableName value.name
 
--- a row: no unit of the key's name is a backslash, flags have 16 bits without 0x0020 and 0x0040, which say how a file
--- spells the name and that a handle stands for the values, and a class has at most 65,535 bytes
+-- a row: no unit of the key's name is a backslash, and a class has at most 65,535 bytes. Flags have 16 bits without
+-- 0x0020 and 0x0040. These say how a file encodes the name, and that a handle is there in place of the values
 pub record IsEncodableRow (key : Row) : Type 0 where
   pub name : IsEncodableName key.name
   pub no_backslash : AllByRecursion (λ u. u ≢ 0x5c) key.name
@@ -52,7 +52,7 @@ NamesAreValid (DeleteKey hive path) = is_path path ≡ true
 NamesAreValid (SetValue hive path name kind bytes) = (is_path path ≡ true) × (is_value_name name ≡ true)
 NamesAreValid (DeleteValue hive path name) = (is_path path ≡ true) × (is_value_name name ≡ true)
 
--- what holds of the entries of a tree: they are those of a node, make a tree, and a hive file can spell them
+-- what is so of the entries of a tree: they are those of a node, make a tree, and a hive file can encode them
 pub record IsRooted (entries : Entries) : Type 0 where
   pub node : IsNode entries
   pub tree : IsTree (finite.from_sorted entries)

@@ -21,7 +21,7 @@ judged_create tree path =
     else if nat_lt MOST_NEW_LEVELS (length (missing tree path)) then Err TooDeep
     else Ok Legal
 
--- a key that is not deletable, by its flag 0x0008, or that has subkeys stays
+-- a key stays if it is not deletable, by its flag 0x0008, or has subkeys
 abbrev pub judged_delete : ℕ → List (List ℕ) → Result Legality Refusal
 judged_delete flags below = if not (bit_and flags 8 == 0) then Err Fixed else if not (length below == 0) then Err HasSubkeys else Ok Legal
 
@@ -97,8 +97,8 @@ abbrev pub applied : List TreeMap → List Op → ℕ → List TreeMap
 applied trees [] moment = trees
 applied trees (op ∷ ops) moment = applied (applied_one trees op moment) ops moment
 
--- what a write of an operation answers, by its judgement and by what it would make: that, where the operation is legal, and
--- nothing where it opens a key
+-- what a write of an operation answers, by its judgement and by what it would make: this, if the operation is legal,
+-- and nothing if it opens a key
 abbrev pub IsWritten : {T : Type 0} → Result Legality Refusal → T → Option T → Type 0
 IsWritten judgement after (Some made) = (judgement ≡ Ok Legal) × (made ≡ after)
 IsWritten judgement after None = judgement ≡ Ok Opened

@@ -22,7 +22,7 @@ is_there tree path = is_some (row tree path)
 abbrev pub subkeys : TreeMap → List (List ℕ) → List (List ℕ)
 subkeys tree path = names_below path (finite.entries tree)
 
--- the weight of a tree: that of its rows together
+-- the weight of a tree: the weight of its rows together
 abbrev pub weight : TreeMap → ℕ
 weight tree = entries_weight (finite.entries tree)
 
@@ -35,7 +35,7 @@ beginnings (name ∷ path) = (name ∷ []) ∷ map (λ rest. name ∷ rest) (beg
 abbrev pub missing : TreeMap → List (List ℕ) → List (List (List ℕ))
 missing tree path = filter (λ start. not (is_there tree start)) (beginnings path)
 
--- what every tree keeps: the root is there, with a key its parent, and a key stands under the fold of its name
+-- what every tree keeps: the root is there, with a key its parent, and a key is under the fold of its name
 pub record IsTree (tree : TreeMap) : Type 0 where
   pub root : IsSome (row tree [])
   pub parents : (path : List (List ℕ)) (name : List ℕ) → IsSome (row tree (path ++ name ∷ [])) → IsSome (row tree path)

@@ -44,8 +44,8 @@ abbrev pub descriptor_of : Option Row → List ℕ
 descriptor_of None = []
 descriptor_of (Some key) = key.descriptor
 
--- the row at a path after a key was created: the last key on its way that was there is written, each missing
--- beginning of the path gets a new row with that key's descriptor, and every other row stays
+-- the row at a path after a key was created: the last key on its way that was there is written; each missing beginning
+-- of the path gets a new row with that key's descriptor; every other row stays
 abbrev pub row_created : TreeMap → List (List ℕ) → ℕ → List (List ℕ) → Option Row
 row_created tree spelled moment path =
     let created = folded_path spelled in
@@ -80,6 +80,6 @@ row_after tree (DeleteValue hive spelled name) moment path =
 abbrev pub tree_of : (List (List ℕ) → Option Row) → List (List (List ℕ)) → TreeMap
 tree_of rows paths = finite.from_entries (filter_map (λ path. option_map (λ key. (path, key)) (rows path)) paths)
 
--- the tree after an operation at a moment, which may have rows where it had them and on the way of its path
+-- the tree after an operation at a moment, which may have rows at the paths that had them and on the way of its path
 abbrev pub tree_after : TreeMap → Op → ℕ → TreeMap
 tree_after tree op moment = tree_of (row_after tree op moment) (finite.keys tree ++ beginnings (folded_path (spelled_path op)))

@@ -17,12 +17,13 @@ time_at tree path = option_map (λ (key : Row). key.time) (row tree path)
 abbrev pub time_in : List TreeMap → ℕ → List (List ℕ) → Option ℕ
 time_in trees hive path = option_and_then (λ tree. time_at tree path) (slice_get trees hive)
 
--- how many keys were made, by what is told of it
+-- how many keys were made, by the count of them if there is one
 abbrev pub made_of : Option ℕ → ℕ
 made_of None = 0
 made_of (Some made) = made
 
--- the path of the key that an operation writes beside those that it makes, by how many these are: the last one on its way that was there
+-- the path of the key that an operation writes beside those that it makes, by how many these are: the last key on its
+-- way that was there
 abbrev pub touched_path_of : Op → Option ℕ → List (List ℕ)
 touched_path_of op made = folded_path (take (length (walk_of op) - made_of made) (walk_of op))
 
@@ -37,7 +38,8 @@ stamped_if trees (Some tree) hive path moment = slice_set trees hive (stamped_at
 abbrev pub stamped : List TreeMap → ℕ → List (List ℕ) → ℕ → List TreeMap
 stamped trees hive path moment = stamped_if trees (slice_get trees hive) hive path moment
 
--- what a stamp makes of the key at the end of its walk: it is written, and all else of it stays; where names are missing it is let be
+-- what a stamp makes of the key at the end of its walk: the key is written, and all else of it stays; if names are
+-- missing it stays as it is
 abbrev pub stamps : ℕ → Entries → List (List ℕ) → Option Entries → Type 0
 stamps moment key [] None = ⊥
 stamps moment key [] (Some new) = IsRewritten key (λ row. row) moment new

@@ -27,18 +27,18 @@ subkey_index_in trees hive path index = option_and_then (λ tree. subkey_index t
 abbrev pub info_in : List TreeMap → ℕ → List (List ℕ) → Option Info
 info_in trees hive path = option_and_then (λ tree. info_of tree path) (slice_get trees hive)
 
--- the weight of a hive's tree, as far as 64 bits hold it
+-- the weight of a hive's tree, up to the greatest number of 64 bits
 abbrev pub weight_in : List TreeMap → ℕ → Option ℕ
 weight_in trees hive = option_map (λ tree. min (weight tree) MAX) (slice_get trees hive)
 
--- the names of a key's subkeys, in their order, where the key is there
+-- the names of a key's subkeys, in their order, if the key is there
 abbrev pub subkeys_at : TreeMap → List (List ℕ) → Option (List (List ℕ))
 subkeys_at tree path = option_map (λ key. subkeys tree path) (row tree path)
 
 abbrev pub subkeys_in : List TreeMap → ℕ → List (List ℕ) → Option (List (List ℕ))
 subkeys_in trees hive path = option_and_then (λ tree. subkeys_at tree path) (slice_get trees hive)
 
--- the names of a key's values, in their order, where the key is there
+-- the names of a key's values, in their order, if the key is there
 abbrev pub value_names_at : TreeMap → List (List ℕ) → Option (List (List ℕ))
 value_names_at tree path = option_map (λ key. map (λ value. value.name) (finite.values key.values)) (row tree path)
 
@@ -49,14 +49,14 @@ value_names_in trees hive path = option_and_then (λ tree. value_names_at tree p
 abbrev pub levels_in : List TreeMap → ℕ → List (List ℕ) → Option ℕ
 levels_in trees hive path = option_map (λ tree. length (missing tree path)) (slice_get trees hive)
 
--- how many keys an operation would make in a tree, where it is a creation
+-- how many keys an operation would make in a tree, if it is a creation
 abbrev pub levels_of : TreeMap → Op → Option ℕ
 levels_of tree (CreateKey hive path) = Some (length (missing tree (folded_path path)))
 levels_of tree (DeleteKey hive path) = None
 levels_of tree (SetValue hive path name kind bytes) = None
 levels_of tree (DeleteValue hive path name) = None
 
--- how many keys an operation would make in the trees of all hives, where it is a creation in a hive that is there
+-- how many keys an operation would make in the trees of all hives, if it is a creation in a hive that is there
 abbrev pub levels_made : List TreeMap → Op → Option ℕ
 levels_made trees (CreateKey hive path) = levels_in trees hive (folded_path path)
 levels_made trees (DeleteKey hive path) = None

@@ -6,7 +6,7 @@ use crate::op::Op;
 use std::alloc::{AllocError, Global};
 use std::marker::Model;
 
-/// Bytes of a change as journal text beside its operations.
+/// Bytes of an encoded change beside its operations.
 pub const CHANGE_BYTES: u64 = 16;
 
 const _: () = prove!(CHANGE_BYTES == 16);
@@ -44,7 +44,7 @@ impl Ops {
         Ok(Ops { items })
     }
 
-    /// These operations, or nothing where there are none.
+    /// These operations, or nothing if there are none.
     pub fn from_vec(items: Vec<Op>) -> Option<Ops>
         ensures some { IfSome result (λ ops. ops ≡ items.items) }
         ensures none { IsNone result ↔ (items.items ≡ []) }
@@ -56,7 +56,7 @@ impl Ops {
         }
     }
 
-    /// The operations, of which there is at least one.
+    /// The operations; there is at least one.
     pub fn list(&self) -> &[Op]
         ensures all { result.now ≡ self.now }
         ensures some { 0 < length self.now }
@@ -81,9 +81,9 @@ impl Drop for Element {
 }
 
 impl Element {
-    /// The bytes of the change as journal text, or the greatest number of 64 bits where they are more: 16, and
-    /// for each operation 4, for each name of its path 1 and its units, for a value's name 2 and its units, and
-    /// for a value that is written 8 and its data.
+    /// The bytes of the encoded change, or the greatest number of 64 bits if they are more. These are 16, and for each
+    /// operation 4. For each name of its path they are 1 and its units, for a value's name 2 and its units. For a value
+    /// that is written they are 8 and its data.
     pub fn text_len(&self) -> u64
         ensures { result ≡ min (element_encoded_len self.now) u64.MAX }
     {

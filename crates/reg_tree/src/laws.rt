@@ -1,6 +1,6 @@
 //! Laws of operations, which follow from their definitions alone.
 //!
-//! They have no code: each is the contract of a function with an empty body, for whoever builds on trees.
+//! They have no code: each is the contract of a function with an empty body, for crates that build on trees.
 ghost use Rattle.std.specs.Prelude.{◌≡◌, ◌≤◌, ◌≢◌, ℕ, List, ◌++◌, Some, IsOk, Ok, Err, false, if◌then◌else◌, slice_get};
 ghost use Rattle.reg_names.specs.Names.{folded_path};
 ghost use Rattle.refusals.specs.declared.refusal.Refusal.TheVariants.{TooLarge};
@@ -17,8 +17,8 @@ ghost use Rattle.reg_tree.specs.declared.op.Op.{Op};
 ghost use Rattle.reg_tree.specs.declared.op.Legality.TheVariants.{Legal};
 ghost use Rattle.reg_tree.specs.declared.element.Element.{Element};
 
-/// After any accepted changes each tree has its root, a key's parent is there, and a key stands under the
-/// fold of its name. It is so of an operation that may not be carried out as well: it changes nothing.
+/// After any accepted changes each tree has its root, a key's parent is there, and a key is under the fold of its name.
+/// It is also so after an operation that may not be carried out: it changes nothing.
 pub fn trees_stay()
     ensures one { (tree : TreeMap) → IsTree tree → (op : Op) (moment : ℕ) →
         IsTree (changed tree op moment) }
@@ -26,7 +26,7 @@ pub fn trees_stay()
         AreTrees (after_elements trees elements) }
 {}
 
-/// After an operation whose names meet the rules of names for calls, a hive file can spell the tree as it could
+/// After an operation whose names meet the rules of names for calls, a hive file can encode the tree as it could
 /// before.
 pub fn encodable_stays()
     ensures { (tree : TreeMap) → IsEncodable tree → (op : Op) → NamesAreValid op → (moment : ℕ) →
@@ -55,9 +55,8 @@ pub fn weights_stay()
         AreLegalElements trees elements → AreWithin (after_elements trees elements) }
 {}
 
-/// Times decide nothing: trees that differ in the times of their rows alone answer alike, and operations
-/// leave them so, at whatever moments they are applied. What is told of a key's time is the one answer in which
-/// they may differ.
+/// Times decide nothing. Trees that differ in the times of their rows alone answer alike, and operations leave them so,
+/// at whatever moments they are applied. Only the answer with a key's time may differ.
 ///
 /// - `kept`: after operations on both they still differ in times alone.
 /// - `legal`: whether an operation is legal, and its refusal.
@@ -87,8 +86,8 @@ pub fn times_decide_nothing()
         subkeys_in trees hive path ≡ subkeys_in others hive path }
 {}
 
-/// The moment of operations sets the times of rows and nothing else: what they leave at two moments differs in
-/// times alone, and so answers alike, as [`times_decide_nothing`] has it.
+/// The moment of operations sets the times of rows and nothing else. What the operations leave at two moments differs
+/// in times alone, and so answers alike, as [`times_decide_nothing`] has it.
 pub fn moments_set_times_alone()
     ensures same { (trees : List TreeMap) (ops : List Op) (m n : ℕ) →
         SameButTimes (applied trees ops m) (applied trees ops n) }
@@ -113,8 +112,8 @@ pub fn one_by_one()
         applied trees (ops ++ others) moment ≡ applied (applied trees ops moment) others moment }
 {}
 
-/// An operation that may be carried out on its hive's tree is refused exactly where it would leave that tree
-/// over the limit of weight, at whatever moment.
+/// Take an operation that may be carried out on its hive's tree. It is refused exactly if it would leave that tree over
+/// the limit of weight, at whatever moment.
 pub fn weight_alone_refuses()
     ensures { (trees : List TreeMap) (op : Op) (moment : ℕ) (tree : TreeMap) →
         slice_get trees (hive_of op) ≡ Some tree → judged tree op ≡ Ok Legal →

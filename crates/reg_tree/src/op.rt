@@ -92,7 +92,7 @@ impl Op {
         }
     }
 
-    /// The bytes of the operation as journal text, or the greatest number of 64 bits where they are more.
+    /// The bytes of the encoded operation, or the greatest number of 64 bits if they are more.
     pub fn text_len(&self) -> u64
         ensures { result ≡ min (op_encoded_len self.now) u64.MAX }
     {

@@ -21,7 +21,7 @@ use std::alloc::{AllocError, Global};
 use std::marker::Model;
 use std::sync::Arc;
 
-/// The tree of one hive: a map from folded paths to rows, each of which a hive file can spell.
+/// The tree of one hive: a map from folded paths to rows, each of which a hive file can encode.
 ///
 /// A change makes a new tree, which shares all nodes off its path; a clone shares all of them.
 pub struct Tree {
@@ -70,7 +70,7 @@ pub struct Info {
 }
 
 impl Tree {
-    /// The tree of a root's node, for whoever reads keys from a hive file.
+    /// The tree of a root's node, for callers that read keys from a hive file.
     pub fn from_root(alloc: Global, root: Node) -> Result<Tree, AllocError>
         requires { IsEncodable (finite.from_sorted root) }
         ensures { IfOk result (λ tree. tree ≡ finite.from_sorted root) }
@@ -80,7 +80,7 @@ impl Tree {
         Ok(Tree { root })
     }
 
-    /// The root's node, which holds all keys. A hive file can spell them.
+    /// The root's node, which contains all keys. A hive file can encode them.
     pub fn root(&self) -> &Node
         ensures same { self.now ≡ finite.from_sorted result.now }
         ensures node { IsNode result.now }
@@ -90,7 +90,7 @@ impl Tree {
         &self.root
     }
 
-    /// The weight of the tree, or the greatest number of 64 bits where it is more.
+    /// The weight of the tree, or the greatest number of 64 bits if it is more.
     pub fn weight(&self) -> u64
         ensures { result ≡ min (weight self.now) u64.MAX }
     {
@@ -106,7 +106,7 @@ impl Tree {
         names.len() - depth
     }
 
-    /// The value of this name. Refused with `NotFound` exactly where there is no such key or value.
+    /// The value of this name. Refused with `NotFound` exactly if there is no such key or value.
     pub fn get_value(&self, path: &Path, name: &Name) -> Result<&Value, Refusal>
         ensures ok { IfOk result (λ value.
             value_at self.now (folded_path path.now) name.now ≡ Some value.now) }
@@ -122,8 +122,8 @@ impl Tree {
         }
     }
 
-    /// The value at this index, in the order of names. Refused with `NotFound` exactly where there is no such
-    /// key or the index is past its last value.
+    /// The value at this index, in the order of names. Refused with `NotFound` exactly if there is no such key or the
+    /// index is past its last value.
     pub fn enum_value(&self, path: &Path, index: usize) -> Result<&Value, Refusal>
         ensures ok { IfOk result (λ value.
             value_index self.now (folded_path path.now) index ≡ Some value.now) }
@@ -139,8 +139,8 @@ impl Tree {
         }
     }
 
-    /// The name of the subkey at this index, in the order of names. Refused with `NotFound` exactly where there
-    /// is no such key or the index is past its last subkey.
+    /// The name of the subkey at this index, in the order of names. Refused with `NotFound` exactly if there is no such
+    /// key or the index is past its last subkey.
     pub fn enum_key(&self, path: &Path, index: usize) -> Result<&Name, Refusal>
         ensures ok { IfOk result (λ name.
             subkey_index self.now (folded_path path.now) index ≡ Some name.now) }
@@ -157,8 +157,8 @@ impl Tree {
         }
     }
 
-    /// How many subkeys and values the key has, and when it was last written. Refused with `NotFound` exactly
-    /// where there is no such key.
+    /// How many subkeys and values the key has, and when it was last written. Refused with `NotFound` exactly if there
+    /// is no such key.
     pub fn query_info(&self, path: &Path) -> Result<Info, Refusal>
         ensures ok { IfOk result (λ info. info_of self.now (folded_path path.now) ≡ Some info) }
         ensures refused { IfErr result (IsMissing (info_of self.now (folded_path path.now))) }
@@ -173,7 +173,7 @@ impl Tree {
         }
     }
 
-    /// When the key at this path was last written, or nothing where there is no such key. Takes no memory.
+    /// When the key at this path was last written, or nothing if there is no such key. Takes no memory.
     pub fn time_at(&self, names: &[Name]) -> Option<u64>
         ensures { result ≡ time_at self.now (folded_path names.now) }
     {

@@ -89,7 +89,7 @@ impl Trees {
         self.hives.get(usize::from(hive))
     }
 
-    /// The same trees, by one pointer a hive.
+    /// The same trees; it copies one pointer a hive.
     pub fn try_clone(&self, alloc: Global) -> Result<Trees, AllocError>
         ensures { IfOk result (λ copy. copy ≡ self.now) }
     {
@@ -100,8 +100,8 @@ impl Trees {
         Ok(Trees { hives })
     }
 
-    /// Whether the operation is legal, or its first refusal: `NotFound` for a hive that isn't there, and else
-    /// as [`Tree::legal`] says.
+    /// Whether the operation is legal, or its first refusal: `NotFound` for a hive that isn't there, and else the one
+    /// that [`Tree::legal`] gives.
     pub fn legal(&self, alloc: Global, op: &Op) -> Result<Legality, Refusal>
         ensures { IsOrNoMemory result (legal self.now op.now) }
     {

@@ -1,4 +1,4 @@
--- What stands at a path among the entries of a key and its subkeys.
+-- What is at a path among the entries of a key and its subkeys.
 use Rattle.std.proofs.Common.{◌≡◌, ℕ, true, false, cond, T, List, [], ◌∷◌, ◌++◌, Option, Some, None, refl, ◌∙◌, ap}
 use Rattle.std.specs.declared.cmp.Ordering.{Ordering}
 use Rattle.std.specs.declared.cmp.Ordering.TheVariants.{Less, Equal, Greater}
@@ -31,14 +31,14 @@ equal_of Less e = cc
 equal_of Equal e = refl
 equal_of Greater e = cc
 
--- below a name that ties with n, a path that begins with n stands where its rest stands
+-- below a name that ties with n, what is at a path that begins with n is what is at its rest
 find-below_tied : (n a : List ℕ) (q : List (List ℕ)) (es : Entries) → name_order n a ≡ Equal → find path_order (n ∷ q) (below a es) ≡ find path_order q es
 find-below_tied n a q [] tied = refl
 find-below_tied n a q (e ∷ es) tied =
     ap (λ o. cond (is_eq (ordering_then o (path_order q e.0))) (Some e.1) (find path_order (n ∷ q) (below a es))) tied
     ∙ ap (cond (eq_by_cmp path_order q e.0) (Some e.1)) (find-below_tied n a q es tied)
 
--- below another name, no path that begins with n stands
+-- below another name, nothing is at a path that begins with n
 find-below_apart : (n a : List ℕ) (q : List (List ℕ)) (es : Entries) → eq_by_cmp name_order n a ≡ false → find path_order (n ∷ q) (below a es) ≡ None
 find-below_apart n a q [] apart = refl
 find-below_apart n a q (e ∷ es) apart =
@@ -52,7 +52,7 @@ find_below_all n a (subkey ∷ subkeys) tied h =
     let less : name_order n subkey.0 ≡ Less = names_total.congr n a subkey.0 tied ∙ less_of (name_order a subkey.0) (front_of (is_lt (name_order a subkey.0)) (below_all name_order a subkeys) h) in
     ap (λ o. cond (is_eq o) (Some subkey.1) (find name_order n subkeys)) less ∙ find_below_all n a subkeys tied (back_of (is_lt (name_order a subkey.0)) (below_all name_order a subkeys) h)
 
--- what stands at a path below the subkeys is what stands at its rest in the subkey of its first name
+-- what is at a path below the subkeys is what is at its rest in the subkey of its first name
 pub find-all_below : (n : List ℕ) (q : List (List ℕ)) (subkeys : List (List ℕ × Entries)) → T (is_sorted name_order subkeys) → row_at (all_below subkeys) (n ∷ q) ≡ row_in (find name_order n subkeys) q
 find-all_below n q [] h = refl
 find-all_below n q (subkey ∷ subkeys) h =

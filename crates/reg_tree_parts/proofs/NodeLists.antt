@@ -1,4 +1,4 @@
--- What a list of shared nodes says of the entries that it stands for, and what an edit of it does.
+-- What a list of shared nodes says of the entries that it models, and what an edit of it does.
 use Rattle.std.proofs.Common.{◌≡◌, ℕ, ◌+◌, min, slice_get, Bool, true, false, not, cond, T, List, [], ◌∷◌, length, map, sum_by, Option, Some, None, refl, sym, ◌∙◌, ap, subst, arith}
 use Rattle.std.specs.Ordering.{eq_by_cmp, is_eq}
 use Rattle.std.specs.Cmp.{tied_itself, alike_right, eq_by_cmp_equiv}
@@ -31,7 +31,7 @@ weight-all_below (k ∷ ks) =
     ∙ ap (λ w. entries_weight k.1 + w) (weight-all_below ks)
     ∙ sym (sum_by-append (λ e. row_weight e.1) (below k.0 k.1) (all_below ks) ∙ ap (λ w. w + entries_weight (all_below ks)) (weight-below k.0 k.1))
 
--- the weight of a key and its subkeys, as far as 64 bits hold it
+-- the weight of a key and its subkeys, up to the greatest number of 64 bits
 pub weighs_whole : (row : Row) (subkeys : List (List ℕ × Entries)) (own below_it whole : ℕ) → own ≡ min (row_weight row) 18446744073709551615 → below_it ≡ min (sum_by (λ e. entries_weight e.1) subkeys) 18446744073709551615
     → whole ≡ min (own + below_it) 18446744073709551615 → whole ≡ min (entries_weight (entries_of row subkeys)) 18446744073709551615
 weighs_whole row subkeys own below_it whole o b w =
@@ -71,7 +71,7 @@ names_at row subkeys nodes i =
     ∙ slice_get-map spelled_root (map (λ e. e.1) subkeys) i
 
 module _ (items : List (List ℕ × Entries)) (sorted : T (is_sorted name_order items)) where
-  -- what stands below a subkey, seen from the parent
+  -- what is below a subkey, seen from the parent
   pub rows_of_found : (row : Row) (k : List ℕ) (child : Option Entries) → child ≡ find name_order k items → (path : List (List ℕ)) → row_at (entries_of row items) (k ∷ path) ≡ row_in child path
   rows_of_found row k child found path = find-all_below k path items sorted ∙ ap (λ o. row_in o path) (sym found)
 
@@ -94,7 +94,7 @@ module _ (items : List (List ℕ × Entries)) (sorted : T (is_sorted name_order 
   rises_where : (subkeys : List (List ℕ × Entries)) (p : List ℕ → Bool) → subkeys ≡ where_key name_order p items → T (is_sorted name_order subkeys)
   rises_where subkeys p is = subst (λ subkeys. T (is_sorted name_order subkeys)) (sym is) (is_sorted-where_key name_order p items sorted)
 
-  -- what stands below a key after a node was put among its subkeys
+  -- what is below a key after a node was put among its subkeys
   pub rows_put : (row other : Row) (subkeys : List (List ℕ × Entries)) (k : List ℕ) (es : Entries) → subkeys ≡ put name_order k es items → (name : List ℕ) (rest : List (List ℕ))
       → row_at (entries_of row subkeys) (name ∷ rest) ≡ cond (eq_by_cmp name_order name k) (row_at es rest) (row_at (entries_of other items) (name ∷ rest))
   rows_put row other subkeys k es is name rest =

@@ -1,4 +1,4 @@
--- Among the entries of a key and its subkeys each key's parent is there, and a key stands under the fold of its name.
+-- Among the entries of a key and its subkeys each key's parent is there, and a key is under the fold of its name.
 use Rattle.std.proofs.Common.{◌≡◌, ℕ, Bool, true, false, cond, T, List, [], ◌∷◌, ◌++◌, Option, Some, None, IsSome, refl, sym, ◌∙◌, ap, subst}
 use Rattle.std.specs.Ordering.{eq_by_cmp}
 use Rattle.std.specs.FinMap.Entries.{find, is_sorted}
@@ -31,7 +31,7 @@ found_node (k ∷ ks) n es keyed nodes e = by_case (found_node ks n es keyed.1 n
     by_case later false t e = later e
 
 module _ (row : Row) (items : List (List ℕ × Entries)) (keyed : AreKeyed root_name items) (nodes : AreNodes items) (sorted : T (is_sorted name_order items)) where
-  -- what stands below the key stands below one of its subkeys
+  -- what is below the key is below one of its subkeys
   found_below : (n : List ℕ) (q : List (List ℕ)) → row_at (entries_of row items) (n ∷ q) ≡ row_in (find name_order n items) q
   found_below n q = find-all_below n q items sorted
 

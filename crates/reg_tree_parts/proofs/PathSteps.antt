@@ -59,7 +59,7 @@ rows_branch made leaf child name next bytes rest time here root below others alo
           others m q (ap (eq_by_cmp name_order m) root ∙ apart) ∙ alone m q ∙ sym (ap (λ b. cond b (branch_row next rest bytes time q) None) apart)
     ])
 
--- so it is of what is made, where anything is
+-- so it is of what is made, if anything is
 pub branches : {E : Type 0} (r : Result Entries E) (leaf child : Entries) (key : Row) (name next bytes : List ℕ) (rest further : List (List ℕ)) (time : ℕ) → key ≡ new_row name bytes time → root_name child ≡ folded next
     → ((m : List ℕ) (q : List (List ℕ)) → row_at leaf (m ∷ q) ≡ None) → ((p : List (List ℕ)) → row_at child p ≡ branch_row next rest bytes time p) → further ≡ next ∷ rest
     → IfOk r (λ made. row_at made [] ≡ Some key) → IfOk r (λ made. (q : List (List ℕ)) → row_at made (root_name child ∷ q) ≡ row_at child q)

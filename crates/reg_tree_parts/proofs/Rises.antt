@@ -62,7 +62,7 @@ below_others n p (subkey ∷ subkeys) h =
     (below_other n subkey.0 p subkey.1 (less_of (name_order n subkey.0) (front_of (is_lt (name_order n subkey.0)) (below_all name_order n subkeys) h)))
     (below_others n p subkeys (back_of (is_lt (name_order n subkey.0)) (below_all name_order n subkeys) h))
 
--- the entries of one subkey, and those of the subkeys after it
+-- the entries of one subkey, and the entries of the subkeys after it
 sorted_joined : (n : List ℕ) (es : Entries) (subkeys : List (List ℕ × Entries)) → T (is_sorted path_order (below n es)) → T (below_all name_order n subkeys) → T (is_sorted path_order (all_below subkeys)) → T (is_sorted path_order (below n es ++ all_below subkeys))
 sorted_joined n [] subkeys h less rest = rest
 sorted_joined n (e ∷ es) subkeys h less rest =

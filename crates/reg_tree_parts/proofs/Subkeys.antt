@@ -15,7 +15,7 @@ use Rattle.reg_tree_parts.specs.Nodes.{Entries, below, all_below, entries_of, ro
 use Rattle.reg_tree_parts.proofs.Keys.{names_total}
 use Rattle.reg_tree_parts.proofs.SortedLists.{front_of, back_of, less_of}
 
--- no name of these subkeys is that one, as far as the first of them goes
+-- no name of these subkeys is this one, as far as the first of them goes
 abbrev FirstApart : List ℕ → List (List ℕ × Entries) → Type 0
 FirstApart n [] = Unit {0}
 FirstApart n (k ∷ ks) = eq_by_cmp name_order n k.0 ≡ false
@@ -69,7 +69,7 @@ pub smaller_if : (row : Row) (ks : List (List ℕ × Entries)) (i : ℕ) (found 
 smaller_if row ks i None e = tt
 smaller_if row ks i (Some k) e = omega (arith, subkey_smaller ks i k.now e)
 
--- what a map lists stands under its own name
+-- what a map lists is under its own name
 keyed_named : {A : Type 0} (key : A → List ℕ) (es : List (List ℕ × A)) → AreKeyed key es → AllByRecursion (λ (e : List ℕ × A). key e.1 ≡ e.0) es
 keyed_named key [] keyed = tt
 keyed_named key (e ∷ es) keyed = (sym keyed.0, keyed_named key es keyed.1)

@@ -1,4 +1,4 @@
--- What a list of shared values in order says of the map that it stands for.
+-- What a list of shared values in order says of the map that it models.
 use Rattle.std.proofs.Common.{◌≡◌, ℕ, zero, suc, ◌+◌, ◌≤◌, [], ◌∷◌, arith, sum_by, Bool, true, false, not, cond, T, List, length, map, Option, None, Some, slice_get, refl, sym, ◌∙◌, ap, subst}
 use Rattle.std.specs.FinMap as finite
 use Rattle.std.specs.FinMap.{entries-from_sorted, len-entries, get-from_sorted, same_entries_map, entries-insert, get-remove, same_map}
@@ -41,14 +41,14 @@ module _ (es : List (List ℕ × Value)) (sorted : T (is_sorted name_order es)) 
   pub get_is : (k : List ℕ) → finite.get (finite.from_sorted {R = name_order} es) k ≡ find name_order k es
   get_is k = get-from_sorted name_order es k sorted
 
-  -- the map with a value inserted stands for the entries with it put in
+  -- the map with a value inserted models the entries with it put in
   pub inserted_is : (k : List ℕ) (v : Value) (made : List (List ℕ × Value)) → made ≡ put name_order k v es
       → T (is_sorted name_order made) × (finite.from_sorted {R = name_order} made ≡ finite.insert (finite.from_sorted es) k v)
   inserted_is k v made is =
       let in_order : T (is_sorted name_order made) = subst (λ xs. T (is_sorted name_order xs)) (sym is) (is_sorted-put name_order names_total k v es sorted) in
       (in_order, same_entries_map _ _ (entries-from_sorted name_order made in_order ∙ is ∙ ap (put name_order k v) (sym entries_are) ∙ sym (entries-insert names_total _ k v)))
 
-  -- the map with a value removed stands for the entries without it
+  -- the map with a value removed models the entries without it
   pub removed_is : (k : List ℕ) (made : List (List ℕ × Value)) → made ≡ where_key name_order (λ x. not (eq_by_cmp name_order k x)) es
       → T (is_sorted name_order made) × (finite.from_sorted {R = name_order} made ≡ finite.remove (finite.from_sorted es) k)
   removed_is k made is =
@@ -70,12 +70,12 @@ loads (e ∷ es) = sum_by-cons (λ x. value_weight x.1) e es ∙ ap (λ w. value
 pub weights_are : (es : List (List ℕ × Value)) → T (is_sorted name_order es) → sum_by (λ e. value_weight e.1) es ≡ sum_by value_weight (finite.values (finite.from_sorted {R = name_order} es))
 weights_are es sorted = loads es ∙ ap (sum_by value_weight) (sym (values_are es sorted))
 
--- a value that is laid over what has its name is spelled as that
+-- a value that is merged with what has its name is spelled as that
 merged_is : (found : Option Value) (value : Value) → merged spelled_as found value ≡ record { name = spelled_name found value.name; kind = value.kind; «data» = value.data }
 merged_is None value = refl
 merged_is (Some old) value = refl
 
--- a list into which a value was written is in order, and stands for the map with it
+-- a list into which a value was written is in order, and models the map with it
 pub written_is : (es : List (List ℕ × Value)) (sorted : T (is_sorted name_order es)) (value : Value) (made : List (List ℕ × Value)) → made ≡ written (λ v. folded v.name) spelled_as value es
     → T (is_sorted name_order made) × (finite.from_sorted {R = name_order} made ≡ values_with (finite.from_sorted es) value.name value.kind value.data)
 written_is es sorted value made is =

@@ -24,11 +24,11 @@ none_taken : (path : List (List ℕ)) → [] ≡ folded_path (take 0 path)
 none_taken [] = refl
 none_taken (name ∷ path) = refl
 
--- another key in the place of one is all of it
+-- another key in place of one is all of it
 replaced_here : (entries new : Entries) → root_name new ≡ root_name entries → IsNode new → IsReplaced entries [] new new
 replaced_here entries new named node = record { within = λ rest. refl; others = λ other off. absurd (true≢false off); root = named; node = node }
 
--- what an edit makes here
+-- what an edit makes at this key
 pub edited_here : (Makes : Entries → List (List ℕ) → Option Entries → Type 0) (entries : Entries) (path : List (List ℕ)) → AreMissing entries path → (row : Row) → row_at entries [] ≡ Some row
     → (new : Entries) → Makes entries path (Some new) → root_name new ≡ root_name entries → IsNode new → IsEdited Makes entries path (Some (new, length path))
 edited_here Makes entries path missing row here new makes named node = record {
@@ -52,7 +52,7 @@ pub refused_here : (Refuses : Entries → List (List ℕ) → Refusal → Type 0
 refused_here Refuses entries path missing row here why refuses = inl (0, (entries, (near_here entries path missing row here, subst (λ p. Refuses entries p why) (all_left path) refuses)))
 
 module _ (entries child : Entries) (path rest : List (List ℕ)) (step : IsStep entries path child rest) where
-  -- the names behind a step are fewer
+  -- the names after a step are fewer
   pub step_falls : length rest < length path
   step_falls = rw step.path_is (omega arith)
 
@@ -90,7 +90,7 @@ module _ (entries child : Entries) (path rest : List (List ℕ)) (step : IsStep 
   module _ (new made : Entries) (same : row_at made [] ≡ row_at entries []) (child_is : (r : List (List ℕ)) → row_at made (root_name new ∷ r) ≡ row_at new r)
       (others : (m : List ℕ) (r : List (List ℕ)) → eq_by_cmp name_order m (root_name new) ≡ false → row_at made (m ∷ r) ≡ row_at entries (m ∷ r))
       (root : root_name made ≡ root_name entries) (node : IsNode made) where
-    -- what stands in the place of a key below the subkey stands there below its parent
+    -- what is in place of a key below the subkey is there below its parent
     replaced_below : (front : List (List ℕ)) (bottom : Entries) → IsReplaced child (folded_path front) bottom new → IsReplaced entries (folded_path (step.name ∷ front)) bottom made
     replaced_below front bottom inner =
         let name : root_name new ≡ folded step.name = inner.root ∙ step.named in

@@ -1,4 +1,4 @@
--- A node's entries are more than those of each subkey.
+-- A node has more entries than each subkey.
 use Rattle.std.specs.Prelude.{ℕ, ◌+◌, ◌≤◌, List, [], ◌∷◌, length}
 use Rattle.std.proofs.Common.{◌≡◌, suc, refl, ap, arith, length-append}
 use denote.Param.Weighed.{most}
@@ -27,7 +27,7 @@ most_below : (subkeys : List (List ℕ × Entries)) → most measure subkeys ≤
 most_below [] = omega arith
 most_below (k ∷ ks) = omega (arith, most_below ks, length-append (below k.0 k.1) (all_below ks), length-below k.0 k.1)
 
--- the measure of what a group of subkeys has
+-- the measure of what a node of subkeys has
 map_node_decreases : (map_node : MapNode Entries) → most (λ (x : Arc Entries Global). length (arc_value x) + 1) map_node.children.items ≤ most measure (node_entries (entry_list root_name) map_node)
 map_node_decreases map_node = most_children measure _ (entry_list root_name) (λ x. omega arith) map_node.children.items
 

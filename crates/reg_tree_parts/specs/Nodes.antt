@@ -1,4 +1,4 @@
--- What a node stands for: the entries of the key and of all keys below it, each a path from it on and a row.
+-- What a node models: the entries of the key and of all keys below it, each a path from it on and a row.
 use Rattle.std.specs.Prelude.{if◌then◌else◌, ◌≡◌, ℕ, min, Bool, true, false, ◌&&◌, Option, Some, None, IsSome, filter, List, [], ◌∷◌, ◌++◌, map, sum_by, T}
 use Rattle.std.specs.List.{AllByRecursion}
 use Rattle.std.specs.FinMap.Entries.{is_sorted, find}
@@ -15,7 +15,7 @@ use Rattle.reg_tree_parts.specs.Orders.{name_order, path_order}
 use Rattle.reg_tree_parts.specs.Rows.{Row, row_weight}
 use Rattle.reg_tree_parts.specs.NewRows.{new_row}
 
--- paths and the rows that stand there
+-- paths and the rows at them
 abbrev pub Entries : Type 0
 Entries = List (List (List ℕ) × Row)
 
@@ -49,16 +49,16 @@ all_below (subkey ∷ subkeys) = below subkey.0 subkey.1 ++ all_below subkeys
 abbrev pub entries_of : Row → List (List ℕ × Entries) → Entries
 entries_of row subkeys = ([], row) ∷ all_below subkeys
 
--- the weight of entries: that of their rows together
+-- the weight of entries: the weight of their rows together
 abbrev pub entries_weight : Entries → ℕ
 entries_weight entries = sum_by (λ e. row_weight e.1) entries
 
--- the row that stands at a path
+-- the row at a path
 abbrev pub row_at : Entries → List (List ℕ) → Option Row
 row_at entries path = find path_order path entries
 
 -- the entries of one key and those below it: first its own, then others whose paths rise; each key's parent is there,
--- and a key below the first stands under the fold of its name
+-- and a key below the first is under the fold of its name
 pub record IsNode (entries : Entries) : Type 0 where
   pub row : Row
   pub others : Entries
@@ -72,20 +72,20 @@ abbrev pub AreNodes : List (List ℕ × Entries) → Type 0
 AreNodes [] = Unit {0}
 AreNodes (subkey ∷ subkeys) = IsNode subkey.1 × AreNodes subkeys
 
--- what holds of every node: its subkeys are nodes in the order of their names, whose counts and weights are kept, and
--- its weight is that of its entries, as far as 64 bits hold it
+-- what is so of every node: its subkeys are nodes in the order of their names, whose counts and weights are kept; its
+-- weight is the weight of its entries, up to the greatest number of 64 bits
 pub record NodeFits (row : Row) (subkeys : SharedMap Entries) (weight : ℕ) : Type 0 where
   pub nodes : AreNodes (entries root_name subkeys)
   pub rises : T (is_sorted name_order (entries root_name subkeys))
   pub fits : FitsMap root_name entries_weight subkeys
   pub weighs : weight ≡ min (entries_weight (entries_of row (entries root_name subkeys))) MAX
 
--- the row that stands at a path of what was found, if anything was
+-- the row at a path of what was found, if anything was
 abbrev pub row_in : Option Entries → List (List ℕ) → Option Row
 row_in None path = None
 row_in (Some entries) path = row_at entries path
 
--- the names of the keys that stand one level below a path, in the order of the entries
+-- the names of the keys one level below a path, in the order of the entries
 abbrev pub one_below : List (List ℕ) → List (List ℕ) → Bool
 one_below [] [] = false
 one_below [] (n ∷ []) = true
@@ -96,7 +96,7 @@ one_below (k ∷ path) (n ∷ other) = eq_by_cmp name_order k n && one_below pat
 abbrev pub names_below : List (List ℕ) → Entries → List (List ℕ)
 names_below path entries = map (λ e. let row = e.1 in row.name) (filter (λ e. one_below path e.0) entries)
 
--- whether a path goes on from another, by folded names
+-- whether a path extends another, by folded names
 abbrev pub begins_path : List (List ℕ) → List (List ℕ) → Bool
 begins_path [] other = true
 begins_path (n ∷ path) [] = false
@@ -109,7 +109,8 @@ branch_row name [] descriptor time (m ∷ path) = None
 branch_row name (next ∷ further) descriptor time (m ∷ path) =
     if eq_by_cmp name_order m (folded next) then branch_row next further descriptor time path else None
 
--- entries below a key by the first names of their paths: one entry more in front, where it stands from that name on
+-- entries below a key by the first names of their paths: one entry more in front, under this name, its path from there
+-- on
 abbrev pub with_entry : List ℕ → List (List ℕ) × Row → List (List ℕ × Entries) → List (List ℕ × Entries)
 with_entry n entry [] = (n, entry ∷ []) ∷ []
 with_entry n entry (subkey ∷ subkeys) =

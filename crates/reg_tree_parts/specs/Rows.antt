@@ -1,4 +1,4 @@
--- What a key holds: its row in the tree.
+-- What a key has: its row in the tree.
 use Rattle.std.specs.Prelude.{ℕ, ◌+◌, ◌*◌, List, length, sum_by, refl}
 use Rattle.std.specs.FinMap as map
 use Rattle.std.specs.Coded.{Coded, code_by, coded×, coded_ℕ, coded_list}
@@ -10,7 +10,7 @@ use Rattle.reg_tree_parts.specs.Weights.{value_weight}
 abbrev pub ValueMap : Type 0
 ValueMap = map.FinMap name_order Value
 
--- what a key holds: its name as spelled, class, flags, security descriptor, last written time and values
+-- what a key has: its name as spelled, class, flags, security descriptor, last written time and values
 pub record Row : Type 0 where
   pub name : List ℕ
   pub class : List ℕ

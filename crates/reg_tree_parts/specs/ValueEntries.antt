@@ -1,4 +1,4 @@
--- What the map of a key's values stands for.
+-- What the map of a key's values models.
 use Rattle.std.specs.Prelude.{ℕ, List, T}
 use Rattle.std.specs.FinMap.Entries.{is_sorted}
 use Rattle.reg_names.specs.Names.{folded}

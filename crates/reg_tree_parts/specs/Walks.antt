@@ -6,12 +6,12 @@ use Rattle.reg_names.specs.Names.{folded, folded_path}
 use Rattle.reg_tree_parts.specs.Rows.{Row}
 use Rattle.reg_tree_parts.specs.Nodes.{Entries, root_name, row_at, names_below, begins_path, IsNode}
 
--- no key is there from the first name of a path on, where it has one
+-- no key is there from the first name of a path on, if it has one
 abbrev pub AreMissing : Entries → List (List ℕ) → Type 0
 AreMissing entries [] = Unit {0}
 AreMissing entries (name ∷ path) = (rest : List (List ℕ)) → row_at entries (folded name ∷ rest) ≡ None
 
--- a path leads on to a subkey with these entries, and these names come behind it
+-- a path leads on to a subkey with these entries, and these names come after it
 pub record IsStep (entries : Entries) (path : List (List ℕ)) (child : Entries) (rest : List (List ℕ)) : Type 0 where
   pub name : List ℕ
   pub path_is : path ≡ name ∷ rest
@@ -19,7 +19,7 @@ pub record IsStep (entries : Entries) (path : List (List ℕ)) (child : Entries)
   pub names : (q : List (List ℕ)) → names_below (folded name ∷ q) entries ≡ names_below q child
   pub named : root_name child ≡ folded name
 
--- the deepest key on the way along a path that is there: so many names lead to it, and it has these entries
+-- the deepest key on the way along a path that is there: this many names lead to it, and it has these entries
 pub record IsNearest (entries : Entries) (path : List (List ℕ)) (depth : ℕ) (nearest : Entries) : Type 0 where
   pub within : depth ≤ length path
   pub there : (rest : List (List ℕ)) → row_at entries (folded_path (take depth path) ++ rest) ≡ row_at nearest rest
@@ -28,14 +28,15 @@ pub record IsNearest (entries : Entries) (path : List (List ℕ)) (depth : ℕ) 
   pub here : row_at nearest [] ≡ Some row
   pub gone : depth < length path → (rest : List (List ℕ)) → row_at entries (folded_path (take (depth + 1) path) ++ rest) ≡ None
 
--- entries with those of one key, and of all keys below it, replaced by others
+-- entries in which those of one key, and of all keys below it, are replaced by others
 pub record IsReplaced (entries : Entries) (path : List (List ℕ)) (new made : Entries) : Type 0 where
   pub within : (rest : List (List ℕ)) → row_at made (path ++ rest) ≡ row_at new rest
   pub others : (other : List (List ℕ)) → begins_path path other ≡ false → row_at made other ≡ row_at entries other
   pub root : root_name made ≡ root_name entries
   pub node : IsNode made
 
--- what an edit of the nearest key makes of the whole, with the number of the names that are missing; nothing where it lets the key be
+-- what an edit of the nearest key makes of the whole, with the number of the names that are missing; nothing if it
+-- leaves the key as it is
 abbrev pub EditsAt : (Option Entries → Type 0) → Entries → List (List ℕ) → ℕ → Option (Entries × ℕ) → Type 0
 EditsAt Makes entries path depth None = Makes None
 EditsAt Makes entries path depth (Some made) =

@@ -1,4 +1,4 @@
-//! Bytes that a value, a class or a descriptor holds.
+//! Bytes of a value, a class or a descriptor.
 ghost use Rattle.std.specs.Prelude.{◌≡◌, ◌≤◌, List, ℕ, length, IfOk};
 ghost use Rattle.reg_tree_parts.specs.declared.data.TheConstants.{INLINE_CAPACITY};
 
@@ -6,10 +6,11 @@ use std::alloc::{AllocError, Global};
 use std::marker::Model;
 use std::sync::ArcSlice;
 
-/// The most bytes that stand where the list does. With them it takes 24 bytes, and no memory besides.
+/// The most bytes that are kept inline. With them the list takes 24 bytes, and no memory besides.
 const INLINE_CAPACITY: usize = 22;
 
-/// A list of bytes that does not change. One of up to 22 bytes takes no memory; the clones of a longer one share its bytes.
+/// A list of bytes that does not change. One of up to 22 bytes takes no memory; the clones of a longer one share its
+/// bytes.
 #[derive(Drop)]
 pub struct Data {
     repr: Repr,
@@ -17,7 +18,7 @@ pub struct Data {
 
 #[derive(Drop)]
 enum Repr {
-    /// So many of the bytes that stand here.
+    /// How many bytes are kept inline, and the bytes.
     Inline(u8, [u8; INLINE_CAPACITY]),
     Shared(ArcSlice<u8>),
 }
@@ -45,7 +46,7 @@ impl Data {
         Ok(Data { repr })
     }
 
-    /// The bytes that the vector holds. More than 22 of them are not copied.
+    /// The bytes of the vector. More than 22 of them are not copied.
     pub fn from_vec(bytes: Vec<u8>) -> Result<Data, AllocError>
         ensures { IfOk result (λ made. made ≡ bytes.items) }
     {

@@ -1,4 +1,4 @@
-//! Security descriptors, each of which most keys have in common with others.
+//! Security descriptors. Most keys share theirs with other keys.
 ghost use Rattle.std.specs.Prelude.{◌≡◌, IfOk};
 
 use crate::data::Data;
@@ -6,7 +6,8 @@ use std::alloc::{AllocError, Global};
 use std::marker::Model;
 use std::sync::Arc;
 
-/// The bytes of a security descriptor, which do not change. All clones share them: with a key it takes one pointer.
+/// The bytes of a security descriptor, which do not change. All clones share them, so that in a key it takes one
+/// pointer.
 #[derive(Drop)]
 pub struct Descriptor {
     shared: Arc<Data>,

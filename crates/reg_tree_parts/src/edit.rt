@@ -9,16 +9,18 @@ use refusals::Refusal;
 use reg_names::Name;
 use std::alloc::Global;
 
-/// What a write does at a moment with the key that its path leads to, or else with the deepest key on the way along it.
+/// What a write does at a moment with the key that its path leads to, or else with the deepest existing key on the
+/// path.
 pub trait NodeEdit {
-    /// What it makes of that key, by the names of the path that are missing from there on; nothing where it lets the key be.
+    /// What it makes of that key, by the names of the path that are missing from there on; nothing if it leaves the key
+    /// as it is.
     ghost Makes: { Self → ℕ → Entries → List (List ℕ) → Option Entries → Type 0 };
 
     /// Why it is refused there.
     ghost Refuses: { Self → ℕ → Entries → List (List ℕ) → Refusal → Type 0 };
 
-    /// The key as it is after the edit, or nothing where it is let be. The names of the path that are missing from it on come with
-    /// it: none where the path leads to it.
+    /// The key as it is after the edit, or nothing if it stays as it is. `missing` are the names of the path that are
+    /// missing from the key on: none if the path leads to it.
     fn edit(
         &self,
         alloc: Global,
@@ -34,7 +36,7 @@ pub trait NodeEdit {
 }
 
 impl Node {
-    // the subkey that a path leads on to, and the names behind it
+    // the subkey that a path leads on to, and the names after it
     fn step<'a>(&'a self, path: &'a [Name]) -> Option<(&'a Node, &'a [Name])>
         ensures on { IfSome result (λ next. IsStep self.now path.now next.0.now next.1.now) }
         ensures missing { IfNone result (AreMissing self.now path.now) }
@@ -48,8 +50,9 @@ impl Node {
         }
     }
 
-    /// The key after an edit of the one that this path leads to, or of the deepest one on the way, and how many names of the
-    /// path were missing; nothing where the edit lets that key be. It is found, judged and made in one walk.
+    /// The key after an edit of the one that this path leads to, or of the deepest one on the way; and how many names
+    /// of the path were missing. Nothing if the edit leaves that key as it is. The key is found, judged and made in one
+    /// walk.
     pub fn edited<W: NodeEdit>(
         &self,
         alloc: Global,

@@ -1,4 +1,4 @@
-//! What a key holds: the row of a tree.
+//! What a key has: the row of a tree.
 ghost use Rattle.std.specs.Prelude.{◌≡◌, ℕ, IfOk, min};
 ghost use Rattle.reg_tree_parts.specs.Rows.{Row, row_weight};
 ghost use Rattle.reg_tree_parts.specs.NewRows.{new_row};
@@ -12,7 +12,7 @@ use std::alloc::{AllocError, Global};
 use std::marker::Model;
 use std::sync::Arc;
 
-/// What a key holds: its name as spelled, class, flags, security descriptor, last written time and values.
+/// What a key has: its name as spelled, class, flags, security descriptor, last written time and values.
 pub struct Key {
     name: Name,
     /// The class and the flags.
@@ -163,8 +163,8 @@ impl Key {
         self.with_values(values, time)
     }
 
-    /// The weight of the row: 192, twice the units of its name, its class and descriptor bytes and the
-    /// weight of its values; or the greatest number of 64 bits where that is more.
+    /// The weight of the row: 192, twice the units of its name, its class and descriptor bytes and the weight of its
+    /// values; or the greatest number of 64 bits if that is more.
     pub fn weight(&self) -> u64
         ensures { result ≡ min (row_weight self.now) u64.MAX }
     {

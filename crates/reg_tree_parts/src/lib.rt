@@ -1,9 +1,8 @@
-//! The parts of a registry tree: shared bytes, values, keys, and the nodes that hold keys with their
-//! subkeys.
+//! The parts of a registry tree: shared bytes, values, keys, and the nodes that contain keys with their subkeys.
 //!
-//! A tree is seen as a list of entries, a path and the row of the key that stands there. The code has
-//! nodes, shared by `Arc`, which never change: a change makes new nodes along one path and shares all
-//! others. What a refused growth leaves is therefore the old tree, untouched.
+//! A tree is seen as a list of entries, each a path and the row of the key at it. The code has nodes, shared by `Arc`,
+//! which never change: a change makes new nodes along one path and shares all others. So a refused growth leaves the
+//! old tree, untouched.
 #![tactic(auto)]
 
 mod data;

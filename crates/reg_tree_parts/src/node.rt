@@ -20,7 +20,7 @@ use std::sync::Arc;
 
 /// A key and all keys below it, shared by `Arc`.
 ///
-/// What is read of the keys beside a change stands first, next to the pointer's own counts.
+/// The fields that are read of keys beside a change come first, next to the pointer's own counts.
 pub struct Node {
     weight: u64,
     key: Key,
@@ -72,7 +72,7 @@ impl Node {
         Ok(Node::from_parts(key, subkeys))
     }
 
-    /// The weight of the key and of all keys below it, or the greatest number of 64 bits where it is more.
+    /// The weight of the key and of all keys below it, or the greatest number of 64 bits if it is more.
     pub fn weight(&self) -> u64
         ensures { result ≡ min (entries_weight self.now) u64.MAX }
     {
@@ -178,7 +178,7 @@ impl Node {
         Ok(Node::from_parts(key, subkeys))
     }
 
-    // the key with this subkey in the place of its name
+    // the key with this subkey, in place of one of its name if there is one
     fn with_child(&self, alloc: Global, key: Key, child: Arc<Node>) -> Result<Node, AllocError>
         requires named { folded key.name ≡ root_name self.now }
         requires node { IsNode child.value }
@@ -195,7 +195,7 @@ impl Node {
         Ok(Node::from_parts(key, subkeys))
     }
 
-    /// The key with another row of the same name, and with this subkey in the place of its name.
+    /// The key with another row of the same name, and with this subkey, in place of one of its name if there is one.
     pub fn with_new_child(&self, alloc: Global, key: Key, child: Node) -> Result<Node, AllocError>
         requires named { folded key.name ≡ root_name self.now }
         requires node { IsNode child }
@@ -238,7 +238,7 @@ impl Node {
         }
     }
 
-    // the key with this subkey in the place of one of its name, and the same row
+    // the key with this subkey in place of one of its name, and the same row
     pub(crate) fn with_subkey(&self, alloc: Global, subkey: Node) -> Result<Node, AllocError>
         requires node { IsNode subkey }
         ensures here { IfOk result (λ made. row_at made [] ≡ row_at self.now []) }

@@ -15,7 +15,7 @@ pub(crate) struct RareFields {
     pub flags: u16,
 }
 
-/// What a key of this class and these flags keeps of them: nothing where it has neither.
+/// What a key of this class and these flags keeps of them: nothing if it has neither.
 pub(crate) fn new_if_any(
     alloc: Global,
     class: Data,

@@ -15,7 +15,7 @@ use std::sync::Arc;
 pub struct Value {
     /// The name as spelled. The empty one is the default value's.
     pub name: Name,
-    /// The type number, which is kept and not looked at.
+    /// The type number, which is kept and not interpreted.
     pub kind: u32,
     /// The data.
     pub data: Data,
@@ -27,8 +27,8 @@ pub const VALUE_WEIGHT: u64 = 128;
 const _: () = prove!(VALUE_WEIGHT == 128);
 
 impl Value {
-    /// The weight of the value: 128, twice the units of its name, and its bytes; or the greatest number of
-    /// 64 bits where that is more.
+    /// The weight of the value: 128, twice the units of its name, and its bytes; or the greatest number of 64 bits if
+    /// that is more.
     pub fn weight(&self) -> u64
         ensures { result ≡ min (value_weight self.now) u64.MAX }
     {
@@ -64,7 +64,7 @@ impl MapEntry for Value {
         weight_of(self)
     }
 
-    /// The new one, as this one is spelled.
+    /// The new one, with the spelling of this one's name.
     fn replaced_by(&self, alloc: Global, new: Arc<Value>) -> Result<Arc<Value>, AllocError>
         requires { folded new.value.name ≡ folded self.now.name }
         ensures over { IfOk result (λ made. made.value ≡ spelled_as self.now new.value) }

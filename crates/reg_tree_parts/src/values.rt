@@ -74,7 +74,7 @@ impl Values {
         self.items.at(index)
     }
 
-    /// The values with this one written: its type and data replace those of a value of the same name, whose
+    /// The values with this one written. Its type and data replace the type and data of a value of the same name, whose
     /// spelling stays; else it is new.
     pub fn with(
         &self,
@@ -100,7 +100,7 @@ impl Values {
         Ok(Values { items })
     }
 
-    /// The weight of the values together, or the greatest number of 64 bits where it is more.
+    /// The weight of the values together, or the greatest number of 64 bits if it is more.
     pub fn weight(&self) -> u64
         ensures { result ≡ min (sum_by value_weight (finite.values self.now)) u64.MAX }
     {

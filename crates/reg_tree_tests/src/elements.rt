@@ -1,4 +1,4 @@
-//! Accepted changes: their length as journal text, and their operations in order.
+//! Accepted changes: the length of their encoding, and their operations in order.
 use crate::fixtures::{Counts, Step, data_are, element, infos_are, set, zeros};
 use refusals::Refusal;
 use reg_tree::{Element, Ops, Trees};

@@ -1,11 +1,11 @@
-//! Names, paths, operations and readings of trees, made from texts.
+//! Names, paths, operations and readings of trees, made from strings.
 use refusals::Refusal;
 use reg_names::{Name, Path, ValueName};
 use reg_tree::{Data, Element, Legality, Op, Ops, Trees};
 use std::alloc::{AllocError, Global};
 use std::process::Abort;
 
-/// An operation, said by texts: its hive and path, and of a value its name, type and data.
+/// An operation, given as strings: its hive and path, and of a value its name, type and data.
 #[derive(Clone, Copy)]
 pub enum Step {
     Create(u8, &'static str),
@@ -25,7 +25,7 @@ impl Step {
     }
 }
 
-/// What a step is answered.
+/// The answer to a step.
 pub type Answer = Result<Legality, Refusal>;
 
 /// The answer to an operation that changes the tree.
@@ -34,7 +34,7 @@ pub const LEGAL: Answer = Ok(Legality::Legal);
 /// A key's subkeys and values, and the moment of its last write.
 pub type Counts = (usize, usize, u64);
 
-/// The units of an ASCII text.
+/// The units of an ASCII string.
 pub fn units(alloc: Global, text: &str) -> Result<Vec<u16>, AllocError> {
     let mut made = Vec::new(alloc);
     for byte in text.as_bytes() {
@@ -100,7 +100,7 @@ pub fn unset(alloc: Global, hive: u8, at: &str, name: &str) -> Result<Op, Refusa
     Ok(Op::DeleteValue { hive, path, name })
 }
 
-/// So many zeros.
+/// This many zeros.
 pub fn zeros(alloc: Global, count: usize) -> Result<Vec<u8>, AllocError> {
     vec![in alloc; 0; count]
 }
@@ -119,7 +119,7 @@ fn apply(alloc: Global, trees: &mut Trees, element: &Element) -> Result<(), Allo
     Ok(())
 }
 
-/// Judges the operation and, where it is legal, applies it at the moment.
+/// Judges the operation and, if it is legal, applies it at the moment.
 pub fn act(alloc: Global, trees: &mut Trees, moment: u64, op: Op) -> Answer {
     let legality = judged(alloc, trees, &op)?;
     if legality == Legality::Legal {
@@ -133,12 +133,12 @@ fn take_one(alloc: Global, trees: &mut Trees, moment: u64, step: &Step) -> Answe
     act(alloc, trees, moment, op)
 }
 
-/// Compares what a question of yes or no is answered at a place.
+/// Compares the answer to a yes-or-no question; `place` names the case.
 pub fn says(rt: &impl Abort, answer: Result<bool, Refusal>, wanted: bool, place: &str) {
     assert_eq!(rt; answer, Ok(wanted), "at {place}");
 }
 
-/// Compares a number that is told at a place.
+/// Compares a number that was answered; `place` names the case.
 pub fn counts(
     rt: &impl Abort,
     answer: Result<usize, Refusal>,
@@ -148,12 +148,12 @@ pub fn counts(
     assert_eq!(rt; answer, wanted, "at {place}");
 }
 
-/// Compares what an operation at a moment is answered.
+/// Compares the answer to an operation at a moment.
 pub fn answers(rt: &impl Abort, answer: Answer, wanted: Answer, moment: u64) {
     assert_eq!(rt; answer, wanted, "at {moment}");
 }
 
-/// Compares what is told of a key at a place.
+/// Compares the counts of a key; `place` names the case.
 pub fn tells(
     rt: &impl Abort,
     answer: Result<Counts, Refusal>,
@@ -163,7 +163,7 @@ pub fn tells(
     assert_eq!(rt; answer, wanted, "at {place}");
 }
 
-/// Takes the steps in turn, each at its moment, and compares what each is answered.
+/// Takes the steps in turn, each at its moment, and compares the answer to each.
 pub fn take(rt: &impl Abort, alloc: Global, trees: &mut Trees, steps: &[(u64, Step, Answer)]) {
     for (moment, each, wanted) in steps {
         let answer = take_one(alloc, trees, *moment, each);
@@ -171,7 +171,7 @@ pub fn take(rt: &impl Abort, alloc: Global, trees: &mut Trees, steps: &[(u64, St
     }
 }
 
-/// Compares what is told of keys.
+/// Compares the counts of keys.
 pub fn infos_are(
     rt: &impl Abort,
     alloc: Global,
@@ -183,7 +183,7 @@ pub fn infos_are(
     }
 }
 
-/// Compares the names of keys' values in their order, each with a blank behind it.
+/// Compares the names of keys' values in their order, each with a blank after it.
 pub fn values_are(rt: &impl Abort, alloc: Global, trees: &Trees, wanted: &[(u8, &str, &str)]) {
     for (hive, at, names) in wanted {
         says(rt, has_values(alloc, trees, *hive, at, names), true, at);

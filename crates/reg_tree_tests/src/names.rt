@@ -73,7 +73,7 @@ fn has_units(alloc: Global, name: &Name, text: &str) -> Result<bool, AllocError>
     Ok(name.units() == units(alloc, text)?.as_slice())
 }
 
-// whether the names of a path's text are these
+// whether a path's text has these names
 fn has_names(alloc: Global, text: &str, wanted: &[&str]) -> Result<bool, Refusal> {
     let path = path(alloc, text)?;
     for (name, text) in path.names().iter().zip(wanted) {
@@ -137,7 +137,7 @@ const UNITS: [(u16, Option<Refusal>, Option<Refusal>); 10] = [
     (0x5c, BAD_NAME, None),
 ];
 
-// whether a unit is refused so, as a path as it is as a key's name
+// whether a unit has these refusals, and as a path that of a key's name
 fn is_refused(alloc: Global, unit: u16, key: Option<Refusal>, value: Option<Refusal>) -> bool {
     key_refusal(alloc, unit) == key
         && path_refusal(alloc, unit) == key
@@ -230,7 +230,7 @@ fn has_subkeys(alloc: Global, node: &Node) -> Result<bool, Refusal> {
     Ok(ends_at(node, 4))
 }
 
-// whether a key has so many subkeys, and no more are listed
+// whether a key has this many subkeys, and no more are listed
 fn ends_at(node: &Node, count: usize) -> bool {
     node.subkey_count() == count && node.subkey(count).is_none()
 }

@@ -1,11 +1,12 @@
-//! Trees that are made from others share what they have, and leave those as they were; numbers past the end of a list.
+//! Trees that are made from others share what they have, and leave the others as they were; numbers past the end of a
+//! list.
 use crate::fixtures::{Answer, LEGAL, Step, counts, data_are, path, take, values_are};
 use refusals::Refusal;
 use reg_tree::Trees;
 use std::alloc::Global;
 use std::test::Fail;
 
-// a moment, what is done then, and what it is answered
+// a moment, what is done then, and the answer to it
 type Taken = (u64, Step, Answer);
 
 const COMMITTED: [Taken; 1] = [(0, Step::Create(0, "K"), LEGAL)];

@@ -17,7 +17,7 @@ use Rattle.store_model.specs.Invariant.{AreLegalButForWeight, AreLegalChanges}
 abbrev pub ButForWeight : Type 0
 ButForWeight = (trees : List TreeMap) (op : Op) → judged_in trees op ≡ Ok Legal → (legal trees op ≡ Ok Legal) ⊎ (legal trees op ≡ Err TooLarge)
 
--- and it is refused exactly where it would leave its hive's tree too heavy
+-- and it is refused exactly if it would leave its hive's tree too heavy
 abbrev pub WeightAlone : Type 0
 WeightAlone = (trees : List TreeMap) (op : Op) (moment : ℕ) (tree : TreeMap) → slice_get trees (hive_of op) ≡ Some tree → judged tree op ≡ Ok Legal →
     legal trees op ≡ cond (outweighs trees op moment) (Err TooLarge) (Ok Legal)

@@ -1,5 +1,5 @@
--- A store is faulted only by the device, and what is told of the device is told by a store that is faulted then. No event but a step is
--- answered that the device failed.
+-- A store is faulted only by the device, and a refusal about the device comes from a store that is faulted then. No
+-- event but a step is answered that the device failed.
 use Rattle.std.proofs.Common.{◌≡◌, ◌⊎◌, inl, inr, ℕ, ◌==◌, length, Bool, true, false, List, [], ◌∷◌, Option, Some, None, Result, Ok, Err, cond, refl, sym, ◌∙◌, ap, subst}
 use Rattle.std.specs.Prelude.{slice_get}
 use Rattle.std.proofs.lemmas.Bool.{true≢false}
@@ -80,9 +80,9 @@ run_stays_faulted old new [] (r ∷ rs) run was = absurd run
 run_stays_faulted old new (e ∷ es) [] run was = absurd run
 run_stays_faulted old new (e ∷ es) (r ∷ rs) (mid, step, rest) was = run_stays_faulted mid new es rs rest (stays_faulted old mid e r step was)
 
--- What tells of the device
+-- Refusals about the device
 
--- a refusal tells of it only that it failed earlier, and only if the store is faulted
+-- a refusal says of it only that it failed earlier, and only if the store is faulted
 abbrev IsRight : Bool → Option Refusal → Type 0
 IsRight was wanted = (r : Refusal) → wanted ≡ Some r → is_of_device r ≡ true → (r ≡ Faulted) × (was ≡ true)
 
@@ -261,7 +261,7 @@ module _ (old : Machine) where
     step event.TrimStep q s = stepping _ faulted s
     step _ q s = absurd cc
 
-    -- what is told of the device is told by a store that is faulted then
+    -- a refusal about the device comes from a store that is faulted then
     pub told_faulted : (e : Event) → Step old e (reply.Refused why) new → new.faulted ≡ true
     told_faulted e s = by_test (is_step e) refl
       where

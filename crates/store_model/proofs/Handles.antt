@@ -90,7 +90,7 @@ gone_for_good old new [] (r ∷ replies) tx g run = absurd run
 gone_for_good old new (e ∷ events) [] tx g run = absurd run
 gone_for_good old new (e ∷ events) (r ∷ replies) tx g run = gone_for_good run.0 new events replies tx (still_gone old run.0 (handle_in r) tx (way old run.0 e r run.1) g) run.2
 
--- What is let go is gone, and is not found
+-- What is dropped is gone, and is not found
 
 pub closed_gone : (old new : Machine) (session : ℕ) (tx : Tx) → InvariantHolds old → ChangesSlots old (ClosesTx old.tx_slots (found_in old session tx) tx.slot new.tx_slots) new → IsGone new tx
 closed_gone old new session tx kept (c, next) =

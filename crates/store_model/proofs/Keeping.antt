@@ -62,7 +62,7 @@ judged_legal trees op e = by_hive (slice_get trees (hive_of op)) e
     by_hive None e = absurd cc
     by_hive (Some tree) e = judged_of op (judged tree op) _ e
 
--- Claims that do not meet are apart
+-- Claims that do not conflict
 
 not_any : {X : Type 0} (p : X → Bool) (x : X) (xs : List X) → list_any p (x ∷ xs) ≡ false → (p x ≡ false) × (list_any p xs ≡ false)
 not_any p x xs e = by_case (p x) refl e
@@ -76,9 +76,9 @@ other_way c d (inl e) = inl (sym e.0, sym e.1)
 other_way c d (inr (inl p)) = inr (inr p)
 other_way c d (inr (inr p)) = inr (inl p)
 
--- Transactions that hold no claim which meets one
+-- Transactions that hold no claim which conflicts with one
 
--- where no entry passes a test, what is at a place does not
+-- if no entry passes a test, what is in a slot does not
 none_at : (test : ℕ × Transaction → Bool) (first : ℕ) (tx_slots : TxSlots) → list_any test (entries_from first tx_slots) ≡ false → (q : ℕ) (one : Transaction) → at tx_slots q ≡ Some one → test (first + q, one) ≡ false
 none_at test first [] e zero one is = absurd cc
 none_at test first [] e (suc q) one is = absurd cc
@@ -103,7 +103,7 @@ unclaimed tx_slots slot claim e q one n a =
     elsewhere (inl t) h = absurd (n t.1)
     elsewhere (inr f) h = ap (λ t. not t && holds claim one) (sym f.0) ∙ h
 
--- Lists of operations that are apart
+-- Lists of operations whose claims don't conflict
 
 abbrev ApartFrom : Op → List Op → Type 0
 ApartFrom op ops = AllByRecursion (λ o. Conflict (claim_of op) (claim_of o) → ⊥) ops
@@ -130,7 +130,7 @@ one_more_named : (hives : ℕ) (ops : List Op) (op : Op) → HivesAreNamable hiv
 one_more_named hives ops op n below =
     All-append (λ op. hive_of op < hives) ops (op ∷ []) n (All-cons (λ op. hive_of op < hives) op [] below (All-nil (λ op. hive_of op < hives)))
 
--- What is active where a transaction was put
+-- What is active in the slot into which a transaction was put
 
 active_or_not : (old new : TxSlots) (slot : ℕ) (put one : Transaction) (q : ℕ) → SetsSlot old new slot (Some put) → IsActiveAt new q one → ((q ≡ slot) × (put ≡ one)) ⊎ ((q ≢ slot) × IsActiveAt old q one)
 active_or_not old new slot put one q p a = elim (put_or_not old new slot (Some put) p q one a.there) [
@@ -154,7 +154,7 @@ module _ (laws : Laws) where
       let none : Contains {X = ℕ} [] 0 = subst (λ l. Contains l 0) (ap (λ t. each_once (map (λ (h : HeldClaim). h.owner) (cond t (one ∷ []) []))) e) found in
       absurd (omega (arith, none.1))
 
-  -- an operation whose claim meets none of theirs
+  -- an operation whose claim conflicts with none of theirs
   apart_from : (op : Op) (ops : List Op) → meets_any (claim_of op) ops ≡ false → ApartFrom op ops
   apart_from op [] e = tt
   apart_from op (o ∷ ops) e =
@@ -294,7 +294,7 @@ module _ (laws : Laws) where
   kept_along old new (e ∷ events) [] k run = absurd run
   kept_along old new (e ∷ events) (r ∷ replies) k run = kept_along run.0 new events replies (kept_after old run.0 e r k run.1) run.2
 
--- nobody is there as a store is opened
+-- there is no transaction as a store is opened
 nobody : (slot : ℕ) (one : Transaction) → at [] slot ≡ Some one → ⊥
 nobody zero one e = cc
 nobody (suc slot) one e = cc

@@ -1,4 +1,4 @@
--- Numbers, seats and room stay within their limits, and each accepted change was legal.
+-- Numbers, slots and room stay within their limits, and each accepted change was legal.
 use Rattle.std.proofs.Common.{◌≡◌, ◌≢◌, ◌⊎◌, inl, inr, ℕ, zero, suc, ◌+◌, ◌-◌, ◌<◌, ◌≤◌, ◌==◌, ◌||◌, ◌&&◌, not, Bool, true, false, List, [], ◌∷◌, ◌++◌, length, take, drop, filter, sum_by, Option, Some, None, IsSome, is_some, cond, refl, sym, ◌∙◌, ap, subst, arith}
 use Rattle.std.specs.Prelude.{nat_le, nat_lt}
 use Rattle.std.proofs.lemmas.Bool.Decides.{nat_tests}
@@ -45,7 +45,7 @@ drop_later (suc n) (suc m) (e ∷ elements) le = drop_later n m elements (omega 
 one_more_room : (elements : List Element) (element : Element) → room_with (elements ++ element ∷ []) ≡ room_with elements + room_of element
 one_more_room elements element = omega (arith, sum_by-append room_of elements (element ∷ []), sum_by-cons room_of element [])
 
--- Seats
+-- Slots
 
 short : (p : ℕ → Bool) (xs : List ℕ) → length (filter p xs) ≤ length xs
 short p xs = omega (arith, length-filter p xs, count_by-le-length p xs)
@@ -66,7 +66,7 @@ any_content : (content : Option Transaction) → cond (is_some content) 1 0 ≤ 
 any_content None = omega arith
 any_content (Some one) = omega arith
 
--- where each that is held was held, no more are
+-- if each that is kept was kept, no more are
 no_more : (old new : TxSlots) → ((q : ℕ) → IsSome (at new q) → IsSome (at old q)) → count_held new ≤ count_held old
 no_more old [] known = omega arith
 no_more [] (x ∷ xs) known =
@@ -77,7 +77,7 @@ no_more (y ∷ ys) (x ∷ xs) known =
 apart : (p q : ℕ) → q ≢ p → suc q ≢ suc p
 apart p q differs same = differs (omega (arith, same))
 
--- and where one place is different, one more at most
+-- and if one slot is different, one more at most
 one_more : (old new : TxSlots) (slot : ℕ) → ((q : ℕ) → q ≢ slot → IsSome (at new q) → IsSome (at old q)) → count_held new ≤ count_held old + 1
 one_more old [] slot known = omega arith
 one_more [] (x ∷ xs) zero known =
@@ -96,7 +96,7 @@ descends_fewer old new d = no_more old new (λ q there. by_content q (at new q) 
     by_content q None e there = absurd (false≢true there)
     by_content q (Some one) e there = ap is_some (d q one e).1
 
--- so no more are held after a step that gives no handle
+-- so no more are kept after a step that gives no handle
 held_after : (old new : Machine) (handle : Option Tx) → handle ≡ None → Way old new handle → count_held new.tx_slots ≤ count_held old.tx_slots
 held_after old new _ none (Fewer b t d r) = descends_fewer old.tx_slots new.tx_slots d
 held_after old new _ none (Wrote op moment b t d r) = descends_fewer old.tx_slots new.tx_slots d
@@ -327,7 +327,7 @@ module _ (law : WeightAlone) (old : Machine) (k : InvariantHolds old) where
     leaves (event.FlusherStep hive) r s = stepped_or (λ r. Leaves old new) _ _ r s (λ p d. stays new d.next) (λ e f. fails new _ e f)
     leaves event.TrimStep r s = stepped_or (λ r. Leaves old new) _ _ r s (λ p d. trims new p d) (λ e f. fails new _ e f)
 
--- numbers, seats and room after a step
+-- numbers, slots and room after a step
 pub within_after : WeightAlone → (old new : Machine) (e : Event) (r : Reply) → InvariantHolds old → Step old e r new → IsWithin new
 within_after law old new e r k s = (leaves law old k new e r s).within
 

@@ -1,4 +1,4 @@
--- What an event that makes no step leaves: all that the journal and the device have to do with, but for one change more.
+-- What an event that makes no step leaves: all that the journal and the device need, but for one change more.
 use Rattle.std.proofs.Common.{◌≡◌, ◌⊎◌, inl, inr, ℕ, ◌+◌, ◌<◌, ◌==◌, Bool, true, false, cond, List, [], ◌∷◌, ◌++◌, length, refl, sym, ◌∙◌, ap, arith, Option, Some, None}
 use Rattle.refusals.specs.declared.refusal.Refusal.TheVariants.{TooLarge}
 use Rattle.reg_tree.specs.Operations.{hive_of}

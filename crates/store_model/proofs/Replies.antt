@@ -1,4 +1,4 @@
--- What holds of each answer that an event may have holds of its reply.
+-- What is so of each answer that an event may have is so of its reply.
 use Rattle.std.proofs.Common.{ℕ, Option}
 use Rattle.refusals.specs.declared.refusal.Refusal.{Refusal}
 use Rattle.store_model.specs.Shapes.{DoneOr, ReadOr, AcceptedOr, AddedOr, BegunOr, AwaitsOr, OutcomeOr, ReceiptOr, SteppedOr}

@@ -1,4 +1,4 @@
--- What a step does to the transactions that are held: one of a few ways.
+-- What a step does to the transactions that are kept: one of a few ways.
 use Rattle.std.proofs.Common.{◌≡◌, ◌≢◌, ◌⊎◌, inl, inr, ℕ, ◌+◌, ◌==◌, ◌&&◌, Bool, true, false, List, [], ◌∷◌, ◌++◌, length, Option, Some, None, Ok, cond, refl, sym, ◌∙◌, ap, arith}
 use Rattle.std.proofs.lemmas.Bool.{eqb-true}
 use Rattle.std.proofs.lemmas.Bool.Decides.{eqb_tells, nat_tests}
@@ -61,7 +61,7 @@ own_at session generation (Some two) one e =
     let p = both (two.session == session) (two.generation == generation) one two e in
     (ap Some p.0, sym (ap (λ (t : Transaction). t.generation) p.0) ∙ eqb-true two.generation generation p.2, sym (ap (λ (t : Transaction). t.session == session) p.0) ∙ p.1)
 
--- what a handle finds is at its place, with its number
+-- what a handle finds is in its slot, with its number
 pub found_at : (machine : Machine) (session : ℕ) (tx : Tx) (one : Transaction) → found_in machine session tx ≡ Some one → (at machine.tx_slots tx.slot ≡ Some one) × (one.generation ≡ tx.generation) × ((one.session == session) ≡ true)
 found_at machine session tx one e = own_at session tx.generation (at machine.tx_slots tx.slot) one (opened (is_open machine session) e)
   where
@@ -69,13 +69,13 @@ found_at machine session tx one e = own_at session tx.generation (at machine.tx_
     opened true e = e
     opened false e = absurd cc
 
--- Places, before and after
+-- Slots, before and after
 
--- each transaction that is held was held at its place before, with its number
+-- each transaction that is kept was kept in its slot before, with its number
 abbrev pub Descends : TxSlots → TxSlots → Type 0
 Descends old new = (q : ℕ) (one : Transaction) → at new q ≡ Some one → (before : Transaction) × (at old q ≡ Some before) × (before.generation ≡ one.generation)
 
--- each that is active was so before, and this holds of its place and itself
+-- each that is active was so before, and this is so of its slot and itself
 abbrev pub RemainsIf : (ℕ → Transaction → Type 0) → TxSlots → TxSlots → Type 0
 RemainsIf P old new = (q : ℕ) (one : Transaction) → IsActiveAt new q one → IsActiveAt old q one × P q one
 
@@ -132,8 +132,8 @@ stayed false x one e = cc
 
 -- The ways
 
--- From old to new, what is given being a handle where one is: transactions end or are let go while the trees stay; a
--- write changes the trees and rolls back those whose claims conflict; one holds an operation more; one is committed; or
+-- From old to new; what is given is a handle if there is one. Transactions end or are dropped while the trees stay; a
+-- write changes the trees and rolls back those whose claims conflict; one has an operation more; one is committed; or
 -- one is begun.
 pub data Way (old new : Machine) : Option Tx → Type 0 where
   Fewer : new.begun ≡ old.begun → trees_now new ≡ trees_now old → Descends old.tx_slots new.tx_slots → RemainsIf (λ q one. ⊤) old.tx_slots new.tx_slots → Way old new None
@@ -147,7 +147,7 @@ pub data Way (old new : Machine) : Option Tx → Type 0 where
   Began : (tx : Tx) (session : ℕ) (id : List ℕ) → tx.generation ≡ old.begun + 1 → new.begun ≡ tx.generation → trees_now new ≡ trees_now old →
       SetsSlot old.tx_slots new.tx_slots tx.slot (Some (fresh_transaction session id tx.generation)) → Way old new (Some tx)
 
--- places and trees stay
+-- slots and trees stay
 no_change : (old new : Machine) → new.begun ≡ old.begun → trees_now new ≡ trees_now old → new.tx_slots ≡ old.tx_slots → Way old new None
 no_change old new b t p = Fewer b t
     (λ q one e. (one, ap (λ ps. at ps q) (sym p) ∙ e, refl))

@@ -1,5 +1,5 @@
--- What is done with one transaction, on the trees of now and the places of all. Each says which transaction it is: where
--- its session must be open, that of a handle in an open session.
+-- What is done with one transaction, on the trees of now and the slots of all. Each says which transaction it is: if
+-- its session must be open, the transaction of a handle in an open session.
 use Rattle.std.specs.Prelude.{◌≡◌, ℕ, ◌+◌, List, Option, Some, None, Ok}
 use Rattle.reg_tree.specs.Maps.{TreeMap}
 use Rattle.reg_tree.specs.Judgement.{legal}
@@ -11,7 +11,7 @@ use Rattle.store_model.specs.Machine.{added_refusal_if}
 use Rattle.store_model.specs.declared.handle.Tx.{Tx}
 use Rattle.store_model.specs.declared.handle.Outcome.{Outcome}
 
--- a transaction is begun at a place that is free; its number is one that none had before
+-- a transaction is begun in a free slot; its number is one that none had before
 pub record StartsTx (old : TxSlots) (begun session : ℕ) (id : List ℕ) (tx : Tx) (new : TxSlots) : Type 0 where
   pub vacant : at old tx.slot ≡ None
   pub numbered : tx.generation ≡ begun + 1
@@ -40,7 +40,7 @@ pub record EndsTx (old : TxSlots) (its : Option Transaction) (slot : ℕ) (outco
   pub active : inactive_refusal (Some one) ≡ None
   pub put : SetsSlot old new slot (Some (ended outcome one))
 
--- a transaction is let go
+-- a transaction is dropped
 pub record ClosesTx (old : TxSlots) (its : Option Transaction) (slot : ℕ) (new : TxSlots) : Type 0 where
   pub one : Transaction
   pub found : its ≡ Some one

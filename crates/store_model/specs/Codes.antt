@@ -1,4 +1,4 @@
--- How trees and transactions are told apart: by their parts.
+-- How trees and transactions are distinguished: by their parts.
 use Rattle.std.specs.Prelude.{ℕ, List, refl}
 use Rattle.std.specs.Coded.{Coded, code_by, coded×, coded_ℕ, coded_list, coded_option}
 use Rattle.std.specs.FinMap as finite

@@ -4,7 +4,7 @@ use Rattle.refusals.specs.declared.refusal.Refusal.TheVariants as refusal
 use Rattle.store_model.specs.declared.handle.TxEndError.{TxEndError}
 use Rattle.store_model.specs.declared.handle.TxEndError.TheVariants.{NoSuchTransaction, NotActive}
 
--- the refusal that it is
+-- the refusal that this becomes
 abbrev pub refusal_of : TxEndError → Refusal
 refusal_of NoSuchTransaction = refusal.NoSuchHandle
 refusal_of NotActive = refusal.NotActive

@@ -1,4 +1,4 @@
--- What every state of the machine keeps: what is known of transactions that are held, and of handles.
+-- What every state of the machine keeps: what is known of the transactions that are kept, and of handles.
 use Rattle.std.specs.Prelude.{◌≡◌, ◌≢◌, ◌⊎◌, ℕ, ◌+◌, ◌<◌, ◌≤◌, true, length, List, [], ◌∷◌, ◌++◌, map, filter_map, Option, Some, None, Ok, Err, ⊤}
 use Rattle.std.specs.List.{All}
 use Rattle.refusals.specs.declared.refusal.Refusal.TheVariants.{TooLarge}
@@ -17,14 +17,14 @@ use Rattle.store_model.specs.declared.handle.Tx.{Tx}
 use Rattle.store_model.specs.declared.event.Reply.{Reply}
 use Rattle.store_model.specs.declared.event.Reply.TheVariants as reply
 
--- a place has this transaction, and it is active
+-- a slot has this transaction, and it is active
 pub record IsActiveAt (tx_slots : TxSlots) (slot : ℕ) (one : Transaction) : Type 0 where
   pub there : at tx_slots slot ≡ Some one
   pub active : is_active one ≡ true
 
--- the numbers, seats and room of a state: what was there at the opening is durable, and nothing is that was not accepted;
--- numbers and changes, sessions and transactions are within their limits; and the journal's room is at least what an
--- empty journal takes with the changes that are not durable yet
+-- the numbers, slots and room of a state: what was there at the opening is durable, and nothing is durable that was not
+-- accepted; numbers and changes, sessions and transactions are within their limits; and the journal's room is at least
+-- what an empty journal takes with the changes that are not durable yet
 pub record IsWithin (machine : Machine) : Type 0 where
   pub opened : machine.before ≤ machine.durable
   pub known : machine.durable ≤ last_number machine
@@ -47,14 +47,14 @@ AreLegalHistory trees (element ∷ elements) =
     (0 < length element.ops) × AreLegalChanges trees element.ops element.moment
     × AreLegalHistory (applied trees element.ops element.moment) elements
 
--- each operation is on a hive that calls may name, of which there are so many
+-- each operation is on a hive that calls may name: one of the first `hives`
 abbrev pub HivesAreNamable : ℕ → List Op → Type 0
 HivesAreNamable hives ops = All (λ op. hive_of op < hives) ops
 
 -- What every state keeps: the trees of now are trees; no transaction's number is above how many were begun; the
 -- operations of an active transaction may be carried out in turn on the trees of now, at whatever moment; no claims of
--- two active transactions conflict; they write to no hive but those that calls may name; numbers, seats and room are
--- within their limits; and each accepted change was legal.
+-- two active transactions conflict; active transactions write to no hive but those that calls may name; numbers, slots
+-- and room are within their limits; and each accepted change was legal.
 pub record InvariantHolds (machine : Machine) : Type 0 where
   pub trees : AreTrees (trees_now machine)
   pub known : (slot : ℕ) (one : Transaction) → at machine.tx_slots slot ≡ Some one → one.generation ≤ machine.begun
@@ -82,17 +82,17 @@ given replies = filter_map handle_in replies
 abbrev pub numbers_given : List Reply → List ℕ
 numbers_given replies = map (λ tx. tx.generation) (given replies)
 
--- where a handle is given it has the next number, and so many were begun then; else no more were begun
+-- if a handle is given it has the next number, which is how many were begun then; else no more were begun
 abbrev pub IsCounted : Machine → Option Tx → Machine → Type 0
 IsCounted old None new = new.begun ≡ old.begun
 IsCounted old (Some tx) new = (tx.generation ≡ old.begun + 1) × (new.begun ≡ tx.generation)
 
--- a handle is gone for good: its number was given to a transaction, and none of that number is at its place
+-- a handle is gone for good: its number was given to a transaction, and its slot has none of that number
 pub record IsGone (machine : Machine) (tx : Tx) : Type 0 where
   pub was_begun : tx.generation ≤ machine.begun
   pub not_there : (one : Transaction) → at machine.tx_slots tx.slot ≡ Some one → one.generation ≢ tx.generation
 
--- What the journal, its numbers, the bounds and the device have to do with stays.
+-- All stays that the journal, its numbers, the bounds and the device need.
 pub record JournalStateStays (old new : Machine) : Type 0 where
   pub opened : new.opened ≡ old.opened
   pub before : new.before ≡ old.before
@@ -102,8 +102,8 @@ pub record JournalStateStays (old new : Machine) : Type 0 where
   pub faulted : new.faulted ≡ old.faulted
   pub bounds : new.bounds ≡ old.bounds
 
--- One change is accepted, which has an operation, is legal operation by operation on the trees of now, and for which there is a
--- number and room in the journal; that is used. The rest stays.
+-- One change is accepted. It has an operation, and is legal operation by operation on the trees of now. There is a
+-- number and room in the journal for it; that room is used. The rest stays.
 pub record AcceptsOneChange (old new : Machine) : Type 0 where
   pub element : Element
   pub some : 0 < length element.ops

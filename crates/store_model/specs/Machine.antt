@@ -29,7 +29,7 @@ use Rattle.store_model.specs.declared.event.ReadResult.{ReadResult}
 use Rattle.store_model.specs.declared.event.ReadResult.TheVariants as found
 
 -- the trees as the store was opened, the number of the last change before that, and the changes accepted since; the
--- sessions that are open, in the order in which they were opened; the transaction at each place, and how many were
+-- sessions that are open, in the order in which they were opened; the transaction in each slot, and how many were
 -- begun; the number up to which changes are durable; the room that the journal has used; how many calls of the device
 -- have failed, and whether the store is faulted by one; and how many changes it accepts, and which hives calls may name
 pub record Machine : Type 0 where
@@ -52,7 +52,7 @@ room_of element = 17 + element_encoded_len element
 abbrev pub room_with : List Element → ℕ
 room_with elements = 65 + sum_by room_of elements
 
--- the bounds of a store whose calls name so many hives
+-- the bounds of a store whose calls name this many hives
 abbrev pub bounds_for : ℕ → StoreBounds
 bounds_for hives = record { changes = MOST_HISTORY; hives = hives }
 
@@ -60,8 +60,8 @@ bounds_for hives = record { changes = MOST_HISTORY; hives = hives }
 abbrev pub bounds_of : List TreeMap → StoreBounds
 bounds_of trees = bounds_for (length trees)
 
--- a store as it was opened within bounds, on trees after the change of a number, its journal spelling changes: no change
--- was accepted since, and nobody is there
+-- a store as it was opened within bounds, on trees after the change of a number, its journal encoding these changes: no
+-- change was accepted since, and there are no sessions and no transactions
 abbrev pub opened_machine : StoreBounds → List TreeMap → ℕ → List Element → ℕ → Machine
 opened_machine bounds trees number journaled failures =
     record {
@@ -98,7 +98,7 @@ pending machine = drop (machine.durable - machine.before) machine.accepted
 abbrev pub is_open : Machine → ℕ → Bool
 is_open machine session = list_any (λ s. s == session) machine.sessions
 
--- the transaction of a handle, where the session is open and it is the session's
+-- the transaction of a handle, if the session is open and it is the session's
 abbrev pub found_in : Machine → ℕ → Tx → Option Transaction
 found_in machine session tx = if is_open machine session then own machine.tx_slots session tx else None
 
@@ -106,7 +106,7 @@ found_in machine session tx = if is_open machine session then own machine.tx_slo
 abbrev pub change : ℕ → Op → Element
 change moment op = record { moment = moment; ops = op ∷ [] }
 
--- the operations of the change that a commit makes of a transaction: those of the transaction, in their order
+-- the operations of the change that a commit makes of a transaction: the transaction's operations, in their order
 abbrev pub committed : Machine → Transaction → List Op
 committed machine one = one.ops
 
@@ -123,7 +123,7 @@ abbrev pub refused_if : Bool → Refusal → Option Refusal
 refused_if true why = Some why
 refused_if false why = None
 
--- whether a refusal tells of the device: that it failed in this call, or in an earlier one
+-- whether a refusal is about the device: that it failed in this call, or in an earlier one
 abbrev pub is_of_device : Refusal → Bool
 is_of_device refusal.DiskFault = true
 is_of_device refusal.Faulted = true
@@ -133,11 +133,11 @@ is_of_device _ = false
 abbrev pub fault : Machine → Option Refusal
 fault machine = refused_if machine.faulted Faulted
 
--- a session that isn't open is none
+-- a call of a session that isn't open is refused
 abbrev pub closed_refusal : Machine → ℕ → Option Refusal
 closed_refusal machine session = refused_if (not (is_open machine session)) NoSuchHandle
 
--- a hive that calls may not name is none, for them
+-- a call that names a hive which calls may not name is refused
 abbrev pub unnamed_refusal : Machine → ℕ → Option Refusal
 unnamed_refusal machine hive = refused_if (nat_le machine.bounds.hives hive) NotFound
 
@@ -145,7 +145,7 @@ unnamed_refusal machine hive = refused_if (nat_le machine.bounds.hives hive) Not
 abbrev pub call_refusal : Machine → ℕ → ℕ → Option Refusal
 call_refusal machine session hive = first_of (closed_refusal machine session) (unnamed_refusal machine hive)
 
--- why one in a transaction is
+-- why a call in a transaction is refused
 abbrev pub tx_call_refusal : Machine → ℕ → Tx → ℕ → Option Refusal
 tx_call_refusal machine session tx hive = first_of (inactive_refusal (found_in machine session tx)) (unnamed_refusal machine hive)
 
@@ -153,7 +153,7 @@ tx_call_refusal machine session tx hive = first_of (inactive_refusal (found_in m
 abbrev pub start_refusal : Machine → ℕ → Option Refusal
 start_refusal machine session = first_of (fault machine) (refused_if (not (is_open machine session) && nat_le MOST_SESSIONS (length machine.sessions)) NoSeat)
 
--- what is read of trees, where it is there
+-- what is read of trees, if it is there
 abbrev pub looked_up : List TreeMap → ℕ → List (List ℕ) → Question → Option ReadResult
 looked_up trees hive path (ValueOf name) = option_map found.Value (value_in trees hive (folded_path path) name)
 looked_up trees hive path (ValueAt index) = option_map found.Value (value_index_in trees hive (folded_path path) index)
@@ -167,15 +167,15 @@ abbrev pub read_refusal : Option ReadResult → Option Refusal
 read_refusal (Some found) = None
 read_refusal None = Some NotFound
 
--- the first refusal of an operation: that it is not legal, or what stands against a legal one; a key that is opened
--- meets nothing more
+-- the first refusal of an operation: that it is not legal, or what refuses a legal one; a key that is opened is refused
+-- for nothing more
 abbrev pub refusal_by : Result Legality Refusal → Option Refusal → Option Refusal
 refusal_by (Err refusal) further = Some refusal
 refusal_by (Ok Opened) further = None
 refusal_by (Ok Legal) further = further
 
--- why a change of so many bytes has no room: as many changes were accepted in this opening as the store accepts, or the last
--- number is the greatest; or the journal has not room enough
+-- why there is no room for a change of this many bytes: as many changes were accepted in this opening as the store
+-- accepts, or the last number is the greatest; or the journal does not have enough room
 abbrev pub room_refusal : Machine → ℕ → Option Refusal
 room_refusal machine long =
     first_of (refused_if (nat_le machine.bounds.changes (length machine.accepted) || nat_le GREATEST_NUMBER (last_number machine)) HistoryFull)
@@ -186,7 +186,7 @@ abbrev pub write_refusal : Machine → ℕ → ℕ → Op → Option Refusal
 write_refusal machine session moment op =
     first_of (fault machine) (first_of (call_refusal machine session (hive_of op)) (refusal_by (legal (trees_now machine) op) (room_refusal machine (element_encoded_len (change moment op)))))
 
--- 1,024 transactions are held, or 18,446,744,073,709,551,615 were begun
+-- 1,024 transactions are kept, or 18,446,744,073,709,551,615 were begun
 abbrev pub slot_refusal : TxSlots → ℕ → Option Refusal
 slot_refusal tx_slots begun = refused_if (nat_le MOST_TRANSACTIONS (count_held tx_slots) || nat_le (2 ^ 64 - 1) begun) NoSeat
 

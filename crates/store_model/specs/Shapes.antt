@@ -46,7 +46,7 @@ AwaitsOr awaits refused (reply.Awaits number) = awaits number
 AwaitsOr awaits refused (reply.Refused refusal) = refused refusal
 AwaitsOr awaits refused _ = ⊥
 
--- only where a transaction stands, or refused
+-- only the outcome of a transaction, or refused
 abbrev pub OutcomeOr : (Outcome → Type 0) → (Refusal → Type 0) → Reply → Type 0
 OutcomeOr stands refused (reply.OutcomeIs outcome) = stands outcome
 OutcomeOr stands refused (reply.Refused refusal) = refused refusal

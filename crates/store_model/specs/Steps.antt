@@ -23,11 +23,11 @@ use Rattle.store_model.specs.declared.event.Event.{Event}
 use Rattle.store_model.specs.declared.event.Event.TheVariants as event
 use Rattle.store_model.specs.declared.event.Reply.{Reply}
 
--- nothing changes; the answer is the first refusal that stands
+-- nothing changes; the answer is the first refusal
 abbrev pub IsRefused : Machine → Option Refusal → Refusal → Machine → Type 0
 IsRefused old wanted refusal new = (wanted ≡ Some refusal) × (new ≡ old)
 
--- the same of an event that takes memory: it may be refused for want of that in place of any other answer
+-- the same of an event that takes memory: the answer may instead be that there is no memory
 abbrev pub Refuses : Machine → Option Refusal → Refusal → Machine → Type 0
 Refuses old wanted refusal new = ((wanted ≡ Some refusal) ⊎ (refusal ≡ NoMemory)) × (new ≡ old)
 
@@ -35,13 +35,13 @@ Refuses old wanted refusal new = ((wanted ≡ Some refusal) ⊎ (refusal ≡ NoM
 abbrev pub with_session : Machine → ℕ → Machine
 with_session old session = if is_open old session then old else record old { sessions = old.sessions ++ session ∷ [] }
 
--- a session is open no more, and its transactions are gone
+-- a session is no longer open, and its transactions are gone
 pub record Ends (old : Machine) (session : ℕ) (new : Machine) : Type 0 where
   pub free : closed_refusal old session ≡ None
   pub next : new ≡ record old { sessions = filter (λ s. not (s == session)) old.sessions; tx_slots = new.tx_slots }
   pub gone : EachSlotBecomes (gone_with session) old.tx_slots new.tx_slots
 
--- what is there is told, and nothing changes
+-- the answer is what is there, and nothing changes
 pub record AnswersRead (old : Machine) (refusal : Option Refusal) (there : Option ReadResult) (found : ReadResult) (new : Machine) : Type 0 where
   pub free : refusal ≡ None
   pub told : there ≡ Some found
@@ -72,7 +72,8 @@ pub record Begins (old : Machine) (session : ℕ) (id : List ℕ) (tx : Tx) (new
 abbrev pub ChangesSlots : Machine → Type 0 → Machine → Type 0
 ChangesSlots old act new = act × (new ≡ record old { tx_slots = new.tx_slots })
 
--- a transaction without operations commits as nothing, whose number is 0; of any other one change is made, which is the next
+-- a transaction without operations commits as nothing, whose number is 0; of any other one change is made, which is the
+-- next
 abbrev pub after_commit : Machine → ℕ → Transaction → Machine
 after_commit old moment one =
     if length one.ops == 0 then old
@@ -86,7 +87,7 @@ pub record CommitsTx (old : Machine) (session : ℕ) (tx : Tx) (moment number : 
   pub next : new ≡ record (after_commit old moment one) { tx_slots = new.tx_slots }
   pub put : SetsSlot old.tx_slots new.tx_slots tx.slot (Some (ended Committed one))
 
--- it is told where a transaction stands
+-- the answer is what became of a transaction
 pub record OutcomeIs (old : Machine) (session : ℕ) (tx : Tx) (outcome : Outcome) (new : Machine) : Type 0 where
   pub one : Transaction
   pub found : found_in old session tx ≡ Some one
@@ -94,7 +95,7 @@ pub record OutcomeIs (old : Machine) (session : ℕ) (tx : Tx) (outcome : Outcom
   pub told : outcome ≡ one.outcome
   pub next : new ≡ old
 
--- a step has ended a trim: it is done, made nothing durable, and the room is that of the changes which are not durable
+-- a step has ended a trim: it is done, made nothing durable, and the room is what the changes take that are not durable
 pub record EndsTrim (old : Machine) (progress : Progress) (new : Machine) : Type 0 where
   pub done : progress ≡ Done
   pub durable : new.durable ≡ old.durable
@@ -104,8 +105,8 @@ pub record EndsTrim (old : Machine) (progress : Progress) (new : Machine) : Type
 abbrev pub KeepsRoom : Machine → Progress → Machine → Type 0
 KeepsRoom old progress new = (new.room ≡ old.room) ⊎ EndsTrim old progress new
 
--- a step of the journal may make changes durable, of those that were accepted; nothing is ever durable no more. It may
--- end a trim in place of that; where there was nothing to do, nothing changes
+-- a step of the journal may make changes durable, of those that were accepted; what is durable stays so. It may end a
+-- trim instead; if there was nothing to do, nothing changes
 pub record Journals (old : Machine) (progress : Progress) (new : Machine) : Type 0 where
   pub free : fault old ≡ None
   pub next : new ≡ record old { durable = new.durable; room = new.room }
@@ -129,7 +130,8 @@ pub record Flushes (old : Machine) (hive : ℕ) (new : Machine) : Type 0 where
 abbrev pub no_hive : Machine → ℕ → Option Refusal
 no_hive old hive = if is_some (slice_get old.opened hive) then None else Some NotFound
 
--- a step is refused as it should be, or for want of memory, or since the device failed in it: then the store is faulted
+-- a step is refused as it should be, or since there is no memory, or since the device failed in it: then the store is
+-- faulted
 pub record DeviceFails (old : Machine) (refusal : Refusal) (new : Machine) : Type 0 where
   pub free : fault old ≡ None
   pub told : refusal ≡ DiskFault
@@ -146,7 +148,7 @@ is_step (event.FlusherStep hive) = true
 is_step event.TrimStep = true
 is_step _ = false
 
--- the events that leave what the journal and the device have to do with, but for one change more: those that make no step
+-- the events that leave what the journal and the device need, but for one change more: those that make no step
 abbrev pub is_not_step : Event → Bool
 is_not_step event = not (is_step event)
 
@@ -157,7 +159,7 @@ Step old (event.StartSession session) reply new =
     DoneOr ((start_refusal old session ≡ None) × (new ≡ with_session old session)) (λ r. Refuses old (start_refusal old session) r new) reply
 Step old (event.EndSession session) reply new =
     DoneOr (Ends old session new) (λ r. IsRefused old (closed_refusal old session) r new) reply
--- a read tells what is there now
+-- a read answers what is there now
 Step old (event.Read session hive path question) reply new =
     ReadOr (λ found. AnswersRead old (call_refusal old session hive) (looked_up (trees_now old) hive path question) found new)
     (λ r. Refuses old (first_of (call_refusal old session hive) (read_refusal (looked_up (trees_now old) hive path question))) r new) reply
@@ -176,7 +178,7 @@ Step old (event.TxWrite session tx moment op) reply new =
     AddedOr (λ levels. (first_of (fault old) (unnamed_refusal old (hive_of op)) ≡ None) × ChangesSlots old (AddsOp (trees_now old) old.tx_slots (found_in old session tx) tx.slot moment op levels new.tx_slots) new)
     ((first_of (fault old) (unnamed_refusal old (hive_of op)) ≡ None) × OpensKey (trees_now old) old.tx_slots (found_in old session tx) tx.slot op × (new ≡ old))
     (λ r. Refuses old (first_of (fault old) (first_of (tx_call_refusal old session tx (hive_of op)) (added_refusal_if (trees_now old) old.tx_slots tx.slot op (found_in old session tx)))) r new) reply
--- a transaction ends, and is let go
+-- a transaction ends, and is dropped
 Step old (event.CommitAccept session tx moment) reply new =
     AwaitsOr (λ number. CommitsTx old session tx moment number new)
     (λ r. Refuses old (first_of (fault old) (commit_refusal_if old moment (found_in old session tx))) r new) reply

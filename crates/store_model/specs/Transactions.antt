@@ -1,4 +1,4 @@
--- Transactions, and the places that they have.
+-- Transactions, and the slots that they have.
 use Rattle.std.specs.Prelude.{◌≡◌, ◌≢◌, ℕ, Bool, true, false, not, ◌&&◌, ◌==◌, if◌then◌else◌, List, [], ◌∷◌, ◌++◌, Option, Some, None, is_some, count_by, slice_index_or}
 use Rattle.std.specs.List.{list_any}
 use Rattle.std.specs.Option.{option_and_then}
@@ -15,8 +15,8 @@ use Rattle.store_model.specs.declared.handle.Tx.{Tx}
 use Rattle.store_model.specs.declared.handle.Outcome.{Outcome}
 use Rattle.store_model.specs.declared.handle.Outcome.TheVariants.{Active, Committed, RolledBack}
 
--- A transaction: the session that began it, its unit of work, how many transactions were begun with it, where it
--- stands, its operations in order, and the moment of its latest accepted write.
+-- A transaction: the session that began it, its unit of work, and how many transactions were begun with it; whether it
+-- is active, committed or rolled back; its operations in order, and the moment of its latest accepted write.
 pub record Transaction : Type 0 where
   pub session : ℕ
   pub id : List ℕ
@@ -25,27 +25,27 @@ pub record Transaction : Type 0 where
   pub ops : List Op
   pub moment : ℕ
 
--- the transaction at each place from 0 on, or nothing
+-- the transaction in each slot from 0 on, or nothing
 abbrev pub TxSlots : Type 0
 TxSlots = List (Option Transaction)
 
 abbrev pub at : TxSlots → ℕ → Option Transaction
 at tx_slots slot = slice_index_or tx_slots slot None
 
--- the transactions that are held, each with its place
+-- the transactions that are kept, each with its slot
 abbrev pub held : TxSlots → List (ℕ × Transaction)
 held tx_slots = entries_from 0 tx_slots
 
--- how many transactions are held
+-- how many transactions are kept
 abbrev pub count_held : TxSlots → ℕ
 count_held tx_slots = count_by is_some tx_slots
 
--- a place has this, and every other place has what it had
+-- a slot has this, and every other slot has what it had
 pub record SetsSlot (old new : TxSlots) (slot : ℕ) (content : Option Transaction) : Type 0 where
   pub there : at new slot ≡ content
   pub others : (other : ℕ) → other ≢ slot → at new other ≡ at old other
 
--- each place has what its transaction became
+-- each slot has what its transaction became
 abbrev pub EachSlotBecomes : (Transaction → Option Transaction) → TxSlots → TxSlots → Type 0
 EachSlotBecomes after old new = (slot : ℕ) → at new slot ≡ option_and_then after (at old slot)
 
@@ -77,7 +77,7 @@ view now one = applied now one.ops one.moment
 abbrev pub holds : Claim → Transaction → Bool
 holds claim one = is_active one && list_any (λ op. meets claim (claim_of op)) one.ops
 
--- whether another place's transaction does
+-- whether another slot's transaction does
 abbrev pub is_claimed : TxSlots → ℕ → Claim → Bool
 is_claimed tx_slots slot claim = list_any (λ (e : ℕ × Transaction). not (e.0 == slot) && holds claim e.1) (held tx_slots)
 
@@ -89,7 +89,7 @@ rolled_back_by claim one = if holds claim one then Some (ended RolledBack one) e
 abbrev pub gone_with : ℕ → Transaction → Option Transaction
 gone_with session one = if one.session == session then None else Some one
 
--- the transaction of a handle, where it is of the session
+-- the transaction of a handle, if it is of the session
 abbrev pub own_if : ℕ → ℕ → Option Transaction → Option Transaction
 own_if session generation None = None
 own_if session generation (Some one) = if one.session == session && one.generation == generation then Some one else None
@@ -97,7 +97,7 @@ own_if session generation (Some one) = if one.session == session && one.generati
 abbrev pub own : TxSlots → ℕ → Tx → Option Transaction
 own tx_slots session tx = own_if session tx.generation (at tx_slots tx.slot)
 
--- a transaction that isn't there is no handle's, and one that has ended isn't active
+-- a handle whose transaction isn't there has none, and a transaction that has ended isn't active
 abbrev pub missing_refusal : Option Transaction → Option Refusal
 missing_refusal None = Some NoSuchHandle
 missing_refusal (Some one) = None

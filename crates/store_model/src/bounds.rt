@@ -8,14 +8,14 @@ use reg_tree::Trees;
 /// How many changes a store accepts from one opening on, and which hives calls may name.
 #[derive(Clone, Copy, Debug, PartialEq, Eq)]
 pub struct StoreBounds {
-    /// So many changes are accepted in one opening.
+    /// How many changes one opening accepts at most.
     pub changes: u64,
     /// Calls name the hives whose numbers are below this one. A store may have trees besides.
     pub hives: usize,
 }
 
 impl StoreBounds {
-    /// Those of a store whose calls name each of these trees: 1,048,576 changes are accepted.
+    /// The bounds of a store whose calls name each of these trees: 1,048,576 changes are accepted.
     pub fn of(trees: &Trees) -> StoreBounds
         ensures { result ≡ bounds_of trees.now }
     {

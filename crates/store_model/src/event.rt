@@ -65,7 +65,7 @@ pub enum ReadResult {
 /// One event of a store. Sessions are known by their numbers.
 #[derive(Drop)]
 pub enum Event {
-    /// A session is opened, where it isn't open.
+    /// A session is opened, if it isn't open.
     StartSession {
         /// The session.
         session: u32,
@@ -142,23 +142,23 @@ pub enum Event {
         /// The transaction.
         tx: Tx,
     },
-    /// A transaction is let go; one that is active is rolled back.
+    /// A transaction is dropped; one that is active is rolled back.
     Close {
         /// The session.
         session: u32,
         /// The transaction.
         tx: Tx,
     },
-    /// It is asked where a transaction stands.
+    /// Asks what became of a transaction.
     Outcome {
         /// The session.
         session: u32,
         /// The transaction.
         tx: Tx,
     },
-    /// It is asked which change a flush has to wait for.
+    /// Asks which change a flush has to wait for.
     FlushAsk,
-    /// It is asked whether the change of a number is durable.
+    /// Asks whether the change of a number is durable.
     Acked {
         /// The change's number.
         number: u64,
@@ -174,21 +174,21 @@ pub enum Event {
     TrimStep,
 }
 
-/// What an event is answered.
+/// The answer to an event.
 #[derive(Drop)]
 pub enum Reply {
-    /// It is done, and there is nothing to tell.
+    /// It is done, and there is nothing else to answer.
     Done,
     /// An operation was accepted as a change.
     Accepted {
-        /// How many keys it makes, where it creates one.
+        /// How many keys it makes, if it creates one.
         levels: Option<usize>,
         /// The change's number.
         number: u64,
     },
     /// An operation was added to a transaction.
     Added {
-        /// How many keys it makes, where it creates one.
+        /// How many keys it makes, if it creates one.
         levels: Option<usize>,
     },
     /// The key that was to be created is there.
@@ -205,10 +205,10 @@ pub enum Reply {
     },
     /// What is to be waited for.
     Awaits {
-        /// The number of a change, or 0 where there is nothing to wait for.
+        /// The number of a change, or 0 if there is nothing to wait for.
         number: u64,
     },
-    /// Where a transaction stands.
+    /// What became of a transaction.
     OutcomeIs {
         /// The outcome.
         outcome: Outcome,

@@ -5,17 +5,17 @@ ghost use Rattle.store_model.specs.Ends.{refusal_of};
 
 use refusals::Refusal;
 
-/// The handle of a transaction: the place that it has, and how many transactions were begun in this opening of the
-/// store, itself included. No two transactions of an opening have the same handle.
+/// The handle of a transaction: its slot, and how many transactions were begun in this opening of the store, itself
+/// included. No two transactions of an opening have the same handle.
 #[derive(Clone, Copy, Debug, PartialEq, Eq)]
 pub struct Tx {
-    /// The place.
+    /// The slot.
     pub slot: usize,
     /// How many transactions were begun, itself included.
     pub generation: u64,
 }
 
-/// Where a transaction stands.
+/// What became of a transaction.
 #[derive(Clone, Copy, Debug, PartialEq, Eq)]
 pub enum Outcome {
     /// It may be written in, committed and rolled back.
@@ -26,11 +26,11 @@ pub enum Outcome {
     RolledBack,
 }
 
-/// There is no such transaction in the session: its handle is stale, of another session, or was never given.
+/// There is no such transaction in the session: its handle is stale, is of another session, or was never given.
 #[derive(Clone, Copy, Debug, PartialEq, Eq)]
 pub struct NoSuchTransaction;
 
-/// Why a transaction cannot be ended. There is no place here for want of memory, which ending one never takes.
+/// Why a transaction cannot be ended. No variant says that there is no memory: ending one takes none.
 #[derive(Clone, Copy, Debug, PartialEq, Eq)]
 pub enum TxEndError {
     /// There is no such transaction in the session.

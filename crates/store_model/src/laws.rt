@@ -1,7 +1,7 @@
 //! Laws of the machine, which follow from its definitions alone.
 //!
-//! They have no code of their own: each is the contract of a function that does nothing, for whoever keeps a store by
-//! the machine.
+//! They have no code of their own: each is the contract of a function that does nothing, for crates that keep a store
+//! by the machine.
 ghost use Rattle.std.specs.Prelude.{◌≡◌, ◌≤◌, ◌⊎◌, ℕ, true, false, List, Some, None};
 ghost use Rattle.std.specs.List.Sorted.{IsStrictlySortedBy};
 ghost use Rattle.std.specs.Ordering.{nat_cmp};
@@ -24,16 +24,16 @@ ghost use Rattle.store_model.specs.declared.event.Reply.TheVariants as reply;
 
 /// What every state of a store keeps, from its opening on.
 ///
-/// The trees of now are trees, no transaction's number is above how many were begun, the operations of each active
-/// transaction may be carried out in turn on the trees of now, and no claims of two active transactions conflict.
-/// Active transactions write to no hive but those that calls may name.
-/// What was there at the opening is durable and nothing is that was not accepted, numbers, changes, sessions and
-/// transactions are within their limits, and the journal's room is at least that of the changes which are not durable
-/// yet. Each accepted change was legal where it was accepted, and each of its operations changed something.
+/// The trees of now are trees. No transaction's number is above how many were begun. The operations of each active
+/// transaction may be carried out in turn on the trees of now. No claims of two active transactions conflict. Active
+/// transactions write to no hive but those that calls may name. What was there at the opening is durable, and nothing
+/// is durable that was not accepted. Numbers, changes, sessions and transactions are within their limits. The journal's
+/// room is at least what the changes need that are not durable yet. Each accepted change was legal on the trees on
+/// which it was accepted, and each of its operations changed something.
 ///
-/// - `begins`: it is so as a store is opened on trees, whatever its bounds are and its journal spells.
+/// - `begins`: it is so as a store is opened on trees, whatever its bounds are and its journal encodes.
 /// - `step`, `run`: each step keeps it, and so does every run.
-/// - `room`, `room_run`: the journal's room stays within its limit, where it was at the opening.
+/// - `room`, `room_run`: the journal's room stays within its limit, if it was so at the opening.
 pub fn steps_keep_invariant()
     ensures begins { (bounds : StoreBounds) (trees : List TreeMap) (number : ℕ)
         (journaled : List Element) (failures : ℕ) →
@@ -58,13 +58,13 @@ pub fn steps_keep_invariant()
     conflicts::laws::holders_are_exact();
 }
 
-/// Only a step may be answered that the device failed: every other event makes no call of it.
+/// Only a step may be answered that the device failed: every other event makes no call of the device.
 pub fn only_steps_fail()
     ensures { (old new : Machine) (event : Event) → Step old event (reply.Refused DiskFault) new →
         is_step event ≡ true }
 {}
 
-/// Only a step may change what is durable, free room, or fault a store: every other event is calm, leaves all of that, and
+/// Only a step may change what is durable, free room, or fault a store. Every other event leaves all of that, and
 /// accepts one change at most.
 pub fn only_steps_make_durable()
     ensures { (old new : Machine) (event : Event) (reply : Reply) → InvariantHolds old →
@@ -78,7 +78,7 @@ pub fn only_steps_make_durable()
 ///
 /// - `but_for_weight`: each operation of an active transaction, carried out in turn on the trees of now at whatever
 ///   moment, is legal or refused for weight alone.
-/// - `within`, `in_order`: where none takes a tree over the limit of weight, each is legal, and so is the change that a
+/// - `within`, `in_order`: if none takes a tree over the limit of weight, each is legal, and so is the change that a
 ///   commit makes of them.
 pub fn commits_stay_legal()
     ensures but_for_weight { (machine : Machine) (slot : ℕ) (one : Transaction) → InvariantHolds machine →

@@ -10,8 +10,8 @@ use reg_names::Path;
 use reg_tree::{Op, Trees};
 use std::alloc::Global;
 
-/// What the question asks of a key. Refused with `NotFound` exactly where there is no such hive, key or value, an index being
-/// past the last one, and with `NoMemory`.
+/// The answer to the question on a key. Refused with `NotFound` exactly if there is no such hive, key or value, which
+/// includes an index past the last one; and with `NoMemory`.
 pub fn look_up(
     alloc: Global,
     trees: &Trees,
@@ -46,7 +46,7 @@ pub fn look_up(
     })
 }
 
-/// How many keys the operation would make, where it is a creation in a hive that is there.
+/// How many keys the operation would make, if it is a creation in a hive that is there.
 pub fn levels_made(trees: &Trees, op: &Op) -> Option<usize>
     ensures { result ≡ levels_made trees.now op.now }
 {

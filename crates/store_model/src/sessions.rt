@@ -6,11 +6,11 @@ use refusals::limits::MOST_SESSIONS;
 use std::alloc::{AllocError, Global};
 use std::marker::Model;
 
-/// There is no place for one session more.
+/// There is no slot for one session more.
 #[derive(Clone, Copy, Debug, PartialEq, Eq)]
 pub struct NoSeat;
 
-/// The numbers of the sessions that are open, in the order in which they were opened: at most 32. Their places are made
+/// The numbers of the sessions that are open, in the order in which they were opened: at most 32. Their slots are made
 /// at once, so that opening and ending take no memory.
 pub struct Sessions {
     open: Vec<u32>,
@@ -53,7 +53,7 @@ impl Sessions {
         self.open.iter().any(|open| *open == session)
     }
 
-    /// Opens a session that isn't open. Refused exactly where 32 are, and then nothing changes.
+    /// Opens a session that isn't open. Refused exactly if 32 are open, and then nothing changes.
     pub fn start(&mut self, session: u32) -> Result<(), NoSeat>
         ensures ok { OnOk result
             ((length self.old < MOST_SESSIONS) × (self.new ≡ self.old ++ session ∷ [])) }

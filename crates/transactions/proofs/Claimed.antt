@@ -26,7 +26,7 @@ held_by owner claim = record { owner = owner; claim = claim }
 both_same : (a b : ℕ) (c d : Claim) → a ≡ b → c ≡ d → held_by a c ≡ held_by b d
 both_same a b c d e f = cc
 
--- the claims at a place depend on what is there
+-- the claims in a slot depend on what is in it
 pub claims_at : (old new : TxSlots) (slot : ℕ) (claim : Claim) → at new slot ≡ at old slot → Claims old slot claim → Claims new slot claim
 claims_at old new slot claim e c = record { one = c.one; there = e ∙ c.there; active = c.active; made = c.made }
 
@@ -35,7 +35,7 @@ pub claimed_same : (old new : TxSlots) (claims : List HeldClaim) → AreClaimed 
 claimed_same old new claims all same slot claim =
     (λ h. claims_at old new slot claim (same slot) ((all slot claim).0 h), λ c. (all slot claim).1 (claims_at new old slot claim (sym (same slot)) c))
 
--- a place without claims is as good as an empty one
+-- a slot without claims is as good as an empty one
 pub claimed_put : (old new : TxSlots) (claims : List HeldClaim) (key : ℕ) (s : Option Transaction) → AreClaimed old claims → SetsSlot old new key s →
     ((claim : Claim) → Claims old key claim → ⊥) → ((claim : Claim) → Claims new key claim → ⊥) → AreClaimed new claims
 claimed_put old new claims key s all p before after slot claim = elim (same_or_other slot key) [

@@ -84,7 +84,7 @@ may_act one = by_state (is_active one)
     by_state true e = refl
     by_state false e = absurd (none-some NotActive (sym e))
 
--- a transaction holds a claim which conflicts, exactly where one of its claims does
+-- a transaction holds a claim which conflicts, exactly if one of its claims does
 
 holding : (claim : Claim) (one : Transaction) (c : Claim) → is_active one ≡ true → Contains (map claim_of one.ops) c → Conflict claim c → holds claim one ≡ true
 holding claim one c active made conflict =
@@ -102,7 +102,7 @@ abbrev slab_of : TxSlots → Slab Transaction
 slab_of tx_slots = record { slots = tx_slots; vacant_key = 0; capacity = 0 }
 
 module _ (tx_slots : TxSlots) (claims : List HeldClaim) (all : AreClaimed tx_slots claims) (claim : Claim) where
-  -- who holds one is at its place
+  -- a transaction that holds one is in its slot
   pub holder : (asker : Option ℕ) (owner : ℕ) → Contains (holders_of claims asker claim) owner → (one : Transaction) × (at tx_slots owner ≡ Some one) × (holds claim one ≡ true) × (asker ≢ Some owner)
   holder asker owner c =
       let i : IsHolder claims asker claim owner = (who claims asker claim owner).0 c in
@@ -125,7 +125,7 @@ module _ (tx_slots : TxSlots) (claims : List HeldClaim) (all : AreClaimed tx_slo
       from None there h = absurd (true≢false (sym h))
       from (Some one) there h = listed list slot (subst (λ l. Contains l slot) (sym e) (is_holder None slot one there h (λ n. none-some slot n)))
 
-  -- some other place's transaction holds one, exactly where there is a holder
+  -- some other slot's transaction holds one, exactly if there is a holder
   pub claimed_by : (slot owner : ℕ) → Contains (holders_of claims (Some slot) claim) owner → is_claimed tx_slots slot claim ≡ true
   claimed_by slot owner c =
       let t = holder (Some slot) owner c in
@@ -139,7 +139,7 @@ module _ (tx_slots : TxSlots) (claims : List HeldClaim) (all : AreClaimed tx_slo
       none_empty t.0.0 (subst (λ l. Contains l t.0.0) none (is_holder (Some slot) t.0.0 t.0.1 ((Contains-entries (slab_of tx_slots) t.0.0 t.0.1).0 t.1) p.1
       (λ same. true≢false (sym p.0 ∙ ap not (eq-eqb t.0.0 slot (sym (some_same slot t.0.0 same))))))))
 
-  -- as a claim that was asked for says
+  -- a claim that was asked for says the same
   pub claimed_free : (slot : ℕ) → holders_of claims (Some slot) claim ≡ [] → is_claimed tx_slots slot claim ≡ false
   claimed_free slot none = claimed_by_none slot none
 
@@ -150,7 +150,7 @@ module _ (tx_slots : TxSlots) (claims : List HeldClaim) (all : AreClaimed tx_slo
       by_list [] e = absurd (some e)
       by_list (o ∷ owners) e = claimed_by slot o (subst (λ l. Contains l o) (sym e) (here o owners))
 
--- where no claims of two transactions conflict, no operation of an active one meets a claim of another
+-- if no claims of two transactions conflict, no operation of an active one conflicts with a claim of another
 module _ (tx_slots : TxSlots) (claims : List HeldClaim) (all : AreClaimed tx_slots claims) (apart : OwnersDontConflict claims) (slot other : ℕ) (elsewhere : other ≡ slot → ⊥) where
   meets_nobody : (one : Transaction) → at tx_slots slot ≡ Some one → is_active one ≡ true → (op : Op) → Contains one.ops op → holds_if (claim_of op) (at tx_slots other) ≡ false
   meets_nobody one there active op made = by_place (at tx_slots other) refl
@@ -175,7 +175,7 @@ module _ (tx_slots : TxSlots) (claims : List HeldClaim) (all : AreClaimed tx_slo
       by_place None e p = absurd p
       by_place (Some one) e p = subst (λ ops. MeetNone ops (at tx_slots other)) (sym p.given) (all_meet_none one.ops (meets_nobody one e (may_act one p.active)))
 
--- the operations of the transaction that a handle names are those of its place's
+-- the operations of the transaction that a handle names are those of its slot's
 pub pending_there : (session generation : ℕ) (content : Option Transaction) (ops : List Op) (length : ℕ) → IsPending (own_if session generation content) ops length → IsPending content ops length
 pending_there session generation None ops length p = p
 pending_there session generation (Some one) ops length p = if_own (one.session == session && one.generation == generation) p

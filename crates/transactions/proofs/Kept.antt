@@ -1,4 +1,4 @@
--- What a table keeps, after each way in which it changes.
+-- What a table keeps, after each kind of change.
 use Rattle.std.proofs.Common.{◌≡◌, ℕ, ◌+◌, ◌<◌, length, true, false, arith, List, [], ◌∷◌, ◌++◌, Option, Some, None, Result, Ok, Err, sym, ◌∙◌, ap, subst}
 use Rattle.std.specs.Prelude.{Contains, map, slice_set, IfErr, OnErr}
 use Rattle.std.specs.Result.{IsErrAnd}
@@ -32,7 +32,7 @@ module _ (trees : List TreeMap) (number begun : ℕ) (claims : List HeldClaim) w
   pub kept_moved : (others : List TreeMap) (slots : List (Option Entry)) → EntriesAreSound trees number begun slots claims → EntriesAreSound others (number + 1) begun slots claims
   kept_moved others slots k = record { entries = entries_moved trees others number begun slots k.entries; claimed = k.claimed }
 
-  -- a place was vacated
+  -- a slot was vacated
   pub kept_vacated : (old new : Slab Entry) (key : ℕ) (after : List HeldClaim) → after ≡ without_owner claims key → EntriesAreSound trees number begun old.slots claims → Updates old new key None →
       EntriesAreSound trees number begun new.slots after
   kept_vacated old new key after without k u = subst (EntriesAreSound trees number begun new.slots) (sym without) record {
@@ -83,7 +83,7 @@ pub seen_entry : (trees : List TreeMap) (number begun : ℕ) (e after : Entry) �
 seen_entry trees number begun e after i rest viewed =
     subst (IsEntry trees number begun) (sym rest) record { known = i.known; counted = i.counted; short = i.short; spare = i.spare; viewed = subst (λ (x : Entry). IsViewed trees number x.ops.items after.view) rest viewed }
 
--- the places show no view
+-- the slots show no view
 pub same_tx_slots : (slots : List (Option Entry)) (slot : ℕ) (e after : Entry) → content slots slot ≡ Some e → transaction_of after ≡ transaction_of e → tx_slots_of (slice_set slots slot (Some after)) ≡ tx_slots_of slots
 same_tx_slots slots slot e after there same = map-set_same (option_map transaction_of) slots slot (Some after) None (ap Some same ∙ sym (ap (option_map transaction_of) there))
 
@@ -100,7 +100,7 @@ reserved_entry trees number begun e after i s = subst (IsEntry trees number begu
   viewed = subst (λ items. IsViewed trees number items e.view) (sym s.1) i.viewed;
 }
 
--- an entry after one more operation, which is not too long and whose view is that after it
+-- an entry after one more operation, which is not too long and whose view is the one after it
 pub added_entry : (trees : List TreeMap) (number begun : ℕ) (e after : Entry) (op : Op) (moment : ℕ) (made : View) → IsEntry trees number begun e → transaction_of after ≡ with_op (transaction_of e) op moment → after.length ≡ e.length + op_encoded_len op →
     after.view ≡ Some made → too_long (transaction_of e) op ≡ false → made.number ≡ number → IsViewNow trees (e.ops.items ++ op ∷ []) made → HasTwoSpare after → IsEntry trees number begun after
 added_entry trees number begun e after op moment made i kept length view short numbered seen spare = record {

@@ -10,7 +10,7 @@ use Rattle.store_model.specs.declared.event.Question.{Question}
 use Rattle.store_model.specs.declared.event.Question.TheVariants.{ValueOf, ValueAt, KeyAt, KeysOf, ValuesOf, InfoOf}
 use Rattle.store_model.specs.declared.event.ReadResult.TheVariants as found
 
--- it is the same, where no time is asked for
+-- it is the same, if no time is asked for
 pub looked_alike : (trees others : List TreeMap) → SameButTimes trees others → (hive : ℕ) (path : List (List ℕ)) (question : Question) → (question ≡ InfoOf → ⊥) → looked_up trees hive path question ≡ looked_up others hive path question
 looked_alike trees others same hive path (ValueOf name) untimed = ap (option_map found.Value) (value_alike trees others same hive (folded_path path) name)
 looked_alike trees others same hive path (ValueAt index) untimed = ap (option_map found.Value) (value_index_alike trees others same hive (folded_path path) index)

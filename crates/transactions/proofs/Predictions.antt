@@ -1,4 +1,4 @@
--- What is prepared is foretold.
+-- What is prepared is predicted.
 use Rattle.std.proofs.Common.{◌≡◌, inl, inr, ℕ, ◌==◌, ◌+◌, Bool, true, false, List, [], ◌∷◌, ◌++◌, length, cond, Option, Some, None, Result, Ok, refl, sym, ◌∙◌, ap, subst, arith}
 use Rattle.std.proofs.lemmas.Bool.{true≢false}
 use Rattle.std.proofs.lemmas.Option.{none-some, same_Some}
@@ -61,7 +61,7 @@ nothing_foretold m session moment tx r element (one, there, free, some, is) =
     let p = subst (λ x. IsPending x r.ops r.text_len) content r.pending in
     true≢false (sym r.none ∙ ap (λ (x : List Op). length x == 0) p.given ∙ some)
 
--- An event that is answered so, while nothing changes, accepts no change
+-- An event whose answer is prepared, while nothing changes, accepts no change
 
 not_both : (judged : Result Legality Refusal) → judged ≡ Ok Legal → judged ≡ Ok Opened → ⊥
 not_both judged e f = apart (sym e ∙ f)

@@ -1,4 +1,4 @@
--- The places of a table, as its slab has them.
+-- The slots of a table, as its slab has them.
 use Rattle.std.proofs.Common.{◌≡◌, ◌⊎◌, inl, inr, ℕ, zero, suc, ◌+◌, ◌==◌, Bool, true, false, List, [], ◌∷◌, Option, Some, None, refl, sym, ◌∙◌, ap, arith}
 use Rattle.std.specs.Prelude.{◌≢◌, slice_index_or}
 use Rattle.std.specs.Option.{option_map}
@@ -13,7 +13,7 @@ use Rattle.transactions.specs.declared.view.View.{View}
 abbrev pub content : List (Option Entry) → ℕ → Option Entry
 content slots slot = slice_index_or slots slot None
 
--- what is at a place
+-- what is in a slot
 pub at_of : (slots : List (Option Entry)) (slot : ℕ) → at (tx_slots_of slots) slot ≡ option_map transaction_of (content slots slot)
 at_of [] slot = refl
 at_of (s ∷ slots) zero = refl
@@ -27,14 +27,14 @@ same_or_other a b = by_case (a == b) refl
     by_case true e = inl (eqb-true a b e)
     by_case false e = inr (eqb-false a b e)
 
--- a changed slot is a changed place
+-- a changed slot of the slab is a changed slot of the table
 pub puts : (old new : Slab Entry) (key : ℕ) (s : Option Entry) → Updates old new key s → SetsSlot (tx_slots_of old.slots) (tx_slots_of new.slots) key (option_map transaction_of s)
 puts old new key s u = record {
   there = at_of new.slots key ∙ ap (option_map transaction_of) u.changed;
   others = λ other ne. at_of new.slots other ∙ ap (option_map transaction_of) (u.others other ne) ∙ sym (at_of old.slots other);
 }
 
--- what holds of all entries
+-- what is so of all entries
 abbrev pub AreEntries : List TreeMap → ℕ → ℕ → List (Option Entry) → Type 0
 AreEntries trees number begun slots = (slot : ℕ) (e : Entry) → content slots slot ≡ Some e → IsEntry trees number begun e
 

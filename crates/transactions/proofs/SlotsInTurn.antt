@@ -1,4 +1,4 @@
--- Places that change one after another.
+-- Slots that change one after another.
 use Rattle.std.proofs.Common.{◌≡◌, ◌⊎◌, inl, inr, ℕ, zero, suc, ◌+◌, ◌<◌, ◌≤◌, ◌==◌, Bool, true, false, cond, ◌||◌, List, [], ◌∷◌, ◌++◌, length, map, take, Option, Some, None, refl, sym, ◌∙◌, ap, subst, arith}
 use Rattle.std.specs.Prelude.{nat_lt, slice_index_or}
 use Rattle.std.specs.List.{list_any}
@@ -18,7 +18,7 @@ lt_or_le a b = by_case (nat_lt a b) refl
     by_case true e = inl (ltb-true a b e)
     by_case false e = inr (ltb-false a b e)
 
--- the transactions of a session at the first places are gone
+-- the transactions of a session in the first slots are gone
 pub record GoneBelow (session count : ℕ) (old new : TxSlots) : Type 0 where
   pub gone : (slot : ℕ) → slot < count → at new slot ≡ option_and_then (gone_with session) (at old slot)
   pub rest : (slot : ℕ) → count ≤ slot → at new slot ≡ at old slot
@@ -140,6 +140,6 @@ rolled_more owners index d old mid new below r p slot = elim (same_or_other slot
       ∙ ap (λ b. rolled_back_if b (at old slot)) (sym (listed_more owners index slot d below ∙ or_left (is_listed (numbers (take index owners)) slot) ((slice_index_or owners index d).0 == slot) (ne_eqb (slice_index_or owners index d).0 slot (λ e. other (sym e)))))
 ]
 
--- what stays beside the places stays
+-- what stays beside the slots stays
 pub rest_more : (old mid new : Table) → mid ≡ record old { tx_slots = mid.tx_slots } → new ≡ record mid { tx_slots = new.tx_slots } → new ≡ record old { tx_slots = new.tx_slots }
 rest_more old mid new e f = f ∙ ap (λ (t : Table). record t { tx_slots = new.tx_slots }) e

@@ -107,14 +107,14 @@ opened_none m session e = ap (λ b. refused_if (not b) NoSuchHandle) e
 may_call : (m : Machine) (session hive : ℕ) → is_open m session ≡ true → unnamed_refusal m hive ≡ None → call_refusal m session hive ≡ None
 may_call m session hive o c = second (closed_refusal m session) (unnamed_refusal m hive) None (opened_none m session o) c
 
--- what is read isn't there
+-- what is to be read isn't there
 pub missed : (m : Machine) (session hive : ℕ) (path : List (List ℕ)) (question : Question) (trees : List TreeMap) (res : Result Reply Refusal) (why : Refusal) → is_open m session ≡ true → unnamed_refusal m hive ≡ None → trees ≡ trees_now m →
     (read_refusal (looked_up trees hive path question) ≡ Some why) ⊎ (why ≡ NoMemory) → IsErrAnd res (λ e. e ≡ why) → Answers m (event.Read session hive path question) res m
 missed m session hive path question trees res why o c e w h =
     on_refusal m (event.Read session hive path question) res why h
     (either w (λ r. second (call_refusal m session hive) (read_refusal (looked_up (trees_now m) hive path question)) (Some why) (may_call m session hive o c) (ap (λ t. read_refusal (looked_up t hive path question)) (sym e) ∙ r)), refl)
 
--- what a write is refused after its session
+-- why a write is refused after its session was found open
 pub may_write : (m : Machine) (session moment : ℕ) (op : Op) (wanted : Option Refusal) → fault m ≡ None → is_open m session ≡ true → unnamed_refusal m (hive_of op) ≡ None → refusal_by (legal (trees_now m) op) (room_refusal m (element_encoded_len (change moment op))) ≡ wanted → write_refusal m session moment op ≡ wanted
 may_write m session moment op wanted f o c e = second _ _ wanted f (second _ _ wanted (may_call m session (hive_of op) o c) e)
 
@@ -136,7 +136,8 @@ module _ (m : Machine) (session : ℕ) (why : Refusal) (res : Result Reply Refus
   pub unnamed_write : fault m ≡ None → (moment : ℕ) (op : Op) → unnamed_refusal m (hive_of op) ≡ Some why → Answers m (event.Write session moment op) res m
   unnamed_write free moment op e = on_refusal m (event.Write session moment op) res why h (inl (second _ _ (Some why) free (first _ _ why (not_called (hive_of op) e))), refl)
 
--- a call in a transaction: its session isn't open, or else it is none that is active, or else the hive is one that calls may not name
+-- a call in a transaction: its session isn't open, or else the transaction is not an active one, or else the hive is
+-- one that calls may not name
 module _ (m : Machine) (session : ℕ) (tx : Tx) (hive : ℕ) (why : Refusal) where
   pub closed_call : IsClosed m session why → tx_call_refusal m session tx hive ≡ Some why
   closed_call i = first _ _ why (ap inactive_refusal (none_found m session tx why i) ∙ ap Some (sym i.named))
@@ -148,7 +149,7 @@ module _ (m : Machine) (session : ℕ) (tx : Tx) (hive : ℕ) (why : Refusal) wh
     pub unnamed_call : inactive_refusal (own m.tx_slots session tx) ≡ None → unnamed_refusal m hive ≡ Some why → tx_call_refusal m session tx hive ≡ Some why
     unnamed_call active e = second _ _ (Some why) (ap (λ b. inactive_refusal (cond b (own m.tx_slots session tx) None)) o ∙ active) e
 
--- such a call is refused
+-- a call of this kind is refused
 module _ (m : Machine) (session : ℕ) (tx : Tx) (why : Refusal) (res : Result Reply Refusal) (h : IsErrAnd res (λ e. e ≡ why)) where
   pub uncalled_tx_read : (hive : ℕ) (path : List (List ℕ)) (question : Question) → tx_call_refusal m session tx hive ≡ Some why → Answers m (event.TxRead session tx hive path question) res m
   uncalled_tx_read hive path question u = on_refusal m (event.TxRead session tx hive path question) res why h (inl (first _ _ why u), refl)
@@ -204,7 +205,7 @@ not_full : (full last : Bool) (room : Option Refusal) → first_of (refused_if (
 not_full true last room e = absurd (none-some HistoryFull (sym e))
 not_full false last room e = refl
 
--- where there is room, the history is not full
+-- if there is room, the history is not full
 pub below_most : (m : Machine) (long : ℕ) → room_refusal m long ≡ None → length m.accepted < m.bounds.changes
 below_most m long e =
     let open_history = not_full (nat_le m.bounds.changes (length m.accepted)) (nat_le GREATEST_NUMBER (last_number m)) _ e in
@@ -219,7 +220,7 @@ not_last false false room e = refl
 pub below_greatest : (m : Machine) (long number : ℕ) → number ≡ last_number m → room_refusal m long ≡ None → number < 2 ^ 64 - 1
 below_greatest m long number is e = omega (arith, is, leb-false GREATEST_NUMBER (last_number m) (not_last (nat_le m.bounds.changes (length m.accepted)) (nat_le GREATEST_NUMBER (last_number m)) _ e))
 
--- a table that has moved on is tied to the store with one change more
+-- a table with one change more matches the store with one change more
 pub tied_more : (o : List TreeMap) (n : ℕ) (a b : List Element) (s : List ℕ) (t u : Table) (d r q : ℕ) (f : Bool) (w : StoreBounds) (element : Element) → TableMatchesMachine t (store_of o n a s t d r f w) → length a < w.changes →
     b ≡ a ++ element ∷ [] → u.trees ≡ applied t.trees element.ops element.moment → u.number ≡ t.number + 1 → TableMatchesMachine u (store_of o n b s u d q f w)
 tied_more o n a b s t u d r q f w element i below grown trees number =
@@ -233,7 +234,7 @@ tied_more o n a b s t u d r q f w element i below grown trees number =
       few = omega (arith, below, long);
     }
 
--- what is listed as holding a claim is what is rolled back by it
+-- the transactions that are listed as holders are those that are rolled back by it
 roll_by : (active met : Bool) (over one : Transaction) → cond (active && met) (Some (cond active over one)) (Some one) ≡ cond (active && met) (Some over) (Some one)
 roll_by true met over one = refl
 roll_by false met over one = refl
@@ -279,7 +280,7 @@ uncut m long cut e f =
 pub cut_change : (moment : ℕ) (op : Op) (one cut : ℕ) → one ≡ min (op_encoded_len op) 18446744073709551615 → cut ≡ min (16 + one) 18446744073709551615 → cut ≡ min (element_encoded_len (change moment op)) 18446744073709551615
 cut_change moment op one cut e f = omega (arith, e, f)
 
--- what the change of some transaction's operations is refused
+-- why the change of some transaction's operations is refused
 pub pending_refusal : (m : Machine) (moment : ℕ) (content : Option Transaction) (ops : List Op) (long : ℕ) (wanted : Option Refusal) → IsPending content ops long → (length ops == 0) ≡ false →
     first_of (refused_if (any_outweighs (trees_now m) ops moment) TooLarge) (room_refusal m long) ≡ wanted → commit_refusal_if m moment content ≡ wanted
 pending_refusal m moment None ops long wanted p some e = absurd p
@@ -319,7 +320,7 @@ module _ (m : Machine) (session moment : ℕ) (tx : Tx) (why : Refusal) (res : R
       uncommitted (inl (pending_refusal m moment (own m.tx_slots session tx) ops long (Some why) p some
       (second _ (room_refusal m long) (Some why) (ap (λ x. refused_if x TooLarge) (ap (λ x. any_outweighs x ops moment) (sym e) ∙ light)) r)))
 
--- what holds of a transaction's operations holds of those that are pending
+-- what is so of a transaction's operations is so of those that are pending
 pub of_pending : (P : List Op → Type 0) (content : Option Transaction) (ops : List Op) (long : ℕ) → IsPending content ops long → IfSome content (λ one. P one.ops) → P ops
 of_pending P None ops long p h = absurd p
 of_pending P (Some one) ops long p h = subst P (sym p.given) h
@@ -372,7 +373,7 @@ module _ (o : List TreeMap) (n : ℕ) (a b : List Element) (s : List ℕ) (t u v
 pub ready_pending : (m : Machine) (made : ReadyCommit) (r : IsReadyCommit m made) → IsPending (own m.tx_slots made.session made.tx) r.one.ops (element_encoded_len (commit_change m made.moment r.one))
 ready_pending m made r = subst (λ x. IsPending x r.one.ops (element_encoded_len (commit_change m made.moment r.one))) (sym r.found) (record { active = r.active; given = refl; long = λ moment. refl })
 
--- a change of these operations, of so many bytes, may be accepted, and what it leads to is made
+-- a change of these operations, of this many bytes, may be accepted, and what it leads to is made
 pub record IsMadeOf (m : Machine) (made : ReadyCommit) (ops : List Op) (long : ℕ) : Type 0 where
   pub some : (length ops == 0) ≡ false
   pub element : made.element ≡ record { moment = made.moment; ops = ops }
@@ -382,7 +383,7 @@ pub record IsMadeOf (m : Machine) (made : ReadyCommit) (ops : List Op) (long : �
   pub roomy : room_refusal m long ≡ None
   pub room : made.room ≡ m.room + (17 + long)
 
--- the change that a commit makes, where pending operations are made into one
+-- the change that a commit makes, if pending operations are made into one
 pub ready_commit : (m : Machine) (made : ReadyCommit) (ops : List Op) (long : ℕ) → fault m ≡ None → is_open m made.session ≡ true → IsPending (own m.tx_slots made.session made.tx) ops long →
     AreRebased made.trees (last_number m + 1) m.tx_slots made.rebased.items → IsMadeOf m made ops long → IsReadyCommit m made
 ready_commit m made ops long free there pending rebased is = by_content (own m.tx_slots made.session made.tx) refl pending

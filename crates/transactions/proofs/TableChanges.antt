@@ -1,4 +1,4 @@
--- What a table shows after each way in which it changes.
+-- What a table shows after each kind of change.
 use Rattle.std.proofs.Common.{◌⊎◌, inl, inr, Result, Ok, Err, ◌≡◌, ℕ, ◌+◌, ◌==◌, ◌&&◌, Bool, true, false, List, [], ◌∷◌, ◌-◌, ◌^◌, ◌<◌, ◌||◌, Option, Some, None, refl, sym, ◌∙◌, ap, subst, cond, arith, length, suc}
 use Rattle.std.proofs.lemmas.Option.{none-some}
 use Rattle.std.specs.Prelude.{IfOk, IfErr, IfSome, IsSome, ◌≤◌, nat_le, count_by, is_some}
@@ -45,7 +45,7 @@ own_none slots session tx none = ap (own_if session tx.generation) (at_of slots 
 pub may_end : (one : Transaction) → is_active one ≡ true → inactive_refusal (Some one) ≡ None
 may_end one active = ap (λ b. cond b None (Some NotActive)) active
 
--- a handle that passes its test is that of the active transaction at its place
+-- a handle that passes its test is that of the active transaction in its slot
 module _ (slots : List (Option Entry)) (session : ℕ) (tx : Tx) (passes : inactive_refusal (own (tx_slots_of slots) session tx) ≡ None) where
   pub never_missing : content slots tx.slot ≡ None → ⊥
   never_missing none = none-some NoSuchHandle (sym passes ∙ ap inactive_refusal (own_none slots session tx none))
@@ -66,7 +66,7 @@ module _ (slots : List (Option Entry)) (session : ℕ) (tx : Tx) (passes : inact
     pub own_is : own (tx_slots_of slots) session tx ≡ Some (transaction_of e)
     own_is = own_found slots session tx e there its_own.0
 
--- where there are no operations
+-- if there are no operations
 none_some : (ops : List Op) → ops ≡ [] → 0 < length ops → ⊥
 none_some ops none some = absurd (omega (arith, some, ap (λ (ops : List Op). length ops) none))
 
@@ -109,7 +109,7 @@ begins trees number begun old new session id slot e free vacant u kept = record 
   next = refl;
 }
 
--- as many transactions are held as entries
+-- as many transactions are kept as entries
 as_long : (key : ℕ) (slots : List (Option Entry)) → length (entries_from key (tx_slots_of slots)) ≡ length (entries_from key slots)
 as_long key [] = refl
 as_long key (None ∷ slots) = as_long (key + 1) slots

@@ -1,4 +1,5 @@
--- Which time a key has after operations at a moment, by what it has after them at another: one that they write has the moment, every other one what it had.
+-- Which time a key has after operations at a moment, by what it has after them at another: one that they write has the
+-- moment, every other one what it had.
 use Rattle.std.proofs.Common.{◌≡◌, ◌⊎◌, inl, inr, ℕ, List, length, Option, Some, None, refl, sym, ◌∙◌, ap, subst}
 use Rattle.std.specs.Prelude.{slice_get}
 use Rattle.std.specs.Option.{option_map, option_and_then}
@@ -16,7 +17,7 @@ use Rattle.reg_tree.proofs.Times.{subkeys_same}
 use Rattle.conflicts.proofs.TimesAsRead.{at_path, IsTold, AreTold, told}
 
 module _ (m n : ℕ) where
-  -- What is told of a key
+  -- What is read of a key
 
   abbrev info_at : Option TreeMap → List (List ℕ) → Option Info
   info_at o path = option_and_then (λ tree. info_of tree path) o
@@ -62,7 +63,7 @@ module _ (m n : ℕ) where
   pub times_told : (trees : List TreeMap) (ops : List Op) (hive : ℕ) (path : List (List ℕ)) → Times (info_in trees hive path) (info_in (applied trees ops m) hive path) (info_in (applied trees ops n) hive path)
   times_told trees ops hive path = tree_times (slice_get trees hive) (slice_get (applied trees ops m) hive) (slice_get (applied trees ops n) hive) path (told m n trees trees ops hive refl)
 
--- What is told of a key at one moment, by what is told at another
+-- What is read of a key at one moment, by what is read at another
 module _ (trees now : List TreeMap) (ops : List Op) (m n hive : ℕ) (path : List (List ℕ)) (made : trees ≡ applied now ops m) where
   abbrev before : Option Info
   before = info_in now hive path
@@ -84,7 +85,7 @@ module _ (trees now : List TreeMap) (ops : List Op) (m n hive : ℕ) (path : Lis
       same_time : (x y : Info) → Some x ≡ Some y → x.time ≡ y.time
       same_time x y same = let it : x ≡ y = cc in ap (λ (z : Info). z.time) it
 
-  -- one that is becomes the other moment, where the key did not have it before
+  -- one that is becomes the other moment, if the key did not have it before
   pub moved_told : (info : Info) → info_in trees hive path ≡ Some info → info.time ≡ m → (option_map (λ (x : Info). x.time) before ≡ Some m → ⊥) → after ≡ Some (record info { time = n })
   moved_told info e here unlike = elim its_times [
     | inl w ↦ let f = w.0 in cc

@@ -148,7 +148,7 @@ known_carried now ops moment Nothing some k = absurd (some refl)
 known_carried now ops moment Carried some k = k
 known_carried now ops moment Light some k = k.0
 
--- the view after a change that meets no claim of the operations
+-- the view after a change that conflicts with no claim of the operations
 pub moved_view : EitherOrder → StaysLegal → (now : List TreeMap) (ops : List Op) (view after : View) (op : Op) (number moment : ℕ) → IsViewNow now ops view → OpsDontConflict ops (op ∷ []) → judged_in now op ≡ Ok Legal → IsRebasedBy view now op moment number after →
     IsViewNow (applied_one now op moment) ops after
 moved_view either stays now ops view after op number moment is apart allowed moves =
@@ -193,7 +193,7 @@ carried_more now front done op m trees made before allowed is all = subst (λ (o
     may : legal (applied now front m) op ≡ Ok Legal
     may = ap (λ ts. legal ts op) (sym before.made) ∙ allowed
 
--- what a view tells of an operation is so of what the transaction sees
+-- what a view says of an operation is so of what the transaction sees
 pub legal_seen : (now : List TreeMap) (one : Transaction) (v : View) (op : Op) → IsViewNow now one.ops v → legal v.trees op ≡ legal (view now one) op
 legal_seen now one v op is = legal_alike v.trees (view now one) (seen_at now one.ops v.moment v.trees one.moment is.made) op
 
@@ -232,7 +232,7 @@ carried_last : (now : List TreeMap) (front : List Op) (op : Op) (m : ℕ) → Ar
 carried_last now [] op m c = c.0
 carried_last now (o ∷ front) op m c = carried_last (applied_one now o m) front op m c.1
 
--- a view past one operation more of a change
+-- a view after one operation more of a change
 pub stays_more : EitherOrder → StaysLegal → (now trees : List TreeMap) (front done : List Op) (op : Op) (m number : ℕ) (view seen after : View) → StaysViewAfter now front m view seen → AreCarriedOut now done m → trees ≡ applied now front m → IsRebasedBy seen trees op m number after → done ≡ front ++ op ∷ [] →
     StaysViewAfter now done m view after
 stays_more either stays now trees front done op m number view seen after kept carried made moves all = λ ops is apart.
@@ -245,7 +245,7 @@ stays_more either stays now trees front done op m number view seen after kept ca
 pub trees_more : (now trees made : List TreeMap) (front done : List Op) (op : Op) (m : ℕ) → trees ≡ applied now front m → made ≡ applied_one trees op m → done ≡ front ++ op ∷ [] → made ≡ applied now done m
 trees_more now trees made front done op m before is all = is ∙ ap (λ ts. applied_one ts op m) before ∙ sym (one_by_one now front (op ∷ []) m) ∙ ap (λ x. applied now x m) (sym all)
 
--- a view that was moved, or none
+-- a view that was rebased, or none
 pub moved_any : (now : List TreeMap) (number moment : ℕ) (ops change : List Op) (v : View) {E : Type 0} (r : Result (Option View) E) → IsViewNow now ops v → OpsDontConflict ops change →
     IfOk r (λ rebased. IfSome rebased (λ after. StaysViewAfter now change moment v after × (after.number ≡ number + 1))) → IfOk r (IsViewed (applied now change moment) (number + 1) ops)
 moved_any now number moment ops change v (Ok (Some after)) is apart told = record {
@@ -255,13 +255,13 @@ moved_any now number moment ops change v (Ok (Some after)) is apart told = recor
 moved_any now number moment ops change v (Ok None) is apart told = tt
 moved_any now number moment ops change v (Err e) is apart told = tt
 
--- Views by their places
+-- Views by their slots
 
 pub none_moved : (now : List TreeMap) (number : ℕ) (there : Option Transaction) → IsRebasedTo now number there None
 none_moved now number None = tt
 none_moved now number (Some one) = tt
 
--- where no view was moved
+-- if no view was rebased
 pub nothing_moved : (now : List TreeMap) (number : ℕ) (tx_slots : TxSlots) → AreRebased now number tx_slots []
 nothing_moved now number tx_slots slot = none_moved now number (at tx_slots slot)
 
@@ -290,7 +290,7 @@ moved_more now number tx_slots rebased one slot long all its other = elim (at_ne
   | inr h ↦ subst (IsRebasedTo now number (at tx_slots other)) (sym h.1) (subst (λ p. IsRebasedTo now number (at tx_slots p) one) (sym (h.0 ∙ long)) its)
 ]
 
--- one less, and that one
+-- one less, and that view
 pub moved_less : (now : List TreeMap) (number : ℕ) (tx_slots : TxSlots) (rebased : List (Option View)) (one : Option View) → AreRebased now number tx_slots (rebased ++ one ∷ []) → AreRebased now number tx_slots rebased
 moved_less now number tx_slots rebased one all other = elim (at_front rebased one None other) [
   | inl e ↦ subst (IsRebasedTo now number (at tx_slots other)) (sym e) (all other)
@@ -300,7 +300,7 @@ moved_less now number tx_slots rebased one all other = elim (at_front rebased on
 pub moved_last : (now : List TreeMap) (number : ℕ) (tx_slots : TxSlots) (rebased : List (Option View)) (one : Option View) → AreRebased now number tx_slots (rebased ++ one ∷ []) → IsRebasedTo now number (at tx_slots (length rebased)) one
 moved_last now number tx_slots rebased one all = subst (IsRebasedTo now number (at tx_slots (length rebased))) (at_end rebased one None) (all (length rebased))
 
--- whose claims a change does not meet
+-- a change that conflicts with no claims of these operations
 apart_all : (ops : List Op) (op : Op) → list_any (λ (o : Op). meets (claim_of op) (claim_of o)) ops ≡ false → OpsDontConflict ops (op ∷ [])
 apart_all [] op none = tt
 apart_all (o ∷ ops) op none =
@@ -327,7 +327,7 @@ apart_all_if [] one active none = apart_none one.ops
 apart_all_if (op ∷ change) one active none = apart_more one.ops op change (apart_if op one active none.0) (apart_all_if change one active none.1)
 
 -- an operation more
--- a key that a view hasn't isn't there, at whatever moment
+-- a key that a view doesn't have isn't there, at whatever moment
 module _ (hive : ℕ) (path : List (List ℕ)) where
   none_named : (trees : List TreeMap) → info_in trees hive path ≡ None → value_names_in trees hive path ≡ None
   none_named trees e = by_hive (slice_get trees hive) e

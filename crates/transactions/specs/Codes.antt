@@ -1,4 +1,4 @@
--- How tables of transactions are told apart: by their parts.
+-- How tables of transactions are distinguished: by their parts.
 use Rattle.std.specs.Prelude.{ℕ, List, refl}
 use Rattle.std.specs.Coded.{Coded, code_by, coded×, coded_ℕ}
 use Rattle.reg_tree.specs.Maps.{TreeMap}

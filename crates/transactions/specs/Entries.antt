@@ -39,7 +39,8 @@ transaction_of e = record { session = e.session; id = e.id; generation = e.gener
 abbrev pub tx_slots_of : List (Option Entry) → TxSlots
 tx_slots_of slots = map (option_map transaction_of) slots
 
--- The trees of a view are those of now with the operations applied at its moment; without a moment they are so but for times.
+-- The trees of a view are those of now with the operations applied at its moment; without a moment they are the same
+-- but for times.
 abbrev pub IsMade : List TreeMap → List Op → Option ℕ → List TreeMap → Type 0
 IsMade now ops (Some moment) trees = trees ≡ applied now ops moment
 IsMade now ops None trees = SameButTimes trees (applied now ops 0)
@@ -96,12 +97,12 @@ abbrev pub HasViewAt : List TreeMap → ℕ → List Op → ℕ → Option View 
 HasViewAt now number ops moment None = ⊥
 HasViewAt now number ops moment (Some view) = (view.number ≡ number) × (view.trees ≡ applied now ops moment)
 
--- the moment at which a view's next operation is carried out: where its times are nobody's, any will do
+-- the moment at which a view's next operation is carried out: if the view has none, any will do
 abbrev pub moment_of : Option ℕ → ℕ
 moment_of None = 0
 moment_of (Some moment) = moment
 
--- an operation is carried out on a view's trees at its moment, and makes so many keys
+-- an operation is carried out on a view's trees at its moment, and makes this many keys
 pub record IsWrittenTo (view : View) (op : Op) (written : Judged) : Type 0 where
   pub is_legal : legal view.trees op ≡ Ok Legal
   pub made : written.made ≡ record view { trees = applied_one view.trees op (moment_of view.moment); ops_since_read = written.made.ops_since_read }
@@ -112,9 +113,9 @@ abbrev pub WritesView : View → Op → Option Judged → Type 0
 WritesView view op None = legal view.trees op ≡ Ok Opened
 WritesView view op (Some written) = IsWrittenTo view op written
 
--- A change is carried out at its moment on trees with operations at their own, and their times stay those that operations make at that moment: where both
--- are one; or where the operations didn't write the key that the change writes beside those that it makes; or where they did, and it had another time
--- before them: then it gets their moment again.
+-- A change is carried out at its moment on trees with operations at their own. Their times stay those that operations
+-- make at that moment in three cases: both moments are one; the operations didn't write the key that the change writes
+-- beside those that it makes; or they did, and it had another time before them, and then it gets their moment again.
 abbrev pub KeepsTimes : List TreeMap → List TreeMap → Op → ℕ → ℕ → List TreeMap → Type 0
 KeepsTimes seen now op moment own trees =
     let hive = hive_of op in
@@ -123,12 +124,12 @@ KeepsTimes seen now op moment own trees =
     ⊎ ((time_in seen hive touched_path ≢ Some own) × (trees ≡ applied_one seen op moment))
     ⊎ ((time_in seen hive touched_path ≡ Some own) × (time_in now hive touched_path ≢ Some own) × (trees ≡ stamped (applied_one seen op moment) hive touched_path own))
 
--- without a moment times are nobody's
+-- without a moment the times say nothing
 abbrev pub IsTimed : View → List TreeMap → Op → ℕ → Option ℕ → List TreeMap → Type 0
 IsTimed view now op moment None trees = trees ≡ applied_one view.trees op moment
 IsTimed view now op moment (Some own) trees = (view.moment ≡ Some own) × KeepsTimes view.trees now op moment own trees
 
--- a change is carried out on a view's trees, where it makes as many keys as on the trees of now
+-- a change is carried out on a view's trees, if it makes as many keys as on the trees of now
 pub record IsRebasedBy (view : View) (now : List TreeMap) (op : Op) (moment number : ℕ) (after : View) : Type 0 where
   pub carried : view.known ≢ Nothing
   pub alike : levels_made view.trees op ≡ levels_made now op
@@ -136,7 +137,7 @@ pub record IsRebasedBy (view : View) (now : List TreeMap) (op : Op) (moment numb
   pub known : after.known ≡ Carried
   pub numbered : after.number ≡ number
 
--- what was a view of operations is one after a change none of whose operations meets a claim of theirs
+-- what was a view of operations is one after a change none of whose operations conflicts with a claim of theirs
 abbrev pub StaysViewAfter : List TreeMap → List Op → ℕ → View → View → Type 0
 StaysViewAfter now change moment view after = (ops : List Op) → IsViewNow now ops view → OpsDontConflict ops change → IsViewNow (applied now change moment) ops after
 
@@ -146,23 +147,24 @@ pub record IsCommitted (now : List TreeMap) (ops : List Op) (moment : ℕ) (made
   pub trees : made.trees ≡ applied now ops moment
   pub carried : made.carried ≡ true → AreCarriedOut now ops moment
 
--- A view tells this of a key for another moment: it is so of the trees of now with the operations applied at that moment, whichever operations made the view.
+-- A view shows this of a key for another moment: it is so of the trees of now with the operations applied at that
+-- moment, whichever operations made the view.
 abbrev pub ViewShows : View → List TreeMap → ℕ → List (List ℕ) → ℕ → Option Info → Type 0
 ViewShows view now hive path moment told = (ops : List Op) → IsMade now ops view.moment view.trees → info_in (applied now ops moment) hive path ≡ told
 
--- what a view tells of a key that it has; it can tell nothing only where it has no moment, or the trees of now have the key with the
--- view's moment as its time
+-- what a view shows of a key that it has; it shows nothing only if it has no moment, or the trees of now have the key
+-- with the view's moment as its time
 abbrev pub ViewShowsInfo : View → List TreeMap → ℕ → List (List ℕ) → ℕ → Option Info → Type 0
 ViewShowsInfo view now hive path moment None = (view.moment ≡ None) ⊎ (option_map (λ (info : Info). info.time) (info_in now hive path) ≡ view.moment)
 ViewShowsInfo view now hive path moment (Some info) = ViewShows view now hive path moment (Some info)
 
--- there is room for two more operations beside those that there are, where there are any: whoever takes the operations of a
--- commit may add so many without memory
+-- if there are operations, there is room for two more: two may be added without memory to the operations that a commit
+-- takes
 abbrev pub HasTwoSpare : Entry → Type 0
 HasTwoSpare e = 0 < length e.ops.items → length e.ops.items + 2 ≤ vec_capacity e.ops
 
--- what holds of an entry: its number was given, its length is that of its change and within the limit, there is room for two operations
--- beside its own, and its view is one
+-- what is so of an entry: its number was given, and its length is the length of its change and within the limit. There
+-- is room for two operations beside its own, and its view is one
 pub record IsEntry (now : List TreeMap) (number begun : ℕ) (e : Entry) : Type 0 where
   pub known : e.generation ≤ begun
   pub counted : e.length ≡ 16 + ops_encoded_len e.ops.items
@@ -170,19 +172,20 @@ pub record IsEntry (now : List TreeMap) (number begun : ℕ) (e : Entry) : Type 
   pub spare : HasTwoSpare e
   pub viewed : IsViewed now number e.ops.items e.view
 
--- a claim of the active transaction at a place
+-- a claim of the active transaction in a slot
 pub record Claims (tx_slots : TxSlots) (slot : ℕ) (claim : Claim) : Type 0 where
   pub one : Transaction
   pub there : at tx_slots slot ≡ Some one
   pub active : is_active one ≡ true
   pub made : Contains (map claim_of one.ops) claim
 
--- what holds of all: each entry is one, and the claims are those of active transactions
+-- what is so of all: each entry is sound, and the claims are those of active transactions
 pub record EntriesAreSound (now : List TreeMap) (number begun : ℕ) (slots : List (Option Entry)) (claims : List HeldClaim) : Type 0 where
   pub entries : (slot : ℕ) (e : Entry) → slice_index_or slots slot None ≡ Some e → IsEntry now number begun e
   pub claimed : (slot : ℕ) (claim : Claim) → Contains claims (record { owner = slot; claim = claim }) ↔ Claims (tx_slots_of slots) slot claim
 
--- an operation was judged: it is legal by the view and its change not too long, and this is the view after it, or it opens a key
+-- an operation was judged: it is legal by the view and its change not too long, and this is the view after it, or it
+-- opens a key
 pub record IsLegalIn (now : List TreeMap) (number : ℕ) (one : Transaction) (op : Op) (judged : Judged) : Type 0 where
   pub is_legal : legal (view now one) op ≡ Ok Legal
   pub short : too_long one op ≡ false
@@ -194,7 +197,7 @@ abbrev pub IsJudged : List TreeMap → ℕ → Transaction → Op → Option Jud
 IsJudged now number one op None = legal (view now one) op ≡ Ok Opened
 IsJudged now number one op (Some judged) = IsLegalIn now number one op judged
 
--- they differ in the room for operations alone, of which there is no less
+-- they differ in the room for operations alone, and there is no less of it
 abbrev pub IsSameEntry : Entry → Entry → Type 0
 IsSameEntry old new = (new ≡ record old { ops = new.ops }) × (new.ops.items ≡ old.ops.items) × (vec_capacity old.ops ≤ vec_capacity new.ops)
 
@@ -218,7 +221,7 @@ abbrev pub judge_refusal : List TreeMap → Op → Option Transaction → Option
 judge_refusal trees op None = Some NoSuchHandle
 judge_refusal trees op (Some one) = first_of (inactive_refusal (Some one)) (illegal trees op one)
 
--- an operation may be added to the active transaction at a place, and this is the view after it
+-- an operation may be added to the active transaction in a slot, and this is the view after it
 pub record MayAdd (table : Table) (slot : ℕ) (op : Op) (made : View) : Type 0 where
   pub one : Transaction
   pub there : at table.tx_slots slot ≡ Some one
@@ -238,11 +241,11 @@ IsAdded old slot op moment new = SetsSlot old new slot (with_op_if op moment (at
 abbrev pub AddsTo : Table → ℕ → ℕ → Op → Option ℕ → Table → TxWriteOutcome → Type 0
 AddsTo old slot moment op levels new written = (written ≡ Added levels) × (is_claimed old.tx_slots slot (claim_of op) ≡ false) × (new ≡ record old { tx_slots = new.tx_slots }) × IsAdded old.tx_slots slot op moment new.tx_slots
 
--- or not, since another active transaction's claim conflicts, or for want of memory
+-- or not, since another active transaction's claim conflicts, or there is no memory
 abbrev pub IsNotAdded : Table → ℕ → Op → Refusal → Type 0
 IsNotAdded old slot op why = (why ≡ NoMemory) ⊎ ((why ≡ Conflict) × (is_claimed old.tx_slots slot (claim_of op) ≡ true))
 
--- the views after a change, by the places of their transactions; nothing where one is to be made again
+-- the views after a change, by the slots of their transactions; nothing if one is to be made again
 abbrev pub IsRebasedTo : List TreeMap → ℕ → Option Transaction → Option View → Type 0
 IsRebasedTo now number None rebased = ⊤
 IsRebasedTo now number (Some one) rebased = IsViewed now number one.ops rebased

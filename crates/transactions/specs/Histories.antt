@@ -1,4 +1,4 @@
--- The changes that were accepted since a store was opened, the last of which are at hand.
+-- The changes that were accepted since a store was opened, the last of which are retained in memory.
 use Rattle.std.specs.Prelude.{◌≡◌, ℕ, ◌-◌, ◌≤◌, List, length, map, drop, refl}
 use Rattle.std.specs.List.{AllByRecursion}
 use Rattle.std.specs.Coded.{Coded, code_by, coded×, coded_ℕ, coded_list}
@@ -8,20 +8,20 @@ use Rattle.reg_tree.specs.Encodings.{element_encoded_len}
 use Rattle.reg_tree.specs.contracts.element.Element as element
 use Rattle.reg_tree.specs.declared.element.Element.{Element}
 
--- all changes, how many of the first of them were let go, and for how many more there is place
+-- all changes, how many of the first ones were discarded, and for how many more space is reserved
 pub record Changes : Type 0 where
   pub changes : List Element
   pub discard_flushed : ℕ
   pub spare : ℕ
 
--- the change's text is not longer than an accepted change's may be
+-- the change's encoding is not longer than an accepted change's may be
 abbrev pub IsShort : Element → Type 0
 IsShort e = element_encoded_len e ≤ MOST_ELEMENT_BYTES
 
 abbrev pub values_of : List (Snapshot Element) → List Element
 values_of all = map (λ change. change.value) all
 
--- those at hand are the last of all, and each change is short
+-- the retained ones are the last of all, and each change is short
 pub record AreLastOfAll (all : List (Snapshot Element)) (recent : List Element) : Type 0 where
   pub within : length recent ≤ length all
   pub last : recent ≡ drop (length all - length recent) (values_of all)

@@ -1,4 +1,4 @@
--- What an event that may accept a change is going to do, all that it grows being made.
+-- What an event that may accept a change is going to do, once all its memory is allocated.
 use Rattle.std.specs.Prelude.{◌≡◌, ℕ, ◌+◌, ◌<◌, ◌==◌, Bool, true, false, List, [], ◌∷◌, ◌++◌, length, Option, Some, None, Ok, Err, Result}
 use Rattle.refusals.specs.declared.refusal.Refusal.{Refusal}
 use Rattle.refusals.specs.declared.refusal.Refusal.TheVariants.{NoMemory}
@@ -36,7 +36,8 @@ may_accept (event.Write session moment op) = true
 may_accept (event.CommitAccept session tx moment) = true
 may_accept _ = false
 
--- An operation may be accepted by itself, and this it leads to: the trees then, who is rolled back, the room.
+-- An operation may be accepted by itself, and leads to this: the trees then, the transactions that are rolled back, the
+-- room.
 pub record IsJudgedWrite (machine : Machine) (session moment : ℕ) (op : Op) (judged : JudgedWrite) : Type 0 where
   pub there : is_open machine session ≡ true
   pub named : unnamed_refusal machine (hive_of op) ≡ None
@@ -48,13 +49,14 @@ pub record IsJudgedWrite (machine : Machine) (session moment : ℕ) (op : Op) (j
   pub holders : (slot : ℕ) → is_listed judged.holders slot ≡ holds_if (claim_of op) (at machine.tx_slots slot)
   pub room : judged.room ≡ machine.room + (17 + element_encoded_len (change moment op))
 
--- it may; or it is answered so, and nothing has changed
+-- it may; or the answer is this, and nothing has changed
 abbrev pub JudgesWrite : Machine → ℕ → ℕ → Op → Result (Option JudgedWrite) Refusal → Type 0
 JudgesWrite machine session moment op (Ok (Some judged)) = IsJudgedWrite machine session moment op judged
 JudgesWrite machine session moment op (Ok None) = Step machine (event.Write session moment op) reply.Opened machine
 JudgesWrite machine session moment op (Err why) = Step machine (event.Write session moment op) (reply.Refused why) machine
 
--- An operation may be accepted by itself, and all that it leads to is made: the change, the trees then, who is rolled back, what the others see, the room.
+-- An operation may be accepted by itself, and all that it leads to is made: the change, the trees then, the
+-- transactions that are rolled back, what the others see, the room.
 pub record IsReadyWrite (machine : Machine) (session moment : ℕ) (op : Op) (made : ReadyWrite) : Type 0 where
   pub free : fault machine ≡ None
   pub there : is_open machine session ≡ true
@@ -94,20 +96,20 @@ pub record IsReadyNothing (machine : Machine) (session : ℕ) (tx : Tx) : Type 0
   pub pending : IsPending (own machine.tx_slots session tx) ops text_len
   pub none : (length ops == 0) ≡ true
 
--- What an event is going to do, in a store with place for so many changes.
+-- What an event is going to do, in a store with space reserved for this many changes.
 abbrev pub IsReady : Machine → ℕ → Event → Ready → Type 0
 IsReady machine spare wanted (ready.Answered answer) = Step machine wanted answer machine × (answer ≡ reply.Refused NoMemory → ⊥)
 IsReady machine spare wanted (ready.Write made) = (0 < spare) × ((session : ℕ) × (moment : ℕ) × (op : Op) × (wanted ≡ event.Write session moment op) × IsReadyWrite machine session moment op made)
 IsReady machine spare wanted (ready.Nothing session tx) = ((moment : ℕ) × (wanted ≡ event.CommitAccept session tx moment)) × IsReadyNothing machine session tx
 IsReady machine spare wanted (ready.Commit made) = (0 < spare) × (wanted ≡ event.CommitAccept made.session made.tx made.moment) × IsReadyCommit machine made
 
--- what an operation by itself leads to, where it may be accepted; else how it is answered, and nothing has changed
+-- what an operation by itself leads to, if it may be accepted; else its answer, and nothing has changed
 abbrev pub PreparesWrite : Machine → ℕ → ℕ → Op → Result (Option ReadyWrite) Refusal → Type 0
 PreparesWrite machine session moment op (Ok (Some made)) = IsReadyWrite machine session moment op made
 PreparesWrite machine session moment op (Ok None) = Step machine (event.Write session moment op) reply.Opened machine
 PreparesWrite machine session moment op (Err why) = Step machine (event.Write session moment op) (reply.Refused why) machine
 
--- the change that will be accepted, if one will, and the trees that will be those of now then
+-- the change that will be accepted, if one will, and the trees that will then be those of now
 abbrev pub change_of_ready : Ready → Option (Element × List TreeMap)
 change_of_ready (ready.Answered answer) = None
 change_of_ready (ready.Write made) = Some (made.element, made.trees)
@@ -117,12 +119,12 @@ change_of_ready (ready.Commit made) = Some (made.element, made.trees)
 abbrev pub change_to_accept : Prepared → Option (Element × List TreeMap)
 change_to_accept prepared = change_of_ready prepared.ready
 
--- the same, as it is told
+-- the same, as the pair that is predicted
 abbrev pub change_and_trees : Next → Element × List TreeMap
 change_and_trees next = (next.change.value, next.trees)
 
--- An event asks for this change, and nothing stands against it: a write by itself, whose operation is legal and changes something; or
--- a commit of a transaction that has operations.
+-- An event asks for this change, and nothing prevents it: a write by itself, whose operation is legal and changes
+-- something; or a commit of a transaction that has operations.
 abbrev pub EventAccepts : Machine → Event → Element → Type 0
 EventAccepts machine (event.Write session moment op) element =
     (write_refusal machine session moment op ≡ None) × (legal (trees_now machine) op ≡ Ok Legal) × (element ≡ change moment op)
@@ -131,14 +133,14 @@ EventAccepts machine (event.CommitAccept session tx moment) element =
     × ((length one.ops == 0) ≡ false) × (element ≡ commit_change machine moment one)
 EventAccepts machine _ element = ⊥
 
--- What is told before the event: the change that it will accept, and the trees of now with that change applied; or that it will accept
--- none.
+-- What is predicted before the event: the change that it will accept, and the trees of now with that change applied; or
+-- that it will accept none.
 abbrev pub Predicts : Machine → Event → Option (Element × List TreeMap) → Type 0
 Predicts machine wanted (Some (element, trees)) = EventAccepts machine wanted element × (trees ≡ applied (trees_now machine) element.ops element.moment)
 Predicts machine wanted None = (element : Element) → ¬ (EventAccepts machine wanted element)
 
--- Just the change that was told has been accepted, and the trees of now are those that were told; where none was told, none has been
--- accepted.
+-- Just the predicted change has been accepted, and the trees of now are the predicted ones; if no change was predicted,
+-- none has been accepted.
 abbrev pub AcceptsJust : Option (Element × List TreeMap) → Machine → Machine → Type 0
 AcceptsJust (Some (element, trees)) old new = (trees_now new ≡ trees) × (new.accepted ≡ old.accepted ++ element ∷ [])
 AcceptsJust None old new = new.accepted ≡ old.accepted
@@ -148,7 +150,7 @@ abbrev pub PreparesEvent : Machine → ℕ → Event → Result Ready Refusal �
 PreparesEvent machine spare wanted (Ok made) = IsReady machine spare wanted made
 PreparesEvent machine spare wanted (Err why) = Step machine wanted (reply.Refused why) machine
 
--- An event that may accept a change stands prepared in a store: it is answered so, and nothing changes, which is never for want of memory; or it is accepted as
--- this says, and there is place for the change.
+-- An event that may accept a change is prepared in a store. Either this is its answer, which is never that there is no
+-- memory, and nothing changes; or it is accepted as this says, and space is reserved for the change.
 abbrev pub IsPrepared : StoreView → Prepared → Type 0
 IsPrepared store prepared = (may_accept prepared.event.value ≡ true) × IsReady store.machine store.spare prepared.event.value prepared.ready

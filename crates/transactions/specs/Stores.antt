@@ -17,7 +17,7 @@ use Rattle.store_model.specs.declared.event.Reply.{Reply}
 use Rattle.store_model.specs.declared.event.Reply.TheVariants as reply
 use Rattle.transactions.specs.Tables.{Table}
 
--- one call of the device has failed where the store is faulted, and else none
+-- one call of the device has failed if the store is faulted, and else none
 abbrev pub failures_of : Bool → ℕ
 failures_of true = 1
 failures_of false = 0
@@ -38,7 +38,7 @@ store_of opened before accepted sessions table durable room faulted bounds = rec
   bounds = bounds;
 }
 
--- the machine, the number above which its changes are at hand, and for how many changes more there is place
+-- the machine, the number above which its changes are retained, and for how many changes more space is reserved
 pub record StoreView : Type 0 where
   pub machine : Machine
   pub retained : ℕ
@@ -57,7 +57,8 @@ abbrev pub Answers : Machine → Event → Result Reply Refusal → Machine → 
 Answers old event (Ok answer) new = Step old event answer new
 Answers old event (Err refusal) new = Step old event (reply.Refused refusal) new
 
--- whether a faulted store answers an event that it has failed: all that may come to be accepted, and what asks for it
+-- whether a faulted store refuses an event as faulted: each that may lead to an accepted change, and each that asks
+-- about one
 abbrev pub needs_device : Event → Bool
 needs_device (event.StartSession session) = true
 needs_device (event.Write session moment op) = true
@@ -68,7 +69,7 @@ needs_device (event.Outcome session tx) = true
 needs_device event.FlushAsk = true
 needs_device _ = false
 
--- how machines are told apart: by their parts
+-- how machines are distinguished: by their parts
 abbrev pub machine_code : Coded Machine
 machine_code =
     code_by (List TreeMap × (ℕ × (List Element × (List ℕ × (TxSlots × (ℕ × (ℕ × (ℕ × (ℕ × (Bool × StoreBounds))))))))))

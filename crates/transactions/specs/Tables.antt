@@ -19,31 +19,31 @@ use Rattle.store_model.specs.declared.handle.Outcome.TheVariants.{RolledBack}
 use Rattle.transactions.specs.declared.table.TxWriteOutcome.{TxWriteOutcome}
 use Rattle.transactions.specs.declared.table.TxWriteOutcome.TheVariants.{Added, Opened}
 
--- the trees of now and the number of the last accepted change, the transaction at each place, and how many were begun
+-- the trees of now and the number of the last accepted change, the transaction in each slot, and how many were begun
 pub record Table : Type 0 where
   pub trees : List TreeMap
   pub number : ℕ
   pub tx_slots : TxSlots
   pub begun : ℕ
 
--- a call that takes memory is refused as it should be, or for want of that; nothing changes
+-- a call that takes memory is refused as it should be, or since there is no memory; nothing changes
 abbrev pub TableRefuses : Table → Option Refusal → Refusal → Table → Type 0
 TableRefuses old wanted refusal new = ((wanted ≡ Some refusal) ⊎ (refusal ≡ NoMemory)) × (new ≡ old)
 
--- whether a place has a transaction that holds a claim which conflicts
+-- whether the transaction in a slot holds a claim which conflicts
 abbrev pub holds_if : Claim → Option Transaction → Bool
 holds_if claim None = false
 holds_if claim (Some one) = holds claim one
 
--- no operation meets a claim of a place's transaction
+-- no operation conflicts with a claim of a slot's transaction
 abbrev pub MeetNone : List Op → Option Transaction → Type 0
 MeetNone ops there = AllByRecursion (λ op. holds_if (claim_of op) there ≡ false) ops
 
--- whether a place is listed
+-- whether a slot is listed
 abbrev pub is_listed : List ℕ → ℕ → Bool
 is_listed tx_slots slot = list_any (λ p. p == slot) tx_slots
 
--- a transaction that is active is rolled back, where it is listed
+-- a transaction that is active is rolled back, if it is listed
 abbrev pub rolled_back : Transaction → Transaction
 rolled_back one = if is_active one then ended RolledBack one else one
 
@@ -87,7 +87,7 @@ abbrev pub IsPending : Option Transaction → List Op → ℕ → Type 0
 IsPending None ops length = ⊥
 IsPending (Some one) ops length = IsPendingOf one ops length
 
--- whether a place's transaction is of a session
+-- whether a slot's transaction is of a session
 abbrev pub is_of : ℕ → Option Transaction → Bool
 is_of session None = false
 is_of session (Some one) = one.session == session

@@ -22,7 +22,7 @@ use std::mem;
 use store_model::{Outcome, Question, ReadResult, look_up};
 use uuid::Uuid;
 
-/// Operations that whoever takes those of a commit may add without memory.
+/// Operations that may be added without memory to those that a commit takes.
 const SPARE_OPS: usize = 2;
 
 const _: () = prove!(SPARE_OPS == 2);
@@ -30,10 +30,10 @@ const _: () = prove!(SPARE_OPS == 2);
 /// A moment that no clock comes to: no key has it as its time, unless a caller gives it.
 const MAX_MOMENT: u64 = u64::MAX;
 
-/// A transaction, how long it is as journal text, and its view, where one was made. The view's moment may be an
-/// earlier one than the transaction's: what a write or a read asks of it depends on no moment, but for the time that a
-/// key tells. So a write costs one operation, whatever moments the writes have. A change of others that meets no claim of
-/// the transaction is applied to its view too.
+/// A transaction, how long its encoding is, and its view, if one was made. The view's moment may be an earlier one than
+/// the transaction's. What a write or a read asks of the view depends on no moment, but for the time of a key. So a
+/// write costs one operation, whatever moments the writes have. If a change of others conflicts with no claim of the
+/// transaction, it is applied to its view too.
 pub(crate) struct Entry {
     pub(crate) session: u32,
     pub(crate) id: Uuid,
@@ -120,7 +120,7 @@ impl Entry {
         self.session == session && self.generation == generation
     }
 
-    /// Makes the view, where there is none of these trees.
+    /// Makes the view, if there is none of these trees.
     fn ensure_view(&mut self, alloc: Global, now: &Trees, number: u64) -> Result<(), AllocError>
         requires { IsViewed now.now number self.old.ops.items self.old.view }
         ensures rest { self.new ≡ record self.old { view = self.new.view } }
@@ -155,8 +155,8 @@ impl Entry {
         Ok(())
     }
 
-    /// Judges an operation by the view, and carries it out on a copy of that; nothing where it opens a key. Then by the length
-    /// of the change.
+    /// Judges an operation by the view, and carries it out on a copy of the view; nothing if it opens a key. Then
+    /// judges it by the length of the change.
     pub(crate) fn judge(
         &mut self,
         alloc: Global,
@@ -187,7 +187,7 @@ impl Entry {
         Ok(Some(written))
     }
 
-    /// What the question asks of a key, as the transaction sees it.
+    /// The answer to the question on a key, as the transaction sees it.
     pub(crate) fn look_up(
         &mut self,
         alloc: Global,
@@ -221,9 +221,10 @@ impl Entry {
         }
     }
 
-    /// What is told of a key, with the time that the transaction sees. Where the view can't tell it, it is made again at a
-    /// moment that no clock comes to, so that of each key it can be told whether the operations wrote it, also after others write it,
-    /// at whatever moments these are; and where the key has that as its time in the trees of now, at the transaction's own.
+    /// The counts and the time of a key, as the transaction sees them. If the view can't say the time, the view is made
+    /// again at a moment that no clock comes to. Then it says of each key whether the operations wrote it, also after
+    /// others write it, at whatever moments. If the key has that moment as its time in the trees of now, the view is
+    /// made again at the transaction's own.
     fn info(
         &mut self,
         alloc: Global,
@@ -256,7 +257,8 @@ impl Entry {
         view.trees.query_info(hive, path)
     }
 
-    /// What the view that there is tells of a key with the time that the transaction sees, or nothing where it can't tell that.
+    /// What the existing view says of a key with the time that the transaction sees, or nothing if it can't say the
+    /// time.
     fn told(&self, now: &Trees, number: u64, hive: u8, path: &Path) -> Result<Option<Info>, Refusal>
         requires { HasView now.now number self.now.ops.items self.now.view }
         ensures ok { IfOk result (λ told. IfSome told (λ info.
@@ -270,8 +272,9 @@ impl Entry {
         view.info_at(now, hive, path, self.moment)
     }
 
-    /// Whether there is a view of now that is worth moving past so many operations. One that was not asked for as many of them as
-    /// the transaction has is not: to make it again costs no more than they did.
+    /// Whether there is a view of now that is worth rebasing on this many operations. It is not, if it would then have
+    /// been rebased on more operations since it was last read than the transaction has. Making it again costs no more
+    /// than rebasing.
     pub(crate) fn may_rebase(&self, number: u64, count: usize) -> bool
         ensures { result ≡ true → IfSome self.now.view (λ view. view.number ≡ number) }
     {
@@ -283,8 +286,8 @@ impl Entry {
         }
     }
 
-    /// The view after the change of this number, none of whose operations meets a claim of the transaction; nothing where none
-    /// of now is at hand, or it is to be made again.
+    /// The view after the change of this number, none of whose operations conflicts with a claim of the transaction;
+    /// nothing if there is no view of now, or it is to be made again.
     pub(crate) fn rebased(
         &self,
         alloc: Global,
@@ -308,7 +311,7 @@ impl Entry {
         }
     }
 
-    /// The trees after the operations at a moment: those of the view, where that is of now and of this moment, and each
+    /// The trees after the operations at a moment: the view's, if the view is of now and of this moment, and each
     /// operation is known to be one that could be carried out.
     pub(crate) fn commit_trees(
         &self,
@@ -344,7 +347,7 @@ impl Entry {
         self.length.saturating_add(op.text_len()) > MOST_ELEMENT_BYTES
     }
 
-    /// Makes room for one operation more, and for two besides that whoever takes them may add.
+    /// Makes room for one operation more, and for two besides that the caller which takes them may add.
     pub(crate) fn reserve(&mut self) -> Result<(), AllocError>
         ensures same { IsSameEntry self.old self.new }
         ensures room { OnOk result (HasRoom self.new) }

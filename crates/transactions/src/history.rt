@@ -8,8 +8,8 @@ use std::alloc::{AllocError, Global};
 use std::marker::Model;
 use std::snapshot::Snapshot;
 
-/// The changes that were accepted, in their order. All of them are known to contracts; at hand are the last ones, down to those
-/// that were let go.
+/// The changes that were accepted, in their order. Contracts know all of them. Retained in memory are the last ones,
+/// down to those that were discarded.
 pub(crate) struct ChangeHistory {
     all: Vec<Snapshot<EncodedChange>>,
     recent: Vec<EncodedChange>,
@@ -61,14 +61,14 @@ impl ChangeHistory {
         self.all.len()
     }
 
-    /// How many changes are at hand.
+    /// How many changes are retained in memory.
     pub fn retained(&self) -> usize
         ensures { result + self.now.discard_flushed ≡ length self.now.changes }
     {
         self.recent.len()
     }
 
-    /// Makes place for one change more.
+    /// Reserves space for one change more.
     pub fn reserve(&mut self) -> Result<(), AllocError>
         ensures changes { self.new.changes ≡ self.old.changes }
         ensures retained { self.new.discard_flushed ≡ self.old.discard_flushed }
@@ -78,7 +78,7 @@ impl ChangeHistory {
         self.recent.reserve(1)
     }
 
-    /// One change more, for which there is place.
+    /// Adds one change, for which space is reserved.
     pub fn push_reserved(&mut self, change: EncodedChange)
         requires spare { 0 < self.old.spare }
         requires short { IsShort change }
@@ -89,7 +89,7 @@ impl ChangeHistory {
         self.recent.push_reserved(change);
     }
 
-    /// The changes behind the first so many, none of which was let go.
+    /// The changes after the first `count`, none of which was discarded.
     pub fn after(&self, count: usize) -> &[EncodedChange]
         requires retained { self.now.discard_flushed ≤ count }
         requires there { count ≤ length self.now.changes }
@@ -100,7 +100,7 @@ impl ChangeHistory {
         &self.recent[count - discard_flushed..]
     }
 
-    /// Lets the first so many changes go: those of them that were not let go before.
+    /// Discards the first `count` changes, as far as they were not discarded before.
     pub fn discard_flushed(&mut self, count: usize)
         requires there { count ≤ length self.old.changes }
         ensures changes { self.new.changes ≡ self.old.changes }

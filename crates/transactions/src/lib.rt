@@ -1,7 +1,7 @@
-//! The transactions of a store: what each keeps, what it sees, and where it stands.
+//! The transactions of a store: what each keeps, what it sees, and what became of it.
 //!
-//! [`TxTable`] keeps them by the machine (`store_model`): a transaction's writes are private, it is read and judged by its
-//! own view, and its claims keep others off what it changes. [`Store`] answers by it each event that makes no step.
+//! [`TxTable`] keeps them by the machine (`store_model`): a transaction's writes are private, it is read and judged by
+//! its own view, and its claims keep others off what it changes. [`Store`] answers by it each event that makes no step.
 #![tactic(auto)]
 
 mod entry;

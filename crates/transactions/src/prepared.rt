@@ -1,4 +1,4 @@
-//! What an event that may accept a change is going to do, all that it grows being made.
+//! What an event that may accept a change is going to do, once all its memory is allocated.
 ghost use Rattle.std.specs.Prelude.{◌≡◌, IfOk};
 ghost use Rattle.std.specs.Option.{option_map};
 ghost use Rattle.transactions.specs.Prepared.{change_and_trees, change_to_accept};
@@ -11,7 +11,7 @@ use std::alloc::{AllocError, Global};
 use std::snapshot::Snapshot;
 use store_model::{Event, Reply, Tx};
 
-/// An event that may accept a change, with all that it grows: from here on it takes no memory.
+/// An event that may accept a change, with all the memory that it needs: from here on it takes none.
 #[derive(Drop)]
 pub struct Prepared {
     /// The event: known to contracts alone.
@@ -22,7 +22,7 @@ pub struct Prepared {
 /// What it is going to do.
 #[derive(Drop)]
 pub(crate) enum Ready {
-    /// It is answered so, and nothing changes.
+    /// This is the answer, and nothing changes.
     Answered(Reply),
     /// An operation is accepted by itself.
     Write(ReadyWrite),
@@ -37,7 +37,7 @@ pub(crate) enum Ready {
 pub(crate) struct JudgedWrite {
     /// The trees after it.
     pub trees: Trees,
-    /// How many keys it makes, where it creates one.
+    /// How many keys it makes, if it creates one.
     pub levels: Option<usize>,
     /// The transactions that are rolled back by it.
     pub holders: Holders,
@@ -48,15 +48,15 @@ pub(crate) struct JudgedWrite {
 /// An operation that is accepted by itself.
 #[derive(Drop)]
 pub(crate) struct ReadyWrite {
-    /// The change, kept as its text.
+    /// The change, kept as its encoding.
     pub element: EncodedChange,
     /// The trees after it.
     pub trees: Trees,
-    /// How many keys it makes, where it creates one.
+    /// How many keys it makes, if it creates one.
     pub levels: Option<usize>,
     /// The transactions that are rolled back by it.
     pub holders: Holders,
-    /// What the others see then, by their places; nothing where it is to be made again.
+    /// What the others see then, by their slots; nothing if it is to be made again.
     pub rebased: Vec<Option<View>>,
     /// The room that the journal has used then.
     pub room: u64,
@@ -71,11 +71,11 @@ pub(crate) struct ReadyCommit {
     pub tx: Tx,
     /// The moment of the change.
     pub moment: u64,
-    /// The change, kept as its text.
+    /// The change, kept as its encoding.
     pub element: EncodedChange,
     /// The trees after it.
     pub trees: Trees,
-    /// What the others see then, by their places; nothing where it is to be made again.
+    /// What the others see then, by their slots; nothing if it is to be made again.
     pub rebased: Vec<Option<View>>,
     /// The room that the journal has used then.
     pub room: u64,
@@ -91,7 +91,8 @@ pub struct Next {
 }
 
 impl Prepared {
-    /// The change that will be accepted, and a copy of the trees that will be those of now then; nothing where none will be.
+    /// The change that will be accepted, and a copy of the trees that will then be those of now; nothing if none will
+    /// be accepted.
     pub fn next(&self, alloc: Global) -> Result<Option<Next>, AllocError>
         ensures { IfOk result (λ next. option_map change_and_trees next ≡ change_to_accept self.now) }
     {

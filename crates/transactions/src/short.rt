@@ -9,8 +9,9 @@ ghost use Rattle.transactions.specs.Histories.{IsShort};
 
 use reg_tree::Op;
 
-/// A law: the change that an operation makes alone is short, where the operation is legal on some trees: a path has at most 512
-/// names of at most 255 units, a value's name at most 16,383, and what is written at most 1,048,576 bytes.
+/// A law: the change that an operation makes alone is short, if the operation is legal on some trees. A path has at
+/// most 512 names of at most 255 units. A value's name has at most 16,383 units, and the data that are written at most
+/// 1,048,576 bytes.
 pub(crate) fn change_is_short(op: &Op)
     ensures { (trees : List TreeMap) (moment : ℕ) → legal trees op.now ≡ Ok Legal →
         IsShort (change moment op.now) }

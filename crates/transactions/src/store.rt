@@ -1,4 +1,5 @@
-//! A store in memory: what it answers to each event that makes no step, and what it is told of those that do.
+//! A store in memory: what it answers to each event that makes no step, and what the caller reports to it of those that
+//! do.
 ghost use Rattle.std.specs.Prelude.{◌≡◌, ◌<◌, ◌≤◌, ◌+◌, ◌-◌, ◌==◌, ◌++◌, ◌∷◌, ℕ, [], drop, max, true, false, nat_le, Some, None, IfOk, IfErr, OnOk, OnSome};
 ghost use Rattle.std.specs.List.{AllByRecursion, list_any};
 ghost use Rattle.refusals.specs.declared.refusal.Refusal.TheVariants.{NoMemory, NoSuchHandle};
@@ -26,14 +27,15 @@ use store_model::room::CHANGE_START;
 use store_model::{Event, Question, Reply, Sessions, StoreBounds, Tx, look_up};
 use uuid::Uuid;
 
-/// A store in memory, seen by contracts as the state of the machine, the number above which its changes are at hand, and for how
-/// many changes more there is place.
+/// A store in memory. Contracts see it as the machine's state, the number above which its changes are retained, and how
+/// many more changes it has space for.
 ///
-/// It keeps the trees of now, and of the accepted changes those that were not let go; the trees as they were opened and the
-/// whole list of accepted changes are known to contracts alone. It makes no step: whoever keeps the journal and the hives tells
-/// it how far changes are durable ([`mark_durable`](Store::settle)), what room is free again ([`free`](Store::free)), and that the
-/// device has failed ([`fail`](Store::fail)). An event that may accept a change may be made in two parts: [`prepare`](Store::prepare)
-/// makes all that it grows, and [`finish`](Store::finish) answers it and takes no memory.
+/// It keeps the trees of now, and the accepted changes that were not discarded. The trees as they were opened and the
+/// whole list of accepted changes are known to contracts alone. It makes no step. The caller that keeps the journal and
+/// the hives reports these to it: how far changes are durable ([`mark_durable`](Store::mark_durable)), what room is
+/// free again ([`free`](Store::free)), and that the device has failed ([`fail`](Store::fail)). An event that may accept
+/// a change may be made in two parts. [`prepare`](Store::prepare) allocates all that it needs, and
+/// [`finish`](Store::finish) answers it and takes no memory.
 pub struct Store {
     alloc: Global,
     opened: Snapshot<Trees>,
@@ -87,7 +89,7 @@ impl Model for Store {
 }
 
 impl Store {
-    /// A store that was opened on trees after the change of a number. Its journal has used so much room.
+    /// A store that was opened on trees after the change of a number. Its journal has used `room` bytes of its room.
     pub fn new(alloc: Global, trees: Trees, number: u64, room: u64) -> Result<Store, AllocError>
         ensures machine { IfOk result (λ store. store.machine
             ≡ record (opened_machine (bounds_of trees) trees number [] 0) { room = room }) }
@@ -123,7 +125,7 @@ impl Store {
         })
     }
 
-    /// Answers a calm event, which makes no step.
+    /// Answers an event that makes no step.
     pub fn event(&mut self, event: Event) -> Reply
         requires non_step { is_not_step event ≡ true }
         ensures step { Step self.old.machine event result self.new.machine }
@@ -140,9 +142,9 @@ impl Store {
         }
     }
 
-    /// Prepares an event that may accept a change: all that it grows is made, and nothing is accepted yet.
+    /// Prepares an event that may accept a change: all memory that it needs is allocated, and nothing is accepted yet.
     ///
-    /// Refused for want of memory alone. What is prepared may be finished as long as the store is as it is now.
+    /// Refused only if there is no memory. What is prepared may be finished as long as the store is as it is now.
     pub fn prepare(&mut self, event: Event) -> Result<Prepared, AllocError>
         requires accepts { may_accept event ≡ true }
         ensures prepared { IfOk result (λ prepared. (prepared.event.value ≡ event)
@@ -157,7 +159,7 @@ impl Store {
         Ok(Prepared { event: kept, ready })
     }
 
-    // what an event that may accept a change is going to do, where no memory is wanting
+    // what an event that may accept a change is going to do, if there is enough memory
     fn preparation_of(&mut self, event: Event) -> Result<Ready, AllocError>
         requires accepts { may_accept event ≡ true }
         ensures ready { IfOk result (IsReady self.new.machine self.new.spare event) }
@@ -217,7 +219,7 @@ impl Store {
         self.table.trees()
     }
 
-    /// The number of the last accepted change, or that of the opening where none was.
+    /// The number of the last accepted change, or of the opening if none was accepted.
     pub fn last_number(&self) -> u64
         ensures number { result ≡ last_number self.now.machine }
         ensures retained { self.now.retained ≤ result }
@@ -241,7 +243,7 @@ impl Store {
         self.durable
     }
 
-    /// How many bytes of the journal's room are used: by what it spells, and by what is still to be written.
+    /// How many bytes of the journal's room are used: by what it encodes, and by what is still to be written.
     pub fn room(&self) -> u64
         ensures { result ≡ self.now.machine.room }
     {
@@ -255,7 +257,7 @@ impl Store {
         self.faulted
     }
 
-    /// The accepted changes with numbers above this one, none of which was let go.
+    /// The accepted changes with numbers above this one, none of which was discarded.
     pub fn above(&self, number: u64) -> &[EncodedChange]
         requires retained { self.now.retained ≤ number }
         requires there { number ≤ last_number self.now.machine }
@@ -266,14 +268,14 @@ impl Store {
         self.history.after((number - self.before) as usize)
     }
 
-    /// The number above which changes are at hand.
+    /// The number above which changes are retained in memory.
     pub fn retained(&self) -> u64
         ensures { result ≡ self.now.retained }
     {
         self.table.number() - self.history.retained() as u64
     }
 
-    /// Lets the changes up to this number go: they are no longer at hand.
+    /// Discards the changes up to this number: they are no longer retained.
     pub fn discard_flushed(&mut self, number: u64)
         requires there { number ≤ last_number self.old.machine }
         ensures machine { self.new.machine ≡ self.old.machine }
@@ -283,7 +285,7 @@ impl Store {
             .discard_flushed(number.saturating_sub(self.before) as usize);
     }
 
-    /// Changes are durable up to this number.
+    /// Records that changes are durable up to this number.
     pub fn mark_durable(&mut self, durable: u64)
         requires there { durable ≤ last_number self.old.machine }
         ensures machine { self.new.machine ≡ record self.old.machine { durable = durable } }
@@ -292,7 +294,7 @@ impl Store {
         self.durable = durable;
     }
 
-    /// So many bytes of the journal's room are free again.
+    /// Records that this many bytes of the journal's room are free again.
     pub fn free(&mut self, bytes: u64)
         requires used { bytes ≤ self.old.machine.room }
         ensures machine { self.new.machine
@@ -302,7 +304,7 @@ impl Store {
         self.room -= bytes;
     }
 
-    /// The device has failed: the store is faulted from now on.
+    /// Records that the device has failed: the store is faulted from now on.
     pub fn fail(&mut self)
         requires sound { self.old.machine.faulted ≡ false }
         ensures machine { self.new.machine
@@ -410,7 +412,7 @@ impl Store {
         }
     }
 
-    // what an operation by itself leads to, all that it grows being made; nothing where the key that it creates is there
+    // what an operation by itself leads to, all its memory being allocated; nothing if the key that it creates is there
     fn make_write(
         &mut self,
         session: u32,
@@ -442,7 +444,7 @@ impl Store {
         }))
     }
 
-    // judges an operation by itself, and makes the trees after it; nothing where the key that it creates is there
+    // judges an operation by itself, and makes the trees after it; nothing if the key that it creates is there
     fn judge_write(
         &self,
         session: u32,
@@ -512,7 +514,8 @@ impl Store {
         }
     }
 
-    // refuses a session that isn't open, then a handle that is none of its active transactions', then a hive that calls may not name
+    // refuses a session that isn't open, then a handle that is none of its active transactions', then a hive that calls
+    // may not name
     fn check_call(&self, session: u32, tx: Tx, hive: u8) -> Result<(), Refusal>
         ensures there { OnOk result (is_open self.now.machine session ≡ true) }
         ensures active { OnOk result
@@ -526,7 +529,7 @@ impl Store {
         self.check_named(hive)
     }
 
-    // the room that the journal has used with one change more, of so many bytes
+    // the room that the journal has used with one change more, of this many bytes
     fn room_with(&self, length: u64) -> Result<u64, Refusal>
         ensures ok { IfOk result (λ room. (room_refusal self.now.machine length ≡ None)
             × (room ≡ self.now.machine.room + (17 + length))) }
@@ -595,7 +598,7 @@ impl Store {
         Ok(self.accept(ready))
     }
 
-    // what a commit leads to, all that it grows being made
+    // what a commit leads to, all its memory being allocated
     fn make_commit(&mut self, session: u32, tx: Tx, moment: u64) -> Result<Ready, Refusal>
         requires free { fault self.old.machine ≡ None }
         ensures made { PreparesEvent self.old.machine self.new.spare
@@ -749,7 +752,7 @@ impl Store {
     }
 }
 
-// how an operation is answered that was accepted by itself, as the last change
+// the answer to an operation that was accepted by itself, as the last change
 fn accepted(table: &TxTable, levels: Option<usize>) -> Reply
     ensures { result ≡ reply.Accepted levels table.now.number }
 {
@@ -759,7 +762,7 @@ fn accepted(table: &TxTable, levels: Option<usize>) -> Reply
     }
 }
 
-// whether a faulted store answers an event that it has failed
+// whether a faulted store refuses an event as faulted
 fn needs_device(event: &Event) -> bool
     ensures { result ≡ needs_device event.now }
 {

@@ -30,7 +30,7 @@ use uuid::Uuid;
 
 /// The transactions of a store, and the trees of now, which they see their own operations on.
 ///
-/// Contracts see the trees of now and the number of the last accepted change, the transaction at each place, and how
+/// Contracts see the trees of now and the number of the last accepted change, the transaction in each slot, and how
 /// many were begun.
 pub struct TxTable {
     alloc: Global,
@@ -77,12 +77,12 @@ impl Model for TxTable {
         inside.tx_slots.slots inside.claims };
 }
 
-/// What became of a write in a transaction that was not refused.
+/// The outcome of a write in a transaction that was not refused.
 #[derive(Clone, Copy, Debug, PartialEq, Eq)]
 pub enum TxWriteOutcome {
     /// The operation was added.
     Added {
-        /// How many keys it makes, where it creates one.
+        /// How many keys it makes, if it creates one.
         levels: Option<usize>,
     },
     /// The key that was to be created is there; nothing changed.
@@ -94,11 +94,11 @@ pub enum TxWriteOutcome {
 pub struct PendingOps<'a> {
     /// The operations in order.
     pub ops: &'a [Op],
-    /// The bytes of the change that they make, as journal text.
+    /// The bytes of the encoded change that they make.
     pub text_len: u64,
 }
 
-/// The transactions that hold a claim which conflicts with that of an operation, by their places.
+/// The transactions that hold a claim which conflicts with the claim of an operation, by their slots.
 pub struct Holders {
     owners: Vec<ClaimOwner>,
 }
@@ -119,7 +119,7 @@ impl Model for Holders {
 }
 
 impl Holders {
-    /// Whether the transaction at a place is one of them.
+    /// Whether the transaction in a slot is one of them.
     fn has(&self, slot: usize) -> bool
         ensures { result ≡ is_listed self.now slot }
     {
@@ -161,8 +161,8 @@ impl TxTable {
         self.number
     }
 
-    /// Begins a transaction for a unit of work, which may be any. Refused with `NoSeat` exactly where 1,024
-    /// transactions are held or 18,446,744,073,709,551,615 were begun, and with `NoMemory`.
+    /// Begins a transaction for a unit of work, which may be any. Refused with `NoSeat` exactly if 1,024 transactions
+    /// are kept or 18,446,744,073,709,551,615 were begun, and with `NoMemory`.
     pub fn begin(&mut self, session: u32, id: Uuid) -> Result<Tx, Refusal>
         ensures ok { IfOk result (λ tx. Begins self.old session id tx self.new) }
         ensures refused { IfErr result (λ refusal.
@@ -182,9 +182,9 @@ impl TxTable {
     }
 
     /// Adds an operation to a transaction, at a moment. It is judged by what the transaction sees. Refused in this
-    /// order: with `NoSuchHandle`, with `NotActive`, where the operation is not legal, with `TooLarge` where the change
-    /// would be longer than 4,194,304 bytes, with `Conflict` where another active transaction's claim conflicts; and
-    /// with `NoMemory`. The transaction then stays as it is.
+    /// order: with `NoSuchHandle`; with `NotActive`; if the operation is not legal; with `TooLarge` if the change would
+    /// be longer than 4,194,304 bytes; with `Conflict` if another active transaction's claim conflicts; and with
+    /// `NoMemory`. The transaction then stays as it is.
     pub fn write(
         &mut self,
         session: u32,
@@ -225,7 +225,7 @@ impl TxTable {
         }
     }
 
-    // judges an operation by what the transaction sees and by its length; nothing where it opens a key
+    // judges an operation by what the transaction sees and by its length; nothing if it opens a key
     fn judge(&mut self, session: u32, tx: Tx, op: &Op) -> Result<Option<Judged>, Refusal>
         requires { inactive_refusal (own self.old.tx_slots session tx) ≡ None }
         ensures same { self.new ≡ self.old }
@@ -240,8 +240,8 @@ impl TxTable {
         entry.judge(self.alloc, &self.trees, self.number, op)
     }
 
-    // adds an operation that was judged to the transaction at a place, with the view after it, where no other active
-    // transaction holds a claim which conflicts
+    // adds a judged operation to the transaction in a slot, with the view after it, if no other active transaction
+    // holds a claim which conflicts
     fn add(
         &mut self,
         slot: usize,
@@ -263,8 +263,8 @@ impl TxTable {
         })
     }
 
-    /// What the question asks of a key, as the transaction sees it. Refused with `NoSuchHandle`, then `NotActive`, then
-    /// `NotFound`; and with `NoMemory`.
+    /// The answer to the question on a key, as the transaction sees it. Refused with `NoSuchHandle`, then `NotActive`,
+    /// then `NotFound`; and with `NoMemory`.
     pub fn view_read(
         &mut self,
         session: u32,
@@ -292,7 +292,7 @@ impl TxTable {
         entry.look_up(alloc, &self.trees, self.number, hive, path, question)
     }
 
-    // the transaction of a handle, where it is the session's
+    // the transaction of a handle, if it is the session's
     fn own(&self, session: u32, tx: Tx) -> Option<&Entry>
         ensures found { option_map transaction_of (option_copied result)
             ≡ own self.now.tx_slots session tx }
@@ -308,7 +308,7 @@ impl TxTable {
         }
     }
 
-    /// Refuses a handle that is none of the session's, then one whose transaction isn't active.
+    /// Refuses a handle that is not one of the session's, then one whose transaction isn't active.
     pub(crate) fn check_active(&self, session: u32, tx: Tx) -> Result<(), TxEndError>
         ensures ok { OnOk result (inactive_refusal (own self.now.tx_slots session tx) ≡ None) }
         ensures refused { IfErr result (λ why.
@@ -321,7 +321,7 @@ impl TxTable {
         }
     }
 
-    /// Where a transaction stands. Takes no memory.
+    /// The outcome of a transaction: whether it is active, committed or rolled back. Takes no memory.
     pub fn outcome(&self, session: u32, tx: Tx) -> Result<Outcome, NoSuchTransaction>
         ensures ok { IfOk result (λ outcome.
             option_map (λ one. one.outcome) (own self.now.tx_slots session tx) ≡ Some outcome) }
@@ -333,7 +333,7 @@ impl TxTable {
         }
     }
 
-    /// The operations of an active transaction, for whoever accepts them as one change. Takes no memory.
+    /// The operations of an active transaction, for the caller that accepts them as one change. Takes no memory.
     pub fn commit_ops(&self, session: u32, tx: Tx) -> Result<PendingOps<'_>, TxEndError>
         ensures ok { IfOk result (λ pending.
             IsPending (own self.now.tx_slots session tx) pending.ops.now pending.text_len) }
@@ -351,7 +351,7 @@ impl TxTable {
         }
     }
 
-    /// The trees after an active transaction's operations at a moment. Refused with `TooLarge` exactly where one of them
+    /// The trees after an active transaction's operations at a moment. Refused with `TooLarge` exactly if one of them
     /// leaves its hive's tree too heavy; and with `NoMemory`.
     pub(crate) fn commit_trees(
         &self,
@@ -372,8 +372,8 @@ impl TxTable {
         entry.commit_trees(self.alloc, &self.trees, self.number, moment)
     }
 
-    /// Ends an active transaction as committed, and hands out its operations, with room for two more where there are any: that was
-    /// made as they were added. Takes no memory.
+    /// Ends an active transaction as committed, and hands out its operations. If there are any, they have room for two
+    /// more, which was made as they were added. Takes no memory.
     pub fn commit(&mut self, session: u32, tx: Tx) -> Result<Vec<Op>, TxEndError>
         ensures ok { IfOk result (λ ops.
             EndsWith self.old session tx Outcome.Committed ops.items self.new) }
@@ -413,7 +413,7 @@ impl TxTable {
         Ok(entry.end(alloc, outcome))
     }
 
-    /// Lets a transaction go; one that is active is rolled back. Takes no memory.
+    /// Drops a transaction; one that is active is rolled back. Takes no memory.
     pub fn close(&mut self, session: u32, tx: Tx) -> Result<(), NoSuchTransaction>
         ensures ok { OnOk result
             (ChangesSlots self.old
@@ -428,7 +428,7 @@ impl TxTable {
         Ok(())
     }
 
-    // lets go what is at a place
+    // drops what is in a slot
     fn vacate(&mut self, slot: usize)
         ensures rest { self.new ≡ record self.old { tx_slots = self.new.tx_slots } }
         ensures put { SetsSlot self.old.tx_slots self.new.tx_slots slot None }
@@ -437,7 +437,7 @@ impl TxTable {
         self.tx_slots.try_remove(slot);
     }
 
-    /// Lets all transactions of a session go. Takes no memory.
+    /// Drops all transactions of a session. Takes no memory.
     pub fn end_session(&mut self, session: u32)
         ensures rest { self.new ≡ record self.old { tx_slots = self.new.tx_slots } }
         ensures gone { EachSlotBecomes (gone_with session) self.old.tx_slots self.new.tx_slots }
@@ -449,7 +449,7 @@ impl TxTable {
         }
     }
 
-    // whether the transaction at a place is of the session
+    // whether the transaction in a slot is of the session
     fn is_of(&self, session: u32, slot: usize) -> bool
         ensures { result ≡ is_of session (at self.now.tx_slots slot) }
     {
@@ -459,7 +459,7 @@ impl TxTable {
         }
     }
 
-    /// The active transactions that hold a claim which conflicts with that of the operation.
+    /// The active transactions that hold a claim which conflicts with the claim of the operation.
     pub fn holders(&self, op: &Op) -> Result<Holders, AllocError>
         ensures { IfOk result (λ holders. (slot : ℕ) → is_listed holders slot
             ≡ holds_if (claim_of op.now) (at self.now.tx_slots slot)) }
@@ -469,7 +469,7 @@ impl TxTable {
         })
     }
 
-    /// Rolls back those of these transactions that are active. Takes no memory.
+    /// Rolls back the active ones of these transactions. Takes no memory.
     pub fn roll_back_all(&mut self, holders: &Holders)
         ensures rest { self.new ≡ record self.old { tx_slots = self.new.tx_slots } }
         ensures rolled_back { (slot : ℕ) → at self.new.tx_slots slot
@@ -480,7 +480,7 @@ impl TxTable {
         }
     }
 
-    // rolls back the transaction at a place, where it is active
+    // rolls back the transaction in a slot, if it is active
     fn roll_back_at(&mut self, owner: u64)
         ensures rest { self.new ≡ record self.old { tx_slots = self.new.tx_slots } }
         ensures put { SetsSlot self.old.tx_slots self.new.tx_slots owner (rolled_back_if true (at
@@ -497,8 +497,8 @@ impl TxTable {
         }
     }
 
-    /// The views after a change, by their places: it is applied to that of each active transaction whose claims it does not
-    /// meet. Nothing where there is none, or it is to be made again when it is asked for.
+    /// The views after a change, by their slots. The change is applied to the view of each active transaction with
+    /// whose claims it does not conflict. Nothing if there is no view, or it is to be made again when it is asked for.
     pub(crate) fn rebase_views(
         &self,
         change: &[Op],
@@ -520,7 +520,7 @@ impl TxTable {
         Ok(rebased)
     }
 
-    // the view after a change of the transaction at a place
+    // the view after a change of the transaction in a slot
     fn rebased_at(
         &self,
         slot: usize,
@@ -544,8 +544,8 @@ impl TxTable {
         }
     }
 
-    /// The views after the commit of the transaction at a place, by their places. Its claims conflict with nobody's, so each
-    /// view may be moved.
+    /// The views after the commit of the transaction in a slot, by their slots. Its claims conflict with no other's, so
+    /// each view may be rebased.
     pub(crate) fn rebase_others(
         &self,
         slot: usize,
@@ -568,7 +568,7 @@ impl TxTable {
         self.rebase_views(change, moment, &Holders { owners })
     }
 
-    // whether some view beside that of a place is worth moving past so many operations
+    // whether some view beside the one of a slot is worth rebasing on this many operations
     fn may_rebase_others(&self, slot: usize, count: usize) -> bool {
         for other in 0..self.tx_slots.capacity() {
             match self.tx_slots.get(other) {
@@ -590,7 +590,7 @@ impl TxTable {
         }
     }
 
-    // takes the view of the transaction at a place
+    // takes the view of the transaction in a slot
     fn take_view(&mut self, slot: usize, view: Option<View>)
         requires { IsRebasedTo self.old.trees self.old.number (at self.old.tx_slots slot) view }
         ensures { self.new ≡ self.old }
@@ -611,7 +611,7 @@ impl TxTable {
     }
 }
 
-// makes room for an operation of the transaction at a place, and holds its claim; refused where another's conflicts
+// makes room for an operation of the transaction in a slot, and adds its claim; refused if another's conflicts
 fn add_claim(entry: &mut Entry, held: &mut ClaimTable, slot: usize, op: &Op) -> Result<(), Refusal>
     ensures same { IsSameEntry entry.old entry.new }
     ensures ok { OnOk result (HasRoom entry.new

@@ -20,12 +20,13 @@ use store_model::levels_made;
 /// What is known of the operations of a view.
 #[derive(Clone, Copy)]
 pub(crate) enum Known {
-    /// Nothing: one of them may have been refused where it was applied, or have changed nothing.
+    /// Nothing: one of them may have been refused when it was applied, or have changed nothing.
     Nothing,
-    /// Each is one that could be carried out: then a change that meets no claim of theirs may be applied after them.
+    /// Each is one that could be carried out: then a change that conflicts with no claim of theirs may be applied after
+    /// them.
     Carried,
-    /// Besides, none leaves a tree too heavy. A change that was applied after them was weighed after them, and it comes before
-    /// them: past it this isn't known any more.
+    /// Besides, none leaves a tree too heavy. A change that was applied after them was weighed after them, though it
+    /// comes before them: after it this isn't known any more.
     Light,
 }
 
@@ -33,14 +34,14 @@ pub(crate) enum Known {
 pub(crate) struct View {
     /// The trees.
     pub(crate) trees: Trees,
-    /// The moment that the keys have as their time which the operations wrote; nothing where that isn't known of each of them,
-    /// so that times are nobody's.
+    /// The moment that is the time of the keys which the operations wrote; nothing if that isn't known of each of them,
+    /// and the view's times then say nothing.
     pub(crate) moment: Option<u64>,
     /// The number of the last accepted change.
     pub(crate) number: u64,
     /// What is known of the operations.
     pub(crate) known: Known,
-    /// How many operations of others were applied since the view was last asked.
+    /// How many operations of others were applied since the view was last read.
     pub(crate) ops_since_read: usize,
 }
 
@@ -57,7 +58,7 @@ impl Drop for View {
     }
 }
 
-/// A view's trees after a change, and the moment that is theirs as it is a view's.
+/// A view's trees after a change, and the view's moment after it.
 #[derive(Drop)]
 struct Timed {
     trees: Trees,
@@ -69,7 +70,7 @@ struct Timed {
 pub(crate) struct Judged {
     /// The trees after it, at the view's moment.
     pub(crate) made: View,
-    /// How many keys it makes, where it creates one.
+    /// How many keys it makes, if it creates one.
     pub(crate) levels: Option<usize>,
 }
 
@@ -110,10 +111,10 @@ impl View {
         matches!(self.known, Known::Light)
     }
 
-    /// What is told of a key, with the time that it would have if the view had been made at another moment: a key that the
-    /// operations write has the moment as its time, every other one the time that it has in the trees of now. Nothing
-    /// where the two can't be told apart, since the trees of now have the key with the view's own moment as its time.
-    /// Refused with `NotFound` exactly where the view has no such hive or key.
+    /// The counts of a key, with the time that it would have if the view had been made at another moment. A key that
+    /// the operations write has that moment as its time; every other key has its time in the trees of now. Nothing if
+    /// these two cases can't be distinguished: the view has no moment, or the trees of now have the key with the view's
+    /// own moment as its time. Refused with `NotFound` exactly if the view has no such hive or key.
     pub(crate) fn info_at(
         &self,
         now: &Trees,
@@ -143,8 +144,8 @@ impl View {
         }
     }
 
-    /// The view after one operation more and how many keys that made, or nothing where it opens a key; judged and carried out
-    /// at the view's moment.
+    /// The view after one operation more and how many keys the operation made, or nothing if it opens a key; judged and
+    /// carried out at the view's moment.
     pub(crate) fn write(&self, alloc: Global, op: &Op) -> Result<Option<Judged>, Refusal>
         ensures ok { IfOk result (WritesView self.now op.now) }
         ensures refused { IfErr result (λ refusal.
@@ -169,9 +170,9 @@ impl View {
         }
     }
 
-    /// The view after the change of this number at a moment, which meets no claim of the operations: the change is applied to
-    /// it too. Nothing where that is not known to be the same: where it makes fewer keys here than on the trees of now, since
-    /// the operations made the others, and then spelled them.
+    /// The view after the change of this number at a moment, which conflicts with no claim of the operations: the
+    /// change is applied to the view too. Nothing if this is not known to be the same: if the change makes fewer keys
+    /// here than on the trees of now. Then the operations made the others, with their own spelling.
     fn rebased(
         &self,
         alloc: Global,
@@ -204,10 +205,11 @@ impl View {
         }))
     }
 
-    /// The view's trees after a change at a moment of its own, with the times that they would have if it came before the
-    /// operations: they differ in that of its home alone, the key that it writes beside those that it makes. Where the operations
-    /// wrote that too, theirs is the later write. They did where it has their moment in the view, and had another time in the
-    /// trees of now; where it has their moment in both nobody knows, and so the view's times are nobody's from then on.
+    /// The view's trees after a change at a moment of its own, with the times that they would have if it came before
+    /// the operations. These differ in the time of one key, the key that the change writes beside those that it makes.
+    /// If the operations wrote that key too, theirs is the later write. They did if it has their moment in the view,
+    /// and had another time in the trees of now. If it has their moment in both, this isn't known, and from then on the
+    /// view's times say nothing.
     fn timed(
         &self,
         alloc: Global,
@@ -244,9 +246,9 @@ impl View {
         })
     }
 
-    /// The view after the change of this number, none of whose operations meets a claim of the view's: each is applied to it
-    /// in turn. The trees of now go along, for how many keys an operation makes there at its turn. A change of one
-    /// operation needs no such trees.
+    /// The view after the change of this number, none of whose operations conflicts with a claim of the view's: each is
+    /// applied to it in turn. The trees of now are kept up with it, since they decide how many keys an operation makes
+    /// there at its turn. A change of one operation needs no such trees.
     pub(crate) fn rebased_past(
         &self,
         alloc: Global,
@@ -286,7 +288,7 @@ impl View {
     }
 }
 
-/// The trees after operations, where each can be carried out on those after the ones before it
+/// The trees after operations, if each can be carried out on those after the ones before it
 pub(crate) fn carry_out(
     alloc: Global,
     now: &Trees,

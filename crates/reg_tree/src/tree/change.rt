@@ -20,7 +20,7 @@ use std::alloc::{AllocError, Global};
 use std::sync::Arc;
 
 impl Tree {
-    // the root after an operation and how many keys that made, or nothing where it opens a key
+    // the root after an operation and how many keys the operation made, or nothing if it opens a key
     fn root_after(
         &self,
         alloc: Global,
@@ -49,7 +49,8 @@ impl Tree {
         }
     }
 
-    // the tree after an operation and how many keys that made, or nothing where it opens a key; weights are not looked at
+    // the tree after an operation and how many keys the operation made, or nothing if it opens a key; weights are not
+    // checked
     fn carry_out(
         &self,
         alloc: Global,
@@ -71,8 +72,8 @@ impl Tree {
         }
     }
 
-    /// The tree after the operation at this moment. One that may not be carried out, or that opens a key,
-    /// changes nothing; weights are not looked at.
+    /// The tree after the operation at this moment. One that may not be carried out, or that opens a key, changes
+    /// nothing; weights are not checked.
     pub fn apply(&self, alloc: Global, op: &Op, moment: u64) -> Result<Tree, AllocError>
         ensures { IfOk result (λ made. made ≡ changed self.now op.now moment) }
     {
@@ -84,8 +85,9 @@ impl Tree {
         }
     }
 
-    /// The tree after the operation at this moment, and how many keys that made, where it is a creation; or nothing where
-    /// it opens a key. Refused exactly as [`Tree::legal`] says: the operation is judged and carried out in one go.
+    /// The tree after the operation at this moment, and how many keys the operation made, if it is a creation; or
+    /// nothing if it opens a key. Refused exactly as [`Tree::legal`] says: the operation is judged and carried out in
+    /// one go.
     pub fn write_counted(
         &self,
         alloc: Global,
@@ -121,7 +123,7 @@ impl Tree {
         }
     }
 
-    /// Whether this tree, as the operation left it, weighs more than 16,777,216. What a deletion left is let be.
+    /// Whether this tree, as the operation left it, weighs more than 16,777,216. After a deletion the answer is no.
     pub(crate) fn is_over(&self, op: &Op) -> bool
         ensures { result ≡ is_err (legal_after op.now (Ok Legality.Legal) (weight self.now)) }
     {
@@ -131,8 +133,8 @@ impl Tree {
         }
     }
 
-    /// Whether the operation is legal on this tree: it may be carried out, and a creation or a value written
-    /// leaves the tree within the weight of 16,777,216, else `TooLarge`. A deletion takes no memory to be judged.
+    /// Whether the operation is legal on this tree: it may be carried out, and a creation or a value written leaves the
+    /// tree within the weight of 16,777,216, else `TooLarge`. Judging a deletion takes no memory.
     pub fn legal(&self, alloc: Global, op: &Op) -> Result<Legality, Refusal>
         ensures { IsOrNoMemory result (legal_in self.now op.now) }
     {
@@ -174,12 +176,12 @@ fn fresh_key(alloc: Global) -> Result<Key, AllocError>
     )
 }
 
-// the flags of a new hive's root: that of a root, and not to be deleted
+// the flags of a new hive's root: the flag of a root, and not to be deleted
 const FRESH_FLAGS: u16 = 0x000c;
 
 const _: () = prove!(FRESH_FLAGS == 0x000c);
 
-// a self-relative security descriptor of revision 1 without owner, group and lists
+// a self-relative security descriptor of revision 1 without owner, group or lists
 const FRESH_DESCRIPTOR: [u8; 20] = [
     0x01, 0x00, 0x00, 0x80, 0, 0, 0, 0, 0, 0, 0, 0, 0, 0, 0, 0, 0, 0, 0, 0,
 ];

@@ -1,4 +1,4 @@
-//! What an operation does at the end of its walk: it is judged by the key that it finds there, and edits that.
+//! What an operation does at the end of its walk: it is judged by the key that it finds there, and edits that key.
 ghost use Rattle.std.specs.Prelude.{◌≡◌, ◌⊎◌, List, ℕ, Ok, Err, IfOk, IfErr, IfSome, MatchOption, OnOk, [], ◌∷◌, take, drop, length, ◌-◌};
 ghost use Rattle.reg_names.specs.Names.{folded, folded_path};
 ghost use Rattle.reg_tree_parts.specs.ValueEdits.{values_with, values_without};
@@ -62,9 +62,9 @@ impl Op {
         }
     }
 
-    /// The names of the path of the key that the operation writes beside those that it makes: the last key on its way that
-    /// was there. `made` is how many keys it made, as [`Trees::write_counted`](crate::Trees::write_counted) tells, and
-    /// `None` says none.
+    /// The names of the path of the key that the operation writes beside those that it makes: the last key on its way
+    /// that was there. `made` is how many keys it made, as [`Trees::write_counted`](crate::Trees::write_counted)
+    /// answers; `None` means none.
     pub fn touched_path(&self, made: Option<usize>) -> &[Name]
         ensures { folded_path result.now ≡ touched_path_of self.now made }
     {
@@ -73,7 +73,7 @@ impl Op {
         &way[..way.len().saturating_sub(made)]
     }
 
-    // how many keys it made, where so many names of its way were missing
+    // how many keys it made, if this many names of its way were missing
     pub(super) fn counted(&self, missing: usize) -> Option<usize>
         ensures { result ≡ counted self.now missing }
     {
@@ -83,7 +83,7 @@ impl Op {
         }
     }
 
-    // its names are such that a hive file can spell them
+    // a hive file can encode its names
     pub(super) fn names_are_valid(&self)
         ensures { NamesAreValid self.now }
     {
@@ -109,7 +109,7 @@ fn parent_of(names: &[Name]) -> &[Name]
     }
 }
 
-// the key with new ones of these names below it, one below the other; nothing where there are no names
+// the key with new ones of these names below it, one below the other; nothing if there are no names
 fn with_branch(
     alloc: Global,
     node: &Node,
@@ -137,7 +137,7 @@ fn with_branch(
     Ok(Some(new))
 }
 
-// the key without the subkey that is last on a path, where it may be deleted
+// the key without the subkey that is last on a path, if it may be deleted
 fn without_subkey(
     alloc: Global,
     node: &Node,
@@ -187,7 +187,7 @@ fn check_deletable(node: &Node, name: &Name) -> Result<(), Refusal>
     Ok(())
 }
 
-// the key with a value written, where it is there and the data may be so long
+// the key with a value written, if the key is there and the data are not too long
 fn with_value(
     alloc: Global,
     node: &Node,
@@ -218,7 +218,7 @@ fn with_value(
     Ok(new)
 }
 
-// the key without a value, where both are there
+// the key without a value, if both are there
 fn without_value(
     alloc: Global,
     node: &Node,

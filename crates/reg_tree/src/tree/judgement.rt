@@ -1,4 +1,4 @@
-//! Whether an operation may be carried out, which is asked of it alone: a write judges as it goes (`edits`).
+//! Whether an operation may be carried out, for callers that ask this alone: a write judges as it goes (`edits`).
 ghost use Rattle.std.specs.Prelude.{◌≡◌};
 ghost use Rattle.reg_names.specs.Names.{folded_path};
 ghost use Rattle.reg_tree.specs.Judgement.{judged, judged_create, judged_delete_at, judged_set, judged_unset};
@@ -13,10 +13,10 @@ use reg_tree_parts::Data;
 impl Tree {
     /// Whether the operation may be carried out on this tree, weights aside: the first refusal in order.
     ///
-    /// A creation is `Opened` where its key is there, and `TooDeep` where more than 32 levels are missing. A
-    /// deletion of the root is `Fixed`; of a missing key `NotFound`; of one marked as not deletable `Fixed`; of
-    /// one with subkeys `HasSubkeys`. A value is written and deleted only where its key, and for a deletion the
-    /// value, is there, else `NotFound`; and written only up to 1,048,576 bytes, else `TooLarge`.
+    /// A creation is `Opened` if its key is there, and `TooDeep` if more than 32 levels are missing. A deletion of the
+    /// root is `Fixed`; of a missing key `NotFound`; of one marked as not deletable `Fixed`; of one with subkeys
+    /// `HasSubkeys`. A value is written and deleted only if its key, and for a deletion the value, is there, else
+    /// `NotFound`; and written only up to 1,048,576 bytes, else `TooLarge`.
     pub fn judge(&self, op: &Op) -> Result<Legality, Refusal>
         ensures { result ≡ judged self.now op.now }
     {

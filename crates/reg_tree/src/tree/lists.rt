@@ -70,8 +70,8 @@ fn copy_names<L: Named>(alloc: Global, from: &L) -> Result<Names, AllocError>
 }
 
 impl Tree {
-    /// The names of the key's subkeys, in their order. Refused with `NotFound` exactly where there is no such
-    /// key, and with `NoMemory`.
+    /// The names of the key's subkeys, in their order. Refused with `NotFound` exactly if there is no such key, and
+    /// with `NoMemory`.
     pub fn subkey_names(&self, alloc: Global, path: &Path) -> Result<Names, Refusal>
         ensures ok { IfOk result (λ names.
             subkeys_at self.now (folded_path path.now) ≡ Some names) }
@@ -86,8 +86,8 @@ impl Tree {
         Ok(copy_names(alloc, node)?)
     }
 
-    /// The names of the key's values, in their order. Refused with `NotFound` exactly where there is no such
-    /// key, and with `NoMemory`.
+    /// The names of the key's values, in their order. Refused with `NotFound` exactly if there is no such key, and with
+    /// `NoMemory`.
     pub fn value_names(&self, alloc: Global, path: &Path) -> Result<Names, Refusal>
         ensures ok { IfOk result (λ names.
             value_names_at self.now (folded_path path.now) ≡ Some names) }

@@ -1,5 +1,5 @@
-//! A key as if it had been written at another moment. Trees that the same operations make at different moments differ in
-//! times alone, so a tree is taken from one moment to another by stamps, without carrying the operations out again.
+//! A key as if it had been written at another moment. Trees that the same operations make at different moments differ
+//! in times alone. So a tree is taken from one moment to another by stamps, without carrying the operations out again.
 ghost use Rattle.std.specs.Prelude.{◌≡◌, List, ℕ, None, IfOk, IfSome, IfNone};
 ghost use Rattle.refusals.specs.declared.refusal.Refusal.TheVariants.{NoMemory};
 ghost use Rattle.reg_names.specs.Names.{folded_path};
@@ -39,7 +39,7 @@ impl NodeEdit for Stamp {
 }
 
 impl Tree {
-    // the root in which the key at this path was written at this moment, or nothing where there is no such key
+    // the root in which the key at this path was written at this moment, or nothing if there is no such key
     fn root_stamped(
         &self,
         alloc: Global,
@@ -55,12 +55,12 @@ impl Tree {
         match self.root.edited(alloc, names, &Stamp, moment) {
             Ok(Some((root, _))) => Ok(Some(root)),
             Ok(None) => Ok(None),
-            // a stamp is refused for want of memory alone
+            // a stamp is refused only if there is no memory
             Err(_) => Err(AllocError),
         }
     }
 
-    /// The tree in which the key at this path was written at this moment, and all else stays; where there is no such key,
+    /// The tree in which the key at this path was written at this moment, and all else stays; if there is no such key,
     /// the same tree.
     pub fn stamped(&self, alloc: Global, names: &[Name], moment: u64) -> Result<Tree, AllocError>
         ensures { IfOk result (λ made.

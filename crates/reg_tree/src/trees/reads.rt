@@ -14,8 +14,8 @@ use reg_tree_parts::Value;
 use std::alloc::Global;
 
 impl Trees {
-    /// The weight of a hive's tree, or the greatest number of 64 bits where it is more; nothing for a hive that
-    /// isn't there.
+    /// The weight of a hive's tree, or the greatest number of 64 bits if it is more; nothing for a hive that isn't
+    /// there.
     pub fn weight(&self, hive: u8) -> Option<u64>
         ensures { result ≡ weight_in self.now hive }
     {
@@ -25,7 +25,7 @@ impl Trees {
         }
     }
 
-    /// The value of this name. Refused with `NotFound` exactly where there is no such hive, key or value.
+    /// The value of this name. Refused with `NotFound` exactly if there is no such hive, key or value.
     pub fn get_value(&self, hive: u8, path: &Path, name: &Name) -> Result<&Value, Refusal>
         ensures ok { IfOk result (λ value.
             value_in self.now hive (folded_path path.now) name.now ≡ Some value.now) }
@@ -38,8 +38,8 @@ impl Trees {
         }
     }
 
-    /// The value at this index, in the order of names. Refused with `NotFound` exactly where there is no such
-    /// hive or key, or the index is past its last value.
+    /// The value at this index, in the order of names. Refused with `NotFound` exactly if there is no such hive or key,
+    /// or the index is past its last value.
     pub fn enum_value(&self, hive: u8, path: &Path, index: usize) -> Result<&Value, Refusal>
         ensures ok { IfOk result (λ value.
             value_index_in self.now hive (folded_path path.now) index ≡ Some value.now) }
@@ -52,8 +52,8 @@ impl Trees {
         }
     }
 
-    /// The name of the subkey at this index, in the order of names. Refused with `NotFound` exactly where there
-    /// is no such hive or key, or the index is past its last subkey.
+    /// The name of the subkey at this index, in the order of names. Refused with `NotFound` exactly if there is no such
+    /// hive or key, or the index is past its last subkey.
     pub fn enum_key(&self, hive: u8, path: &Path, index: usize) -> Result<&Name, Refusal>
         ensures ok { IfOk result (λ name.
             subkey_index_in self.now hive (folded_path path.now) index ≡ Some name.now) }
@@ -66,8 +66,8 @@ impl Trees {
         }
     }
 
-    /// How many subkeys and values the key has, and when it was last written. Refused with `NotFound` exactly
-    /// where there is no such hive or key.
+    /// How many subkeys and values the key has, and when it was last written. Refused with `NotFound` exactly if there
+    /// is no such hive or key.
     pub fn query_info(&self, hive: u8, path: &Path) -> Result<Info, Refusal>
         ensures ok { IfOk result (λ info.
             info_in self.now hive (folded_path path.now) ≡ Some info) }
@@ -79,7 +79,7 @@ impl Trees {
         }
     }
 
-    /// When the key at this path was last written, or nothing where there is no such hive or key. Takes no memory.
+    /// When the key at this path was last written, or nothing if there is no such hive or key. Takes no memory.
     pub fn time_at(&self, hive: u8, names: &[Name]) -> Option<u64>
         ensures { result ≡ time_in self.now hive (folded_path names.now) }
     {
@@ -89,8 +89,8 @@ impl Trees {
         }
     }
 
-    /// The names of the key's subkeys, in their order. Refused with `NotFound` exactly where there is no such
-    /// hive or key, and with `NoMemory`.
+    /// The names of the key's subkeys, in their order. Refused with `NotFound` exactly if there is no such hive or key,
+    /// and with `NoMemory`.
     pub fn subkey_names(&self, alloc: Global, hive: u8, path: &Path) -> Result<Names, Refusal>
         ensures ok { IfOk result (λ names.
             subkeys_in self.now hive (folded_path path.now) ≡ Some names) }
@@ -103,8 +103,8 @@ impl Trees {
         }
     }
 
-    /// The names of the key's values, in their order. Refused with `NotFound` exactly where there is no such
-    /// hive or key, and with `NoMemory`.
+    /// The names of the key's values, in their order. Refused with `NotFound` exactly if there is no such hive or key,
+    /// and with `NoMemory`.
     pub fn value_names(&self, alloc: Global, hive: u8, path: &Path) -> Result<Names, Refusal>
         ensures ok { IfOk result (λ names.
             value_names_in self.now hive (folded_path path.now) ≡ Some names) }

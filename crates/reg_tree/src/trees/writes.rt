@@ -13,9 +13,9 @@ use reg_names::Name;
 use std::alloc::{AllocError, Global};
 
 impl Trees {
-    /// The trees after the operation at this moment, and how many keys that made, where it is a creation; or nothing where
-    /// it opens a key. Refused exactly as [`Trees::legal`] says: the operation is judged and carried out in one go, which
-    /// makes the nodes of its path once.
+    /// The trees after the operation at this moment, and how many keys the operation made, if it is a creation; or
+    /// nothing if it opens a key. Refused exactly as [`Trees::legal`] says: the operation is judged and carried out in
+    /// one go, which makes the nodes of its path once.
     pub fn write_counted(
         &self,
         alloc: Global,
@@ -49,7 +49,7 @@ impl Trees {
         }
     }
 
-    /// The trees in which the key at this path was written at this moment, and all else stays; where there is no such hive
+    /// The trees in which the key at this path was written at this moment, and all else stays; if there is no such hive
     /// or key, the same trees.
     pub fn stamped(
         &self,
@@ -70,7 +70,7 @@ impl Trees {
         }
     }
 
-    // the trees with another one in the place of this hive's
+    // the trees with another tree as this hive's
     fn with_tree(&self, alloc: Global, hive: u8, tree: Tree) -> Result<Trees, AllocError>
         requires { hive < length self.now }
         ensures { IfOk result (λ made. made ≡ slice_set self.now hive tree) }
@@ -80,9 +80,9 @@ impl Trees {
         Ok(trees)
     }
 
-    /// The trees after the operations in order, all at this moment, as [`Trees::apply_ops`] makes them. Refused
-    /// with `TooLarge` exactly where a creation or a value that is written leaves its hive's tree with a weight
-    /// over 16,777,216, whatever the operations after it do; and with `NoMemory`.
+    /// The trees after the operations in order, all at this moment, as [`Trees::apply_ops`] makes them. Refused with
+    /// `TooLarge` exactly if a creation or a value that is written leaves its hive's tree with a weight over
+    /// 16,777,216; the operations after it don't matter. Refused also with `NoMemory`.
     pub fn apply_within(&self, alloc: Global, ops: &[Op], moment: u64) -> Result<Trees, Refusal>
         ensures ok { IfOk result (λ made.
             (any_outweighs self.now ops.now moment ≡ false)
@@ -98,7 +98,7 @@ impl Trees {
         Ok(made)
     }
 
-    // one operation more, where it leaves its hive's tree within the limit of weight
+    // one operation more, if it leaves its hive's tree within the limit of weight
     fn apply_one_within(&mut self, alloc: Global, op: &Op, moment: u64) -> Result<(), Refusal>
         ensures ok { OnOk result
             ((outweighs self.old op.now moment ≡ false)

@@ -15,7 +15,7 @@ unreachable-requires-in_default-first_u64 c =
     let second = ap (λ (p : ℕ × List ℕ). number_at 8 p.1) (one_reading _ _ _ c.in-Some.ensures f.is_len) in
     none-some _ (sym c.in_default-first_u64.ensures ∙ second ∙ f.is_moment)
 
--- what is read behind the length and the moment
+-- what is read after the length and the moment
 behind : (bytes : List ℕ) (f : Fields bytes) (x y : ℕ × List ℕ) → number_at 4 bytes ≡ Some x → number_at 8 x.1 ≡ Some y → number_at 4 y.1 ≡ Some (f.count, f.encodings)
 behind bytes f x y one two =
     let second = ap (λ (p : ℕ × List ℕ). number_at 8 p.1) (one_reading _ _ _ one f.is_len) in

@@ -122,7 +122,7 @@ pub rebase_others-requires-clause-below : goal.rebase_others-requires-clause-bel
 rebase_others-requires-clause-below c =
     below_greatest c.args.self.now.machine c.in_ok-pending.pending.text_len c.self.inside.table.number (c.self.invariant.number ∙ ap (λ (v : StoreView). last_number v.machine) c.self.view_is) c.in_ok-room.ensures.ok.0
 
--- the history has more place, and the same changes
+-- the history has more reserved space, and the same changes
 pub invariant_of-self : goal.invariant_of-self
 invariant_of-self c =
     let s = c.self.inside in

@@ -59,7 +59,7 @@ rebase_views-requires-clause-holders c = λ slot none.
     subst (λ ops. MeetNone ops (at c.self.inside.table.tx_slots slot)) (sym (c.list.ensures.all ∙ c.in_ok-ops.ensures))
     (ap (λ (v : StoreView). holds_if (claim_of c.args.op) (at v.machine.tx_slots slot)) c.self.view_is ∙ sym ((judged c).holders slot) ∙ none, tt)
 
--- the history has more place, and the same changes
+-- the history has more reserved space, and the same changes
 pub invariant_of-self : goal.invariant_of-self
 invariant_of-self c =
     let s = c.self.inside in

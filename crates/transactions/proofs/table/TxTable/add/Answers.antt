@@ -15,7 +15,7 @@ use Rattle.transactions.proofs.Kept.{at_slot, kept_seen, kept_added, reserved_sa
 use Rattle.transactions.proofs.Slots.{content, puts}
 use Rattle.transactions.proofs.table.TxTable.add.Goals as goal
 
--- the entry before and after room was made, where the claim is not held
+-- the entry before and after room was made, if the claim is not held
 there : (c : goal.After-drop-op) → content c.self.inside.tx_slots.slots c.args.slot ≡ Some c.in-Some.entry.now
 there c = sym c.in-Some.ensures.value
 
